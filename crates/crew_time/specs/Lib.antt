@@ -1,0 +1,3 @@
+pub mod Civil
+pub mod Instant
+pub mod Zone
