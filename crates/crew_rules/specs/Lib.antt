@@ -1,0 +1,4 @@
+pub mod Pay
+pub mod Range
+pub mod Settings
+pub mod Tables
