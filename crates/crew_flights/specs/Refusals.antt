@@ -1,0 +1,17 @@
+-- The numbers of refusals.
+use Rattle.std.specs.Prelude.{ℕ}
+use Rattle.crew_flights.specs.declared.edit.Refusal.{Refusal}
+use Rattle.crew_flights.specs.declared.edit.Refusal.TheVariants.{BaseExists, NoBase, FlightExists, NoFlight, BadTimes, SameAirport, WrongOrigin, PriceRange, TooManyFlights, TooManyBases, OutOfTurn}
+
+abbrev pub number_of : Refusal → ℕ
+number_of BaseExists = 21
+number_of NoBase = 22
+number_of FlightExists = 23
+number_of NoFlight = 24
+number_of BadTimes = 25
+number_of SameAirport = 26
+number_of WrongOrigin = 27
+number_of PriceRange = 28
+number_of TooManyFlights = 29
+number_of TooManyBases = 30
+number_of OutOfTurn = 31

@@ -1,0 +1,83 @@
+//! Edits of a timetable, and what becomes of them.
+
+ghost use Rattle.std.specs.Prelude.{◌≡◌};
+
+use crate::flight::{Code, Flight, FlightId};
+use crew_time::{ClockMinute, Minute};
+
+/// An edit of a timetable. Prices are in points.
+#[derive(Clone, Copy, Debug, PartialEq, Eq)]
+pub enum Edit {
+    /// A base, with the price of a pairing that starts there.
+    AddBase {
+        code: Code,
+        price: i64,
+    },
+    /// Another price for a base.
+    BasePrice {
+        code: Code,
+        price: i64,
+    },
+    /// A flight.
+    AddFlight(Flight),
+    /// The flight goes.
+    Cancel(FlightId),
+    /// Other times for a flight. `from` is its own airport, whose clock `report_clock` is.
+    Retime {
+        id: FlightId,
+        from: Code,
+        dep: Minute,
+        arr: Minute,
+        report_clock: ClockMinute,
+    },
+    /// Another price for a flight.
+    Price {
+        id: FlightId,
+        price: i64,
+    },
+}
+
+/// Why an entry is refused.
+#[derive(Clone, Copy, Debug, PartialEq, Eq)]
+pub enum Refusal {
+    /// The base is there already.
+    BaseExists = 21,
+    /// There is no such base.
+    NoBase = 22,
+    /// The flight is there already.
+    FlightExists = 23,
+    /// There is no such flight.
+    NoFlight = 24,
+    /// The arrival isn't from 1 to 1,440 minutes after the departure.
+    BadTimes = 25,
+    /// The flight arrives where it leaves.
+    SameAirport = 26,
+    /// The flight leaves another airport.
+    WrongOrigin = 27,
+    /// The price is more than 1,000,000,000 points from zero.
+    PriceRange = 28,
+    /// 5,000 flights are there.
+    TooManyFlights = 29,
+    /// 16 bases are there.
+    TooManyBases = 30,
+    /// The entry's number isn't its seat's next.
+    OutOfTurn = 31,
+}
+
+impl Refusal {
+    ghost use Rattle.crew_flights.specs.Refusals.{number_of};
+
+    /// The number of this refusal, from 21 to 31.
+    pub fn number(self) -> u8
+        ensures { result ≡ number_of self }
+    {
+        self as u8
+    }
+}
+
+/// What became of an edit.
+#[derive(Clone, Copy, Debug, PartialEq, Eq)]
+pub enum Verdict {
+    Accepted,
+    Refused(Refusal),
+}

@@ -1,0 +1,15 @@
+//! Flights, base prices, and the edits that change them.
+//!
+//! A timetable is two finite maps: flights by number, and base prices by airport.
+//! An edit either changes it, or is refused with the first refusal that applies and
+//! changes nothing. A log of entries is folded into a timetable and a verdict an entry:
+//! an entry that comes out of its seat's turn changes nothing.
+#![tactic(auto)]
+
+mod edit;
+mod flight;
+mod fold;
+
+pub use edit::{Edit, Refusal, Verdict};
+pub use flight::{Code, Flight, FlightId};
+pub use fold::Entry;
