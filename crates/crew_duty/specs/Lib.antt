@@ -1,0 +1,4 @@
+pub mod Keys
+pub mod Legality
+pub mod Listing
+pub mod Members

@@ -1,0 +1,42 @@
+//! Duties.
+
+ghost use Rattle.std.specs.Prelude.{◌≡◌, IfOk};
+
+use crate::key::Key;
+use crew_flights::Code;
+use std::alloc::{AllocError, Global};
+
+/// A duty with all its facts. Times are minutes since 1970-01-01T00:00 UTC, money is in points.
+#[derive(Debug, Drop)]
+pub struct Duty {
+    /// Its legs.
+    pub key: Key,
+    /// Where its first leg departs.
+    pub from: Code,
+    /// Where its last leg arrives.
+    pub to: Code,
+    /// When the crew reports.
+    pub report: i64,
+    /// When the crew is released.
+    pub release: i64,
+    /// The minutes of its flight duty period, from report to the last arrival.
+    pub fdp: i64,
+    /// Its flight minutes, those of the legs that the crew flies.
+    pub fly: i64,
+    /// Its pay.
+    pub pay: i64,
+    /// The prices of the flights that the crew flies.
+    pub price: i64,
+}
+
+impl Duty {
+    /// An equal duty.
+    pub fn copy(&self, alloc: Global) -> Result<Duty, AllocError>
+        ensures { IfOk result (λ duty. duty ≡ self.now) }
+    {
+        Ok(Duty {
+            key: self.key.copy(alloc)?,
+            ..*self
+        })
+    }
+}

@@ -1,0 +1,168 @@
+//! Keys of duties, and walks.
+
+ghost use Rattle.std.specs.Prelude.{◌≡◌, List, IfOk};
+ghost use Rattle.std.proofs.Common.{refl};
+ghost use Rattle.std.specs.Ordering.{as_partial_cmp, eq_by_cmp};
+ghost use Rattle.std.specs.Cmp.{eq_by_cmp_equiv, partial_equiv_from_equiv, partial_order_from_total};
+ghost use Rattle.crew_duty.specs.declared.leg.Leg.{Leg};
+ghost use Rattle.crew_duty.specs.Keys.{key_cmp, key_total, walk_cmp, walk_total};
+
+use crate::leg::Leg;
+use std::alloc::{AllocError, Global};
+use std::cmp::Ordering;
+use std::marker::Model;
+
+/// The key of a duty: its legs in order.
+///
+/// A contract sees the list of the legs. Keys compare leg by leg, a proper beginning first.
+#[derive(Debug, Drop)]
+pub struct Key {
+    legs: Vec<Leg>,
+}
+
+impl Model for Key {
+    ghost Value = { List Leg };
+
+    ghost view = { λ key. key.legs.items };
+}
+
+impl Key {
+    /// The key of these legs.
+    pub fn new(legs: Vec<Leg>) -> Self
+        ensures { result ≡ legs.items }
+    {
+        Key { legs }
+    }
+
+    /// The legs.
+    pub fn legs(&self) -> &[Leg]
+        ensures { result.now ≡ self.now }
+    {
+        &self.legs
+    }
+
+    /// An equal key.
+    pub fn copy(&self, alloc: Global) -> Result<Key, AllocError>
+        ensures { IfOk result (λ key. key ≡ self.now) }
+    {
+        let legs = self.legs.to_vec(alloc)?;
+        Ok(Key { legs })
+    }
+}
+
+impl PartialEq for Key {
+    ghost eq = { eq_by_cmp key_cmp };
+
+    ghost laws = { partial_equiv_from_equiv (eq_by_cmp_equiv key_total) };
+
+    fn eq(&self, other: &Key) -> bool {
+        self.cmp(other) == Ordering::Equal
+    }
+}
+
+impl Eq for Key {
+    ghost laws = { eq_by_cmp_equiv key_total };
+}
+
+impl PartialOrd for Key {
+    ghost partial_cmp = { as_partial_cmp key_cmp };
+
+    ghost laws = { partial_order_from_total key_total };
+
+    fn partial_cmp(&self, other: &Key) -> Option<Ordering> {
+        Some(self.cmp(other))
+    }
+}
+
+impl Ord for Key {
+    ghost cmp = { key_cmp };
+
+    ghost total = { key_total };
+
+    ghost matches_partial_cmp = { λ a b. refl };
+
+    ghost matches_eq = { λ a b. refl };
+
+    fn cmp(&self, other: &Key) -> Ordering {
+        self.legs.cmp(&other.legs)
+    }
+}
+
+/// A walk: the keys of a pairing's duties in order.
+///
+/// A contract sees the list of the keys. Walks compare key by key, a proper beginning first.
+#[derive(Debug, Drop)]
+pub struct Walk {
+    keys: Vec<Key>,
+}
+
+impl Model for Walk {
+    ghost Value = { List (List Leg) };
+
+    ghost view = { λ walk. walk.keys.items };
+}
+
+impl Walk {
+    /// The walk over these keys.
+    pub fn new(keys: Vec<Key>) -> Self
+        ensures { result ≡ keys.items }
+    {
+        Walk { keys }
+    }
+
+    /// The keys.
+    pub fn keys(&self) -> &[Key]
+        ensures { result.now ≡ self.now }
+    {
+        &self.keys
+    }
+
+    /// An equal walk.
+    pub fn copy(&self, alloc: Global) -> Result<Walk, AllocError>
+        ensures { IfOk result (λ walk. walk ≡ self.now) }
+    {
+        let mut keys = Vec::new(alloc);
+        for key in &self.keys {
+            keys.push(key.copy(alloc)?)?;
+        }
+        Ok(Walk { keys })
+    }
+}
+
+impl PartialEq for Walk {
+    ghost eq = { eq_by_cmp walk_cmp };
+
+    ghost laws = { partial_equiv_from_equiv (eq_by_cmp_equiv walk_total) };
+
+    fn eq(&self, other: &Walk) -> bool {
+        self.cmp(other) == Ordering::Equal
+    }
+}
+
+impl Eq for Walk {
+    ghost laws = { eq_by_cmp_equiv walk_total };
+}
+
+impl PartialOrd for Walk {
+    ghost partial_cmp = { as_partial_cmp walk_cmp };
+
+    ghost laws = { partial_order_from_total walk_total };
+
+    fn partial_cmp(&self, other: &Walk) -> Option<Ordering> {
+        Some(self.cmp(other))
+    }
+}
+
+impl Ord for Walk {
+    ghost cmp = { walk_cmp };
+
+    ghost total = { walk_total };
+
+    ghost matches_partial_cmp = { λ a b. refl };
+
+    ghost matches_eq = { λ a b. refl };
+
+    fn cmp(&self, other: &Walk) -> Ordering {
+        self.keys.cmp(&other.keys)
+    }
+}

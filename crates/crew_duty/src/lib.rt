@@ -1,0 +1,12 @@
+//! Legal duties: what a crew may fly between two rests, under 14 CFR part 117 for unaugmented
+//! operations.
+#![tactic(auto)]
+
+mod duty;
+mod facts;
+mod key;
+mod leg;
+
+pub use duty::Duty;
+pub use key::{Key, Walk};
+pub use leg::{Leg, TimedLeg};
