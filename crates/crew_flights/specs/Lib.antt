@@ -1,2 +1,5 @@
 pub mod Codes
+pub mod Edits
+pub mod Fold
 pub mod Refusals
+pub mod Timetable

@@ -6,10 +6,12 @@
 //! an entry that comes out of its seat's turn changes nothing.
 #![tactic(auto)]
 
+mod data;
 mod edit;
 mod flight;
 mod fold;
 
+pub use data::Data;
 pub use edit::{Edit, Refusal, Verdict};
 pub use flight::{Code, Flight, FlightId};
 pub use fold::Entry;

@@ -1,0 +1,94 @@
+-- What an edit does to a timetable: the first refusal that applies, or the change.
+use Rattle.std.specs.Prelude.{◌∷◌, ◌&&◌, ◌-ℤ◌, ℕ, nat_le, ℤ, pos, negsuc, int_le, Bool, not, false, cond, List, [], Option, Some, None}
+use Rattle.std.specs.Ordering.{eq_by_cmp}
+use Rattle.std.specs.FinMap as map
+use Rattle.crew_flights.specs.Codes.{code_cmp}
+use Rattle.crew_flights.specs.Timetable.{Timetable}
+use Rattle.crew_flights.specs.declared.flight.Flight.{Flight}
+use Rattle.crew_flights.specs.declared.edit.Edit.{Edit}
+use Rattle.crew_flights.specs.declared.edit.Edit.TheVariants.{AddBase, BasePrice, AddFlight, Cancel, Retime, Price}
+use Rattle.crew_flights.specs.declared.edit.Refusal.{Refusal}
+use Rattle.crew_flights.specs.declared.edit.Refusal.TheVariants.{BaseExists, NoBase, FlightExists, NoFlight, BadTimes, SameAirport, WrongOrigin, PriceRange, TooManyFlights, TooManyBases}
+use Rattle.crew_flights.specs.declared.edit.Verdict.{Verdict}
+use Rattle.crew_flights.specs.declared.edit.Verdict.TheVariants.{Accepted, Refused}
+
+-- ---- the tests
+
+abbrev pub has_base : Timetable → List ℕ → Bool
+has_base t code = map.contains_key t.bases code
+
+abbrev pub has_flight : Timetable → ℕ → Bool
+has_flight t number = map.contains_key t.flights number
+
+-- at most a billion points from zero
+abbrev pub is_price : ℤ → Bool
+is_price price = int_le (negsuc 999_999_999) price && int_le price (pos 1_000_000_000)
+
+-- the arrival is 1 to 1,440 minutes after the departure
+abbrev pub is_block : ℤ → ℤ → Bool
+is_block dep arr = int_le (pos 1) (arr -ℤ dep) && int_le (arr -ℤ dep) (pos 1_440)
+
+abbrev pub is_same_code : List ℕ → List ℕ → Bool
+is_same_code = eq_by_cmp code_cmp
+
+-- a flight that is held leaves another airport
+abbrev pub leaves_elsewhere : Option Flight → List ℕ → Bool
+leaves_elsewhere None from = false
+leaves_elsewhere (Some flight) from = not (is_same_code flight.from from)
+
+-- ---- the refusals that an edit can meet, in the order of their numbers, each where its test holds
+
+abbrev pub refusals : Timetable → Edit → List (Bool × Refusal)
+refusals t (AddBase code price) = (has_base t code, BaseExists) ∷ (not (is_price price), PriceRange) ∷ (nat_le 16 (map.len t.bases), TooManyBases) ∷ []
+refusals t (BasePrice code price) = (not (has_base t code), NoBase) ∷ (not (is_price price), PriceRange) ∷ []
+refusals t (AddFlight flight) = (has_flight t flight.id, FlightExists) ∷ (not (is_block flight.dep flight.arr), BadTimes) ∷ (is_same_code flight.from flight.to, SameAirport) ∷ (not (is_price flight.price), PriceRange) ∷ (nat_le 5_000 (map.len t.flights), TooManyFlights) ∷ []
+refusals t (Cancel id) = (not (has_flight t id), NoFlight) ∷ []
+refusals t (Retime id from dep arr report_clock) = (not (has_flight t id), NoFlight) ∷ (not (is_block dep arr), BadTimes) ∷ (leaves_elsewhere (map.get t.flights id) from, WrongOrigin) ∷ []
+refusals t (Price id price) = (not (has_flight t id), NoFlight) ∷ (not (is_price price), PriceRange) ∷ []
+
+abbrev pub first_of : List (Bool × Refusal) → Option Refusal
+first_of [] = None
+first_of (test ∷ tests) = cond test.0 (Some test.1) (first_of tests)
+
+-- the first that applies
+abbrev pub refusal_of : Timetable → Edit → Option Refusal
+refusal_of t edit = first_of (refusals t edit)
+
+-- ---- the changes
+
+abbrev pub with_base : Timetable → List ℕ → ℤ → Timetable
+with_base t code price = record t { bases = map.insert t.bases code price }
+
+abbrev pub with_flight : Timetable → ℕ → Flight → Timetable
+with_flight t number flight = record t { flights = map.insert t.flights number flight }
+
+abbrev pub without_flight : Timetable → ℕ → Timetable
+without_flight t number = record t { flights = map.remove t.flights number }
+
+-- a flight, where it is held, stands changed under its number
+abbrev pub with_changed : Timetable → ℕ → Option Flight → (Flight → Flight) → Timetable
+with_changed t number None change = t
+with_changed t number (Some flight) change = with_flight t number (change flight)
+
+abbrev pub retimed : ℤ → ℤ → ℕ → Flight → Flight
+retimed dep arr report_clock flight = record flight { dep = dep; arr = arr; report_clock = report_clock }
+
+abbrev pub repriced : ℤ → Flight → Flight
+repriced price flight = record flight { price = price }
+
+abbrev pub changed : Timetable → Edit → Timetable
+changed t (AddBase code price) = with_base t code price
+changed t (BasePrice code price) = with_base t code price
+changed t (AddFlight flight) = with_flight t flight.id flight
+changed t (Cancel id) = without_flight t id
+changed t (Retime id from dep arr report_clock) = with_changed t id (map.get t.flights id) (retimed dep arr report_clock)
+changed t (Price id price) = with_changed t id (map.get t.flights id) (repriced price)
+
+-- ---- an edit: refused with no change, or accepted
+
+abbrev pub applied : Timetable → Edit → Option Refusal → Timetable × Verdict
+applied t edit None = (changed t edit, Accepted)
+applied t edit (Some refusal) = (t, Refused refusal)
+
+abbrev pub apply_of : Timetable → Edit → Timetable × Verdict
+apply_of t edit = applied t edit (refusal_of t edit)
