@@ -2,3 +2,4 @@ pub mod Keys
 pub mod Legality
 pub mod Listing
 pub mod Members
+pub mod Plans

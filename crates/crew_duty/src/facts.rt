@@ -1,9 +1,13 @@
 //! The facts of a duty, from its legs.
 
 ghost use Rattle.std.specs.Prelude.{◌≡◌, ◌+◌, ◌*◌, ◌≤◌, ◌+ℤ◌, ◌-ℤ◌, ◌*ℤ◌, ◌≤ℤ◌, pos, length, ◌∷◌};
+ghost use Rattle.crew_flights.specs.Timetable.{IsFlight};
 ghost use Rattle.crew_duty.specs.Legality as Spec;
+ghost use Rattle.crew_duty.specs.Legality.{total};
+ghost use Rattle.crew_duty.specs.Members.{Each};
 
 use crate::leg::TimedLeg;
+use crew_rules::Settings;
 
 // The minutes that the crew flies on a leg.
 fn minutes_flown(leg: &TimedLeg) -> i64
@@ -53,4 +57,50 @@ pub(crate) fn deadheads(first: &TimedLeg, others: &[TimedLeg]) -> usize
 {
     let ridden = others.iter().filter(|leg| leg.deadhead).count();
     if first.deadhead { ridden + 1 } else { ridden }
+}
+
+/// When the crew reports.
+pub(crate) fn report(settings: &Settings, first: &TimedLeg) -> i64
+    ensures value { result ≡ Spec.report settings.now first.now }
+    ensures bound { (pos 0 ≤ℤ (result +ℤ pos 5_000_000_000)) × (result ≤ℤ pos 70_000_000) }
+{
+    first.flight.dep.get() - i64::from(settings.lead)
+}
+
+/// The minutes from report to the last arrival.
+pub(crate) fn flight_duty_period(settings: &Settings, first: &TimedLeg, others: &[TimedLeg]) -> i64
+    ensures value { result ≡ Spec.flight_duty_period settings.now first.now others.now }
+    ensures bound { (pos 0 ≤ℤ (result +ℤ pos 70_000_000)) × (result ≤ℤ pos 6_000_000_000) }
+{
+    last_leg(first, others).flight.arr.get() - report(settings, first)
+}
+
+/// When the crew is released.
+pub(crate) fn release(settings: &Settings, first: &TimedLeg, others: &[TimedLeg]) -> i64
+    ensures value { result ≡ Spec.release settings.now first.now others.now }
+    ensures bound { (pos 0 ≤ℤ result) × (result ≤ℤ pos 6_000_000_000) }
+{
+    last_leg(first, others).flight.arr.get() + i64::from(settings.debrief)
+}
+
+// The price of a leg that the crew flies.
+fn price_flown(leg: &TimedLeg) -> i64
+    requires { IsFlight leg.now.flight.id leg.now.flight }
+    ensures value { result ≡ Spec.price_of leg.now }
+    ensures bound { ((pos 0 -ℤ pos 1_000_000_000) ≤ℤ result) × (result ≤ℤ pos 1_000_000_000) }
+{
+    if leg.deadhead { 0 } else { leg.flight.price }
+}
+
+/// The prices of the flights that the crew flies.
+pub(crate) fn price(first: &TimedLeg, others: &[TimedLeg]) -> i64
+    requires few { length others.now ≤ 7 }
+    requires sound { Each (λ l. IsFlight l.flight.id l.flight) (first.now ∷ others.now) }
+    ensures { result ≡ total Spec.price_of (first.now ∷ others.now) }
+{
+    let mut sum = price_flown(first);
+    for leg in others {
+        sum += price_flown(leg);
+    }
+    sum
 }

@@ -6,6 +6,7 @@ mod duty;
 mod facts;
 mod key;
 mod leg;
+mod search;
 
 pub use duty::Duty;
 pub use key::{Key, Walk};
