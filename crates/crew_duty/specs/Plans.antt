@@ -6,8 +6,11 @@ use Rattle.std.specs.Ordering.{nat_cmp}
 use Rattle.crew_flights.specs.Timetable.{IsFlight}
 use Rattle.crew_flights.specs.declared.flight.Flight.{Flight}
 use Rattle.crew_rules.specs.declared.settings.Settings.{Settings}
-use Rattle.crew_duty.specs.Legality.{may_follow}
-use Rattle.crew_duty.specs.Members.{Each}
+use Rattle.std.specs.Prelude.{Vec}
+use Rattle.std.specs.Global.{Global}
+use Rattle.crew_duty.specs.Legality.{AllConnect, may_follow}
+use Rattle.crew_duty.specs.Members.{Each, Member}
+use Rattle.crew_duty.specs.declared.leg.TimedLeg.{TimedLeg}
 
 -- flights in order of their numbers
 abbrev pub Rises : List Flight → Type 0
@@ -32,3 +35,13 @@ AreNext s flights [] [] = Unit {0}
 AreNext s flights [] (places ∷ others) = ⊥
 AreNext s flights (f ∷ fs) [] = ⊥
 AreNext s flights (f ∷ fs) (places ∷ others) = StandAt flights places (filter (may_follow s f) flights) × AreNext s flights fs others
+
+-- the numbers in vectors
+abbrev pub rows : List (Vec ℕ Global) → List (List ℕ)
+rows [] = []
+rows (v ∷ vs) = v.items ∷ rows vs
+
+-- a beginning of a duty over these flights
+pub record IsBeginning (s : Settings) (flights : List Flight) (first : TimedLeg) (others : List TimedLeg) : Type 0 where
+  pub known : Each (λ l. Member flights l.flight) (first ∷ others)
+  pub connected : AllConnect s first others

@@ -2,6 +2,7 @@
 
 ghost use Rattle.std.specs.Prelude.{◌≡◌, ◌+◌, ◌*◌, ◌≤◌, ◌+ℤ◌, ◌-ℤ◌, ◌*ℤ◌, ◌≤ℤ◌, pos, length, ◌∷◌};
 ghost use Rattle.crew_flights.specs.Timetable.{IsFlight};
+ghost use Rattle.crew_rules.specs.Settings.{IsChecked};
 ghost use Rattle.crew_duty.specs.Legality as Spec;
 ghost use Rattle.crew_duty.specs.Legality.{total};
 ghost use Rattle.crew_duty.specs.Members.{Each};
@@ -61,24 +62,30 @@ pub(crate) fn deadheads(first: &TimedLeg, others: &[TimedLeg]) -> usize
 
 /// When the crew reports.
 pub(crate) fn report(settings: &Settings, first: &TimedLeg) -> i64
+    requires { IsChecked settings.now }
     ensures value { result ≡ Spec.report settings.now first.now }
-    ensures bound { (pos 0 ≤ℤ (result +ℤ pos 5_000_000_000)) × (result ≤ℤ pos 70_000_000) }
+    ensures bound { (pos 15_000_000 ≤ℤ result) × (result ≤ℤ pos 70_000_000) }
 {
     first.flight.dep.get() - i64::from(settings.lead)
 }
 
 /// The minutes from report to the last arrival.
-pub(crate) fn flight_duty_period(settings: &Settings, first: &TimedLeg, others: &[TimedLeg]) -> i64
-    ensures value { result ≡ Spec.flight_duty_period settings.now first.now others.now }
-    ensures bound { (pos 0 ≤ℤ (result +ℤ pos 70_000_000)) × (result ≤ℤ pos 6_000_000_000) }
+pub(crate) fn flight_duty_period(
+    settings: &Settings,
+    first: &TimedLeg,
+    others: &[TimedLeg],
+) -> i64
+    requires { IsChecked settings.now }
+    ensures { result ≡ Spec.flight_duty_period settings.now first.now others.now }
 {
     last_leg(first, others).flight.arr.get() - report(settings, first)
 }
 
 /// When the crew is released.
 pub(crate) fn release(settings: &Settings, first: &TimedLeg, others: &[TimedLeg]) -> i64
+    requires { IsChecked settings.now }
     ensures value { result ≡ Spec.release settings.now first.now others.now }
-    ensures bound { (pos 0 ≤ℤ result) × (result ≤ℤ pos 6_000_000_000) }
+    ensures bound { (pos 15_000_000 ≤ℤ result) × (result ≤ℤ pos 70_000_000) }
 {
     last_leg(first, others).flight.arr.get() + i64::from(settings.debrief)
 }

@@ -6,18 +6,64 @@ ghost use Rattle.crew_flights.specs.Timetable.{IsFlight};
 ghost use Rattle.crew_rules.specs.Settings.{IsChecked};
 ghost use Rattle.crew_duty.specs.Legality.{AllConnect, duty_of, last_of, may_follow};
 ghost use Rattle.crew_duty.specs.Legality as Spec;
-ghost use Rattle.crew_duty.specs.Listing.{is_hopeless, listing};
+ghost use Rattle.crew_duty.specs.Listing.{is_hopeless, listing, own};
 ghost use Rattle.crew_duty.specs.Members.{Each, Member};
-ghost use Rattle.crew_duty.specs.Plans.{AreFlights, AreNext, StandAt};
+ghost use Rattle.crew_duty.specs.Plans.{AreFlights, AreNext, IsBeginning, StandAt, rows};
 
-use crate::facts::{deadheads, flight_duty_period, flight_time, segments};
+use crate::duty::Duty;
+use crate::facts::{
+    deadheads, flight_duty_period, flight_time, last_leg, price, release, report, segments,
+};
+use crate::key::Key;
 use crate::leg::TimedLeg;
 use crew_flights::Flight;
-use crew_rules::{Settings, table_a, table_b};
-use std::alloc::{AllocError, Global};
+use crew_rules::{Settings, duty_pay, table_a, table_b};
+use std::alloc::{AllocError, AllocFailed, Global};
 
-// The most legs of a duty.
+/// The most legs of a duty.
 const LEGS: usize = 8;
+
+/// The most duties that are listed.
+const DUTIES: usize = 200_000;
+
+/// Why duties are not listed.
+#[derive(Clone, Copy, Debug, PartialEq, Eq)]
+pub enum DutyFault {
+    /// There are more than 200,000 legal duties.
+    TooManyDuties,
+    /// Memory ran out.
+    Memory,
+}
+
+impl From<AllocError> for DutyFault {
+    ghost use Rattle.std.specs.Prelude.{◌≡◌};
+    ghost use Rattle.crew_duty.specs.declared.search.DutyFault.TheVariants.{Memory};
+
+    ghost from_gives = { λ _ fault. fault ≡ Memory };
+
+    fn from(_: AllocError) -> DutyFault {
+        DutyFault::Memory
+    }
+}
+
+impl<T: Drop> From<AllocFailed<T>> for DutyFault {
+    ghost use Rattle.std.specs.Prelude.{◌≡◌};
+    ghost use Rattle.crew_duty.specs.declared.search.DutyFault.TheVariants.{Memory};
+
+    ghost from_gives = { λ _ fault. fault ≡ Memory };
+
+    fn from(_: AllocFailed<T>) -> DutyFault {
+        DutyFault::Memory
+    }
+}
+
+// What the search works with: the flights by number, and for each the places of those that may
+// follow it.
+pub(crate) struct Plan<'a> {
+    pub(crate) settings: &'a Settings,
+    pub(crate) flights: &'a [Flight],
+    pub(crate) next: &'a [Vec<u32>],
+}
 
 // Whether a flight may come next after another.
 fn may_come_next(settings: &Settings, before: &Flight, next: &Flight) -> bool
@@ -52,7 +98,8 @@ fn places_after(
 
 // Whether no duty can begin with these legs.
 fn cannot_begin(settings: &Settings, first: &TimedLeg, others: &[TimedLeg]) -> bool
-    requires { length others.now ≤ 7 }
+    requires checked { IsChecked settings.now }
+    requires few { length others.now ≤ 7 }
     ensures { result ≡ is_hopeless settings.now first.now others.now }
 {
     if deadheads(first, others) > settings.deadheads as usize {
@@ -62,4 +109,129 @@ fn cannot_begin(settings: &Settings, first: &TimedLeg, others: &[TimedLeg]) -> b
     let counted = segments(first, others).max(1) as u8;
     flight_time(first, others) > i64::from(table_a(clock))
         || flight_duty_period(settings, first, others) > i64::from(table_b(clock, counted))
+}
+
+// The places of the flights that may follow each flight.
+fn next_places(
+    alloc: Global,
+    settings: &Settings,
+    flights: &[Flight],
+) -> Result<Vec<Vec<u32>>, AllocError>
+    requires checked { IsChecked settings.now }
+    requires few { length flights.now ≤ 5_000 }
+    ensures { IfOk result (λ next. AreNext settings.now flights.now flights.now (rows next.items)) }
+{
+    let mut next = Vec::new(alloc);
+    for flight in flights {
+        next.push(places_after(alloc, settings, flights, flight)?)?;
+    }
+    Ok(next)
+}
+
+// The duty of these legs.
+fn duty_from(
+    alloc: Global,
+    settings: &Settings,
+    first: &TimedLeg,
+    others: &[TimedLeg],
+) -> Result<Duty, AllocError>
+    requires checked { IsChecked settings.now }
+    requires few { length others.now ≤ 7 }
+    requires sound { Each (λ l. IsFlight l.flight.id l.flight) (first.now ∷ others.now) }
+    requires connected { AllConnect settings.now first.now others.now }
+    ensures { IfOk result (λ duty. duty ≡ duty_of settings.now first.now others.now) }
+{
+    let mut legs = Vec::with_capacity(alloc, LEGS)?;
+    legs.push(first.leg())?;
+    for leg in others {
+        legs.push(leg.leg())?;
+    }
+    let report = report(settings, first);
+    let release = release(settings, first, others);
+    let fly = flight_time(first, others);
+    Ok(Duty {
+        key: Key::new(legs),
+        from: first.flight.from,
+        to: last_leg(first, others).flight.to,
+        report,
+        release,
+        fdp: flight_duty_period(settings, first, others),
+        fly,
+        pay: duty_pay(settings, release - report, fly),
+        price: price(first, others),
+    })
+}
+
+// Lists the duty of these legs themselves, which a deadhead doesn't end.
+fn list_own(
+    alloc: Global,
+    found: &mut Vec<Duty>,
+    settings: &Settings,
+    first: &TimedLeg,
+    others: &[TimedLeg],
+) -> Result<(), DutyFault>
+    requires checked { IsChecked settings.now }
+    requires few { length others.now ≤ 7 }
+    requires sound { Each (λ l. IsFlight l.flight.id l.flight) (first.now ∷ others.now) }
+    requires connected { AllConnect settings.now first.now others.now }
+    ensures ok { OnOk result (found.new.items ≡ found.old.items ++ own settings.now first.now others.now) }
+    ensures over { result ≡ Err DutyFault.TooManyDuties → 200_000 < length found.old.items + length (own settings.now first.now others.now) }
+{
+    if last_leg(first, others).deadhead {
+        return Ok(());
+    }
+    found.push(duty_from(alloc, settings, first, others)?)?;
+    if found.len() > DUTIES {
+        return Err(DutyFault::TooManyDuties);
+    }
+    Ok(())
+}
+
+// These legs, and then one more.
+fn followed_by(
+    alloc: Global,
+    legs: &[TimedLeg],
+    next: TimedLeg,
+) -> Result<Vec<TimedLeg>, AllocError>
+    ensures { IfOk result (λ longer. longer.items ≡ legs.now ++ next ∷ []) }
+{
+    let mut longer = Vec::with_capacity(alloc, LEGS)?;
+    longer.extend_from_slice(legs)?;
+    longer.push(next)?;
+    Ok(longer)
+}
+
+// Lists the duties that begin with these legs; the last is of the flight that stands at `last`.
+fn list(
+    alloc: Global,
+    found: &mut Vec<Duty>,
+    plan: &Plan<'_>,
+    first: &TimedLeg,
+    others: &[TimedLeg],
+    last: usize,
+) -> Result<(), DutyFault>
+    requires checked { IsChecked plan.now.settings.now }
+    requires flights { AreFlights plan.now.flights.now }
+    requires next { AreNext plan.now.settings.now plan.now.flights.now plan.now.flights.now (rows plan.now.next.now) }
+    requires beginning { IsBeginning plan.now.settings.now plan.now.flights.now first.now others.now }
+    requires few { length others.now ≤ 8 }
+    requires last { slice_get plan.now.flights.now last ≡ Some (last_of first.now others.now).flight }
+    ensures ok { OnOk result (found.new.items ≡ found.old.items
+        ++ listing (8 - length others.now) plan.now.settings.now plan.now.flights.now first.now others.now) }
+    ensures over { result ≡ Err DutyFault.TooManyDuties
+        → 200_000 < length found.old.items + length (listing (8 - length others.now) plan.now.settings.now plan.now.flights.now first.now others.now) }
+{
+    if others.len() >= LEGS || cannot_begin(plan.settings, first, others) {
+        return Ok(());
+    }
+    list_own(alloc, found, plan.settings, first, others)?;
+    for place in &plan.next[last] {
+        let place = *place as usize;
+        let flight = plan.flights[place];
+        let flown = followed_by(alloc, others, TimedLeg { flight, deadhead: false })?;
+        list(alloc, found, plan, first, &flown, place)?;
+        let ridden = followed_by(alloc, others, TimedLeg { flight, deadhead: true })?;
+        list(alloc, found, plan, first, &ridden, place)?;
+    }
+    Ok(())
 }
