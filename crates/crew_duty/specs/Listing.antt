@@ -32,6 +32,14 @@ listing (suc room) s flights first others =
     (λ next. listing room s flights first (others ++ timed false next ∷ []) ++ listing room s flights first (others ++ timed true next ∷ []))
     (filter (may_follow s (last_of first others).flight) flights)
 
--- all duties: by first flight, flown and then deadheaded
+-- the duties that go on with a flight, flown and then deadheaded
+abbrev pub below : ℕ → Settings → List Flight → TimedLeg → List TimedLeg → Flight → List Duty
+below room s flights first others next = listing room s flights first (others ++ timed false next ∷ []) ++ listing room s flights first (others ++ timed true next ∷ [])
+
+-- the duties that begin with a flight, flown and then deadheaded
+abbrev pub from_flight : Settings → List Flight → Flight → List Duty
+from_flight s flights first = listing 8 s flights (timed false first) [] ++ listing 8 s flights (timed true first) []
+
+-- all duties
 abbrev pub all_duties : Settings → List Flight → List Duty
-all_duties s flights = flat_map (λ first. listing 8 s flights (timed false first) [] ++ listing 8 s flights (timed true first) []) flights
+all_duties s flights = flat_map (from_flight s flights) flights

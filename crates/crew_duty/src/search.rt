@@ -6,7 +6,7 @@ ghost use Rattle.crew_flights.specs.Timetable.{IsFlight};
 ghost use Rattle.crew_rules.specs.Settings.{IsChecked};
 ghost use Rattle.crew_duty.specs.Legality.{AllConnect, duty_of, last_of, may_follow};
 ghost use Rattle.crew_duty.specs.Legality as Spec;
-ghost use Rattle.crew_duty.specs.Listing.{is_hopeless, listing, own};
+ghost use Rattle.crew_duty.specs.Listing.{is_hopeless, listing, own, timed};
 ghost use Rattle.crew_duty.specs.Members.{Each, Member};
 ghost use Rattle.crew_duty.specs.Plans.{AreFlights, AreNext, IsBeginning, StandAt, rows};
 
@@ -191,14 +191,28 @@ fn list_own(
 fn followed_by(
     alloc: Global,
     legs: &[TimedLeg],
-    next: TimedLeg,
+    flight: &Flight,
+    deadhead: bool,
 ) -> Result<Vec<TimedLeg>, AllocError>
-    ensures { IfOk result (λ longer. longer.items ≡ legs.now ++ next ∷ []) }
+    ensures { IfOk result (λ longer. longer.items ≡ legs.now ++ timed deadhead flight.now ∷ []) }
 {
     let mut longer = Vec::with_capacity(alloc, LEGS)?;
     longer.extend_from_slice(legs)?;
-    longer.push(next)?;
+    longer.push(TimedLeg {
+        flight: *flight,
+        deadhead,
+    })?;
     Ok(longer)
+}
+
+// The places of the flights that may follow the one at a place.
+fn places_of<'a>(plan: &Plan<'a>, place: usize) -> &'a [u32]
+    requires next { AreNext plan.now.settings.now plan.now.flights.now plan.now.flights.now (rows plan.now.next.now) }
+    requires place { place < length plan.now.flights.now }
+    ensures { (flight : Flight) → slice_get plan.now.flights.now place ≡ Some flight
+        → StandAt plan.now.flights.now result.now (filter (may_follow plan.now.settings.now flight) plan.now.flights.now) }
+{
+    &plan.next[place]
 }
 
 // Lists the duties that begin with these legs; the last is of the flight that stands at `last`.
@@ -225,12 +239,12 @@ fn list(
         return Ok(());
     }
     list_own(alloc, found, plan.settings, first, others)?;
-    for place in &plan.next[last] {
+    for place in places_of(plan, last) {
         let place = *place as usize;
-        let flight = plan.flights[place];
-        let flown = followed_by(alloc, others, TimedLeg { flight, deadhead: false })?;
+        let flight = &plan.flights[place];
+        let flown = followed_by(alloc, others, flight, false)?;
         list(alloc, found, plan, first, &flown, place)?;
-        let ridden = followed_by(alloc, others, TimedLeg { flight, deadhead: true })?;
+        let ridden = followed_by(alloc, others, flight, true)?;
         list(alloc, found, plan, first, &ridden, place)?;
     }
     Ok(())
