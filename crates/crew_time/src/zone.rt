@@ -83,7 +83,7 @@ impl Zone {
             unreachable!();
         };
         ClockMinute {
-            value: of_day(seconds, self.rule.to_offset(instant).seconds()),
+            of_day: of_day(seconds, self.rule.to_offset(instant).seconds()),
         }
     }
 }
