@@ -1,5 +1,5 @@
 -- A time has one text.
-use Rattle.std.proofs.Common.{pos, ℤ, ◌≤ℤ◌, ◌<ℤ◌, Ok, Result, nat_le, rules, ◌≡◌, ◌<◌, ◌≤◌, ◌++◌, drop, ◌+◌, ◌-◌, ◌*◌, ◌/◌, ◌%◌, ℕ, List, [], ◌∷◌, Bool, true, false, Some, None, Option, length, get_or, refl, sym, ◌∙◌, ap, arith, ◌&&◌}
+use Rattle.std.proofs.Common.{pos, ℤ, ◌≤ℤ◌, Ok, Result, nat_le, rules, ◌≡◌, ◌≤◌, ◌++◌, drop, ◌+◌, ◌-◌, ◌*◌, ◌/◌, ◌%◌, ℕ, List, [], ◌∷◌, Bool, true, false, Some, None, Option, length, get_or, refl, sym, ◌∙◌, ap, arith, ◌&&◌}
 use Rattle.std.proofs.lemmas.Bool.Decides.{nat_tests}
 use Rattle.std.proofs.Math.Seq.{drop-append_seam}
 use Rattle.jiff_core.specs.Calendar.{IsCivilDate, day_count, days_from_civil, days_in_month, days_of_months, days_of_years}

@@ -4,7 +4,7 @@ ghost use Rattle.std.specs.Prelude.{◌≡◌, ◌↔◌, IsTrue, IsOk, IsSome, 
 ghost use Rattle.std.specs.Int.{int_rem_euclid};
 ghost use Rattle.jiff_core.specs.Calendar.{IsBetween};
 ghost use Rattle.jiff_core.specs.Timestamp.{IsOffsetSeconds};
-ghost use Rattle.crew_time.specs.Zone.{begins_zone, clock_of};
+ghost use Rattle.crew_time.specs.Zone.{begins_zone, clock_of, text_zone};
 ghost use Rattle.jiff_tz.specs.PosixReader.{read_whole};
 
 use crate::fault::TimeFault;
@@ -36,6 +36,16 @@ impl Model for Zone {
     ghost invariant = { λ zone. IsSome (rule_of (plain_zone zone.rule)) };
 }
 
+// Whether the text begins as a zone's name does.
+fn begins_name(text: &[u8]) -> bool
+    ensures { result ≡ begins_zone text.now }
+{
+    match text.first() {
+        Some(b) => b.is_ascii_alphabetic() || *b == b'<',
+        None => false,
+    }
+}
+
 // The minute of the local day, at an offset from UTC.
 fn of_day(seconds: i64, offset: i32) -> u16
     requires seconds { IsBetween (pos 0) (pos 5_000_000_000) seconds }
@@ -56,15 +66,13 @@ impl Zone {
     /// then nothing, or a name, perhaps an offset, and both changes of daylight saving time.
     pub fn read(text: &[u8]) -> Result<Zone, TimeFault>
         ensures succeeds { IsOk result ↔ (IsUtf8 text.now × (begins_zone text.now ≡ true) × IsSome (read_whole text.now)) }
-        ensures value { IfOk result (λ zone. Some zone ≡ read_whole text.now) }
-        ensures err { IfErr result (λ e. e ≡ TimeFault.BadZone) }
+        ensures value { result ≡ text_zone text.now }
     {
         let Ok(rule) = str::from_utf8(text) else {
             return Err(TimeFault::BadZone);
         };
-        match text.first() {
-            Some(b) if b.is_ascii_alphabetic() || *b == b'<' => {}
-            _ => return Err(TimeFault::BadZone),
+        if !begins_name(text) {
+            return Err(TimeFault::BadZone);
         }
         match TimeZone::posix(rule) {
             Ok(rule) => Ok(Zone { rule }),
