@@ -1,7 +1,6 @@
 //! Instants and what clocks show, in whole minutes.
 
-ghost use Rattle.std.specs.Prelude.{◌≡◌, ◌<◌, ◌≤ℤ◌, ◌↔◌, ℕ, ℤ, pos, IsSome, IfSome};
-ghost use Rattle.std.specs.Ordering.{nat_cmp, int_cmp};
+ghost use Rattle.std.specs.Prelude.{◌≡◌, ◌<◌, ◌↔◌, ℕ, ℤ, IsSome, IfSome};
 
 use std::marker::Model;
 

@@ -1,6 +1,6 @@
 //! Texts of instants.
 
-ghost use Rattle.std.specs.Prelude.{◌≡◌, ◌<◌, ◌≤◌, ◌≤ℤ◌, ◌+◌, ◌*◌, ◌+ℤ◌, ◌*ℤ◌, ◌↔◌, IsSome, ◌++◌, ℕ, List, pos, IfOk, IfSome, Some, OnOk, OnErr, Ok, drop, length, true};
+ghost use Rattle.std.specs.Prelude.{◌≡◌, ◌<◌, ◌≤◌, ◌+◌, ◌*◌, ◌+ℤ◌, ◌*ℤ◌, ◌↔◌, IsSome, ◌++◌, ℕ, List, pos, IfOk, IfSome, Some, OnOk, OnErr, Ok, drop, length, true};
 ghost use Rattle.jiff_core.specs.Calendar.{IsBetween};
 ghost use Rattle.jiff_core.specs.Date.{epoch_day};
 ghost use Rattle.crew_time.specs.Instant.{IsInYears};

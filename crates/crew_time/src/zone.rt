@@ -1,6 +1,6 @@
 //! Zones, and their clocks.
 
-ghost use Rattle.std.specs.Prelude.{◌≡◌, ◌↔◌, IsTrue, IsOk, IsSome, IsUtf8, IfOk, IfErr, IfSome, Some, true, pos, ◌+ℤ◌, ◌/◌, ◌<◌, unsigned_abs};
+ghost use Rattle.std.specs.Prelude.{◌≡◌, ◌↔◌, IsOk, IsSome, IsUtf8, true, pos, ◌+ℤ◌, ◌/◌, ◌<◌, unsigned_abs};
 ghost use Rattle.std.specs.Int.{int_rem_euclid};
 ghost use Rattle.jiff_core.specs.Calendar.{IsBetween};
 ghost use Rattle.jiff_core.specs.Timestamp.{IsOffsetSeconds};
