@@ -1,14 +1,18 @@
 -- A time has one text.
-use Rattle.std.proofs.Common.{pos, ℤ, ◌≤ℤ◌, ◌<ℤ◌, Ok, Result, nat_le, rules, ◌≡◌, ◌<◌, ◌≤◌, ◌+◌, ◌-◌, ◌*◌, ◌/◌, ◌%◌, ℕ, List, [], ◌∷◌, Bool, true, false, Some, None, Option, length, get_or, refl, sym, ◌∙◌, ap, arith, ◌&&◌}
+use Rattle.std.proofs.Common.{pos, ℤ, ◌≤ℤ◌, Ok, Result, nat_le, rules, ◌≡◌, ◌≤◌, ◌++◌, drop, ◌+◌, ◌-◌, ◌*◌, ◌/◌, ◌%◌, ℕ, List, [], ◌∷◌, Bool, true, false, Some, None, Option, length, get_or, refl, sym, ◌∙◌, ap, arith, ◌&&◌}
 use Rattle.std.proofs.lemmas.Bool.Decides.{nat_tests}
+use Rattle.std.proofs.Math.Seq.{drop-append_seam}
 use Rattle.jiff_core.specs.Calendar.{IsCivilDate, day_count, days_from_civil, days_in_month, days_of_months, days_of_years}
 use Rattle.jiff_core.specs.declared.civil.date.Date.{Date}
 use Rattle.std.proofs.lemmas.Int.{by_lt_z}
-use Rattle.crew_time.proofs.CivilFacts.{day-after_year, day-before_year}
+use Rattle.crew_time.proofs.CivilFacts.{day-after_year, day-before_year, known-days}
+use Rattle.crew_time.specs.Instant.{IsInYears}
 use Rattle.jiff_core.proofs.DateLemmas.{epoch_day_injective}
 use Rattle.jiff_core.proofs.SignedLemmas.{signed_arith}
 use Rattle.crew_time.specs.Civil.{IsTextOf, is_civil, minutes_of, option_minute, parts_minute, text_minute, ◌>>=◌, form_of, has_marks, is_digit, two_of}
 use Rattle.crew_time.specs.declared.civil.Parts.{Parts}
+use Rattle.crew_time.specs.declared.fault.TimeFault.{TimeFault}
+use Rattle.std.specs.Prelude.{IfOk, OnOk, Err, is_ok, if◌then◌else◌}
 
 -- two digits are those of their number
 pub two_of-known : (a b n : ℕ) → two_of a b ≡ Some n → (a ≡ 48 + n / 10) × (b ≡ 48 + n % 10)
@@ -216,12 +220,53 @@ year-in p h s d =
       by_lt_z (pos 2_099) (pos p.year) (λ lt. absurd (omega (arith, signed_arith, day-after_year (date-of p h s) (pos 2_099) last lt, known-2000, d))) (λ ge. omega (arith, signed_arith)),
     )
 
+-- the days of the years 2000 to 2099
+days-in : (p : Parts) (h : is_civil p ≡ true) (s : p.year ≤ 9_999) → 2_000 ≤ p.year → p.year ≤ 2_099 → (pos 10_957 ≤ℤ days_from_civil (pos p.year) p.month p.day) × (days_from_civil (pos p.year) p.month p.day ≤ℤ pos 47_481)
+unfolding date-of
+days-in p h s low high =
+    let last : IsCivilDate (pos 1_999) 12 31 = search rules in
+    let below = day-before_year (date-of p h s) (pos 2_100) (omega (arith, signed_arith)) in
+    let above = day-after_year (date-of p h s) (pos 1_999) last (omega (arith, signed_arith)) in
+    (omega (arith, signed_arith, above, known-days), omega (arith, signed_arith, below, known-days))
+
 -- a text that is written of a minute of the years 2000 to 2099 reads as it
-pub write-read : (t : List ℕ) (m : ℤ) → IsTextOf m t → pos 15_778_080 ≤ℤ m → m ≤ℤ pos 68_374_079 → text_minute t ≡ Ok m
-write-read t m w low high =
+pub write-read : (t : List ℕ) (m : ℤ) → IsTextOf m t → IsInYears m → text_minute t ≡ Ok m
+write-read t m w years =
     let p = w.0 in
     let f = civil-facts p w.2 in
     let date = date-of p w.2 (form-year t p w.1) in
-    let bounds = year-in p w.2 (form-year t p w.1) (omega (arith, signed_arith, w.3)) in
+    let bounds = year-in p w.2 (form-year t p w.1) (omega (arith, signed_arith, w.3, years.from, years.to)) in
     let test : (nat_le 2_000 p.year && nat_le p.year 2_099) ≡ true = grind (arith, nat_tests) in
     rw (w.1, w.2, test) (ap (λ (z : ℤ). Ok z) w.3)
+
+-- a time that is an instant is of those years
+parts-years : (p : Parts) (m : ℤ) → p.year ≤ 9_999 → parts_minute p ≡ Ok m → IsInYears m
+parts-years p m s e = by (is_civil p) refl (nat_le 2_000 p.year && nat_le p.year 2_099) refl e
+  where
+    by : (a : Bool) → is_civil p ≡ a → (b : Bool) → (nat_le 2_000 p.year && nat_le p.year 2_099) ≡ b → parts_minute p ≡ Ok m → IsInYears m
+    by true h true r e =
+        let known = minute-known p m e in
+        let years : (2_000 ≤ p.year) × (p.year ≤ 2_099) = grind (arith, nat_tests) in
+        let f = civil-facts p h in
+        let days = days-in p h s years.0 years.1 in
+        record { from = omega (arith, signed_arith, known.1, days, f); to = omega (arith, signed_arith, known.1, days, f) }
+    by true h false r e = let k = rw (h, r) at e in cc
+    by false h b r e = let k = rw h at e in cc
+
+-- what is read is of those years
+pub read-years : (r : Result ℤ TimeFault) (p : Parts) → p.year ≤ 9_999 → r ≡ parts_minute p → IfOk r IsInYears
+read-years (Ok m) p s e = parts-years p m s (sym e)
+read-years (Err fault) p s e = tt
+
+-- the two laws, on what a vector holds before and after a text is appended
+pub reads-back : {E : Type 0} (r : Result (Unit {0}) E) (before after t : List ℕ) (m : ℤ) → after ≡ (if is_ok r then before ++ t else before) → IsTextOf m t
+    → OnOk r (IsInYears m → text_minute (drop (length before) after) ≡ Ok m)
+reads-back (Err e) before after t m h w = tt
+reads-back (Ok x) before after t m h w = λ years.
+    let same : drop (length before) after ≡ t = ap (drop (length before)) h ∙ drop-append_seam before t in
+    ap text_minute same ∙ write-read t m w years
+
+pub only-text : {E : Type 0} (r : Result (Unit {0}) E) (before after t : List ℕ) (m : ℤ) → after ≡ (if is_ok r then before ++ t else before) → IsTextOf m t
+    → OnOk r ((other : List ℕ) → text_minute other ≡ Ok m → after ≡ before ++ other)
+only-text (Err e) before after t m h w = tt
+only-text (Ok x) before after t m h w = λ other e. h ∙ ap (λ (u : List ℕ). before ++ u) (read-write other t m e w)

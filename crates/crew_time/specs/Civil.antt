@@ -3,8 +3,8 @@ use Rattle.std.specs.Prelude.{◌≡◌, ◌+◌, ◌-◌, ◌*◌, ◌/◌, ◌
 use Rattle.std.specs.Option.{option_and_then}
 use Rattle.jiff_core.specs.Calendar.{days_from_civil, days_in_month}
 use Rattle.crew_time.specs.declared.civil.Parts.{Parts}
-use Rattle.crew_time.specs.declared.civil.TimeFault.{TimeFault}
-use Rattle.crew_time.specs.declared.civil.TimeFault.TheVariants.{BadTimeText, NoSuchTime, YearRange}
+use Rattle.crew_time.specs.declared.fault.TimeFault.{TimeFault}
+use Rattle.crew_time.specs.declared.fault.TimeFault.TheVariants.{BadTimeText, NoSuchTime, YearRange}
 
 infixl 10 ◌>>=◌
 abbrev pub ◌>>=◌ : {A B : Type 0} → Option A → (A → Option B) → Option B

@@ -1,3 +1,4 @@
 pub mod Civil
+pub mod Faults
 pub mod Instant
 pub mod Zone

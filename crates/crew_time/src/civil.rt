@@ -1,24 +1,16 @@
-//! Why a text is refused, and the numbers that a text of a time writes.
+//! The numbers that a text of a time writes.
 
-/// Why a text of a time or a zone is refused.
-#[derive(Clone, Copy, Debug, PartialEq, Eq)]
-pub enum TimeFault {
-    /// Not of the form `YYYY-MM-DDTHH:MM`.
-    BadTimeText,
-    /// The calendar or the clock has no such time.
-    NoSuchTime,
-    /// Outside the years 2000 to 2099.
-    YearRange,
-    /// No rule of a zone.
-    BadZone,
-}
-
-/// The numbers of a text.
+/// The numbers of a text `YYYY-MM-DDTHH:MM`, before it is known that there is such a time.
 #[derive(Clone, Copy, Debug)]
 pub struct Parts {
+    /// From 0 to 9999.
     pub year: u16,
+    /// As written, from 0 to 99; a date has 1 to 12.
     pub month: u8,
+    /// As written, from 0 to 99; a date has 1 to 31 at most.
     pub day: u8,
+    /// As written, from 0 to 99; a clock has 0 to 23.
     pub hour: u8,
+    /// As written, from 0 to 99; a clock has 0 to 59.
     pub minute: u8,
 }

@@ -1,13 +1,14 @@
-//! Instants and clocks, in minutes.
+//! Instants and what clocks show, in whole minutes.
 
-ghost use Rattle.std.specs.Prelude.{◌≡◌, ◌<◌, ◌≤ℤ◌, ◌↔◌, ℕ, ℤ, pos, IsSome, IfSome};
-ghost use Rattle.std.specs.Ordering.{nat_cmp, int_cmp};
+ghost use Rattle.std.specs.Prelude.{◌≡◌, ◌<◌, ◌↔◌, ℕ, ℤ, IsSome, IfSome};
 
 use std::marker::Model;
 
-/// An instant: minutes since 1970-01-01T00:00 UTC, from 1999-12-31T00:00 to 2100-01-01T23:59.
+/// An instant: the number of minutes since 1970-01-01T00:00 UTC, from 15,776,640, which is
+/// 1999-12-31T00:00, to 68,375,519, which is 2100-01-01T23:59.
 ///
-/// A contract sees its number.
+/// A text names an instant of the years 2000 to 2099; the day on either side is for reports before
+/// a departure and releases after an arrival. A contract sees the number.
 #[derive(Clone, Copy, Debug, PartialEq, Eq, PartialOrd, Ord, Hash)]
 pub struct Minute {
     pub(crate) value: i64,
@@ -29,7 +30,7 @@ impl Model for Minute {
 impl Minute {
     ghost use Rattle.crew_time.specs.Instant.{IsInstant};
 
-    /// The instant of a number of minutes, if it is one of ours.
+    /// The instant of a number of minutes, and none where the number is out of range.
     pub fn new(value: i64) -> Option<Self>
         ensures valid { IsSome result ↔ IsInstant value }
         ensures value { IfSome result (λ minute. minute ≡ value) }
@@ -41,7 +42,7 @@ impl Minute {
         }
     }
 
-    /// The number of minutes.
+    /// The number of minutes since 1970-01-01T00:00 UTC.
     pub fn get(self) -> i64
         ensures value { result ≡ self }
         ensures range { IsInstant result }
@@ -50,42 +51,42 @@ impl Minute {
     }
 }
 
-/// What a clock shows: the minute of a day, from 0 to 1439.
+/// What a clock shows: the minute of the day, from 0 at 00:00 to 1,439 at 23:59.
 ///
-/// A contract sees its number.
+/// A contract sees the number.
 #[derive(Clone, Copy, Debug, PartialEq, Eq, PartialOrd, Ord, Hash)]
 pub struct ClockMinute {
-    pub(crate) value: u16,
+    pub(crate) of_day: u16,
 }
 
 impl Model for ClockMinute {
     ghost Value = { ℕ };
 
-    ghost view = { λ clock. clock.value };
+    ghost view = { λ clock. clock.of_day };
 
-    ghost invariant = { λ clock. clock.value < 1_440 };
+    ghost invariant = { λ clock. clock.of_day < 1_440 };
 
-    ghost inverse = { λ value. record { value = value } };
+    ghost inverse = { λ value. record { of_day = value } };
 }
 
 impl ClockMinute {
-    /// The minute of a day, if the day has it.
+    /// What a clock shows at that minute of a day, and none from 1,440 on.
     pub fn new(value: u16) -> Option<Self>
         ensures valid { IsSome result ↔ (value < 1_440) }
         ensures value { IfSome result (λ clock. clock ≡ value) }
     {
         if value < 1_440 {
-            Some(ClockMinute { value })
+            Some(ClockMinute { of_day: value })
         } else {
             None
         }
     }
 
-    /// The minute of the day.
+    /// The minute of the day, from 0 to 1,439.
     pub fn get(self) -> u16
         ensures value { result ≡ self }
         ensures range { result < 1_440 }
     {
-        self.value
+        self.of_day
     }
 }

@@ -1,7 +1,7 @@
 use Rattle.std.proofs.Common.{arith}
 use Rattle.jiff_core.proofs.SignedLemmas.{signed_casts}
 use Rattle.crew_time.proofs.CivilFacts.{year-known}
-use Rattle.crew_time.proofs.reading.year_of.Goals as goal
+use Rattle.crew_time.proofs.texts.year_of.Goals as goal
 
 pub overflow_cast-result : goal.overflow_cast-result
 overflow_cast-result c = let y = year-known c.args.date c.requires in grind (arith, signed_casts)

@@ -2,7 +2,7 @@ use Rattle.std.proofs.Common.{pos, arith, rules}
 use Rattle.jiff_core.specs.Calendar.{IsCivilDate}
 use Rattle.jiff_core.proofs.SignedLemmas.{signed_arith}
 use Rattle.crew_time.proofs.CivilFacts.{day-after_year, day-before_year, known-days}
-use Rattle.crew_time.proofs.reading.minute_of.Goals as goal
+use Rattle.crew_time.proofs.texts.minute_of.Goals as goal
 
 pub invariant_of-result : goal.invariant_of-result
 invariant_of-result c =

@@ -1,6 +1,6 @@
 use Rattle.std.proofs.Common.{◌≡◌, ◌+◌, ◌*◌, ◌/◌, ◌%◌, arith}
 use Rattle.crew_time.proofs.CivilFacts.{form_of-digits}
-use Rattle.crew_time.proofs.reading.text_of.Goals as goal
+use Rattle.crew_time.proofs.texts.text_of.Goals as goal
 
 pub returns : goal.returns
 returns c =

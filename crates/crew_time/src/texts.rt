@@ -1,12 +1,14 @@
 //! Texts of instants.
 
-ghost use Rattle.std.specs.Prelude.{◌≡◌, ◌<◌, ◌≤◌, ◌≤ℤ◌, ◌+◌, ◌*◌, ◌+ℤ◌, ◌*ℤ◌, ◌↔◌, IsSome, ◌++◌, ℕ, List, pos, IfSome, Some, OnOk, OnErr, length, true};
+ghost use Rattle.std.specs.Prelude.{◌≡◌, ◌<◌, ◌≤◌, ◌+◌, ◌*◌, ◌+ℤ◌, ◌*ℤ◌, ◌↔◌, IsSome, ◌++◌, ℕ, List, pos, IfOk, IfSome, Some, OnOk, OnErr, Ok, drop, length, true};
 ghost use Rattle.jiff_core.specs.Calendar.{IsBetween};
 ghost use Rattle.jiff_core.specs.Date.{epoch_day};
+ghost use Rattle.crew_time.specs.Instant.{IsInYears};
 ghost use Rattle.crew_time.specs.Civil as Spec;
 ghost use Rattle.crew_time.specs.Civil.{IsTextOf, form_of, is_date, parts_at, parts_minute, text_minute, two_of};
 
-use crate::civil::{Parts, TimeFault};
+use crate::civil::Parts;
+use crate::fault::TimeFault;
 use crate::instant::Minute;
 use jiff::civil;
 use jiff_core::civil::Date;
@@ -94,9 +96,14 @@ fn minute_of(parts: Parts) -> Result<Minute, TimeFault>
     })
 }
 
-/// Reads a time: `YYYY-MM-DDTHH:MM`, UTC.
+/// The instant of a text `YYYY-MM-DDTHH:MM`, a time in UTC of the years 2000 to 2099.
+///
+/// It is `BadTimeText` where the text has not this form, else `NoSuchTime` where the calendar has
+/// no such date or the clock no such time (a day ends at 23:59), else `YearRange` where the year
+/// is another. It takes no memory.
 pub fn read_minute(text: &[u8]) -> Result<Minute, TimeFault>
-    ensures { result ≡ text_minute text.now }
+    ensures value { result ≡ text_minute text.now }
+    ensures years { IfOk result IsInYears }
 {
     match parts(text) {
         None => Err(TimeFault::BadTimeText),
@@ -138,15 +145,27 @@ fn year_of(date: Date) -> u16
     date.year as u16
 }
 
-/// Appends the text of an instant.
-pub fn write_minute(out: &mut Vec<u8>, minute: Minute) -> Result<(), AllocError>
-    ensures ok { OnOk result ((text : List ℕ) × (out.new.items ≡ out.old.items ++ text) × IsTextOf minute text) }
-    ensures err { OnErr result (out.new.items ≡ out.old.items) }
+// The text of an instant.
+fn minute_text(minute: Minute) -> [u8; 16]
+    ensures { IsTextOf minute result }
 {
     let value = minute.value as u32;
     let Ok(date) = Date::from_unix_epoch_day((value / 1_440) as i64) else {
         unreachable!();
     };
-    let text = text_of(year_of(date), date.month, date.day, (value % 1_440) as u16);
-    out.extend_from_slice(&text)
+    text_of(year_of(date), date.month, date.day, (value % 1_440) as u16)
+}
+
+/// Appends the text of an instant, `YYYY-MM-DDTHH:MM` in UTC, to `out`.
+///
+/// It is an error where there is no memory for the sixteen bytes, and `out` is then unchanged.
+pub fn write_minute(out: &mut Vec<u8>, minute: Minute) -> Result<(), AllocError>
+    ensures ok { OnOk result ((text : List ℕ) × (out.new.items ≡ out.old.items ++ text) × IsTextOf minute text) }
+    // What is written of an instant of those years is read as it.
+    ensures reads_back { OnOk result (IsInYears minute → text_minute (drop (length out.old.items) out.new.items) ≡ Ok minute) }
+    // A text that is read as the instant is the one that is written.
+    ensures only_text { OnOk result ((text : List ℕ) → text_minute text ≡ Ok minute → out.new.items ≡ out.old.items ++ text) }
+    ensures err { OnErr result (out.new.items ≡ out.old.items) }
+{
+    out.extend_from_slice(&minute_text(minute))
 }

@@ -1,0 +1,10 @@
+use Rattle.crew_time.proofs.TextFacts.{only-text, reads-back}
+use Rattle.crew_time.proofs.texts.write_minute.Goals as goal
+
+pub returns-clause-reads_back : goal.returns-clause-reads_back
+returns-clause-reads_back c =
+    reads-back c.extend_from_slice.result c.args.out.now.items c.extend_from_slice.new.self.items c.minute_text.result c.args.minute c.extend_from_slice.ensures.items c.minute_text.ensures
+
+pub returns-clause-only_text : goal.returns-clause-only_text
+returns-clause-only_text c =
+    only-text c.extend_from_slice.result c.args.out.now.items c.extend_from_slice.new.self.items c.minute_text.result c.args.minute c.extend_from_slice.ensures.items c.minute_text.ensures
