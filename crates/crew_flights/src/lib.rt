@@ -8,10 +8,10 @@
 
 mod data;
 mod edit;
+mod entries;
 mod flight;
-mod fold;
 
 pub use data::Data;
 pub use edit::{Edit, Refusal, Verdict};
+pub use entries::{Entry, Folding, fold};
 pub use flight::{Code, Flight, FlightId};
-pub use fold::Entry;
