@@ -10,6 +10,7 @@ mod data;
 mod edit;
 mod entries;
 mod flight;
+pub mod laws;
 
 pub use data::Data;
 pub use edit::{Edit, Refusal, Verdict};
