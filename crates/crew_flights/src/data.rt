@@ -2,6 +2,7 @@
 
 ghost use Rattle.std.specs.Prelude.{◌≡◌, ℕ, ℤ, List, IfOk, OnOk, OnErr};
 ghost use Rattle.std.specs.FinMap as map;
+ghost use Rattle.std.specs.BTreeMap.{IsFromIterResult};
 ghost use Rattle.crew_flights.specs.Edits.{is_price, is_block, first_of};
 ghost use Rattle.std.specs.Map.Iter.{ShowsInOrder, deref, deref_pair};
 
@@ -108,10 +109,23 @@ impl Data {
         ensures { IfOk result (λ copied. copied ≡ self.now) }
     {
         Ok(Data {
-            flights: self.flights.clone()?,
-            bases: self.bases.clone()?,
+            flights: entries_again(alloc, &self.flights)?,
+            bases: entries_again(alloc, &self.bases)?,
         })
     }
+}
+
+// The same entries again.
+fn entries_again<K: Copy + Ord, V: Copy>(
+    alloc: Global,
+    entries: &BTreeMap<K, V>,
+) -> Result<BTreeMap<K, V>, AllocError>
+    ensures { IfOk result (IsFromIterResult K.cmp entries.now.entries) }
+{
+    entries
+        .iter()
+        .map(|(key, value)| (*key, *value))
+        .collect(alloc)
 }
 
 // A price of at most a billion points from zero.
