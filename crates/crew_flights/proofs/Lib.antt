@@ -1,2 +1,4 @@
+pub mod Kept
 pub mod Maps
+pub mod Numbers
 pub mod Soundness

@@ -1,8 +1,9 @@
 -- What a log of entries comes to. Each definition reads the earlier entries, the latest first.
-use Rattle.std.specs.Prelude.{◌∷◌, ◌+◌, ◌&&◌, ◌==◌, ℕ, Bool, cond, List, [], reverse}
-use Rattle.crew_flights.specs.Timetable.{Timetable, empty_timetable}
+use Rattle.std.specs.Prelude.{◌≡◌, ◌∷◌, ◌+◌, ◌<◌, ◌&&◌, ◌==◌, ℕ, Bool, cond, List, [], reverse, slice_index, refl}
+use Rattle.std.specs.Coded.{Coded, code_by, coded×, coded_ℕ, coded_list}
+use Rattle.crew_flights.specs.Timetable.{Timetable, empty_timetable, timetable_code}
 use Rattle.crew_flights.specs.Edits.{apply_of}
-use Rattle.crew_flights.specs.declared.fold.Entry.{Entry}
+use Rattle.crew_flights.specs.declared.entries.Entry.{Entry}
 use Rattle.crew_flights.specs.declared.edit.Refusal.TheVariants.{OutOfTurn}
 use Rattle.crew_flights.specs.declared.edit.Verdict.{Verdict}
 use Rattle.crew_flights.specs.declared.edit.Verdict.TheVariants.{Refused}
@@ -30,3 +31,20 @@ verdicts_after (e ∷ earlier) = verdict_after earlier e ∷ verdicts_after earl
 -- entries in place order, taken one after another from an empty timetable
 abbrev pub fold_of : List Entry → Timetable × List Verdict
 fold_of entries = (data_after (reverse entries), reverse (verdicts_after (reverse entries)))
+
+-- where a fold stands: the timetable, and how many entries of each seat were in turn
+pub record Standing : Type 0 where
+  pub timetable : Timetable
+  pub turns : List ℕ
+
+abbrev pub standing_code : Coded Standing
+standing_code = code_by (Timetable × List ℕ) (coded× timetable_code (coded_list coded_ℕ)) (λ s. (s.timetable, s.turns)) (λ p. record { timetable = p.0; turns = p.1 }) (λ _. refl)
+
+-- where the entries lead, the latest first
+pub record IsAfter (earlier : List Entry) (s : Standing) : Type 0 where
+  pub timetable : s.timetable ≡ data_after earlier
+  pub turns : (seat : ℕ) → seat < 256 → slice_index s.turns seat ≡ turns earlier seat
+
+-- the fold has taken these entries, in place order
+abbrev pub HasTaken : List Entry → Standing → Type 0
+HasTaken entries s = IsAfter (reverse entries) s

@@ -3,3 +3,4 @@ pub mod Edits
 pub mod Fold
 pub mod Refusals
 pub mod Timetable
+pub mod Turns

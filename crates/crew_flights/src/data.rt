@@ -2,6 +2,8 @@
 
 ghost use Rattle.std.specs.Prelude.{◌≡◌, ℕ, ℤ, List, IfOk, OnOk, OnErr};
 ghost use Rattle.std.specs.FinMap as map;
+ghost use Rattle.std.specs.BTreeMap.{IsFromIterResult};
+ghost use Rattle.crew_flights.specs.Edits.{is_price, is_block, first_of};
 ghost use Rattle.std.specs.Map.Iter.{ShowsInOrder, deref, deref_pair};
 
 use crate::edit::{Edit, Refusal, Verdict};
@@ -100,5 +102,185 @@ impl Data {
         ensures sound { IsSound self.now }
     {
         self.bases.iter()
+    }
+
+    /// The same timetable again.
+    pub fn copy(&self, alloc: Global) -> Result<Data, AllocError>
+        ensures { IfOk result (λ copied. copied ≡ self.now) }
+    {
+        Ok(Data {
+            flights: entries_again(alloc, &self.flights)?,
+            bases: entries_again(alloc, &self.bases)?,
+        })
+    }
+}
+
+// The same entries again.
+fn entries_again<K: Copy + Ord, V: Copy>(
+    alloc: Global,
+    entries: &BTreeMap<K, V>,
+) -> Result<BTreeMap<K, V>, AllocError>
+    ensures { IfOk result (IsFromIterResult K.cmp entries.now.entries) }
+{
+    entries
+        .iter()
+        .map(|(key, value)| (*key, *value))
+        .collect(alloc)
+}
+
+// A price of at most a billion points from zero.
+fn price_fits(price: i64) -> bool
+    ensures { result ≡ is_price price }
+{
+    (-1_000_000_000..=1_000_000_000).contains(&price)
+}
+
+// A flight of 1 to 1,440 minutes.
+fn times_fit(dep: Minute, arr: Minute) -> bool
+    ensures { result ≡ is_block dep arr }
+{
+    (1..=1_440).contains(&(arr.get() - dep.get()))
+}
+
+// The first refusal whose test holds.
+fn first_refusal(tests: &[(bool, Refusal)]) -> Option<Refusal>
+    ensures { result ≡ first_of tests.now }
+{
+    for &(applies, refusal) in tests {
+        if applies {
+            return Some(refusal);
+        }
+    }
+    None
+}
+
+impl Data {
+    ghost use Rattle.std.specs.Prelude.{None};
+    ghost use Rattle.crew_flights.specs.Timetable.{IsSound};
+    ghost use Rattle.crew_flights.specs.Edits.{refusal_of, changed, apply_of, with_base, with_flight, without_flight};
+
+    /// Applies an edit: the verdict is `Accepted`, or the first refusal that applies, and then
+    /// nothing changes. On want of memory nothing changes either.
+    pub fn apply(&mut self, edit: &Edit) -> Result<Verdict, AllocError>
+        ensures ok { IfOk result (λ verdict. (self.new, verdict) ≡ apply_of self.old edit.now) }
+        ensures err { OnErr result (self.new ≡ self.old) }
+    {
+        if let Some(refusal) = self.refusal(edit) {
+            return Ok(Verdict::Refused(refusal));
+        }
+        self.change(edit)?;
+        Ok(Verdict::Accepted)
+    }
+
+    // The first refusal that applies.
+    fn refusal(&self, edit: &Edit) -> Option<Refusal>
+        ensures first { result ≡ refusal_of self.now edit.now }
+        ensures sound { IsSound self.now }
+    {
+        match *edit {
+            Edit::AddBase { code, price } => first_refusal(&[
+                (self.base_price(code).is_some(), Refusal::BaseExists),
+                (!price_fits(price), Refusal::PriceRange),
+                (self.base_count() >= BASES, Refusal::TooManyBases),
+            ]),
+            Edit::BasePrice { code, price } => first_refusal(&[
+                (self.base_price(code).is_none(), Refusal::NoBase),
+                (!price_fits(price), Refusal::PriceRange),
+            ]),
+            Edit::AddFlight(flight) => first_refusal(&[
+                (self.flight(flight.id).is_some(), Refusal::FlightExists),
+                (!times_fit(flight.dep, flight.arr), Refusal::BadTimes),
+                (flight.from == flight.to, Refusal::SameAirport),
+                (!price_fits(flight.price), Refusal::PriceRange),
+                (self.flight_count() >= FLIGHTS, Refusal::TooManyFlights),
+            ]),
+            Edit::Cancel(id) => first_refusal(&[(self.flight(id).is_none(), Refusal::NoFlight)]),
+            Edit::Retime {
+                id,
+                from,
+                dep,
+                arr,
+                ..
+            } => {
+                let flight = self.flight(id);
+                first_refusal(&[
+                    (flight.is_none(), Refusal::NoFlight),
+                    (!times_fit(dep, arr), Refusal::BadTimes),
+                    (
+                        flight.is_some_and(|held| held.from != from),
+                        Refusal::WrongOrigin,
+                    ),
+                ])
+            }
+            Edit::Price { id, price } => first_refusal(&[
+                (self.flight(id).is_none(), Refusal::NoFlight),
+                (!price_fits(price), Refusal::PriceRange),
+            ]),
+        }
+    }
+
+    // Makes the change of an edit that no refusal meets.
+    fn change(&mut self, edit: &Edit) -> Result<(), AllocError>
+        requires { IsSound (changed self.old edit.now) }
+        ensures ok { OnOk result (self.new ≡ changed self.old edit.now) }
+        ensures err { OnErr result (self.new ≡ self.old) }
+    {
+        match *edit {
+            Edit::AddBase { code, price } | Edit::BasePrice { code, price } => {
+                self.put_base(code, price)
+            }
+            Edit::AddFlight(flight) => self.put_flight(flight.id, flight),
+            Edit::Cancel(id) => {
+                self.remove_flight(id);
+                Ok(())
+            }
+            Edit::Retime {
+                id,
+                dep,
+                arr,
+                report_clock,
+                ..
+            } => match self.flight(id) {
+                Some(flight) => self.put_flight(
+                    id,
+                    Flight {
+                        dep,
+                        arr,
+                        report_clock,
+                        ..flight
+                    },
+                ),
+                None => Ok(()),
+            },
+            Edit::Price { id, price } => match self.flight(id) {
+                Some(flight) => self.put_flight(id, Flight { price, ..flight }),
+                None => Ok(()),
+            },
+        }
+    }
+
+    fn put_base(&mut self, code: Code, price: i64) -> Result<(), AllocError>
+        requires { IsSound (with_base self.old code price) }
+        ensures ok { OnOk result (self.new ≡ with_base self.old code price) }
+        ensures err { OnErr result (self.new ≡ self.old) }
+    {
+        self.bases.insert(code, price)?;
+        Ok(())
+    }
+
+    fn put_flight(&mut self, id: FlightId, flight: Flight) -> Result<(), AllocError>
+        requires { IsSound (with_flight self.old id flight) }
+        ensures ok { OnOk result (self.new ≡ with_flight self.old id flight) }
+        ensures err { OnErr result (self.new ≡ self.old) }
+    {
+        self.flights.insert(id, flight)?;
+        Ok(())
+    }
+
+    fn remove_flight(&mut self, id: FlightId)
+        requires { IsSound (without_flight self.old id) }
+        ensures { self.new ≡ without_flight self.old id }
+    {
+        self.flights.remove(&id);
     }
 }

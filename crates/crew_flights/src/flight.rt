@@ -84,7 +84,7 @@ impl Ord for FlightId {
     ghost matches_eq = { λ a b. refl };
 
     fn cmp(&self, other: &FlightId) -> Ordering {
-        self.number.cmp(&other.number)
+        self.get().cmp(&other.get())
     }
 }
 
@@ -162,7 +162,7 @@ impl Ord for Code {
     ghost matches_eq = { λ a b. refl };
 
     fn cmp(&self, other: &Code) -> Ordering {
-        self.letters.cmp(&other.letters)
+        self.get().cmp(&other.get())
     }
 }
 

@@ -8,10 +8,14 @@
 
 mod data;
 mod edit;
+mod entries;
 mod flight;
-mod fold;
+pub mod laws;
 
 pub use data::Data;
 pub use edit::{Edit, Refusal, Verdict};
+pub use entries::{Entry, Folding, fold};
 pub use flight::{Code, Flight, FlightId};
-pub use fold::Entry;
+
+#[cfg(test)]
+mod tests;
