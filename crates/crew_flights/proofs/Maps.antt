@@ -26,7 +26,7 @@ module _ {K X : Type 0} (R : K → K → Ordering) where
   sorted_from [] h = tt
   sorted_from (e ∷ es) h = both _ _ (below_from e.0 es (sorted_head R e.0 (keys_of es) h)) (sorted_from es (sorted_tail R e.0 (keys_of es) h))
 
-  find_lookup : (q : K) (es : List (K × X)) → find R q es ≡ lookup (is_at (R q)) es
+  pub find_lookup : (q : K) (es : List (K × X)) → find R q es ≡ lookup (is_at (R q)) es
   find_lookup q [] = refl
   find_lookup q (e ∷ es) = ap (cond (eq_by_cmp R q e.0) (Some e.1)) (find_lookup q es)
 
