@@ -8,3 +8,4 @@ pub mod InList
 pub mod InOrder
 pub mod Legal
 pub mod Rising
+pub mod Timetables

@@ -6,7 +6,7 @@ ghost use Rattle.crew_flights.specs.Timetable.{IsFlight};
 ghost use Rattle.crew_rules.specs.Settings.{IsChecked};
 ghost use Rattle.crew_duty.specs.Legality.{AllConnect, duty_of, last_of, may_follow};
 ghost use Rattle.crew_duty.specs.Legality as Spec;
-ghost use Rattle.crew_duty.specs.Listing.{is_hopeless, listing, own, timed};
+ghost use Rattle.crew_duty.specs.Listing.{from_flight, is_hopeless, listing, own, timed};
 ghost use Rattle.crew_duty.specs.Members.{Each, Member};
 ghost use Rattle.crew_duty.specs.Plans.{AreFlights, AreNext, IsBeginning, StandAt, rows};
 
@@ -59,6 +59,7 @@ impl<T: Drop> From<AllocFailed<T>> for DutyFault {
 
 // What the search works with: the flights by number, and for each the places of those that may
 // follow it.
+#[derive(Drop)]
 pub(crate) struct Plan<'a> {
     pub(crate) settings: &'a Settings,
     pub(crate) flights: &'a [Flight],
@@ -112,7 +113,7 @@ fn cannot_begin(settings: &Settings, first: &TimedLeg, others: &[TimedLeg]) -> b
 }
 
 // The places of the flights that may follow each flight.
-fn next_places(
+pub(crate) fn next_places(
     alloc: Global,
     settings: &Settings,
     flights: &[Flight],
@@ -248,4 +249,36 @@ fn list(
         list(alloc, found, plan, first, &ridden, place)?;
     }
     Ok(())
+}
+
+// Lists the duties that begin with the flight at a place, flown and then deadheaded.
+pub(crate) fn list_flight(
+    alloc: Global,
+    found: &mut Vec<Duty>,
+    plan: &Plan<'_>,
+    place: usize,
+) -> Result<(), DutyFault>
+    requires checked { IsChecked plan.now.settings.now }
+    requires flights { AreFlights plan.now.flights.now }
+    requires next { AreNext plan.now.settings.now plan.now.flights.now plan.now.flights.now (rows plan.now.next.now) }
+    requires place { place < length plan.now.flights.now }
+    ensures ok { OnOk result ((flight : Flight) → slice_get plan.now.flights.now place ≡ Some flight
+        → found.new.items ≡ found.old.items ++ from_flight plan.now.settings.now plan.now.flights.now flight) }
+    ensures over { result ≡ Err DutyFault.TooManyDuties → (flight : Flight) → slice_get plan.now.flights.now place ≡ Some flight
+        → 200_000 < length found.old.items + length (from_flight plan.now.settings.now plan.now.flights.now flight) }
+{
+    let flown = first_leg(&plan.flights[place], false);
+    list(alloc, found, plan, &flown, &[], place)?;
+    let ridden = first_leg(&plan.flights[place], true);
+    list(alloc, found, plan, &ridden, &[], place)
+}
+
+// A flight as a leg.
+fn first_leg(flight: &Flight, deadhead: bool) -> TimedLeg
+    ensures { result ≡ timed deadhead flight.now }
+{
+    TimedLeg {
+        flight: *flight,
+        deadhead,
+    }
 }
