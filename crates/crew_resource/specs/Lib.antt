@@ -8,3 +8,6 @@ pub mod SumStages
 pub mod BothStages
 pub mod Count
 pub mod Uses
+pub mod Labels
+pub mod Events
+pub mod Paths
