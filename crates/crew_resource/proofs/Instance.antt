@@ -39,7 +39,7 @@ module _ (I V K : Type 0) (key : I → K) (known : List I) (may_start : I → Bo
   abbrev pub OneStep : (I → V → List K → Type 0) → I → V → List K → Type 0
   OneStep = Step I V (List K) one more opening extends (λ e d. Member (preds d) e)
 
-  starting : (b : Bool) (o : Option V) (v : V) → cond b o None ≡ Some v → (b ≡ true) × (o ≡ Some v)
+  pub starting : (b : Bool) (o : Option V) (v : V) → cond b o None ≡ Some v → (b ≡ true) × (o ≡ Some v)
   starting true o v e = (refl, e)
   starting false o v e = absurd (let q : ⊥ = (cc) in q)
 
@@ -105,7 +105,7 @@ module _ (I V K : Type 0) (key : I → K) (known : List I) (may_start : I → Bo
       let first = subst (Begins may_start) whole p.begins in
       (p.walk ∙ ap (map key) whole, ap (λ b. cond b (opens d) None) first ∙ (sym (laws.opening d) ∙ (ap value_of (sym whole) ∙ p.value)))
 
-  at_out : (d : I) (v : V) (w : List K) → At d v w → OneStep At d v w
+  pub at_out : (d : I) (v : V) (w : List K) → At d v w → OneStep At d v w
   at_out d v w p = ⊎_elim
       (λ is. inl (alone d v w p is))
       (λ s. let k = shorter d v w p s.0 s.1 s.2 in inr (k.e, k.u, map key (k.bs ++ k.e ∷ []), k.arc, k.path, k.extended, k.walk))
@@ -160,7 +160,7 @@ module _ (I V K : Type 0) (key : I → K) (known : List I) (may_start : I → Bo
         (λ cs f rest u e. s.4.clean cs f rest u e) }
 
   -- values tell lengths, and the order of walks respects one more item at lists of one length: so the rules hold
-  module _ (same_length : (xs ys : List I) (v : V) → value_of xs ≡ Some v → value_of ys ≡ Some v → length xs ≡ length ys)
+  module _ (same_length : (xs ys : List I) (x y : I) (v : V) → value_of (xs ++ x ∷ []) ≡ Some v → value_of (ys ++ y ∷ []) ≡ Some v → length (xs ++ x ∷ []) ≡ length (ys ++ y ∷ []))
       (grows : (xs ys : List K) (k : K) → length xs ≡ length ys → wle xs ys ≡ true → wle (xs ++ k ∷ []) (ys ++ k ∷ []) ≡ true) where
     walk_length : (e : I) (u : V) (y : List K) (p : At e u y) → length y ≡ length (p.before ++ e ∷ [])
     walk_length e u y p = ap length p.walk ∙ simp length-map
@@ -177,5 +177,5 @@ module _ (I V K : Type 0) (key : I → K) (known : List I) (may_start : I → Bo
       clean_at = λ d v w c. c.path;
       clean_undominated = clean_undominated;
       more_mono = λ e d u y z p q h.
-        grows y z (key d) (walk_length e u y p ∙ (same_length (p.before ++ e ∷ []) (q.before ++ e ∷ []) u p.value q.value ∙ sym (walk_length e u z q))) h;
+        grows y z (key d) (walk_length e u y p ∙ (same_length p.before q.before e e u p.value q.value ∙ sym (walk_length e u z q))) h;
     }

@@ -16,3 +16,6 @@ pub mod Snoc
 pub mod Instance
 pub mod SignedProducts
 pub mod ListOrder
+pub mod Values
+pub mod Bounded
+pub mod PooledFronts
