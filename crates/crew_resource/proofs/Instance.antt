@@ -17,7 +17,6 @@ module _ (I V K : Type 0) (key : I → K) (known : List I) (may_start : I → Bo
     (opens : I → Option V) (extends : V → I → I → Option V) (le : V → V → Bool) (value_of : List I → Option V)
     (order : IsOrder le) (laws : StepLaws opens extends le value_of)
     (wle : List K → List K → Bool) (walks : IsOrder wle) where
-
   abbrev pub one : I → List K
   one d = key d ∷ []
 
@@ -86,14 +85,19 @@ module _ (I V K : Type 0) (key : I → K) (known : List I) (may_start : I → Bo
       let val : option_and_then (λ t. extends t e d) (value_of (bs ++ e ∷ [])) ≡ Some v = sym (laws.extension bs e d) ∙ (ap value_of (sym whole) ∙ p.value) in
       let last : Member p.before e = subst (λ z. Member z e) (sym is) (Member-append_right bs (e ∷ []) e (inl refl)) in
       option_and_then_some {P = Shorter d v w p.before} (λ t. extends t e d) (value_of (bs ++ e ∷ [])) v val (λ u eu ex. record {
-        bs = bs; e = e; is = is; u = u;
+        bs = bs;
+        e = e;
+        is = is;
+        u = u;
         arc = Member-filter_in (λ e. may_follow e d) known e (p.are_known e last) link.1;
         path = record {
-          before = bs; walk = refl;
+          before = bs;
+          walk = refl;
           begins = Begins-short may_start bs e d (subst (Begins may_start) whole p.begins);
           linked = link.0;
           are_known = λ x m. p.are_known x (subst (λ z. Member z x) (sym is) (Member-append_left bs (e ∷ []) x m));
-          value = eu };
+          value = eu;
+        };
         same = refl;
         extended = ex;
         walk = p.walk ∙ (ap (map key) (ap (λ z. z ++ d ∷ []) is) ∙ map-append key (bs ++ e ∷ []) (d ∷ []));
@@ -115,11 +119,20 @@ module _ (I V K : Type 0) (key : I → K) (known : List I) (may_start : I → Bo
   clean_out d v w c = ⊎_elim
       (λ is. inl (alone d v w c.path is))
       (λ s.
-        let k = shorter d v w c.path s.0 s.1 s.2 in
-        inr (k.e, k.u, map key (k.bs ++ k.e ∷ []), k.arc,
-          record { path = k.path; clean = λ cs f rest t q. c.clean cs f (rest ++ d ∷ []) t
-            (sym (append_assoc cs (f ∷ rest) (d ∷ [])) ∙ ap (λ z. z ++ d ∷ []) (q ∙ (ap (λ z. z ++ k.e ∷ []) k.same ∙ sym k.is))) },
-          k.extended, k.walk))
+      let k = shorter d v w c.path s.0 s.1 s.2 in
+      inr (
+        k.e,
+        k.u,
+        map key (k.bs ++ k.e ∷ []),
+        k.arc,
+        record {
+          path = k.path;
+          clean = λ cs f rest t q. c.clean cs f (rest ++ d ∷ []) t
+              (sym (append_assoc cs (f ∷ rest) (d ∷ [])) ∙ ap (λ z. z ++ d ∷ []) (q ∙ (ap (λ z. z ++ k.e ∷ []) k.same ∙ sym k.is)));
+        },
+        k.extended,
+        k.walk,
+      ))
       (snoc_cases c.path.before)
 
   clean_undominated : (d : I) (v : V) (w : List K) → Clean d v w → Undominated le (At d) v
@@ -132,11 +145,11 @@ module _ (I V K : Type 0) (key : I → K) (known : List I) (may_start : I → Bo
       → (cs : List I) (f : I) (rest : List I) (u : V) → cs ++ f ∷ rest ≡ bs ++ d ∷ [] → value_of (cs ++ f ∷ []) ≡ Some u → P f u
   beginnings_more P bs d here there cs f rest u e val = ⊎_elim
       (λ is.
-        let q = same_snoc cs bs f d (ap (λ z. cs ++ f ∷ z) (sym is) ∙ e) in
-        subst (λ z. P z u) (sym q.1) (here u (ap value_of (ap (λ z. z ++ d ∷ []) (sym q.0) ∙ ap (λ z. cs ++ z ∷ []) (sym q.1)) ∙ val)))
+      let q = same_snoc cs bs f d (ap (λ z. cs ++ f ∷ z) (sym is) ∙ e) in
+      subst (λ z. P z u) (sym q.1) (here u (ap value_of (ap (λ z. z ++ d ∷ []) (sym q.0) ∙ ap (λ z. cs ++ z ∷ []) (sym q.1)) ∙ val)))
       (λ s.
-        let q = same_snoc (cs ++ f ∷ s.0) bs s.1 d (append_assoc cs (f ∷ s.0) (s.1 ∷ []) ∙ (ap (λ z. cs ++ f ∷ z) (sym s.2) ∙ e)) in
-        there cs f s.0 u q.0 val)
+      let q = same_snoc (cs ++ f ∷ s.0) bs s.1 d (append_assoc cs (f ∷ s.0) (s.1 ∷ []) ∙ (ap (λ z. cs ++ f ∷ z) (sym s.2) ∙ e)) in
+      there cs f s.0 u q.0 val)
       (snoc_cases rest)
 
   nothing : (cs : List I) (f : I) (rest : List I) → cs ++ f ∷ rest ≡ [] → ⊥
@@ -150,14 +163,20 @@ module _ (I V K : Type 0) (key : I → K) (known : List I) (may_start : I → Bo
   unfolding at_one at_more
   clean_in d v w (inl p) und =
       let path = at_one d v w p.0 p.1 in
-      record { path = path; clean = beginnings_more (λ f u. Undominated le (At f) u) path.before d
-        (λ u e. subst (Undominated le (At d)) (some_same v u (sym path.value ∙ e)) und)
-        (λ cs f rest u e. absurd (nothing cs f rest e)) }
+      record {
+        path = path;
+        clean = beginnings_more (λ f u. Undominated le (At f) u) path.before d
+            (λ u e. subst (Undominated le (At d)) (some_same v u (sym path.value ∙ e)) und)
+            (λ cs f rest u e. absurd (nothing cs f rest e));
+      }
   clean_in d v w (inr s) und =
       let path = at_more d s.0 s.1 v s.2 w s.3 s.4.path s.5 s.6 in
-      record { path = path; clean = beginnings_more (λ f u. Undominated le (At f) u) path.before d
-        (λ u e. subst (Undominated le (At d)) (some_same v u (sym path.value ∙ e)) und)
-        (λ cs f rest u e. s.4.clean cs f rest u e) }
+      record {
+        path = path;
+        clean = beginnings_more (λ f u. Undominated le (At f) u) path.before d
+            (λ u e. subst (Undominated le (At d)) (some_same v u (sym path.value ∙ e)) und)
+            (λ cs f rest u e. s.4.clean cs f rest u e);
+      }
 
   -- values tell lengths, and the order of walks respects one more item at lists of one length: so the rules hold
   module _ (same_length : (xs ys : List I) (x y : I) (v : V) → value_of (xs ++ x ∷ []) ≡ Some v → value_of (ys ++ y ∷ []) ≡ Some v → length (xs ++ x ∷ []) ≡ length (ys ++ y ∷ []))
@@ -177,5 +196,5 @@ module _ (I V K : Type 0) (key : I → K) (known : List I) (may_start : I → Bo
       clean_at = λ d v w c. c.path;
       clean_undominated = clean_undominated;
       more_mono = λ e d u y z p q h.
-        grows y z (key d) (walk_length e u y p ∙ (same_length p.before q.before e e u p.value q.value ∙ sym (walk_length e u z q))) h;
+          grows y z (key d) (walk_length e u y p ∙ (same_length p.before q.before e e u p.value q.value ∙ sym (walk_length e u z q))) h;
     }

@@ -9,7 +9,7 @@ use Rattle.std.proofs.lemmas.Cmp.{int_ranked}
 use Rattle.std.proofs.lemmas.List.{map-append}
 use Rattle.std.proofs.lemmas.List.Folds.{list_all-append}
 use Rattle.std.specs.declared.cmp.Ordering.TheVariants.{Equal}
-use Rattle.crew_resource.specs.Resource.{OrderLaws, StepLaws, GradesOrder}
+use Rattle.crew_resource.specs.Resource.{OrderLaws, StepLaws, GradesOrder, RespectsOrder}
 use Rattle.crew_resource.specs.Sum.{is_within, capped, rises, sum_of, capped_sum, beginnings}
 
 pub beginnings-push : {I : Type 0} (xs : List I) (y : I) → beginnings (xs ++ y ∷ []) ≡ beginnings xs ++ (xs ++ y ∷ []) ∷ []
@@ -103,3 +103,7 @@ sum_steps first next cap = record {
 -- one grade for all values
 pub no_grades : {V : Type 0} (below : V → V → Bool) → GradesOrder below (λ _. 0)
 no_grades below a b h = omega arith
+
+-- a sum is a cost
+pub int_respects : RespectsOrder int_le (λ z. z)
+int_respects a b h = grind (arith, ints)

@@ -1,5 +1,5 @@
 -- The stages of a sum.
-use Rattle.std.specs.Prelude.{◌≡◌, ℕ, suc, ◌+◌, ◌*◌, ◌^◌, ◌<◌, ◌≤◌, true, cond, Option, Some, None, ℤ, ◌+ℤ◌, ◌≤ℤ◌, int_le, FitsSigned}
+use Rattle.std.specs.Prelude.{◌≡◌, ℕ, suc, ◌+◌, ◌*◌, ◌^◌, ◌<◌, ◌≤◌, true, cond, Option, Some, None, ℤ, ◌+ℤ◌, ◌≤ℤ◌, int_le, FitsSigned, pos}
 use Rattle.std.specs.Int.{w64}
 use Rattle.std.specs.Ordering.{int_cmp}
 use Rattle.std.proofs.Common.{refl, sym, ◌∙◌, ap, subst, arith, ⊎_elim}
@@ -74,19 +74,19 @@ sum_arrived share n = LiesWithin (n * (2 * share))
 abbrev pub sum_ready : ℕ → ℕ → ℤ → Type 0
 sum_ready share n = LiesWithin (n * (2 * share) + share)
 
-added : (r s : ℕ) (a b : ℤ) → LiesWithin r a → LiesWithin s b → LiesWithin (r + s) (a +ℤ b)
-added r s a b p q =
-    let l = p.least in let m = p.most in let o = q.least in let n = q.most in
-    record { least = omega (arith, ints); most = omega (arith, ints) }
+-- nothing lies within any reach
+pub still : (reach : ℕ) → LiesWithin reach (pos 0)
+still reach = record { least = omega (arith, ints); most = omega (arith, ints) }
 
-fitting : (r : ℕ) (z : ℤ) → LiesWithin r z → r < 2 ^ 63 → FitsSigned w64 z
+-- a number within a reach of 63 bits fits
+pub fitting : (r : ℕ) (z : ℤ) → LiesWithin r z → r < 2 ^ 63 → FitsSigned w64 z
 fitting r z p h =
     let l = p.least in let m = p.most in
     grind (arith, ints)
 
-wider : (r s : ℕ) (z : ℤ) → r ≤ s → LiesWithin r z → LiesWithin s z
-wider r s z h p =
-    let l = p.least in let m = p.most in
+added : (r s : ℕ) (a b : ℤ) → LiesWithin r a → LiesWithin s b → LiesWithin (r + s) (a +ℤ b)
+added r s a b p q =
+    let l = p.least in let m = p.most in let o = q.least in let n = q.most in
     record { least = omega (arith, ints); most = omega (arith, ints) }
 
 pub sum_bounds : {I X G : Type 0} (is_sound : I → Type 0) (may_begin : G → Type 0) (may_follow : X → G → Type 0) (arrives : I → X) (leaves : I → G)

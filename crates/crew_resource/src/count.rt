@@ -64,7 +64,8 @@ impl<I> Resource for Count<I> {
 
     #[inline]
     fn extend(&self, value: &i64, _last: &I, _next: &I) -> Result<Option<i64>, AllocError> {
-        Ok(within(Some(i64::from(self.most)), *value + 1))
+        let longer = *value + 1;
+        Ok(within(Some(i64::from(self.most)), longer))
     }
 
     #[inline]
@@ -135,11 +136,12 @@ impl<P: Placed> Staged<P> for Count<P> {
         _arrival: &P::Arrival,
         _departure: &P::Departure,
     ) -> Result<i64, AllocError> {
-        Ok(*value)
+        self.copy(value)
     }
 
     #[inline]
     fn board(&self, value: &i64, _item: &P) -> Result<Option<i64>, AllocError> {
-        Ok(within(Some(i64::from(self.most)), *value + 1))
+        let aboard = *value + 1;
+        Ok(within(Some(i64::from(self.most)), aboard))
     }
 }

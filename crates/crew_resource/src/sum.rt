@@ -122,8 +122,8 @@ impl<A: Amount> Resource for Sum<A> {
         last: &A::Item,
         next: &A::Item,
     ) -> Result<Option<i64>, AllocError> {
-        let total = *value + self.amount.next(last, next);
-        Ok(within(self.amount.cap(), total))
+        let longer = *value + self.amount.next(last, next);
+        Ok(within(self.amount.cap(), longer))
     }
 
     #[inline]
@@ -192,7 +192,7 @@ impl<P: Placed, A: StagedAmount<P>> Staged<P> for Sum<A> {
 
     #[inline]
     fn board(&self, value: &i64, item: &P) -> Result<Option<i64>, AllocError> {
-        let total = *value + self.amount.own(item);
-        Ok(within(self.amount.cap(), total))
+        let aboard = *value + self.amount.own(item);
+        Ok(within(self.amount.cap(), aboard))
     }
 }
