@@ -1,12 +1,12 @@
 -- The value of a legal list lies within the bound for its number of items.
-use Rattle.std.proofs.Common.{◌≡◌, ℕ, zero, suc, ◌+◌, ◌<◌, Bool, true, cond, List, [], ◌∷◌, ◌++◌, length, Option, Some, None, ◌⊎◌, inl, inr, refl, sym, ◌∙◌, ap, subst, ⊎_elim, arith, length-append}
+use Rattle.std.proofs.Common.{◌≡◌, ℕ, zero, suc, ◌+◌, ◌<◌, Bool, true, List, [], ◌∷◌, length, Option, Some, sym, ◌∙◌, ap, subst, ⊎_elim, arith, length-append}
 use Rattle.crew_resource.specs.Labels.{Member}
 use Rattle.crew_resource.specs.Resource.{StepLaws}
 use Rattle.crew_resource.specs.Stages.{StagedLaws, BoundLaws}
 use Rattle.crew_resource.specs.Paths.{PathTo}
 use Rattle.crew_resource.proofs.Order.{IsOrder}
 use Rattle.crew_resource.proofs.Members.{Member-filter_out}
-use Rattle.crew_resource.proofs.Instance.{at_out, opening, starting}
+use Rattle.crew_resource.proofs.Instance.{at_out, starting}
 
 module _ (I V K : Type 0) (key : I → K) (known : List I) (may_start : I → Bool) (may_follow : I → I → Bool)
     (opens : I → Option V) (extends : V → I → I → Option V) (le : V → V → Bool) (value_of : List I → Option V)

@@ -7,7 +7,7 @@ use Rattle.std.specs.declared.cmp.Ordering.TheVariants.{Equal}
 use Rattle.std.proofs.lemmas.Cmp.{lists_total}
 use Rattle.std.proofs.lemmas.Int.{ints}
 use Rattle.crew_resource.specs.Labels.{Member, IsFront, IsLocal}
-use Rattle.crew_resource.specs.Events.{Network, WaitLaws, BoardLaws, Reflects, CountLaws, StageLaws, view, FromPools, Arriving}
+use Rattle.crew_resource.specs.Events.{Network, WaitLaws, BoardLaws, CountLaws, StageLaws, view, FromPools, Arriving}
 use Rattle.crew_resource.specs.Resource.{OrderLaws, StepLaws}
 use Rattle.crew_resource.specs.Stages.{StagedLaws, ShiftLaws, CountingLaws}
 use Rattle.crew_resource.specs.Paths.{PathTo, CleanPathTo}

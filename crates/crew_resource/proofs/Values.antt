@@ -1,13 +1,9 @@
 -- What a value says of its list: the number of its items, and a bound that each step keeps.
-use Rattle.std.proofs.Common.{◌≡◌, ℕ, zero, suc, ◌+◌, ◌<◌, ◌≤◌, Bool, true, List, [], ◌∷◌, ◌++◌, length, Option, Some, None, ℤ, pos, ◌+ℤ◌, refl, sym, ◌∙◌, ap, subst, ⊎_elim, arith, length-append}
-use Rattle.std.specs.Option.{option_and_then}
+use Rattle.std.proofs.Common.{◌≡◌, ℕ, zero, suc, ◌+◌, ◌<◌, Bool, List, [], ◌∷◌, ◌++◌, length, Option, Some, ℤ, pos, ◌+ℤ◌, sym, ◌∙◌, ap, ⊎_elim, arith, length-append}
 use Rattle.std.proofs.lemmas.Int.{ints}
-use Rattle.crew_resource.specs.Labels.{Member}
 use Rattle.crew_resource.specs.Resource.{OrderLaws, StepLaws}
-use Rattle.crew_resource.specs.Stages.{StagedLaws, CountingLaws, BoundLaws}
-use Rattle.crew_resource.specs.Paths.{PathTo}
+use Rattle.crew_resource.specs.Stages.{StagedLaws, CountingLaws}
 use Rattle.crew_resource.proofs.Order.{IsOrder}
-use Rattle.crew_resource.proofs.Members.{Member-filter_out}
 use Rattle.crew_resource.proofs.Pools.{and_then_out}
 use Rattle.crew_resource.proofs.Snoc.{snoc_cases, two_last}
 

@@ -1,5 +1,5 @@
 -- Walks over items, each of which may stand just before the next, with the value that a resource gives the whole list.
-use Rattle.std.specs.Prelude.{◌≡◌, ℕ, Bool, true, List, [], ◌∷◌, ◌++◌, map, Option, Some}
+use Rattle.std.specs.Prelude.{◌≡◌, Bool, true, List, [], ◌∷◌, ◌++◌, map, Option, Some}
 use Rattle.crew_resource.specs.Labels.{Member, Undominated}
 
 -- each item may stand just before the next one

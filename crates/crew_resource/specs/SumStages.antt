@@ -1,5 +1,5 @@
 -- The stages of a sum.
-use Rattle.std.specs.Prelude.{◌≡◌, ℕ, suc, ◌+◌, ◌*◌, ◌^◌, ◌<◌, ◌≤◌, true, cond, Option, Some, None, ℤ, ◌+ℤ◌, ◌≤ℤ◌, int_le, FitsSigned, pos}
+use Rattle.std.specs.Prelude.{◌≡◌, ℕ, suc, ◌+◌, ◌*◌, ◌^◌, ◌<◌, true, cond, Option, Some, None, ℤ, ◌+ℤ◌, ◌≤ℤ◌, int_le, FitsSigned, pos}
 use Rattle.std.specs.Int.{w64}
 use Rattle.std.specs.Ordering.{int_cmp}
 use Rattle.std.proofs.Common.{refl, sym, ◌∙◌, ap, subst, arith, ⊎_elim}
