@@ -1,6 +1,7 @@
 -- The flights of a sound timetable stand in order, each in its limits.
-use Rattle.std.proofs.Common.{◌≡◌, ℕ, List, [], ◌∷◌, Bool, true, false, cond, Option, Some, refl, sym, ap, ◌∙◌, inl, inr, ◌&&◌, map}
-use Rattle.std.specs.Prelude.{IsTrue}
+use Rattle.std.proofs.Common.{◌≡◌, ℕ, List, [], ◌∷◌, Bool, true, false, cond, Option, Some, refl, sym, ap, subst, ◌∙◌, inl, inr, ◌&&◌, ◌≤◌, arith, length, map}
+use Rattle.std.proofs.lemmas.List.{length-map}
+use lib.Dec.{T}
 use Rattle.std.specs.declared.cmp.Ordering.{Ordering}
 use Rattle.std.specs.declared.cmp.Ordering.TheVariants.{Less, Equal, Greater}
 use Rattle.std.specs.Ordering.{eq_by_cmp, is_lt, is_eq, nat_cmp, ordering_reverse}
@@ -31,7 +32,7 @@ is-less Less e = refl
 is-less Equal e = cc
 is-less Greater e = cc
 
-true-of : (b : Bool) → IsTrue b → b ≡ true
+true-of : (b : Bool) → T b → b ≡ true
 true-of true h = refl
 true-of false h = absurd h
 
@@ -67,9 +68,12 @@ values-each P (e ∷ es) h = (h e (inl refl), values-each P es (λ x m. h x (inr
 pub flights-of-timetable : (t : Timetable) → IsSound t → AreFlights (flights_of t)
 flights-of-timetable t sound =
     let es = fin.entries t.flights in
-    let sorted : is_sorted nat_cmp es ≡ true = true-of _ (fin.entries_sorted t.flights) in
+    let sorted : is_sorted nat_cmp es ≡ true = true-of (is_sorted nat_cmp es) (fin.entries_sorted t.flights) in
     let at : (e : ℕ × Flight) → Member es e → IsFlight e.0 e.1 = λ e m. sound.flights e.0 e.1 (fin.get-entries t.flights e.0 ∙ found es e sorted m) in
     record {
-      each = values-each (λ (f : Flight). IsFlight f.id f) es (λ e m. rw (at e m).own (at e m));
+      each = values-each (λ (f : Flight). IsFlight f.id f) es (λ e m. subst (λ (n : ℕ). IsFlight n e.1) (sym (at e m).own) (at e m));
       rising = values-rise es sorted (λ e m. (at e m).own)
     }
+
+pub flights-few : (t : Timetable) → IsSound t → length (flights_of t) ≤ 5_000
+flights-few t sound = omega (arith, sound.few_flights, fin.len-entries t.flights, length-map (λ (e : ℕ × Flight). e.1) (fin.entries t.flights))

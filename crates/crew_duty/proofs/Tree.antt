@@ -7,7 +7,7 @@ use Rattle.std.proofs.lemmas.Option.{get_or_from_slice_get}
 use Rattle.crew_flights.specs.declared.flight.Flight.{Flight}
 use Rattle.crew_rules.specs.declared.settings.Settings.{Settings}
 use Rattle.crew_duty.specs.Legality.{AllConnect, last_of, may_follow}
-use Rattle.crew_duty.specs.Listing.{below, is_hopeless, listing, own, timed}
+use Rattle.crew_duty.specs.Listing.{all_duties, below, from_flight, is_hopeless, listing, own, timed}
 use Rattle.crew_duty.specs.Members.{Each, Member}
 use Rattle.crew_duty.specs.Plans.{IsBeginning}
 use Rattle.crew_duty.specs.declared.leg.TimedLeg.{TimedLeg}
@@ -157,3 +157,40 @@ over-ridden s flights first others flown ridden gs i g start ow before between l
     omega (arith, h, fl, rd, room, ap length e, ap length b, ap length m, length-append before (listing (8 - length flown) s flights first flown), length-append ow (flat_map F gs),
     length-append (start ++ ow) (flat_map F (take i gs)), length-append start ow,
     length-append (listing (7 - length others) s flights first (others ++ timed false g ∷ [])) (listing (7 - length others) s flights first (others ++ timed true g ∷ [])))
+
+-- what stands at a place is in the list
+pub slice_get-Member : {X : Type 0} (xs : List X) (i : ℕ) (x : X) → slice_get xs i ≡ Some x → Member xs x
+slice_get-Member [] i x e = cc
+slice_get-Member (y ∷ xs) zero x e = inl (cc)
+slice_get-Member (y ∷ xs) (suc i) x e = inr (slice_get-Member xs i x e)
+
+pub slice_get-of : {X : Type 0} (xs : List X) (i : ℕ) → i < length xs → (x : X) × (slice_get xs i ≡ Some x)
+slice_get-of [] i h = absurd (omega arith)
+slice_get-of (x ∷ xs) zero h = (x, refl)
+slice_get-of (x ∷ xs) (suc i) h = slice_get-of xs i (omega arith)
+
+-- one first flight more
+pub first-more : (s : Settings) (flights : List Flight) (i : ℕ) (f : Flight) (before between after : List Duty) → slice_get flights i ≡ Some f
+    → before ≡ flat_map (from_flight s flights) (take i flights) → between ≡ before ++ listing 8 s flights (timed false f) [] → after ≡ between ++ listing 8 s flights (timed true f) []
+    → after ≡ flat_map (from_flight s flights) (take (i + 1) flights)
+first-more s flights i f before between after at b m a =
+    let F = from_flight s flights in
+    let within = slice_get-within flights i f at in
+    let item : get_or flights i f ≡ f = get_or_from_slice_get flights i f f at in
+    let grown : take (i + 1) flights ≡ take i flights ++ f ∷ [] = take_more flights i f within ∙ ap (λ (x : Flight). take i flights ++ x ∷ []) item in
+    let two : after ≡ before ++ F f = a ∙ rw m (append_assoc before _ _) in
+    two ∙ rw b (flat_map_more F [] (take i flights) f) ∙ ap (λ (t : List Flight). flat_map F t) (sym grown)
+
+pub first-over : (s : Settings) (flights : List Flight) (i : ℕ) (f : Flight) (before : List Duty) (n : ℕ) → slice_get flights i ≡ Some f
+    → before ≡ flat_map (from_flight s flights) (take i flights) → n < length before + length (listing 8 s flights (timed false f) []) → n < length (all_duties s flights)
+first-over s flights i f before n at b h =
+    let F = from_flight s flights in
+    omega (arith, h, ap length b, flat_map-room F flights i f at, length-append (listing 8 s flights (timed false f) []) (listing 8 s flights (timed true f) []))
+
+pub second-over : (s : Settings) (flights : List Flight) (i : ℕ) (f : Flight) (before between : List Duty) (n : ℕ) → slice_get flights i ≡ Some f
+    → before ≡ flat_map (from_flight s flights) (take i flights) → between ≡ before ++ listing 8 s flights (timed false f) []
+    → n < length between + length (listing 8 s flights (timed true f) []) → n < length (all_duties s flights)
+second-over s flights i f before between n at b m h =
+    let F = from_flight s flights in
+    omega (arith, h, ap length b, ap length m, length-append before (listing 8 s flights (timed false f) []), flat_map-room F flights i f at,
+    length-append (listing 8 s flights (timed false f) []) (listing 8 s flights (timed true f) []))

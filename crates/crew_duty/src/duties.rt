@@ -1,17 +1,18 @@
 //! All legal duties of a timetable.
 
 ghost use Rattle.std.specs.Prelude.{◌≡◌, ◌≤◌, ◌<◌, ◌+◌, ◌↔◌, ◌++◌, [], List, IsTrue, IfOk, OnOk, length};
+ghost use Rattle.crew_flights.specs.Timetable.{IsSound};
 ghost use Rattle.crew_rules.specs.Settings.{IsChecked};
-ghost use Rattle.crew_duty.specs.Duties.{AreDuties, HasTooMany};
+ghost use Rattle.crew_duty.specs.Duties.{AreDuties, HasTooMany, flights_of};
 ghost use Rattle.crew_duty.specs.Listing.{all_duties};
 ghost use Rattle.crew_duty.specs.Plans.{AreFlights, AreNext, rows};
 ghost use Rattle.crew_duty.specs.declared.duty.Duty.{Duty};
 
 use crate::duty::Duty;
-use crate::search::{DutyFault, Plan, list_flight, next_places};
+use crate::search::{DutyFault, Plan, list_first, next_places};
 use crew_flights::{Data, Flight};
 use crew_rules::Settings;
-use std::alloc::Global;
+use std::alloc::{AllocError, Global};
 use std::marker::Model;
 use std::thread::Threads;
 
@@ -52,6 +53,14 @@ impl Duties {
     }
 }
 
+// The flights of a timetable, by number.
+fn held_flights(alloc: Global, data: &Data) -> Result<Vec<Flight>, AllocError>
+    ensures held { IfOk result (λ flights. flights.items ≡ flights_of data.now) }
+    ensures sound { IsSound data.now }
+{
+    data.flights().copied().collect(alloc)
+}
+
 // All duties over these flights.
 fn list_all(
     alloc: Global,
@@ -72,14 +81,15 @@ fn list_all(
     };
     let mut found = Vec::new(alloc);
     for place in 0..flights.len() {
-        list_flight(alloc, &mut found, &plan, place)?;
+        list_first(alloc, &mut found, &plan, place, false)?;
+        list_first(alloc, &mut found, &plan, place, true)?;
     }
     Ok(found)
 }
 
 /// The legal duties of a timetable: exactly those, by key. `TooManyDuties` where there are more
 /// than 200,000, and `Memory` only where a growth was refused.
-pub fn duties<R: Threads + Sync>(
+pub fn list_duties<R: Threads + Sync>(
     _rt: &R,
     alloc: Global,
     settings: &Settings,
@@ -90,7 +100,7 @@ pub fn duties<R: Threads + Sync>(
     ensures few { IfOk result (λ duties. length duties ≤ 200_000) }
     ensures too_many { result ≡ Err DutyFault.TooManyDuties → HasTooMany settings.now data.now }
 {
-    let flights: Vec<Flight> = data.flights().copied().collect(alloc)?;
+    let flights = held_flights(alloc, data)?;
     let list = list_all(alloc, settings, &flights)?;
     Ok(Duties { list })
 }

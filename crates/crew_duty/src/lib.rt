@@ -9,7 +9,7 @@ mod key;
 mod leg;
 mod search;
 
-pub use duties::{Duties, duties};
+pub use duties::{Duties, list_duties};
 pub use duty::Duty;
 pub use key::{Key, Walk};
 pub use leg::{Leg, TimedLeg};

@@ -6,7 +6,7 @@ ghost use Rattle.crew_flights.specs.Timetable.{IsFlight};
 ghost use Rattle.crew_rules.specs.Settings.{IsChecked};
 ghost use Rattle.crew_duty.specs.Legality.{AllConnect, duty_of, last_of, may_follow};
 ghost use Rattle.crew_duty.specs.Legality as Spec;
-ghost use Rattle.crew_duty.specs.Listing.{from_flight, is_hopeless, listing, own, timed};
+ghost use Rattle.crew_duty.specs.Listing.{is_hopeless, listing, own, timed};
 ghost use Rattle.crew_duty.specs.Members.{Each, Member};
 ghost use Rattle.crew_duty.specs.Plans.{AreFlights, AreNext, IsBeginning, StandAt, rows};
 
@@ -176,6 +176,7 @@ fn list_own(
     requires sound { Each (λ l. IsFlight l.flight.id l.flight) (first.now ∷ others.now) }
     requires connected { AllConnect settings.now first.now others.now }
     ensures ok { OnOk result (found.new.items ≡ found.old.items ++ own settings.now first.now others.now) }
+    ensures few { OnOk result (length found.old.items ≤ 200_000 → length found.new.items ≤ 200_000) }
     ensures over { result ≡ Err DutyFault.TooManyDuties → 200_000 < length found.old.items + length (own settings.now first.now others.now) }
 {
     if last_leg(first, others).deadhead {
@@ -233,6 +234,7 @@ fn list(
     requires last { slice_get plan.now.flights.now last ≡ Some (last_of first.now others.now).flight }
     ensures ok { OnOk result (found.new.items ≡ found.old.items
         ++ listing (8 - length others.now) plan.now.settings.now plan.now.flights.now first.now others.now) }
+    ensures few { OnOk result (length found.old.items ≤ 200_000 → length found.new.items ≤ 200_000) }
     ensures over { result ≡ Err DutyFault.TooManyDuties
         → 200_000 < length found.old.items + length (listing (8 - length others.now) plan.now.settings.now plan.now.flights.now first.now others.now) }
 {
@@ -251,34 +253,27 @@ fn list(
     Ok(())
 }
 
-// Lists the duties that begin with the flight at a place, flown and then deadheaded.
-pub(crate) fn list_flight(
+// Lists the duties that begin with the flight at a place, flown or deadheaded.
+pub(crate) fn list_first(
     alloc: Global,
     found: &mut Vec<Duty>,
     plan: &Plan<'_>,
     place: usize,
+    deadhead: bool,
 ) -> Result<(), DutyFault>
     requires checked { IsChecked plan.now.settings.now }
     requires flights { AreFlights plan.now.flights.now }
     requires next { AreNext plan.now.settings.now plan.now.flights.now plan.now.flights.now (rows plan.now.next.now) }
     requires place { place < length plan.now.flights.now }
     ensures ok { OnOk result ((flight : Flight) → slice_get plan.now.flights.now place ≡ Some flight
-        → found.new.items ≡ found.old.items ++ from_flight plan.now.settings.now plan.now.flights.now flight) }
+        → found.new.items ≡ found.old.items ++ listing 8 plan.now.settings.now plan.now.flights.now (timed deadhead flight) []) }
+    ensures few { OnOk result (length found.old.items ≤ 200_000 → length found.new.items ≤ 200_000) }
     ensures over { result ≡ Err DutyFault.TooManyDuties → (flight : Flight) → slice_get plan.now.flights.now place ≡ Some flight
-        → 200_000 < length found.old.items + length (from_flight plan.now.settings.now plan.now.flights.now flight) }
+        → 200_000 < length found.old.items + length (listing 8 plan.now.settings.now plan.now.flights.now (timed deadhead flight) []) }
 {
-    let flown = first_leg(&plan.flights[place], false);
-    list(alloc, found, plan, &flown, &[], place)?;
-    let ridden = first_leg(&plan.flights[place], true);
-    list(alloc, found, plan, &ridden, &[], place)
-}
-
-// A flight as a leg.
-fn first_leg(flight: &Flight, deadhead: bool) -> TimedLeg
-    ensures { result ≡ timed deadhead flight.now }
-{
-    TimedLeg {
-        flight: *flight,
+    let first = TimedLeg {
+        flight: plan.flights[place],
         deadhead,
-    }
+    };
+    list(alloc, found, plan, &first, &[], place)
 }

@@ -99,7 +99,7 @@ returns-in_err-list-clause-over t c =
     let listed = listing-at s flights first others c.if-others-ge-LEGS.false (sym c.cannot_begin.ensures ∙ c.if-cannot_begin.false) in
     let p = err_from_is_err_and c.from_residual-in_err-list.result c.from_residual-in_err-list.ensures.1 in
     λ e. over-flown s flights first others c.deref.result.now gs i at.0 start (own s first others) before (listing (8 - length others) s flights first others) 200_000 at.1 flown listed
-    c.loop-place.invariant (c.in_err-list.ensures.over (cc))
+    c.loop-place.invariant.0 (c.in_err-list.ensures.over (cc))
 
 pub list-requires-in-loop-place : goal.list-requires-in-loop-place
 list-requires-in-loop-place t c =
@@ -139,7 +139,7 @@ returns-in_err-list-2-clause-over t c =
     let listed = listing-at s flights first others c.if-others-ge-LEGS.false (sym c.cannot_begin.ensures ∙ c.if-cannot_begin.false) in
     let p = err_from_is_err_and c.from_residual-in_err-list-2.result c.from_residual-in_err-list-2.ensures.1 in
     λ e. over-ridden s flights first others c.deref.result.now c.deref-in-loop-place.result.now gs i at.0 start (own s first others) before c.list.new.found.items
-    (listing (8 - length others) s flights first others) 200_000 at.1 flown ridden listed c.loop-place.invariant c.in_ok-list.ensures.ok (c.in_err-list-2.ensures.over (cc))
+    (listing (8 - length others) s flights first others) 200_000 at.1 flown ridden listed c.loop-place.invariant.0 c.in_ok-list.ensures.ok (c.in_err-list-2.ensures.over (cc))
 
 pub loop-place-preserved : goal.loop-place-preserved
 loop-place-preserved t c =
@@ -157,8 +157,8 @@ loop-place-preserved t c =
     let ridden : c.deref-in-loop-place.result.now ≡ others ++ timed true at.0 ∷ [] = c.deref-in-loop-place.ensures.value ∙ c.in_ok-ridden.ensures ∙ ap (λ (f : Flight). others ++ timed true f ∷ []) flight in
     let start = c.args.found.now.items in
     let before = c.loop-place.found.items in
-    below-more s flights first others c.deref.result.now c.deref-in-loop-place.result.now gs i at.0 (start ++ own s first others) before c.list.new.found.items
-    c.list-in-loop-place.new.found.items at.1 flown ridden c.loop-place.invariant c.in_ok-list.ensures.ok c.in_ok-list-2.ensures.ok
+    (below-more s flights first others c.deref.result.now c.deref-in-loop-place.result.now gs i at.0 (start ++ own s first others) before c.list.new.found.items
+    c.list-in-loop-place.new.found.items at.1 flown ridden c.loop-place.invariant.0 c.in_ok-list.ensures.ok c.in_ok-list-2.ensures.ok, λ h. c.in_ok-list-2.ensures.few (c.in_ok-list.ensures.few (c.loop-place.invariant.1 h)))
 
 pub returns-clause-ok : goal.returns-clause-ok
 returns-clause-ok t c =
@@ -172,5 +172,5 @@ returns-clause-ok t c =
     let long : length items ≡ length gs = StandAt-length flights items gs (c.places_of-place-items.ensures (last_of first others).flight c.requires.last) in
     let all : take c.loop-place.place-index gs ≡ gs = take_all c.loop-place.place-index gs (omega arith) in
     let F = below (7 - length others) s flights first others in
-    let done : c.loop-place.found.items ≡ (c.args.found.now.items ++ own s first others) ++ flat_map F gs = rw all at c.loop-place.invariant in
+    let done : c.loop-place.found.items ≡ (c.args.found.now.items ++ own s first others) ++ flat_map F gs = rw all at c.loop-place.invariant.0 in
     done ∙ append_assoc c.args.found.now.items (own s first others) (flat_map F gs) ∙ ap (λ (l : List Duty). c.args.found.now.items ++ l) (sym listed)
