@@ -76,4 +76,4 @@ flights-of-timetable t sound =
     }
 
 pub flights-few : (t : Timetable) → IsSound t → length (flights_of t) ≤ 5_000
-flights-few t sound = omega (arith, sound.few_flights, fin.len-entries t.flights, length-map {X = ℕ × Flight} {Y = Flight} (λ (e : ℕ × Flight). e.1) (fin.entries t.flights))
+flights-few t sound = omega (arith, sound.few_flights, fin.len-entries t.flights, length-map (fin.entries t.flights) (λ (e : ℕ × Flight). e.1))
