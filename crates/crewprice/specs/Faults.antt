@@ -1,8 +1,5 @@
 -- The statuses of the program, and the lines of its faults.
-use Rattle.std.specs.Prelude.{◌≡◌, ◌⊎◌, ℕ, List, [], ◌∷◌, ◌++◌, Option, Some, None, Result, Ok, Err, codes, decimal, option_map}
-use Rattle.clap.specs.declared.error.Error.{Error}
-use Rattle.clap.specs.declared.error.kind.ErrorKind.{ErrorKind}
-use Rattle.clap.specs.declared.error.kind.ErrorKind.TheVariants as kind
+use Rattle.std.specs.Prelude.{ℕ, List, [], ◌∷◌, ◌++◌, Option, Some, None, codes, decimal, option_map}
 use Rattle.crewprice.specs.declared.fault.Fault.{Fault}
 use Rattle.crewprice.specs.declared.fault.Fault.TheVariants.{Read, Write, Usage, Memory, Setting, Strange}
 
@@ -27,10 +24,3 @@ text_of Strange = Some (codes "strange log")
 -- the line of a fault
 abbrev pub line_of : Fault → Option (List ℕ)
 line_of fault = option_map (λ text. codes "crewprice: " ++ text ++ 10 ∷ []) (text_of fault)
-
--- what the parser's error comes to: help that was written, or a fault
-abbrev pub Answers : ErrorKind → Error → Result (Unit {0}) Fault → Type 0
-Answers kind.OutOfMemory error r = r ≡ Err Memory
-Answers kind.DisplayHelp error r = (r ≡ Ok tt) ⊎ (r ≡ Err Write)
-Answers kind.DisplayVersion error r = (r ≡ Ok tt) ⊎ (r ≡ Err Write)
-Answers other error r = r ≡ Err (Usage error)

@@ -16,6 +16,9 @@ use std::process::ExitCode;
 use std::rt::Env;
 use std::env;
 
+#[cfg(test)]
+mod tests;
+
 
 
 

@@ -1,11 +1,12 @@
 //! The whole run, over any reader and writers.
 
-ghost use Rattle.std.specs.Prelude.{◌≡◌, ◌≤◌, Err};
+ghost use Rattle.std.specs.Prelude.{◌≡◌, ◌≤◌, Result, ⊤};
+ghost use Rattle.std.specs.Io.KnownBytes.{Keeps};
 ghost use Rattle.clap.specs.Words.{kind_of};
+ghost use Rattle.clap.specs.declared.error.Error.{Error};
 ghost use Rattle.crew_rules.specs.Settings.{check_of};
-ghost use Rattle.crew_rules.specs.declared.settings.BadSetting.{BadSetting};
-ghost use Rattle.crewprice.specs.Faults.{Answers};
-ghost use Rattle.crewprice.specs.declared.fault.Fault.TheVariants.{Setting};
+ghost use Rattle.crewprice.specs.Program.{Answers, Ends, Outcome, Plays, status_after};
+ghost use Rattle.crewprice.specs.declared.options.Plan.{Plan as PlanOf};
 
 use crate::fault::Fault;
 use crate::options::{Plan, read_words};
@@ -25,7 +26,7 @@ fn show<W: Write>(help: &clap::Error, writer: &mut W) -> io::Result<()> {
 
 // Answers words that the parser doesn't take: with the help that they asked for, or a fault.
 fn answer<W: Write>(error: clap::Error, writer: &mut W) -> Result<(), Fault>
-    ensures { Answers (kind_of error) error result }
+    ensures { Answers (kind_of error) error (W.contents writer.old) (W.contents writer.new) result }
 {
     match error.kind() {
         ErrorKind::OutOfMemory => Err(Fault::Memory),
@@ -43,9 +44,9 @@ fn run_session<T: Threads + Sync, R: Read, W: Write>(
     _alloc: Global,
     settings: &Settings,
     _reader: &mut R,
-    _writer: &mut W,
+    writer: &mut W,
 ) -> Result<(), Fault>
-    ensures bad { (bad : BadSetting) → check_of settings.now ≡ Err bad → result ≡ Err (Setting bad) }
+    ensures { Plays (check_of settings.now) (W.contents writer.old) (W.contents writer.new) result }
 {
     if let Err(bad) = settings.check() {
         return Err(Fault::Setting(bad));
@@ -60,7 +61,9 @@ fn run_words<T: Threads + Sync, S: AsStr, R: Read, W: Write>(
     words: &[S],
     reader: &mut R,
     writer: &mut W,
-) -> Result<(), Fault> {
+) -> Result<(), Fault>
+    ensures { (read : Result PlanOf Error) × Ends read (W.contents writer.old) (W.contents writer.new) result }
+{
     match read_words(alloc, words) {
         Ok(Plan::Run { settings }) => run_session(rt, alloc, &settings, reader, writer),
         Err(error) => answer(error, writer),
@@ -78,7 +81,9 @@ pub fn command<T: Threads + Sync, S: AsStr, R: Read, W: Write, F: Write>(
     writer: &mut W,
     faults: &mut F,
 ) -> u8
-    ensures status { result ≤ 5 }
+    // For what the words were read as, the run comes to the outcome whose status this is.
+    ensures status { (read : Result PlanOf Error) × (r : Outcome) × Ends read (W.contents writer.old) (W.contents writer.new) r × (result ≡ status_after r) }
+    ensures most { result ≤ 5 }
 {
     match run_words(rt, alloc, words, reader, writer) {
         Ok(()) => 0,
