@@ -1,5 +1,5 @@
 -- Settings that pass each test are in their ranges.
-use Rattle.std.proofs.Common.{◌≡◌, ◌≤◌, ◌+◌, ℕ, List, [], ◌∷◌, Option, None, Some, Bool, true, false, refl, arith, cond, not, nat_lt, length}
+use Rattle.std.proofs.Common.{◌≡◌, ◌≤◌, ◌+◌, ℕ, List, [], ◌∷◌, None, Some, Bool, true, false, refl, arith, cond, not, nat_lt, length}
 use Rattle.std.specs.Prelude.{position}
 use Rattle.std.specs.List.{position_or_len}
 use Rattle.std.proofs.lemmas.Bool.Decides.{nat_tests}
@@ -50,5 +50,5 @@ checked s e =
       trip_rig = h.1.1.1.1.1.1.1.1.1.1.0.1;
       duty_min = h.1.1.1.1.1.1.1.1.1.1.1.0.1;
       guarantee = h.1.1.1.1.1.1.1.1.1.1.1.1.0.1;
-      deadheads = h.1.1.1.1.1.1.1.1.1.1.1.1.1.0.1
+      deadheads = h.1.1.1.1.1.1.1.1.1.1.1.1.1.0.1;
     }

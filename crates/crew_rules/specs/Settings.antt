@@ -1,5 +1,5 @@
 -- The settings of a session and their ranges.
-use Rattle.std.specs.Prelude.{◌≡◌, ℕ, ◌+◌, ◌≤◌, not, List, [], ◌∷◌, Option, Some, None, Result, Ok, Err, position}
+use Rattle.std.specs.Prelude.{ℕ, ◌+◌, ◌≤◌, not, List, [], ◌∷◌, Option, Some, None, Result, Ok, Err, position}
 use Rattle.crew_rules.specs.Range.{is_in_range}
 use Rattle.crew_rules.specs.declared.settings.Settings.{Settings}
 use Rattle.crew_rules.specs.declared.settings.BadSetting.{BadSetting}
@@ -58,6 +58,18 @@ pub record IsChecked (s : Settings) : Type 0 where
 -- the defaults
 abbrev pub standard : Settings
 standard = record {
-  lead = 60; debrief = 30; connect = 30; sit = 240; max_rest = 1_800; max_duties = 4; fdp_cap = 3_600; fly_cap = 6_000; away_cap = 8_280;
-  duty_rig = 7; trip_rig = 4; duty_min = 2_520; guarantee = 4_200; deadheads = 0
+  lead = 60;
+  debrief = 30;
+  connect = 30;
+  sit = 240;
+  max_rest = 1_800;
+  max_duties = 4;
+  fdp_cap = 3_600;
+  fly_cap = 6_000;
+  away_cap = 8_280;
+  duty_rig = 7;
+  trip_rig = 4;
+  duty_min = 2_520;
+  guarantee = 4_200;
+  deadheads = 0;
 }

@@ -14,3 +14,5 @@ pub use pay::{duty_pay, pairing_pay};
 pub use settings::{BadSetting, Settings};
 pub use tables::{table_a, table_b};
 
+#[cfg(test)]
+mod tests;

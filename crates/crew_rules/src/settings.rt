@@ -1,6 +1,6 @@
 //! What a session may set.
 
-ghost use Rattle.std.specs.Prelude.{◌≡◌, ◌↔◌, ◌<◌, IfSome, IsOk, length, not, position};
+ghost use Rattle.std.specs.Prelude.{◌≡◌, ◌↔◌, ◌<◌, ◌++◌, IfSome, IsOk, Some, codes, decimal, length, not, position};
 ghost use Rattle.crew_rules.specs.Range.{is_in_range};
 
 use std::error::Error;
@@ -55,6 +55,8 @@ impl BadSetting {
 }
 
 impl fmt::Display for BadSetting {
+    ghost output = { λ bad. Some (codes "bad setting " ++ decimal bad.field) };
+
     fn fmt<W: fmt::Write>(&self, f: &mut fmt::Formatter<W>) -> fmt::Result {
         let field = self.field;
         write!(f, "bad setting {field}")

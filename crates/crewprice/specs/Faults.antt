@@ -1,0 +1,26 @@
+-- The statuses of the program, and the lines of its faults.
+use Rattle.std.specs.Prelude.{ℕ, List, [], ◌∷◌, ◌++◌, Option, Some, None, codes, decimal, option_map}
+use Rattle.crewprice.specs.declared.fault.Fault.{Fault}
+use Rattle.crewprice.specs.declared.fault.Fault.TheVariants.{Read, Write, Usage, Memory, Setting, Strange}
+
+-- the status with which the program ends
+abbrev pub status_of : Fault → ℕ
+status_of Read = 1
+status_of Write = 1
+status_of (Usage error) = 2
+status_of Memory = 3
+status_of (Setting bad) = 4
+status_of Strange = 5
+
+-- what a fault is called; the text of a fault in the words is the parser's own
+abbrev pub text_of : Fault → Option (List ℕ)
+text_of Read = Some (codes "read fault")
+text_of Write = Some (codes "write fault")
+text_of (Usage error) = None
+text_of Memory = Some (codes "out of memory")
+text_of (Setting bad) = Some (codes "bad setting " ++ decimal bad.field)
+text_of Strange = Some (codes "strange log")
+
+-- the line of a fault
+abbrev pub line_of : Fault → Option (List ℕ)
+line_of fault = option_map (λ text. codes "crewprice: " ++ text ++ 10 ∷ []) (text_of fault)

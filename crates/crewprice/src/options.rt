@@ -1,0 +1,167 @@
+//! What the words of the command line ask for.
+
+ghost use Rattle.clap.specs.Words.{found_of, one_text};
+ghost use Rattle.crew_rules.specs.Settings.{standard};
+ghost use Rattle.crewprice.specs.Options.{AreSettings, IsNumber};
+
+use clap::{Arg, ArgAction, ArgMatches, Command, Error};
+use crew_rules::Settings;
+use std::alloc::Global;
+use std::convert::AsStr;
+
+/// What the program is to do.
+#[derive(Clone, Copy, Debug, PartialEq, Eq)]
+pub enum Plan {
+    /// A session from the standard input, under these settings.
+    Run { settings: Settings },
+}
+
+// An option of a setting: its name, what its number counts, and what it stands for.
+struct SettingOption {
+    name: &'static str,
+    unit: &'static str,
+    help: &'static str,
+}
+
+// The settings in the order of their numbers.
+static OPTIONS: [SettingOption; 14] = [
+    SettingOption {
+        name: "lead",
+        unit: "MINUTES",
+        help: "Time from report to the first departure of a duty: 0 to 240 minutes, 60 unless given. A flight duty period begins at report (14 CFR 117.3)",
+    },
+    SettingOption {
+        name: "debrief",
+        unit: "MINUTES",
+        help: "Time from the last arrival of a duty to release: 0 to 240 minutes, 30 unless given. Rest begins at release (14 CFR 117.25)",
+    },
+    SettingOption {
+        name: "connect",
+        unit: "MINUTES",
+        help: "Least time on the ground between two legs of a duty: 0 to 240 minutes, 30 unless given",
+    },
+    SettingOption {
+        name: "sit",
+        unit: "MINUTES",
+        help: "Most time on the ground between two legs of a duty: from the least time to 1440 minutes, 240 unless given. All of it counts toward the flight duty period, which Table B limits by start and legs (14 CFR 117.13)",
+    },
+    SettingOption {
+        name: "max-rest",
+        unit: "MINUTES",
+        help: "Longest rest between two duties: 600 to 8280 minutes, 1800 unless given. The shortest is always 600, ten hours from release to report (14 CFR 117.25(e))",
+    },
+    SettingOption {
+        name: "max-duties",
+        unit: "DUTIES",
+        help: "Most duties in a pairing: 1 to 12, 4 unless given",
+    },
+    SettingOption {
+        name: "fdp-cap",
+        unit: "MINUTES",
+        help: "Most flight duty time in a pairing: 1 to 3600 minutes, 3600 unless given, the 60 hours of any 168 (14 CFR 117.23(c))",
+    },
+    SettingOption {
+        name: "fly-cap",
+        unit: "MINUTES",
+        help: "Most flight time in a pairing: 1 to 6000 minutes, 6000 unless given, the 100 hours of any 672 (14 CFR 117.23(b)). Table A limits it in each duty by the time of report (14 CFR 117.11)",
+    },
+    SettingOption {
+        name: "away-cap",
+        unit: "MINUTES",
+        help: "Most time from the first report of a pairing to its last release: 1 to 8280 minutes, 8280 unless given, the 168 hours of a week less the 30 free of duty before it (14 CFR 117.25(b))",
+    },
+    SettingOption {
+        name: "duty-rig",
+        unit: "POINTS",
+        help: "Pay for each minute from report to release of a duty: 0 to 14 points, 7 unless given. 14 points are a paid minute, and a minute of flight pays 14",
+    },
+    SettingOption {
+        name: "trip-rig",
+        unit: "POINTS",
+        help: "Pay for each minute away on a pairing: 0 to 14 points, 4 unless given",
+    },
+    SettingOption {
+        name: "duty-min",
+        unit: "POINTS",
+        help: "Least pay of a duty: 0 to 20000 points, 2520 unless given, which are three hours",
+    },
+    SettingOption {
+        name: "guarantee",
+        unit: "POINTS",
+        help: "Least pay of a pairing for each of its duties: 0 to 20000 points, 4200 unless given, which are five hours",
+    },
+    SettingOption {
+        name: "deadheads",
+        unit: "LEGS",
+        help: "Most legs of a duty on which the crew rides as passengers: 0 or 1, 0 unless given. Such a leg is duty but not rest, and no flight time (14 CFR 117.3)",
+    },
+];
+
+// An option of a setting: a whole number from 0 to 1,000,000.
+fn arg_of<'a>(alloc: Global, option: &SettingOption) -> Arg<'a> {
+    Arg::new(alloc, option.name)
+        .long(option.name)
+        .value_name(option.unit)
+        .help(option.help)
+        .action(ArgAction::Set)
+        .value_parser(clap::value_parser!(u32).range(0..=1_000_000))
+}
+
+// The subcommand `run`, with each setting as an option.
+fn run_command<'a>(alloc: Global) -> Result<Command<'a>, Error> {
+    let mut command = Command::new(alloc, "run")
+        .about("Prices a session: reads records on standard input, one a line, and writes to standard output");
+    for option in OPTIONS.iter() {
+        command = command.arg(arg_of(alloc, option))?;
+    }
+    Ok(command)
+}
+
+// The whole command line.
+fn program<'a>(alloc: Global) -> Result<Command<'a>, Error> {
+    Ok(Command::new(alloc, "crewprice")
+        .about("Finds the legal crew pairing of least reduced cost, again after each change of flights and prices")
+        .subcommand_required(true)
+        .disable_help_subcommand(true)
+        .subcommand(run_command(alloc)?)?)
+}
+
+// The number of an option, or its default where it isn't given.
+fn number_of(found: &ArgMatches<'_>, name: &str, default: u32) -> u32
+    ensures { IsNumber (one_text (found_of found.now) name.now) default result }
+{
+    found.get_one::<u32>(name).unwrap_or(default)
+}
+
+// The settings that were given, over the defaults.
+fn settings_of(found: &ArgMatches<'_>) -> Settings
+    ensures { AreSettings (found_of found.now) result }
+{
+    let standard = Settings::standard();
+    Settings {
+        lead: number_of(found, "lead", standard.lead),
+        debrief: number_of(found, "debrief", standard.debrief),
+        connect: number_of(found, "connect", standard.connect),
+        sit: number_of(found, "sit", standard.sit),
+        max_rest: number_of(found, "max-rest", standard.max_rest),
+        max_duties: number_of(found, "max-duties", standard.max_duties),
+        fdp_cap: number_of(found, "fdp-cap", standard.fdp_cap),
+        fly_cap: number_of(found, "fly-cap", standard.fly_cap),
+        away_cap: number_of(found, "away-cap", standard.away_cap),
+        duty_rig: number_of(found, "duty-rig", standard.duty_rig),
+        trip_rig: number_of(found, "trip-rig", standard.trip_rig),
+        duty_min: number_of(found, "duty-min", standard.duty_min),
+        guarantee: number_of(found, "guarantee", standard.guarantee),
+        deadheads: number_of(found, "deadheads", standard.deadheads),
+    }
+}
+
+/// What these words ask for; the first is the program's own name.
+pub fn read_words<S: AsStr>(alloc: Global, words: &[S]) -> Result<Plan, Error> {
+    let matches = program(alloc)?.try_get_matches_from(words)?;
+    let settings = match matches.subcommand() {
+        Some((_, found)) => settings_of(found),
+        None => Settings::standard(),
+    };
+    Ok(Plan::Run { settings })
+}

@@ -1,0 +1,99 @@
+use crate::program::command;
+use std::test::Fail;
+
+// What a run came to: its status, and what it wrote.
+#[derive(Drop)]
+struct Ended {
+    status: u8,
+    written: Vec<u8>,
+    faults: Vec<u8>,
+}
+
+fn run(rt: &HostRuntime, words: &[&str], input: &[u8]) -> Ended {
+    let mut reader = input;
+    let mut written = Vec::new(rt.alloc());
+    let mut faults = Vec::new(rt.alloc());
+    let status = command(
+        rt,
+        rt.alloc(),
+        words,
+        &mut reader,
+        &mut written,
+        &mut faults,
+    );
+    Ended {
+        status,
+        written,
+        faults,
+    }
+}
+
+#[test]
+fn faults_in_the_words(rt: HostRuntime) {
+    let cases: [&[&str]; 12] = [
+        &["crewprice"],
+        &["crewprice", "help"],
+        &["crewprice", "replay"],
+        &["crewprice", "walk"],
+        &["crewprice", "--sit", "20"],
+        &["crewprice", "run", "--lead", "1000001"],
+        &["crewprice", "run", "--lead", "-1"],
+        &["crewprice", "run", "--lead", "1h"],
+        &["crewprice", "run", "--lead"],
+        &["crewprice", "run", "--lead", "1", "--lead", "2"],
+        &["crewprice", "run", "--workers", "1"],
+        &["crewprice", "run", "now"],
+    ];
+    for words in cases {
+        let ended = run(&rt, words, b"settle\n");
+        assert_eq!(rt; ended.status, 2, "{words:?}");
+        assert!(rt; ended.written.is_empty());
+        assert!(rt; !ended.faults.is_empty());
+    }
+}
+
+#[test]
+fn help_goes_to_the_writer(rt: HostRuntime) -> Result<(), Fail> {
+    let cases: [&[&str]; 3] = [
+        &["crewprice", "--help"],
+        &["crewprice", "run", "--help"],
+        &["crewprice", "run", "-h"],
+    ];
+    for words in cases {
+        let ended = run(&rt, words, b"settle\n");
+        assert_eq!(rt; ended.status, 0, "{words:?}");
+        assert!(rt; ended.faults.is_empty());
+        assert!(rt; !ended.written.is_empty());
+        println!(rt; "{}", std::str::from_utf8(ended.written.as_slice())?)?;
+    }
+    Ok(())
+}
+
+// Each option goes to the setting of its name: a value past its range is told by that number.
+#[test]
+fn settings_out_of_their_ranges(rt: HostRuntime) {
+    let cases: [(&str, &str, &[u8]); 16] = [
+        ("--lead", "241", b"crewprice: bad setting 1\n"),
+        ("--debrief", "241", b"crewprice: bad setting 2\n"),
+        ("--connect", "1000000", b"crewprice: bad setting 3\n"),
+        ("--sit", "20", b"crewprice: bad setting 4\n"),
+        ("--sit", "1441", b"crewprice: bad setting 4\n"),
+        ("--max-rest", "599", b"crewprice: bad setting 5\n"),
+        ("--max-duties", "0", b"crewprice: bad setting 6\n"),
+        ("--fdp-cap", "3601", b"crewprice: bad setting 7\n"),
+        ("--fly-cap", "6001", b"crewprice: bad setting 8\n"),
+        ("--away-cap", "8281", b"crewprice: bad setting 9\n"),
+        ("--duty-rig", "15", b"crewprice: bad setting 10\n"),
+        ("--trip-rig", "15", b"crewprice: bad setting 11\n"),
+        ("--duty-min", "20001", b"crewprice: bad setting 12\n"),
+        ("--guarantee", "20001", b"crewprice: bad setting 13\n"),
+        ("--deadheads", "2", b"crewprice: bad setting 14\n"),
+        ("--sit", "29", b"crewprice: bad setting 4\n"),
+    ];
+    for (name, value, line) in cases {
+        let ended = run(&rt, &["crewprice", "run", name, value], b"settle\nbest\n");
+        assert_eq!(rt; ended.status, 4, "{name}");
+        assert_eq!(rt; ended.faults.as_slice(), line, "{name}");
+        assert!(rt; ended.written.is_empty());
+    }
+}
