@@ -1,0 +1,2 @@
+pub mod NumberFacts
+pub mod RowFacts
