@@ -2,3 +2,10 @@ pub mod Sums
 pub mod Places
 pub mod Times
 pub mod Tree
+pub mod Complete
+pub mod Falling
+pub mod InList
+pub mod InOrder
+pub mod Legal
+pub mod Rising
+pub mod Timetables

@@ -1,18 +1,17 @@
 -- One step of the tree of duties.
-use Rattle.std.proofs.Common.{◌≡◌, ◌≤◌, ◌<◌, ◌+◌, ◌-◌, ℕ, zero, suc, List, [], ◌∷◌, ◌++◌, Option, Some, None, Bool, true, false, cond, length, refl, sym, ap, ◌∙◌, arith, take, get_or, filter, add-one, length-append, append_assoc, inl, inr, if◌then◌else◌}
+use Rattle.std.proofs.Common.{◌≡◌, ◌≤◌, ◌<◌, ◌+◌, ◌-◌, ℕ, zero, suc, List, [], ◌∷◌, ◌++◌, Some, Bool, true, false, cond, length, refl, sym, ap, ◌∙◌, arith, take, get_or, filter, length-append, append_assoc, inl, inr, if◌then◌else◌}
 use Rattle.std.specs.Prelude.{slice_get}
 use Rattle.std.specs.List.{flat_map}
-use Rattle.std.proofs.lemmas.List.{append-nil, flat_map_more, take_more}
+use Rattle.std.proofs.lemmas.List.{flat_map_more, take_more}
 use Rattle.std.proofs.lemmas.Option.{get_or_from_slice_get}
 use Rattle.crew_flights.specs.declared.flight.Flight.{Flight}
 use Rattle.crew_rules.specs.declared.settings.Settings.{Settings}
 use Rattle.crew_duty.specs.Legality.{AllConnect, last_of, may_follow}
-use Rattle.crew_duty.specs.Listing.{below, is_hopeless, listing, own, timed}
+use Rattle.crew_duty.specs.Listing.{all_duties, below, from_flight, is_hopeless, listing, own, timed}
 use Rattle.crew_duty.specs.Members.{Each, Member}
 use Rattle.crew_duty.specs.Plans.{IsBeginning}
 use Rattle.crew_duty.specs.declared.leg.TimedLeg.{TimedLeg}
 use Rattle.crew_duty.specs.declared.duty.Duty.{Duty}
-use Rattle.crew_duty.proofs.Sums.{last_of-push}
 
 -- no room, or no hope: nothing is listed
 pub listing-none : (s : Settings) (flights : List Flight) (first : TimedLeg) (others : List TimedLeg) → listing 0 s flights first others ≡ []
@@ -76,7 +75,7 @@ pub IsBeginning-more : (s : Settings) (flights : List Flight) (first : TimedLeg)
     → may_follow s (last_of first others).flight g ≡ true → Member flights g → IsBeginning s flights first (others ++ timed deadhead g ∷ [])
 IsBeginning-more s flights first others deadhead g b e m = record {
   known = (b.known.0, Each-push (λ (l : TimedLeg). Member flights l.flight) others (timed deadhead g) b.known.1 m);
-  connected = AllConnect-push s first others (timed deadhead g) b.connected e
+  connected = AllConnect-push s first others (timed deadhead g) b.connected e;
 }
 
 -- what stands before a place and at it is no longer than all
@@ -88,3 +87,138 @@ flat_map-room f (y ∷ xs) zero x e =
     rw same (omega (arith, length-append (f x) (flat_map f xs)))
 flat_map-room f (y ∷ xs) (suc i) x e =
     omega (arith, flat_map-room f xs i x e, length-append (f y) (flat_map f xs), length-append (f y) (flat_map f (take i xs)))
+
+pub slice_get-within : {X : Type 0} (xs : List X) (i : ℕ) (x : X) → slice_get xs i ≡ Some x → i < length xs
+slice_get-within [] i x e = cc
+slice_get-within (y ∷ xs) zero x e = omega arith
+slice_get-within (y ∷ xs) (suc i) x e = omega (arith, slice_get-within xs i x e)
+
+-- the list below legs that leave room, where not all is lost
+pub listing-at : (s : Settings) (flights : List Flight) (first : TimedLeg) (others : List TimedLeg) → length others < 8 → is_hopeless s first others ≡ false
+    → listing (8 - length others) s flights first others
+    ≡ own s first others ++ flat_map (below (7 - length others) s flights first others) (filter (may_follow s (last_of first others).flight) flights)
+listing-at s flights first others few hope =
+    let room : 8 - length others ≡ suc (7 - length others) = omega arith in
+    rw room (listing-open (7 - length others) s flights first others hope)
+
+-- the list below one leg more
+pub listing-longer : (s : Settings) (flights : List Flight) (first : TimedLeg) (others longer : List TimedLeg) (l : TimedLeg) → longer ≡ others ++ l ∷ []
+    → listing (8 - length longer) s flights first longer ≡ listing (7 - length others) s flights first (others ++ l ∷ [])
+listing-longer s flights first others longer l e =
+    let room : 8 - length (others ++ l ∷ []) ≡ 7 - length others = omega (arith, length-append others (l ∷ [])) in
+    rw (e, room) refl
+
+-- one flight more, flown and then deadheaded
+pub below-more : (s : Settings) (flights : List Flight) (first : TimedLeg) (others flown ridden : List TimedLeg) (gs : List Flight) (i : ℕ) (g : Flight) (base before between after : List Duty)
+    → slice_get gs i ≡ Some g → flown ≡ others ++ timed false g ∷ [] → ridden ≡ others ++ timed true g ∷ []
+    → before ≡ base ++ flat_map (below (7 - length others) s flights first others) (take i gs)
+    → between ≡ before ++ listing (8 - length flown) s flights first flown
+    → after ≡ between ++ listing (8 - length ridden) s flights first ridden
+    → after ≡ base ++ flat_map (below (7 - length others) s flights first others) (take (i + 1) gs)
+below-more s flights first others flown ridden gs i g base before between after at f r b m a =
+    let fl = listing-longer s flights first others flown (timed false g) f in
+    let rd = listing-longer s flights first others ridden (timed true g) r in
+    let two : after ≡ before ++ below (7 - length others) s flights first others g = a ∙ rw (m, fl, rd) (append_assoc before _ _) in
+    let all : after ≡ base ++ flat_map (below (7 - length others) s flights first others) (take i gs ++ g ∷ []) =
+    two ∙ rw b (flat_map_more (below (7 - length others) s flights first others) base (take i gs) g) in
+    let within = slice_get-within gs i g at in
+    let item : get_or gs i g ≡ g = get_or_from_slice_get gs i g g at in
+    let grown : take (i + 1) gs ≡ take i gs ++ g ∷ [] = take_more gs i g within ∙ ap (λ (x : Flight). take i gs ++ x ∷ []) item in
+    all ∙ ap (λ (t : List Flight). base ++ flat_map (below (7 - length others) s flights first others) t) (sym grown)
+
+-- more than 200,000 of the first duties are more than 200,000 of all
+pub over-own : (n m : ℕ) (listed ow rest : List Duty) → listed ≡ ow ++ rest → n < m + length ow → n < m + length listed
+over-own n m listed ow rest e h = omega (arith, ap length e, length-append ow rest)
+
+pub over-flown : (s : Settings) (flights : List Flight) (first : TimedLeg) (others flown : List TimedLeg) (gs : List Flight) (i : ℕ) (g : Flight) (start ow before listed : List Duty) (n : ℕ)
+    → slice_get gs i ≡ Some g → flown ≡ others ++ timed false g ∷ []
+    → listed ≡ ow ++ flat_map (below (7 - length others) s flights first others) gs
+    → before ≡ (start ++ ow) ++ flat_map (below (7 - length others) s flights first others) (take i gs)
+    → n < length before + length (listing (8 - length flown) s flights first flown) → n < length start + length listed
+over-flown s flights first others flown gs i g start ow before listed n at f e b h =
+    let F = below (7 - length others) s flights first others in
+    let fl = ap length (listing-longer s flights first others flown (timed false g) f) in
+    let room = flat_map-room F gs i g at in
+    omega (
+      arith,
+      h,
+      fl,
+      room,
+      ap length e,
+      ap length b,
+      length-append ow (flat_map F gs),
+      length-append (start ++ ow) (flat_map F (take i gs)),
+      length-append start ow,
+      length-append (listing (7 - length others) s flights first (others ++ timed false g ∷ [])) (listing (7 - length others) s flights first (others ++ timed true g ∷ [])),
+    )
+
+pub over-ridden : (s : Settings) (flights : List Flight) (first : TimedLeg) (others flown ridden : List TimedLeg) (gs : List Flight) (i : ℕ) (g : Flight) (start ow before between listed : List Duty) (n : ℕ)
+    → slice_get gs i ≡ Some g → flown ≡ others ++ timed false g ∷ [] → ridden ≡ others ++ timed true g ∷ []
+    → listed ≡ ow ++ flat_map (below (7 - length others) s flights first others) gs
+    → before ≡ (start ++ ow) ++ flat_map (below (7 - length others) s flights first others) (take i gs)
+    → between ≡ before ++ listing (8 - length flown) s flights first flown
+    → n < length between + length (listing (8 - length ridden) s flights first ridden) → n < length start + length listed
+over-ridden s flights first others flown ridden gs i g start ow before between listed n at f r e b m h =
+    let F = below (7 - length others) s flights first others in
+    let fl = ap length (listing-longer s flights first others flown (timed false g) f) in
+    let rd = ap length (listing-longer s flights first others ridden (timed true g) r) in
+    let room = flat_map-room F gs i g at in
+    omega (
+      arith,
+      h,
+      fl,
+      rd,
+      room,
+      ap length e,
+      ap length b,
+      ap length m,
+      length-append before (listing (8 - length flown) s flights first flown),
+      length-append ow (flat_map F gs),
+      length-append (start ++ ow) (flat_map F (take i gs)),
+      length-append start ow,
+      length-append (listing (7 - length others) s flights first (others ++ timed false g ∷ [])) (listing (7 - length others) s flights first (others ++ timed true g ∷ [])),
+    )
+
+-- what stands at a place is in the list
+pub slice_get-Member : {X : Type 0} (xs : List X) (i : ℕ) (x : X) → slice_get xs i ≡ Some x → Member xs x
+slice_get-Member [] i x e = cc
+slice_get-Member (y ∷ xs) zero x e = inl (cc)
+slice_get-Member (y ∷ xs) (suc i) x e = inr (slice_get-Member xs i x e)
+
+pub slice_get-of : {X : Type 0} (xs : List X) (i : ℕ) → i < length xs → (x : X) × (slice_get xs i ≡ Some x)
+slice_get-of [] i h = absurd (omega arith)
+slice_get-of (x ∷ xs) zero h = (x, refl)
+slice_get-of (x ∷ xs) (suc i) h = slice_get-of xs i (omega arith)
+
+-- one first flight more
+pub first-more : (s : Settings) (flights : List Flight) (i : ℕ) (f : Flight) (before between after : List Duty) → slice_get flights i ≡ Some f
+    → before ≡ flat_map (from_flight s flights) (take i flights) → between ≡ before ++ listing 8 s flights (timed false f) [] → after ≡ between ++ listing 8 s flights (timed true f) []
+    → after ≡ flat_map (from_flight s flights) (take (i + 1) flights)
+first-more s flights i f before between after at b m a =
+    let F = from_flight s flights in
+    let within = slice_get-within flights i f at in
+    let item : get_or flights i f ≡ f = get_or_from_slice_get flights i f f at in
+    let grown : take (i + 1) flights ≡ take i flights ++ f ∷ [] = take_more flights i f within ∙ ap (λ (x : Flight). take i flights ++ x ∷ []) item in
+    let two : after ≡ before ++ F f = a ∙ rw m (append_assoc before _ _) in
+    two ∙ rw b (flat_map_more F [] (take i flights) f) ∙ ap (λ (t : List Flight). flat_map F t) (sym grown)
+
+pub first-over : (s : Settings) (flights : List Flight) (i : ℕ) (f : Flight) (before : List Duty) (n : ℕ) → slice_get flights i ≡ Some f
+    → before ≡ flat_map (from_flight s flights) (take i flights) → n < length before + length (listing 8 s flights (timed false f) []) → n < length (all_duties s flights)
+first-over s flights i f before n at b h =
+    let F = from_flight s flights in
+    omega (arith, h, ap length b, flat_map-room F flights i f at, length-append (listing 8 s flights (timed false f) []) (listing 8 s flights (timed true f) []))
+
+pub second-over : (s : Settings) (flights : List Flight) (i : ℕ) (f : Flight) (before between : List Duty) (n : ℕ) → slice_get flights i ≡ Some f
+    → before ≡ flat_map (from_flight s flights) (take i flights) → between ≡ before ++ listing 8 s flights (timed false f) []
+    → n < length between + length (listing 8 s flights (timed true f) []) → n < length (all_duties s flights)
+second-over s flights i f before between n at b m h =
+    let F = from_flight s flights in
+    omega (
+      arith,
+      h,
+      ap length b,
+      ap length m,
+      length-append before (listing 8 s flights (timed false f) []),
+      flat_map-room F flights i f at,
+      length-append (listing 8 s flights (timed false f) []) (listing 8 s flights (timed true f) []),
+    )

@@ -1,3 +1,4 @@
+pub mod Duties
 pub mod Keys
 pub mod Legality
 pub mod Listing

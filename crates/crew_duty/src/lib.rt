@@ -2,12 +2,18 @@
 //! operations.
 #![tactic(auto)]
 
+mod duties;
 mod duty;
 mod facts;
 mod key;
 mod leg;
 mod search;
 
+pub use duties::{Duties, list_duties};
 pub use duty::Duty;
 pub use key::{Key, Walk};
 pub use leg::{Leg, TimedLeg};
+pub use search::DutyFault;
+
+#[cfg(test)]
+mod tests;

@@ -59,6 +59,7 @@ impl<T: Drop> From<AllocFailed<T>> for DutyFault {
 
 // What the search works with: the flights by number, and for each the places of those that may
 // follow it.
+#[derive(Drop)]
 pub(crate) struct Plan<'a> {
     pub(crate) settings: &'a Settings,
     pub(crate) flights: &'a [Flight],
@@ -71,9 +72,7 @@ fn may_come_next(settings: &Settings, before: &Flight, next: &Flight) -> bool
     ensures { result ≡ may_follow settings.now before.now next.now }
 {
     let gap = next.dep.get() - before.arr.get();
-    before.to == next.from
-        && i64::from(settings.connect) <= gap
-        && gap <= i64::from(settings.sit)
+    before.to == next.from && i64::from(settings.connect) <= gap && gap <= i64::from(settings.sit)
 }
 
 // The places of the flights that may follow this one.
@@ -112,7 +111,7 @@ fn cannot_begin(settings: &Settings, first: &TimedLeg, others: &[TimedLeg]) -> b
 }
 
 // The places of the flights that may follow each flight.
-fn next_places(
+pub(crate) fn next_places(
     alloc: Global,
     settings: &Settings,
     flights: &[Flight],
@@ -175,6 +174,7 @@ fn list_own(
     requires sound { Each (λ l. IsFlight l.flight.id l.flight) (first.now ∷ others.now) }
     requires connected { AllConnect settings.now first.now others.now }
     ensures ok { OnOk result (found.new.items ≡ found.old.items ++ own settings.now first.now others.now) }
+    ensures few { OnOk result (length found.old.items ≤ 200_000 → length found.new.items ≤ 200_000) }
     ensures over { result ≡ Err DutyFault.TooManyDuties → 200_000 < length found.old.items + length (own settings.now first.now others.now) }
 {
     if last_leg(first, others).deadhead {
@@ -232,6 +232,7 @@ fn list(
     requires last { slice_get plan.now.flights.now last ≡ Some (last_of first.now others.now).flight }
     ensures ok { OnOk result (found.new.items ≡ found.old.items
         ++ listing (8 - length others.now) plan.now.settings.now plan.now.flights.now first.now others.now) }
+    ensures few { OnOk result (length found.old.items ≤ 200_000 → length found.new.items ≤ 200_000) }
     ensures over { result ≡ Err DutyFault.TooManyDuties
         → 200_000 < length found.old.items + length (listing (8 - length others.now) plan.now.settings.now plan.now.flights.now first.now others.now) }
 {
@@ -248,4 +249,29 @@ fn list(
         list(alloc, found, plan, first, &ridden, place)?;
     }
     Ok(())
+}
+
+// Lists the duties that begin with the flight at a place, flown or deadheaded.
+pub(crate) fn list_first(
+    alloc: Global,
+    found: &mut Vec<Duty>,
+    plan: &Plan<'_>,
+    place: usize,
+    deadhead: bool,
+) -> Result<(), DutyFault>
+    requires checked { IsChecked plan.now.settings.now }
+    requires flights { AreFlights plan.now.flights.now }
+    requires next { AreNext plan.now.settings.now plan.now.flights.now plan.now.flights.now (rows plan.now.next.now) }
+    requires place { place < length plan.now.flights.now }
+    ensures ok { OnOk result ((flight : Flight) → slice_get plan.now.flights.now place ≡ Some flight
+        → found.new.items ≡ found.old.items ++ listing 8 plan.now.settings.now plan.now.flights.now (timed deadhead flight) []) }
+    ensures few { OnOk result (length found.old.items ≤ 200_000 → length found.new.items ≤ 200_000) }
+    ensures over { result ≡ Err DutyFault.TooManyDuties → (flight : Flight) → slice_get plan.now.flights.now place ≡ Some flight
+        → 200_000 < length found.old.items + length (listing 8 plan.now.settings.now plan.now.flights.now (timed deadhead flight) []) }
+{
+    let first = TimedLeg {
+        flight: plan.flights[place],
+        deadhead,
+    };
+    list(alloc, found, plan, &first, &[], place)
 }

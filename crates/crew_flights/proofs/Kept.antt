@@ -1,5 +1,5 @@
 -- What a change of a map in memory does to the timetable.
-use Rattle.std.proofs.Common.{◌≡◌, ℕ, ℤ, Bool, cond, List, Option, Some, None, ap, refl, ◌∙◌}
+use Rattle.std.proofs.Common.{◌≡◌, ℕ, ℤ, cond, List, Some, None, ap, refl, ◌∙◌}
 use Rattle.std.specs.declared.cmp.Ordering.{Ordering}
 use Rattle.std.specs.Ordering.{nat_cmp, eq_by_cmp}
 use Rattle.std.specs.Cmp.{IsTotalOrder, nat_cmp_total, eq_by_cmp_equiv}

@@ -1,8 +1,8 @@
 -- A map in memory, seen as a finite map.
-use Rattle.std.proofs.Common.{◌≡◌, ℕ, Bool, true, false, cond, List, [], ◌∷◌, length, refl, sym, ◌∙◌, ap, subst, Option, Some, None}
+use Rattle.std.proofs.Common.{◌≡◌, Bool, true, false, cond, List, [], ◌∷◌, length, refl, sym, ◌∙◌, ap, subst, Some, None}
 use Rattle.std.specs.Prelude.{T, ◌&&◌}
 use Rattle.std.specs.declared.cmp.Ordering.{Ordering}
-use Rattle.std.specs.declared.cmp.Ordering.TheVariants.{Less, Equal, Greater}
+use Rattle.std.specs.declared.cmp.Ordering.TheVariants.{Less}
 use Rattle.std.specs.Ordering.{eq_by_cmp, is_lt}
 use Rattle.std.specs.Cmp.{IsTotalOrder, eq_by_cmp_equiv}
 use Rattle.std.specs.List.{AllByRecursion}
@@ -26,7 +26,7 @@ module _ {K X : Type 0} (R : K → K → Ordering) where
   sorted_from [] h = tt
   sorted_from (e ∷ es) h = both _ _ (below_from e.0 es (sorted_head R e.0 (keys_of es) h)) (sorted_from es (sorted_tail R e.0 (keys_of es) h))
 
-  find_lookup : (q : K) (es : List (K × X)) → find R q es ≡ lookup (is_at (R q)) es
+  pub find_lookup : (q : K) (es : List (K × X)) → find R q es ≡ lookup (is_at (R q)) es
   find_lookup q [] = refl
   find_lookup q (e ∷ es) = ap (cond (eq_by_cmp R q e.0) (Some e.1)) (find_lookup q es)
 

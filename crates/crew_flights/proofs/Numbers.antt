@@ -2,9 +2,8 @@
 use Rattle.std.proofs.Common.{◌≡◌, ◌<◌, ◌+◌, ◌∙◌, ℕ, Bool, true, false, cond, List, [], ◌∷◌, zero, suc, length, get_or, refl, sym, ap, subst, arith, zero-add}
 use Rattle.std.specs.Prelude.{◌==◌, ◌&&◌, map}
 use Rattle.std.specs.List.{filter}
-use Rattle.std.proofs.lemmas.Grind.{common_steps}
 use Rattle.crew_flights.specs.Fold.{is_in_turn, turns}
-use Rattle.crew_flights.specs.Turns.{in_turn_after, numbers_in_turn, AreNumberedInTurn}
+use Rattle.crew_flights.specs.Turns.{in_turn_after, AreNumberedInTurn}
 use Rattle.crew_flights.specs.declared.entries.Entry.{Entry}
 
 -- the numbers of a seat among entries

@@ -1,11 +1,11 @@
 -- An edit that is accepted leaves a sound timetable.
-use Rattle.std.proofs.Common.{◌≡◌, ◌≢◌, ◌≤◌, ◌+◌, ◌-◌, ◌-ℤ◌, ◌≤ℤ◌, ◌⊎◌, ℕ, ℤ, pos, negsuc, Bool, true, false, not, cond, List, refl, sym, ◌∙◌, ap, subst, inl, inr, arith, Option, Some, None, nat_le}
-use Rattle.std.specs.Prelude.{int_le, ◌&&◌, is_some}
+use Rattle.std.proofs.Common.{◌≡◌, ◌≢◌, ◌≤◌, ◌+◌, ◌-◌, ◌-ℤ◌, ◌≤ℤ◌, ◌⊎◌, ℕ, ℤ, pos, Bool, true, false, not, cond, List, refl, sym, ◌∙◌, ap, subst, inl, inr, arith, Option, Some, None, nat_le}
+use Rattle.std.specs.Prelude.{is_some}
 use Rattle.std.specs.Ordering.{nat_cmp, eq_by_cmp}
 use Rattle.std.specs.Cmp.{nat_cmp_total, eq_by_cmp_equiv}
 use Rattle.std.specs.FinMap as map
 use Rattle.std.proofs.lemmas.Int.{ints}
-use Rattle.std.proofs.lemmas.Map.Lookups.{exact_unsigned, exact_bytes}
+use Rattle.std.proofs.lemmas.Map.Lookups.{exact_unsigned}
 use Rattle.std.proofs.lemmas.Map.Views.{tells_apart}
 use Rattle.crew_flights.specs.Codes.{code_cmp, code_cmp_total}
 use Rattle.crew_flights.specs.Timetable.{Timetable, IsFlight, IsBasePrice, IsSound, empty_timetable}

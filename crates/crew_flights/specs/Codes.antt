@@ -1,5 +1,5 @@
 -- The numbers of flights and the codes of airports.
-use Rattle.std.specs.Prelude.{◌≡◌, ◌≤◌, ◌&&◌, ◌==◌, ℕ, nat_le, Bool, List, length}
+use Rattle.std.specs.Prelude.{◌≤◌, ◌&&◌, ◌==◌, ℕ, nat_le, Bool, List, length}
 use Rattle.std.specs.List.{list_all}
 use Rattle.std.specs.declared.cmp.Ordering.{Ordering}
 use Rattle.std.specs.Ordering.{nat_cmp}

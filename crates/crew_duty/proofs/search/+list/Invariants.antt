@@ -1,4 +1,4 @@
-use Rattle.std.proofs.Common.{◌≡◌, ◌++◌, ◌-◌, take, length, filter}
+use Rattle.std.proofs.Common.{◌≡◌, ◌++◌, ◌-◌, ◌≤◌, take, length, filter}
 use Rattle.std.specs.List.{flat_map}
 use Rattle.crew_duty.specs.Legality.{last_of, may_follow}
 use Rattle.crew_duty.specs.Listing.{below, own}
@@ -9,6 +9,7 @@ decreases-list l = 9 - length l.others.now
 
 abbrev pub invariant-loop-place : goal.invariant-loop-place
 invariant-loop-place l =
-    l.found.items ≡ (l.fn.found.items ++ own l.plan.settings.now l.first l.others)
+    (l.found.items ≡ (l.fn.found.items ++ own l.plan.settings.now l.first l.others)
     ++ flat_map (below (7 - length l.others) l.plan.settings.now l.plan.flights.now l.first l.others)
-    (take l.place-index (filter (may_follow l.plan.settings.now (last_of l.first l.others).flight) l.plan.flights.now))
+    (take l.place-index (filter (may_follow l.plan.settings.now (last_of l.first l.others).flight) l.plan.flights.now)))
+    × (length l.fn.found.items ≤ 200_000 → length l.found.items ≤ 200_000)

@@ -1,4 +1,4 @@
-use Rattle.std.proofs.Common.{◌≡◌, ◌∙◌, sym}
+use Rattle.std.proofs.Common.{◌∙◌, sym}
 use Rattle.crew_flights.proofs.Soundness.{changed_sound}
 use Rattle.crew_flights.proofs.data.Data.apply.Goals as goal
 

@@ -1,4 +1,4 @@
-use Rattle.std.proofs.Common.{◌≡◌, ◌∙◌, sym, subst}
+use Rattle.std.proofs.Common.{◌∙◌, sym, subst}
 use Rattle.crew_flights.specs.Timetable.{IsSound}
 use Rattle.crew_flights.proofs.Kept.{timetable_again}
 use Rattle.crew_flights.proofs.data.Data.copy.Goals as goal

@@ -1,7 +1,7 @@
-use Rattle.std.proofs.Common.{◌≡◌, sym, subst}
+use Rattle.std.proofs.Common.{sym, subst}
 use Rattle.std.specs.Ordering.{nat_cmp}
 use Rattle.crew_flights.specs.Codes.{code_cmp}
-use Rattle.crew_flights.specs.Timetable.{IsSound, empty_timetable, timetable_of}
+use Rattle.crew_flights.specs.Timetable.{IsSound}
 use Rattle.crew_flights.proofs.Maps.{seen_empty}
 use Rattle.crew_flights.proofs.Soundness.{empty_sound}
 use Rattle.crew_flights.proofs.data.Data.new.Goals as goal

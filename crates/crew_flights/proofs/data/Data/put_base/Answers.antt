@@ -1,4 +1,4 @@
-use Rattle.std.proofs.Common.{◌≡◌, ◌∙◌, ap, sym, subst, List, ℕ, ℤ, cond, Some}
+use Rattle.std.proofs.Common.{◌∙◌, ap, sym, subst, ℤ, cond, Some}
 use Rattle.std.specs.BTreeMap.{get, is_at}
 use Rattle.std.specs.Int.{w64}
 use Rattle.std.proofs.lemmas.Int.{to_z-of_z}

@@ -1,4 +1,4 @@
-use Rattle.std.proofs.Common.{◌≡◌, ◌∙◌, ap, sym, subst}
+use Rattle.std.proofs.Common.{◌∙◌, ap, sym, subst}
 use Rattle.crew_flights.specs.Timetable.{Timetable, IsSound}
 use Rattle.crew_flights.specs.Edits.{without_flight}
 use Rattle.crew_flights.proofs.Kept.{flights_removed}

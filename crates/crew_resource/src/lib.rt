@@ -1,0 +1,26 @@
+//! Resources: what a list of items has, kept item by item, with the laws that dominance among labels rests on.
+//! A resource's values are ordered; a lesser value extends wherever a greater one does, to no greater value, and
+//! the value of a list is the value of the list before it, extended. Each implementation proves these laws, so
+//! that code over any resource may drop the labels that another beats. `Sum` adds an amount along a list, `Count`
+//! counts its items, and `Both` keeps two resources side by side, each law made of theirs. `Staged` splits a step
+//! into waiting and boarding, for items that leave and arrive at events, with a bound under which no sum leaves its
+//! type. The general theory of labels over resources and over graphs whose arcs rise (fronts of undominated labels
+//! with least walks, pools at events) stands in `specs/` and `proofs/`.
+#![tactic(auto)]
+
+mod both;
+mod count;
+mod resource;
+mod staged;
+mod sum;
+mod uses;
+
+pub use both::Both;
+pub use count::Count;
+pub use resource::{Cost, Resource};
+pub use staged::{Placed, Staged};
+pub use sum::{Amount, StagedAmount, Sum};
+pub use uses::{extend_ordered, extend_staged, is_same, start_staged};
+
+#[cfg(test)]
+mod tests;
