@@ -6,9 +6,8 @@ ghost use Rattle.crewprice.specs.Faults.{line_of, status_of, text_of};
 
 use crew_rules::BadSetting;
 use std::error::Error;
-use std::fmt;
-use std::io;
 use std::io::Write;
+use std::{fmt, io};
 
 /// Why a run fails.
 #[derive(Debug, Drop)]

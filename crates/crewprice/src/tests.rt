@@ -1,5 +1,6 @@
 use crate::program::command;
 use std::test::Fail;
+use std::thread::Threads;
 
 // What a run came to: its status, and what it wrote.
 #[derive(Drop)]
@@ -9,7 +10,7 @@ struct Ended {
     faults: Vec<u8>,
 }
 
-fn run(rt: &HostRuntime, words: &[&str], input: &[u8]) -> Ended {
+fn run<T: Threads + Sync + AllocGlobal>(rt: &T, words: &[&str], input: &[u8]) -> Ended {
     let mut reader = input;
     let mut written = Vec::new(rt.alloc());
     let mut faults = Vec::new(rt.alloc());
@@ -64,7 +65,10 @@ fn help_goes_to_the_writer(rt: HostRuntime) -> Result<(), Fail> {
         assert_eq!(rt; ended.status, 0, "{words:?}");
         assert!(rt; ended.faults.is_empty());
         assert!(rt; !ended.written.is_empty());
-        println!(rt; "{}", std::str::from_utf8(ended.written.as_slice())?)?;
+        let text = std::str::from_utf8(ended.written.as_slice())?;
+        assert!(rt; text.contains("Usage: crewprice"));
+        assert_eq!(rt; text.contains("14 CFR 117.13"), words.len() > 2);
+        assert_eq!(rt; text.contains("--deadheads <LEGS>"), words.len() > 2);
     }
     Ok(())
 }
