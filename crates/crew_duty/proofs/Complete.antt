@@ -1,26 +1,17 @@
 -- The tree of duties has exactly the legal duties, in order of key.
-use Rattle.std.proofs.Common.{◌≡◌, ◌≤◌, ◌<◌, ◌+◌, ◌-◌, ℕ, zero, suc, List, [], ◌∷◌, ◌++◌, Bool, true, false, length, refl, sym, ap, subst, ◌∙◌, ◌⊎◌, inl, inr, arith, map, filter, append_assoc, append-nil, length-append, if◌then◌else◌}
+use Rattle.std.proofs.Common.{◌≡◌, ◌<◌, ◌+◌, ℕ, zero, suc, List, [], ◌∷◌, ◌++◌, Bool, true, false, length, refl, sym, subst, inl, inr, arith, filter, append_assoc, append-nil, length-append, if◌then◌else◌}
 use Rattle.std.specs.List.{flat_map}
-use Rattle.std.specs.declared.cmp.Ordering.{Ordering}
-use Rattle.std.specs.declared.cmp.Ordering.TheVariants.{Less}
-use Rattle.std.specs.Ordering.{nat_cmp, bool_cmp, ordering_then}
-use Rattle.std.proofs.lemmas.Cmp.{tied_itself}
-use Rattle.std.specs.Cmp.{nat_cmp_total}
 use Rattle.crew_flights.specs.declared.flight.Flight.{Flight}
 use Rattle.crew_rules.specs.declared.settings.Settings.{Settings}
-use Rattle.crew_duty.specs.Duties.{AreDutiesOver, RiseByKey}
-use Rattle.crew_duty.specs.Keys.{key_cmp, leg_cmp}
-use Rattle.crew_duty.specs.Legality.{IsLegal, duty_of, last_of, leg_of, may_follow}
+use Rattle.crew_duty.specs.Legality.{IsLegal, duty_of, last_of, may_follow}
 use Rattle.crew_duty.specs.Listing.{all_duties, below, from_flight, is_hopeless, listing, own, timed}
-use Rattle.crew_duty.specs.Members.{Each, Member}
-use Rattle.crew_duty.specs.Plans.{AreFlights, IsBeginning, Rises}
-use Rattle.crew_duty.specs.declared.leg.Leg.{Leg}
+use Rattle.crew_duty.specs.Members.{Member}
+use Rattle.crew_duty.specs.Plans.{AreFlights, IsBeginning}
 use Rattle.crew_duty.specs.declared.leg.TimedLeg.{TimedLeg}
 use Rattle.crew_duty.specs.declared.duty.Duty.{Duty}
-use Rattle.crew_duty.proofs.InList.{Each-filter, Each-join, Member-filter, Member-flat_map, Member-left, Member-right, Member-either, filter-Member, flat_map-Member}
-use Rattle.crew_duty.proofs.Legal.{AllConnect-after, AllConnect-before, Each-after, not-hopeless, own-legal}
-use Rattle.crew_duty.proofs.Rising.{AllBegin, apart, begin-shorter, goes-first, rise-join}
-use Rattle.crew_duty.proofs.Tree.{Each-append, Each-map, IsBeginning-more, listing-closed, listing-none, listing-open}
+use Rattle.crew_duty.proofs.InList.{Member-filter, Member-flat_map, Member-left, Member-right, Member-either, filter-Member, flat_map-Member}
+use Rattle.crew_duty.proofs.Legal.{AllConnect-after, Each-after, not-hopeless, own-legal}
+use Rattle.crew_duty.proofs.Tree.{IsBeginning-more, listing-closed, listing-none, listing-open}
 
 -- a legal duty that begins with these legs
 abbrev GoesOn : Settings → List Flight → TimedLeg → List TimedLeg → Duty → Type 0
@@ -41,7 +32,7 @@ pub listing-sound : (room : ℕ) (s : Settings) (flights : List Flight) (first :
     → Member (listing room s flights first others) d → GoesOn s flights first others d
 listing-sound zero s flights first others d b fits m = absurd (rw (listing-none s flights first others) at m)
 listing-sound (suc room) s flights first others d b fits m = by (is_hopeless s first others) refl
-  (λ g (ok : may_follow s (last_of first others).flight g ≡ true) (known : Member flights g) dead (h : Member (listing room s flights first (others ++ timed dead g ∷ [])) d).
+    (λ g (ok : may_follow s (last_of first others).flight g ≡ true) (known : Member flights g) dead (h : Member (listing room s flights first (others ++ timed dead g ∷ [])) d).
     leg-goes-on s flights first others (timed dead g) d
     (listing-sound room s flights first (others ++ timed dead g ∷ []) d (IsBeginning-more s flights first others dead g b ok known) (omega (arith, length-append others (timed dead g ∷ []))) h))
   where
@@ -55,12 +46,12 @@ listing-sound (suc room) s flights first others d b fits m = by (is_hopeless s f
         elim (Member-either (own s first others) (flat_map F gs) d (rw (listing-open room s flights first others e) at m)) [
           | inl h ↦ own-goes-on s flights first others d (last_of first others).deadhead refl (λ flown. own-legal s flights first others b (omega arith) e flown) h
           | inr h ↦
-          let found = flat_map-Member F gs d h in
-          let kept = filter-Member (may_follow s (last_of first others).flight) flights found.0 found.1 in
-          elim (Member-either (listing room s flights first (others ++ timed false found.0 ∷ [])) (listing room s flights first (others ++ timed true found.0 ∷ [])) d found.2) [
-            | inl k ↦ deeper found.0 kept.0 kept.1 false k
-            | inr k ↦ deeper found.0 kept.0 kept.1 true k
-          ]
+              let found = flat_map-Member F gs d h in
+              let kept = filter-Member (may_follow s (last_of first others).flight) flights found.0 found.1 in
+              elim (Member-either (listing room s flights first (others ++ timed false found.0 ∷ [])) (listing room s flights first (others ++ timed true found.0 ∷ [])) d found.2) [
+                | inl k ↦ deeper found.0 kept.0 kept.1 false k
+                | inr k ↦ deeper found.0 kept.0 kept.1 true k
+              ]
         ]
 
 -- each legal duty that begins with the legs is listed
@@ -97,7 +88,7 @@ listing-every (suc room) s flights first others (x ∷ more) f legal fits =
     let joined : (others ++ x ∷ []) ++ more ≡ others ++ x ∷ more = append_assoc others (x ∷ []) more in
     let legal-on = subst (λ (ls : List TimedLeg). IsLegal s flights first ls) (sym joined) legal in
     let deep = subst (λ (ls : List TimedLeg). Member (listing room s flights first (others ++ x ∷ [])) (duty_of s first ls)) joined
-            (listing-every room s flights first (others ++ x ∷ []) more f legal-on (omega arith)) in
+    (listing-every room s flights first (others ++ x ∷ []) more f legal-on (omega arith)) in
     let known = Each-after (λ (l : TimedLeg). Member flights l.flight) (first ∷ others) (x ∷ more) legal.known in
     let follows = AllConnect-after s first others (x ∷ more) legal.connected in
     let member = Member-filter test flights x.flight follows.0 known.0 in

@@ -1,5 +1,5 @@
 -- What stands in joined, flattened and filtered lists.
-use Rattle.std.proofs.Common.{◌≡◌, List, [], ◌∷◌, ◌++◌, Bool, true, false, cond, refl, ap, ◌∙◌, sym, ◌⊎◌, inl, inr, filter}
+use Rattle.std.proofs.Common.{◌≡◌, List, [], ◌∷◌, ◌++◌, Bool, true, false, cond, refl, ap, ◌⊎◌, inl, inr, filter}
 use Rattle.std.specs.List.{flat_map}
 use Rattle.crew_duty.specs.Members.{Each, Member}
 

@@ -1,7 +1,6 @@
 -- The tree of duties stands in order of key.
-use Rattle.std.proofs.Common.{◌≡◌, ◌+◌, ℕ, zero, suc, List, [], ◌∷◌, ◌++◌, Bool, true, false, refl, sym, ap, subst, ◌∙◌, map, filter, append-nil, if◌then◌else◌, cond}
+use Rattle.std.proofs.Common.{◌≡◌, ℕ, zero, suc, List, [], ◌∷◌, ◌++◌, Bool, true, false, refl, sym, ap, subst, ◌∙◌, map, filter, append-nil, if◌then◌else◌, cond}
 use Rattle.std.specs.List.{flat_map}
-use Rattle.std.specs.declared.cmp.Ordering.{Ordering}
 use Rattle.std.specs.declared.cmp.Ordering.TheVariants.{Less}
 use Rattle.std.specs.Ordering.{bool_cmp, nat_cmp, ordering_then}
 use Rattle.std.specs.Cmp.{nat_cmp_total}
@@ -12,7 +11,7 @@ use Rattle.crew_rules.specs.declared.settings.Settings.{Settings}
 use Rattle.crew_duty.specs.Duties.{AreDutiesOver, RiseByKey}
 use Rattle.crew_duty.specs.Keys.{key_cmp, leg_cmp}
 use Rattle.crew_duty.specs.Legality.{duty_of, last_of, leg_of, may_follow}
-use Rattle.crew_duty.specs.Listing.{all_duties, below, from_flight, is_hopeless, listing, own, timed}
+use Rattle.crew_duty.specs.Listing.{all_duties, is_hopeless, listing, timed}
 use Rattle.crew_duty.specs.Members.{Each}
 use Rattle.crew_duty.specs.Plans.{AreFlights, Rises}
 use Rattle.crew_duty.specs.declared.leg.Leg.{Leg}
@@ -21,7 +20,7 @@ use Rattle.crew_duty.specs.declared.duty.Duty.{Duty}
 use Rattle.crew_duty.proofs.Complete.{all-every, all-sound}
 use Rattle.crew_duty.proofs.InList.{Each-filter, Each-join}
 use Rattle.crew_duty.proofs.Rising.{AllBegin, apart, begin-shorter, goes-first, rise-join}
-use Rattle.crew_duty.proofs.Tree.{Each-map, listing-closed, listing-none, listing-open}
+use Rattle.crew_duty.proofs.Tree.{listing-closed, listing-none, listing-open}
 
 abbrev Before : List Duty → List Duty → Type 0
 Before ds es = Each (λ d. Each (λ e. key_cmp d.key e.key ≡ Less) es) ds
@@ -109,7 +108,7 @@ node-in-order : (legs : List Leg) (flown ridden : Flight → List Duty) → IsFa
 node-in-order legs flown ridden fan d gs h k true = record { begin = fan-begins legs flown ridden fan gs; rise = fan-rises legs flown ridden fan gs h }
 node-in-order legs flown ridden fan d gs h k false = record {
   begin = (([], k ∙ sym (append-nil legs)), fan-begins legs flown ridden fan gs);
-  rise = (fan-after legs flown ridden fan d gs k, fan-rises legs flown ridden fan gs h)
+  rise = (fan-after legs flown ridden fan d gs k, fan-rises legs flown ridden fan gs h);
 }
 
 pub listing-in-order : (room : ℕ) (s : Settings) (flights : List Flight) (first : TimedLeg) (others : List TimedLeg) → Rises flights
@@ -125,14 +124,14 @@ listing-in-order (suc room) s flights first others h =
     by false e deeper =
         let legs = map leg_of (first ∷ others) in
         let longer : (dead : Bool) (g : Flight) → map leg_of (first ∷ (others ++ timed dead g ∷ [])) ≡ legs ++ leg_of (timed dead g) ∷ [] =
-            λ dead g. map-append leg_of (first ∷ others) (timed dead g ∷ []) in
+        λ dead g. map-append leg_of (first ∷ others) (timed dead g ∷ []) in
         let flown : Flight → List Duty = λ g. listing room s flights first (others ++ timed false g ∷ []) in
         let ridden : Flight → List Duty = λ g. listing room s flights first (others ++ timed true g ∷ []) in
         let fan : IsFan legs flown ridden = record {
-            flown_rise = λ g. (deeper false g).rise;
-            ridden_rise = λ g. (deeper true g).rise;
-            flown_begin = λ g. subst (λ (ls : List Leg). AllBegin ls (flown g)) (longer false g) (deeper false g).begin;
-            ridden_begin = λ g. subst (λ (ls : List Leg). AllBegin ls (ridden g)) (longer true g) (deeper true g).begin
+          flown_rise = λ g. (deeper false g).rise;
+          ridden_rise = λ g. (deeper true g).rise;
+          flown_begin = λ g. subst (λ (ls : List Leg). AllBegin ls (flown g)) (longer false g) (deeper false g).begin;
+          ridden_begin = λ g. subst (λ (ls : List Leg). AllBegin ls (ridden g)) (longer true g) (deeper true g).begin;
         } in
         rw (listing-open room s flights first others e)
         (node-in-order legs flown ridden fan (duty_of s first others) (filter (may_follow s (last_of first others).flight) flights) (filter-rises (may_follow s (last_of first others).flight) flights h) refl
@@ -144,7 +143,7 @@ all-rise s flights h =
       flown_rise = λ f. (listing-in-order 8 s flights (timed false f) [] h).rise;
       ridden_rise = λ f. (listing-in-order 8 s flights (timed true f) [] h).rise;
       flown_begin = λ f. (listing-in-order 8 s flights (timed false f) [] h).begin;
-      ridden_begin = λ f. (listing-in-order 8 s flights (timed true f) [] h).begin
+      ridden_begin = λ f. (listing-in-order 8 s flights (timed true f) [] h).begin;
     }) flights h
 
 -- the tree has exactly the legal duties, by key
@@ -152,5 +151,5 @@ pub all-duties : (s : Settings) (flights : List Flight) → AreFlights flights �
 all-duties s flights f = record {
   sound = λ d m. all-sound s flights d m;
   every = λ first others legal. all-every s flights first others f legal;
-  rising = all-rise s flights f.rising
+  rising = all-rise s flights f.rising;
 }

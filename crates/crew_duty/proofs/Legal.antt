@@ -1,7 +1,6 @@
 -- What a legal duty says of its beginnings, and a beginning of the duty.
-use Rattle.std.proofs.Common.{◌≡◌, ◌≤◌, ◌<◌, ◌+◌, ◌-◌, ℕ, ℤ, pos, ◌+ℤ◌, ◌-ℤ◌, ◌≤ℤ◌, List, [], ◌∷◌, ◌++◌, Bool, true, false, cond, not, nat_lt, int_lt, length, max, refl, sym, ap, ◌∙◌, arith, ◌||◌, ◌&&◌, length-append}
+use Rattle.std.proofs.Common.{◌≡◌, ◌≤◌, ◌<◌, ℕ, ℤ, pos, ◌≤ℤ◌, List, [], ◌∷◌, ◌++◌, Bool, true, false, cond, not, nat_lt, int_lt, length, max, refl, ap, arith, ◌||◌}
 use Rattle.std.specs.Prelude.{count_by}
-use Rattle.std.specs.List.{sum_by}
 use Rattle.std.proofs.lemmas.List.Sums.{sum_by-append, sum_by-cons}
 use Rattle.std.proofs.lemmas.Bool.Decides.{nat_tests}
 use Rattle.std.proofs.lemmas.Int.{ints}
@@ -9,7 +8,7 @@ use Rattle.crew_flights.specs.Timetable.{IsFlight}
 use Rattle.crew_flights.specs.declared.flight.Flight.{Flight}
 use Rattle.crew_rules.specs.Tables.{table_a, table_b}
 use Rattle.crew_rules.specs.declared.settings.Settings.{Settings}
-use Rattle.crew_duty.specs.Legality.{AllConnect, IsLegal, deadheads, flight_duty_period, flight_time, last_of, may_follow, minutes_flown, segments, total}
+use Rattle.crew_duty.specs.Legality.{AllConnect, IsLegal, deadheads, flight_duty_period, flight_time, last_of, minutes_flown, segments}
 use Rattle.crew_duty.specs.Listing.{is_hopeless}
 use Rattle.crew_duty.specs.Members.{Each, Member}
 use Rattle.crew_duty.specs.Plans.{AreFlights, IsBeginning}
@@ -17,7 +16,7 @@ use Rattle.crew_duty.specs.declared.leg.TimedLeg.{TimedLeg}
 use Rattle.crew_duty.proofs.Falling.{table_b-falls}
 use Rattle.crew_duty.proofs.Sums.{total-append}
 use Rattle.crew_duty.proofs.Times.{AllSound, ends-later, flown-total, no-earlier}
-use Rattle.crew_duty.proofs.Tree.{Each-append, Each-map, Each-member}
+use Rattle.crew_duty.proofs.Tree.{Each-map, Each-member}
 
 -- counts only grow
 count-more : {X : Type 0} (p : X → Bool) (xs ys : List X) → count_by p xs ≤ count_by p (xs ++ ys)
@@ -113,7 +112,7 @@ own-legal s flights first others b few hope flown =
       deadheaded = at-most (deadheads (first ∷ others)) s.deadheads one;
       flown_last = flown;
       table_a = int-at-most (flight_time first others) (pos (table_a first.flight.report_clock)) two;
-      table_b = rw counted at (int-at-most (flight_duty_period s first others) (pos (table_b first.flight.report_clock (max (segments (first ∷ others)) 1))) three)
+      table_b = rw counted at (int-at-most (flight_duty_period s first others) (pos (table_b first.flight.report_clock (max (segments (first ∷ others)) 1))) three);
     }
   where
     at-most : (m n : ℕ) → nat_lt n m ≡ false → m ≤ n

@@ -1,10 +1,10 @@
 -- The flights of a sound timetable stand in order, each in its limits.
-use Rattle.std.proofs.Common.{◌≡◌, ℕ, List, [], ◌∷◌, Bool, true, false, cond, Option, Some, refl, sym, ap, subst, ◌∙◌, inl, inr, ◌&&◌, ◌≤◌, arith, length, map}
+use Rattle.std.proofs.Common.{◌≡◌, ℕ, List, [], ◌∷◌, Bool, true, false, cond, Some, refl, sym, ap, subst, ◌∙◌, inl, inr, ◌&&◌, ◌≤◌, arith, length, map}
 use Rattle.std.proofs.lemmas.List.{length-map}
 use lib.Dec.{T}
 use Rattle.std.specs.declared.cmp.Ordering.{Ordering}
 use Rattle.std.specs.declared.cmp.Ordering.TheVariants.{Less, Equal, Greater}
-use Rattle.std.specs.Ordering.{eq_by_cmp, is_lt, is_eq, nat_cmp, ordering_reverse}
+use Rattle.std.specs.Ordering.{is_lt, is_eq, nat_cmp, ordering_reverse}
 use Rattle.std.specs.Cmp.{nat_cmp_total}
 use Rattle.std.proofs.lemmas.Cmp.{tied_itself}
 use Rattle.std.specs.FinMap as fin
@@ -72,8 +72,8 @@ flights-of-timetable t sound =
     let at : (e : ℕ × Flight) → Member es e → IsFlight e.0 e.1 = λ e m. sound.flights e.0 e.1 (fin.get-entries t.flights e.0 ∙ found es e sorted m) in
     record {
       each = values-each (λ (f : Flight). IsFlight f.id f) es (λ e m. subst (λ (n : ℕ). IsFlight n e.1) (sym (at e m).own) (at e m));
-      rising = values-rise es sorted (λ e m. (at e m).own)
+      rising = values-rise es sorted (λ e m. (at e m).own);
     }
 
 pub flights-few : (t : Timetable) → IsSound t → length (flights_of t) ≤ 5_000
-flights-few t sound = omega (arith, sound.few_flights, fin.len-entries t.flights, length-map {X = ℕ × Flight} {Y = Flight} (λ (e : ℕ × Flight). e.1) (fin.entries t.flights))
+flights-few t sound = omega (arith, sound.few_flights, fin.len-entries t.flights, length-map (fin.entries t.flights) (λ (e : ℕ × Flight). e.1))

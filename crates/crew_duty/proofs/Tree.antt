@@ -1,8 +1,8 @@
 -- One step of the tree of duties.
-use Rattle.std.proofs.Common.{◌≡◌, ◌≤◌, ◌<◌, ◌+◌, ◌-◌, ℕ, zero, suc, List, [], ◌∷◌, ◌++◌, Option, Some, None, Bool, true, false, cond, length, refl, sym, ap, ◌∙◌, arith, take, get_or, filter, add-one, length-append, append_assoc, inl, inr, if◌then◌else◌}
+use Rattle.std.proofs.Common.{◌≡◌, ◌≤◌, ◌<◌, ◌+◌, ◌-◌, ℕ, zero, suc, List, [], ◌∷◌, ◌++◌, Some, Bool, true, false, cond, length, refl, sym, ap, ◌∙◌, arith, take, get_or, filter, length-append, append_assoc, inl, inr, if◌then◌else◌}
 use Rattle.std.specs.Prelude.{slice_get}
 use Rattle.std.specs.List.{flat_map}
-use Rattle.std.proofs.lemmas.List.{append-nil, flat_map_more, take_more}
+use Rattle.std.proofs.lemmas.List.{flat_map_more, take_more}
 use Rattle.std.proofs.lemmas.Option.{get_or_from_slice_get}
 use Rattle.crew_flights.specs.declared.flight.Flight.{Flight}
 use Rattle.crew_rules.specs.declared.settings.Settings.{Settings}
@@ -12,7 +12,6 @@ use Rattle.crew_duty.specs.Members.{Each, Member}
 use Rattle.crew_duty.specs.Plans.{IsBeginning}
 use Rattle.crew_duty.specs.declared.leg.TimedLeg.{TimedLeg}
 use Rattle.crew_duty.specs.declared.duty.Duty.{Duty}
-use Rattle.crew_duty.proofs.Sums.{last_of-push}
 
 -- no room, or no hope: nothing is listed
 pub listing-none : (s : Settings) (flights : List Flight) (first : TimedLeg) (others : List TimedLeg) → listing 0 s flights first others ≡ []
@@ -76,7 +75,7 @@ pub IsBeginning-more : (s : Settings) (flights : List Flight) (first : TimedLeg)
     → may_follow s (last_of first others).flight g ≡ true → Member flights g → IsBeginning s flights first (others ++ timed deadhead g ∷ [])
 IsBeginning-more s flights first others deadhead g b e m = record {
   known = (b.known.0, Each-push (λ (l : TimedLeg). Member flights l.flight) others (timed deadhead g) b.known.1 m);
-  connected = AllConnect-push s first others (timed deadhead g) b.connected e
+  connected = AllConnect-push s first others (timed deadhead g) b.connected e;
 }
 
 -- what stands before a place and at it is no longer than all
@@ -121,7 +120,7 @@ below-more s flights first others flown ridden gs i g base before between after 
     let rd = listing-longer s flights first others ridden (timed true g) r in
     let two : after ≡ before ++ below (7 - length others) s flights first others g = a ∙ rw (m, fl, rd) (append_assoc before _ _) in
     let all : after ≡ base ++ flat_map (below (7 - length others) s flights first others) (take i gs ++ g ∷ []) =
-        two ∙ rw b (flat_map_more (below (7 - length others) s flights first others) base (take i gs) g) in
+    two ∙ rw b (flat_map_more (below (7 - length others) s flights first others) base (take i gs) g) in
     let within = slice_get-within gs i g at in
     let item : get_or gs i g ≡ g = get_or_from_slice_get gs i g g at in
     let grown : take (i + 1) gs ≡ take i gs ++ g ∷ [] = take_more gs i g within ∙ ap (λ (x : Flight). take i gs ++ x ∷ []) item in
@@ -140,8 +139,18 @@ over-flown s flights first others flown gs i g start ow before listed n at f e b
     let F = below (7 - length others) s flights first others in
     let fl = ap length (listing-longer s flights first others flown (timed false g) f) in
     let room = flat_map-room F gs i g at in
-    omega (arith, h, fl, room, ap length e, ap length b, length-append ow (flat_map F gs), length-append (start ++ ow) (flat_map F (take i gs)), length-append start ow,
-    length-append (listing (7 - length others) s flights first (others ++ timed false g ∷ [])) (listing (7 - length others) s flights first (others ++ timed true g ∷ [])))
+    omega (
+      arith,
+      h,
+      fl,
+      room,
+      ap length e,
+      ap length b,
+      length-append ow (flat_map F gs),
+      length-append (start ++ ow) (flat_map F (take i gs)),
+      length-append start ow,
+      length-append (listing (7 - length others) s flights first (others ++ timed false g ∷ [])) (listing (7 - length others) s flights first (others ++ timed true g ∷ [])),
+    )
 
 pub over-ridden : (s : Settings) (flights : List Flight) (first : TimedLeg) (others flown ridden : List TimedLeg) (gs : List Flight) (i : ℕ) (g : Flight) (start ow before between listed : List Duty) (n : ℕ)
     → slice_get gs i ≡ Some g → flown ≡ others ++ timed false g ∷ [] → ridden ≡ others ++ timed true g ∷ []
@@ -154,9 +163,21 @@ over-ridden s flights first others flown ridden gs i g start ow before between l
     let fl = ap length (listing-longer s flights first others flown (timed false g) f) in
     let rd = ap length (listing-longer s flights first others ridden (timed true g) r) in
     let room = flat_map-room F gs i g at in
-    omega (arith, h, fl, rd, room, ap length e, ap length b, ap length m, length-append before (listing (8 - length flown) s flights first flown), length-append ow (flat_map F gs),
-    length-append (start ++ ow) (flat_map F (take i gs)), length-append start ow,
-    length-append (listing (7 - length others) s flights first (others ++ timed false g ∷ [])) (listing (7 - length others) s flights first (others ++ timed true g ∷ [])))
+    omega (
+      arith,
+      h,
+      fl,
+      rd,
+      room,
+      ap length e,
+      ap length b,
+      ap length m,
+      length-append before (listing (8 - length flown) s flights first flown),
+      length-append ow (flat_map F gs),
+      length-append (start ++ ow) (flat_map F (take i gs)),
+      length-append start ow,
+      length-append (listing (7 - length others) s flights first (others ++ timed false g ∷ [])) (listing (7 - length others) s flights first (others ++ timed true g ∷ [])),
+    )
 
 -- what stands at a place is in the list
 pub slice_get-Member : {X : Type 0} (xs : List X) (i : ℕ) (x : X) → slice_get xs i ≡ Some x → Member xs x
@@ -192,5 +213,12 @@ pub second-over : (s : Settings) (flights : List Flight) (i : ℕ) (f : Flight) 
     → n < length between + length (listing 8 s flights (timed true f) []) → n < length (all_duties s flights)
 second-over s flights i f before between n at b m h =
     let F = from_flight s flights in
-    omega (arith, h, ap length b, ap length m, length-append before (listing 8 s flights (timed false f) []), flat_map-room F flights i f at,
-    length-append (listing 8 s flights (timed false f) []) (listing 8 s flights (timed true f) []))
+    omega (
+      arith,
+      h,
+      ap length b,
+      ap length m,
+      length-append before (listing 8 s flights (timed false f) []),
+      flat_map-room F flights i f at,
+      length-append (listing 8 s flights (timed false f) []) (listing 8 s flights (timed true f) []),
+    )

@@ -1,7 +1,7 @@
 -- The order of legs, of keys and of walks.
 use Rattle.std.specs.Prelude.{List}
 use Rattle.std.specs.declared.cmp.Ordering.{Ordering}
-use Rattle.std.specs.Ordering.{bool_cmp, nat_cmp, on, then_cmp}
+use Rattle.std.specs.Ordering.{bool_cmp, nat_cmp, then_cmp}
 use Rattle.std.specs.Cmp.{IsTotalOrder, bool_cmp_total, nat_cmp_total, on_total, then_total}
 use Rattle.std.specs.Cmp.Lexicographic.{lists_total, slice_cmp}
 use Rattle.crew_duty.specs.declared.leg.Leg.{Leg}

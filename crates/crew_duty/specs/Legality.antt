@@ -90,5 +90,5 @@ duty_of s first others = record {
   fdp = flight_duty_period s first others;
   fly = flight_time first others;
   pay = duty_pay s (release s first others -ℤ report s first) (flight_time first others);
-  price = total price_of (first ∷ others)
+  price = total price_of (first ∷ others);
 }

@@ -1,6 +1,6 @@
 -- The duties over some flights as a tree: below a beginning stand the duties that begin with it. In preorder, with the next legs in order, they stand by key.
 -- That this lists exactly the legal duties is a theorem (proofs/Complete.antt).
-use Rattle.std.specs.Prelude.{ℕ, zero, suc, ℤ, pos, ◌<◌, ◌||◌, nat_lt, int_lt, max, Bool, true, false, List, [], ◌∷◌, ◌++◌, filter, if◌then◌else◌}
+use Rattle.std.specs.Prelude.{ℕ, zero, suc, pos, ◌||◌, nat_lt, int_lt, max, Bool, true, false, List, [], ◌∷◌, ◌++◌, filter, if◌then◌else◌}
 use Rattle.std.specs.List.{flat_map}
 use Rattle.crew_flights.specs.declared.flight.Flight.{Flight}
 use Rattle.crew_rules.specs.Tables.{table_a, table_b}

@@ -62,11 +62,7 @@ fn held_flights(alloc: Global, data: &Data) -> Result<Vec<Flight>, AllocError>
 }
 
 // All duties over these flights.
-fn list_all(
-    alloc: Global,
-    settings: &Settings,
-    flights: &[Flight],
-) -> Result<Vec<Duty>, DutyFault>
+fn list_all(alloc: Global, settings: &Settings, flights: &[Flight]) -> Result<Vec<Duty>, DutyFault>
     requires checked { IsChecked settings.now }
     requires flights { AreFlights flights.now }
     requires few { length flights.now ≤ 5_000 }

@@ -70,11 +70,7 @@ pub(crate) fn report(settings: &Settings, first: &TimedLeg) -> i64
 }
 
 /// The minutes from report to the last arrival.
-pub(crate) fn flight_duty_period(
-    settings: &Settings,
-    first: &TimedLeg,
-    others: &[TimedLeg],
-) -> i64
+pub(crate) fn flight_duty_period(settings: &Settings, first: &TimedLeg, others: &[TimedLeg]) -> i64
     requires { IsChecked settings.now }
     ensures { result ≡ Spec.flight_duty_period settings.now first.now others.now }
 {

@@ -14,3 +14,6 @@ pub use duty::Duty;
 pub use key::{Key, Walk};
 pub use leg::{Leg, TimedLeg};
 pub use search::DutyFault;
+
+#[cfg(test)]
+mod tests;

@@ -72,9 +72,7 @@ fn may_come_next(settings: &Settings, before: &Flight, next: &Flight) -> bool
     ensures { result ≡ may_follow settings.now before.now next.now }
 {
     let gap = next.dep.get() - before.arr.get();
-    before.to == next.from
-        && i64::from(settings.connect) <= gap
-        && gap <= i64::from(settings.sit)
+    before.to == next.from && i64::from(settings.connect) <= gap && gap <= i64::from(settings.sit)
 }
 
 // The places of the flights that may follow this one.

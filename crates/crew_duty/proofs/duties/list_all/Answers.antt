@@ -1,12 +1,4 @@
-use Rattle.std.proofs.Common.{◌≡◌, ◌<◌, ◌≤◌, ◌+◌, ◌++◌, ◌∷◌, [], ◌∙◌, List, Some, true, false, sym, ap, append_assoc, arith, get_or, length, length-append, take}
-use Rattle.std.specs.Prelude.{slice_get}
-use Rattle.std.specs.List.{flat_map}
-use Rattle.std.proofs.lemmas.List.{flat_map_more, take_more}
-use Rattle.std.proofs.lemmas.Option.{slice_get-get_or}
 use Rattle.std.proofs.lemmas.Result.{err_from_is_err_and}
-use Rattle.crew_flights.specs.declared.flight.Flight.{Flight}
-use Rattle.crew_duty.specs.Listing.{all_duties, from_flight, listing, timed}
-use Rattle.crew_duty.specs.declared.duty.Duty.{Duty}
 use Rattle.crew_duty.proofs.Tree.{first-more, first-over, second-over, slice_get-of}
 use Rattle.crew_duty.proofs.duties.list_all.Goals as goal
 
@@ -31,6 +23,8 @@ pub loop-place-preserved : goal.loop-place-preserved
 loop-place-preserved c =
     let s = c.args.settings.now in
     let flights = c.args.flights.now in
-    let at = slice_get-of flights c.loop-place.place c.loop-place-test.true in
-    (first-more s flights c.loop-place.place at.0 c.loop-place.found.items c.list_first.new.found.items c.list_first-in-loop-place.new.found.items at.1 c.loop-place.invariant.0
-    (c.in_ok-list_first.ensures.ok at.0 at.1) (c.in_ok-list_first-2.ensures.ok at.0 at.1), c.in_ok-list_first-2.ensures.few (c.in_ok-list_first.ensures.few c.loop-place.invariant.1))
+    let at = slice_get-of flights c.loop-place.place c.loop-place-test.true in (
+      first-more s flights c.loop-place.place at.0 c.loop-place.found.items c.list_first.new.found.items c.list_first-in-loop-place.new.found.items at.1 c.loop-place.invariant.0
+          (c.in_ok-list_first.ensures.ok at.0 at.1) (c.in_ok-list_first-2.ensures.ok at.0 at.1),
+      c.in_ok-list_first-2.ensures.few (c.in_ok-list_first.ensures.few c.loop-place.invariant.1),
+    )

@@ -1,11 +1,8 @@
-use Rattle.std.proofs.Common.{◌≡◌, ◌<◌, ◌≤◌, ◌∙◌, List, ap, arith, length, subst}
-use Rattle.std.specs.FinMap as fin
+use Rattle.std.proofs.Common.{◌≡◌, ◌<◌, ◌∙◌, List, ap, length, subst}
 use Rattle.std.proofs.lemmas.Result.{err_from_is_err_and}
 use Rattle.crew_flights.specs.declared.flight.Flight.{Flight}
-use Rattle.crew_duty.specs.Duties.{AreDutiesOver, flights_of}
+use Rattle.crew_duty.specs.Duties.{flights_of}
 use Rattle.crew_duty.specs.Listing.{all_duties}
-use Rattle.crew_duty.specs.Plans.{AreFlights}
-use Rattle.crew_duty.specs.declared.duty.Duty.{Duty}
 use Rattle.crew_duty.proofs.InOrder.{all-duties}
 use Rattle.crew_duty.proofs.Timetables.{flights-few, flights-of-timetable}
 use Rattle.crew_duty.proofs.duties.list_duties.Goals as goal
@@ -22,9 +19,11 @@ returns-in_err-list-clause-too_many g c =
     let t = c.args.data.now in
     let p = err_from_is_err_and c.from_residual-in_err-list.result c.from_residual-in_err-list.ensures.1 in
     let same : c.deref.result.now ≡ flights_of t = c.deref.ensures.value ∙ c.in_ok-flights.ensures.held in
-    λ e.
-    (all_duties s (flights_of t), all-duties s (flights_of t) (flights-of-timetable t c.held_flights.ensures.sound),
-    subst (λ (fs : List Flight). 200_000 < length (all_duties s fs)) same (c.in_err-list.ensures.over (cc)))
+    λ e. (
+      all_duties s (flights_of t),
+      all-duties s (flights_of t) (flights-of-timetable t c.held_flights.ensures.sound),
+      subst (λ (fs : List Flight). 200_000 < length (all_duties s fs)) same (c.in_err-list.ensures.over (cc)),
+    )
 
 pub returns-clause-listed : goal.returns-clause-listed
 returns-clause-listed g c =

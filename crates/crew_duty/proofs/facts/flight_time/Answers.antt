@@ -1,5 +1,5 @@
 use Rattle.std.proofs.Common.{◌≡◌, ◌+ℤ◌, ap, arith, get_or, of_z, to_z, w64}
-use Rattle.std.proofs.lemmas.Int.{ints, to_z-of_z}
+use Rattle.std.proofs.lemmas.Int.{ints}
 use Rattle.crew_duty.specs.Legality.{minutes_flown}
 use Rattle.crew_duty.proofs.Sums.{total-take}
 use Rattle.crew_duty.proofs.facts.flight_time.Goals as goal

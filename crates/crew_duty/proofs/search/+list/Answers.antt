@@ -1,5 +1,4 @@
-use Rattle.std.proofs.Common.{◌≡◌, ◌<◌, ◌≤◌, ◌+◌, ◌-◌, ◌++◌, ◌∷◌, [], ◌∙◌, List, Some, true, false, sym, ap, append_assoc, arith, append-nil, filter, get_or, length, length-append, take}
-use Rattle.std.specs.Prelude.{slice_get}
+use Rattle.std.proofs.Common.{◌≡◌, ◌+◌, ◌-◌, ◌++◌, ◌∷◌, [], ◌∙◌, List, true, false, sym, ap, append_assoc, arith, append-nil, filter, get_or, length, length-append, take}
 use Rattle.std.specs.List.{flat_map}
 use Rattle.std.proofs.lemmas.List.{take_all}
 use Rattle.std.proofs.lemmas.Option.{get_or_from_slice_get, slice_get-get_or}
@@ -8,7 +7,7 @@ use Rattle.crew_flights.specs.Timetable.{IsFlight}
 use Rattle.crew_flights.specs.declared.flight.Flight.{Flight}
 use Rattle.crew_duty.specs.Legality.{last_of, may_follow}
 use Rattle.crew_duty.specs.Listing.{below, listing, own, timed}
-use Rattle.crew_duty.specs.Members.{Each, Member}
+use Rattle.crew_duty.specs.Members.{Member}
 use Rattle.crew_duty.specs.declared.duty.Duty.{Duty}
 use Rattle.crew_duty.specs.declared.leg.TimedLeg.{TimedLeg}
 use Rattle.crew_duty.proofs.Places.{StandAt-at, StandAt-length}
@@ -24,10 +23,10 @@ returns-then-others-ge-LEGS-clause-ok t c =
     let first = c.args.first.now in
     let others = c.args.others.now in
     let none : listing (8 - length others) s flights first others ≡ [] =
-        elim c.then-others-ge-LEGS.branch [
-          | then-others-ge-LEGS-via-then-others-ge-LEGS w ↦ let room : 8 - length others ≡ 0 = omega arith in rw room (listing-none s flights first others)
-          | then-others-ge-LEGS-via-else-others-ge-LEGS+then-cannot_begin w ↦ listing-closed (8 - length others) s flights first others (sym w.cannot_begin.ensures ∙ w.if-cannot_begin.true)
-        ] in
+    elim c.then-others-ge-LEGS.branch [
+      | then-others-ge-LEGS-via-then-others-ge-LEGS w ↦ let room : 8 - length others ≡ 0 = omega arith in rw room (listing-none s flights first others)
+      | then-others-ge-LEGS-via-else-others-ge-LEGS+then-cannot_begin w ↦ listing-closed (8 - length others) s flights first others (sym w.cannot_begin.ensures ∙ w.if-cannot_begin.true)
+    ] in
     rw none (sym (append-nil c.args.found.now.items))
 
 pub list_own-requires-clause-sound : goal.list_own-requires-clause-sound
@@ -156,9 +155,11 @@ loop-place-preserved t c =
     let flown : c.deref.result.now ≡ others ++ timed false at.0 ∷ [] = c.deref.ensures.value ∙ c.in_ok-flown.ensures ∙ ap (λ (f : Flight). others ++ timed false f ∷ []) flight in
     let ridden : c.deref-in-loop-place.result.now ≡ others ++ timed true at.0 ∷ [] = c.deref-in-loop-place.ensures.value ∙ c.in_ok-ridden.ensures ∙ ap (λ (f : Flight). others ++ timed true f ∷ []) flight in
     let start = c.args.found.now.items in
-    let before = c.loop-place.found.items in
-    (below-more s flights first others c.deref.result.now c.deref-in-loop-place.result.now gs i at.0 (start ++ own s first others) before c.list.new.found.items
-    c.list-in-loop-place.new.found.items at.1 flown ridden c.loop-place.invariant.0 c.in_ok-list.ensures.ok c.in_ok-list-2.ensures.ok, λ h. c.in_ok-list-2.ensures.few (c.in_ok-list.ensures.few (c.loop-place.invariant.1 h)))
+    let before = c.loop-place.found.items in (
+      below-more s flights first others c.deref.result.now c.deref-in-loop-place.result.now gs i at.0 (start ++ own s first others) before c.list.new.found.items
+          c.list-in-loop-place.new.found.items at.1 flown ridden c.loop-place.invariant.0 c.in_ok-list.ensures.ok c.in_ok-list-2.ensures.ok,
+      λ h. c.in_ok-list-2.ensures.few (c.in_ok-list.ensures.few (c.loop-place.invariant.1 h)),
+    )
 
 pub returns-clause-ok : goal.returns-clause-ok
 returns-clause-ok t c =

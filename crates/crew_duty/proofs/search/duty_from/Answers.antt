@@ -37,7 +37,7 @@ returns c =
     let fdp-is : to_z w64 (of_z w64 c.flight_duty_period.result) ≡ flight_duty_period s first others = omega (arith, ints, c.flight_duty_period.ensures) in
     let fly-is : to_z w64 (of_z w64 c.flight_time-fly.result) ≡ flight_time first others = omega (arith, ints, c.flight_time-fly.ensures) in
     let elapsed-is : to_z w64 (of_z w64 (to_z w64 (of_z w64 c.release-release.result) -ℤ to_z w64 (of_z w64 c.report-report.result))) ≡ release s first others -ℤ report s first =
-        omega (arith, ints, release-is, report-is) in
+    omega (arith, ints, release-is, report-is) in
     let pay-is : to_z w64 (of_z w64 c.duty_pay.result) ≡ duty_pay s (release s first others -ℤ report s first) (flight_time first others) = omega (arith, ints, c.duty_pay.ensures ∙ ap_two (λ (e f : ℤ). duty_pay s e f) elapsed-is fly-is) in
     let price-is : to_z w64 (of_z w64 c.price.result) ≡ total price_of (first ∷ others) = omega (arith, ints, c.price.ensures) in
     let to-is : c.last_leg.result.flight.to ≡ (last_of first others).flight.to = ap (λ (l : TimedLeg). l.flight.to) c.last_leg.ensures in

@@ -22,8 +22,8 @@ returns-clause-ok c =
     let flights = c.args.plan.now.flights.now in
     on_ok_weaker c.list.result
     (λ e flight h.
-        let same = ap (λ (f : Flight). timed c.args.deadhead f) (get_or_from_slice_get flights c.args.place flight c.index-plan-place.result h) in
-        subst (λ (l : TimedLeg). c.list.new.found.items ≡ c.args.found.now.items ++ listing 8 s flights l []) same e)
+    let same = ap (λ (f : Flight). timed c.args.deadhead f) (get_or_from_slice_get flights c.args.place flight c.index-plan-place.result h) in
+    subst (λ (l : TimedLeg). c.list.new.found.items ≡ c.args.found.now.items ++ listing 8 s flights l []) same e)
     c.list.ensures.ok
 
 pub returns-clause-over : goal.returns-clause-over

@@ -1,4 +1,4 @@
-use Rattle.std.proofs.Common.{◌≡◌, ◌++◌, ◌∷◌, [], ◌∙◌, ap, sym, true, false, get_or, arith}
+use Rattle.std.proofs.Common.{◌≡◌, ◌++◌, ◌∷◌, [], ◌∙◌, ap, sym, get_or, arith}
 use Rattle.std.proofs.lemmas.Grind.{common_steps}
 use Rattle.crew_duty.specs.Legality.{may_follow}
 use Rattle.crew_duty.proofs.Places.{StandAt-left, StandAt-taken}
@@ -15,9 +15,9 @@ loop-place-preserved c =
     let read : c.may_come_next.result ≡ test (get_or flights i d) = c.may_come_next.ensures ∙ ap test c.index-flights-place.is in
     elim c.if-may_come_next.branch [
       | then-may_come_next+in_ok-push w ↦
-      let pushed : c.if-may_come_next.places.items ≡ before ++ i ∷ [] = grind (arith, common_steps) in
-      rw pushed (StandAt-taken test flights before i d c.loop-place-test.true (sym read ∙ w.if-may_come_next.true) c.loop-place.invariant)
+          let pushed : c.if-may_come_next.places.items ≡ before ++ i ∷ [] = grind (arith, common_steps) in
+          rw pushed (StandAt-taken test flights before i d c.loop-place-test.true (sym read ∙ w.if-may_come_next.true) c.loop-place.invariant)
       | else-may_come_next w ↦
-      let same : c.if-may_come_next.places.items ≡ before = grind (arith, common_steps) in
-      rw same (StandAt-left test flights before i d c.loop-place-test.true (sym read ∙ w.if-may_come_next.false) c.loop-place.invariant)
+          let same : c.if-may_come_next.places.items ≡ before = grind (arith, common_steps) in
+          rw same (StandAt-left test flights before i d c.loop-place-test.true (sym read ∙ w.if-may_come_next.false) c.loop-place.invariant)
     ]

@@ -1,4 +1,4 @@
-use Rattle.std.proofs.Common.{◌≡◌, ◌<◌, arith, get_or, length}
+use Rattle.std.proofs.Common.{◌<◌, arith, get_or, length}
 use Rattle.std.proofs.lemmas.Option.{slice_get-get_or}
 use Rattle.crew_duty.proofs.Places.{AreNext-at, AreNext-length}
 use Rattle.crew_duty.proofs.search.places_of.Goals as goal

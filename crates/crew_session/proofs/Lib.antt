@@ -1,0 +1,6 @@
+pub mod LineFacts
+pub mod NumberFacts
+pub mod OfferFacts
+pub mod RowFacts
+pub mod SessionFacts
+pub mod ZoneFacts

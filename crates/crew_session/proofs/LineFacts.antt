@@ -1,0 +1,42 @@
+-- How the lines of refusals follow one another.
+use Rattle.std.proofs.Common.{◌≡◌, ◌<◌, ◌+◌, ℕ, zero, suc, List, [], ◌∷◌, ◌++◌, length, get_or, drop, Option, Some, None, refl, sym, ap, ◌∙◌, arith, add-one, drop-cons, append_assoc}
+use Rattle.std.specs.Prelude.{slice_get}
+use Rattle.std.specs.Io.KnownBytes.{Appends}
+use Rattle.std.proofs.lemmas.List.{append-nil}
+use Rattle.crew_flights.specs.declared.edit.Verdict.{Verdict}
+use Rattle.crew_session.specs.Lines.{refused_lines, verdict_line}
+use Rattle.crew_session.specs.Verdicts.{verdict_text}
+
+pub appends-none : (w : Option (List ℕ)) → Appends w w []
+appends-none None = tt
+appends-none (Some x) = sym (append-nil x)
+
+pub appends-both : (a b c : Option (List ℕ)) (x y : List ℕ) → Appends a b x → Appends b c y → Appends a c (x ++ y)
+appends-both None b c x y p q = tt
+appends-both (Some s) None c x y p q = absurd p
+appends-both (Some s) (Some t) None x y p q = absurd q
+appends-both (Some s) (Some t) (Some u) x y p q = q ∙ ap (λ (l : List ℕ). l ++ y) p ∙ append_assoc s x y
+
+no-verdicts : (numbers : List ℕ) → refused_lines numbers [] ≡ []
+no-verdicts [] = refl
+no-verdicts (n ∷ ns) = refl
+
+-- the line of the verdict at a place, and then the others
+one-more : (vs : List Verdict) (p n : ℕ) (ns : List ℕ) → refused_lines (n ∷ ns) (drop p vs) ≡ verdict_text n (slice_get vs p) ++ refused_lines ns (drop (suc p) vs)
+one-more [] zero n ns = sym (no-verdicts ns)
+one-more [] (suc p) n ns = sym (no-verdicts ns)
+one-more (v ∷ vs) zero n ns = refl
+one-more (v ∷ vs) (suc p) n ns = one-more vs p n ns
+
+pub refused-more : (ns : List ℕ) (vs : List Verdict) (first i : ℕ) → i < length ns
+    → refused_lines (drop i ns) (drop (first + i) vs) ≡ verdict_text (get_or ns i 0) (slice_get vs (first + i)) ++ refused_lines (drop (i + 1) ns) (drop (first + (i + 1)) vs)
+refused-more ns vs first i h =
+    let next : first + (i + 1) ≡ suc (first + i) = omega arith in
+    rw (next, drop-cons ns i 0, add-one i) (one-more vs (first + i) (get_or ns i 0) (drop (suc i) ns))
+
+-- nothing is left
+pub refused-all : (ns : List ℕ) (vs : List Verdict) (i : ℕ) → length ns < i + 1 → refused_lines (drop i ns) vs ≡ []
+refused-all [] vs zero h = refl
+refused-all [] vs (suc i) h = refl
+refused-all (n ∷ ns) vs zero h = absurd (omega arith)
+refused-all (n ∷ ns) vs (suc i) h = refused-all ns vs i (omega arith)

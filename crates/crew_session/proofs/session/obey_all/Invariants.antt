@@ -1,0 +1,12 @@
+use Rattle.crew_session.specs.Journals.{IsInStep, state_of}
+use Rattle.crew_session.specs.Rows.{IsOpen, rows_left}
+use Rattle.crew_session.proofs.SessionFacts.{HasWritten}
+use Rattle.crew_session.proofs.session.obey_all.Given as goal
+
+abbrev pub invariant-records : goal.invariant-records
+invariant-records g l = record {
+  open_still : IsOpen l.records;
+  in_step : IsInStep l.journal (g.E.Engine.shown l.engine) (g.E.Engine.entries l.engine);
+  so_far : HasWritten l.settings (rows_left g.R.Read.remaining l.fn.records) (rows_left g.R.Read.remaining l.records) (g.W.Write.contents l.fn.writer) (g.W.Write.contents l.writer) l.number
+      (state_of l.fn.journal (g.E.Engine.shown l.fn.engine)) (state_of l.journal (g.E.Engine.shown l.engine));
+}

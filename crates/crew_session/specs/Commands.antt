@@ -1,0 +1,116 @@
+-- What a record asks for.
+use Rattle.std.specs.Prelude.{ℕ, List, Result, Ok, Err, codes, if◌then◌else◌}
+use Rattle.std.specs.Str.{bytes_eq}
+use Rattle.crew_time.specs.Instant.{IsInYears}
+use Rattle.crew_flights.specs.declared.edit.Edit.TheVariants as edit
+use Rattle.crew_session.specs.Rows.{Fields}
+use Rattle.crew_session.specs.Fields.{◌>>=◌, count_field, field_of, code_field, id_field, price_field, time_field, zone_field}
+use Rattle.crew_session.specs.declared.fault.RecordFault.{RecordFault}
+use Rattle.crew_session.specs.declared.fault.RecordFault.TheVariants.{UnknownRecord}
+use Rattle.crew_session.specs.declared.command.Command.{Command}
+use Rattle.crew_session.specs.declared.command.Command.TheVariants.{AddZone, Submit, AddFlight, Retime, Settle, Best, Refuse}
+
+-- ---- each kind of record: its number of fields, then its fields from left to right
+
+-- zone,CODE,ZONE
+unfoldable pub zone_command : Fields → Result Command RecordFault
+zone_command fields = do
+  count ← count_field fields 3
+  code ← code_field (field_of fields 1)
+  zone ← zone_field (field_of fields 2)
+  Ok (AddZone code zone)
+
+-- base,CODE,PRICE
+unfoldable pub base_command : Fields → Result Command RecordFault
+base_command fields = do
+  count ← count_field fields 3
+  code ← code_field (field_of fields 1)
+  price ← price_field (field_of fields 2)
+  Ok (Submit (edit.AddBase code price))
+
+-- baseprice,CODE,PRICE
+unfoldable pub base_price_command : Fields → Result Command RecordFault
+base_price_command fields = do
+  count ← count_field fields 3
+  code ← code_field (field_of fields 1)
+  price ← price_field (field_of fields 2)
+  Ok (Submit (edit.BasePrice code price))
+
+-- flight,ID,CODE,CODE,TIME,TIME,PRICE
+unfoldable pub flight_command : Fields → Result Command RecordFault
+flight_command fields = do
+  count ← count_field fields 7
+  id ← id_field (field_of fields 1)
+  from ← code_field (field_of fields 2)
+  to ← code_field (field_of fields 3)
+  dep ← time_field (field_of fields 4)
+  arr ← time_field (field_of fields 5)
+  price ← price_field (field_of fields 6)
+  Ok (AddFlight id from to dep arr price)
+
+-- cancel,ID
+unfoldable pub cancel_command : Fields → Result Command RecordFault
+cancel_command fields = do
+  count ← count_field fields 2
+  id ← id_field (field_of fields 1)
+  Ok (Submit (edit.Cancel id))
+
+-- retime,ID,CODE,TIME,TIME
+unfoldable pub retime_command : Fields → Result Command RecordFault
+retime_command fields = do
+  count ← count_field fields 5
+  id ← id_field (field_of fields 1)
+  from ← code_field (field_of fields 2)
+  dep ← time_field (field_of fields 3)
+  arr ← time_field (field_of fields 4)
+  Ok (Retime id from dep arr)
+
+-- price,ID,PRICE
+unfoldable pub price_command : Fields → Result Command RecordFault
+price_command fields = do
+  count ← count_field fields 3
+  id ← id_field (field_of fields 1)
+  price ← price_field (field_of fields 2)
+  Ok (Submit (edit.Price id price))
+
+-- a record of its name alone
+unfoldable pub plain_command : Fields → Command → Result Command RecordFault
+plain_command fields command = do
+  count ← count_field fields 1
+  Ok command
+
+-- ---- a record, by its name
+
+abbrev pub kind_of : List ℕ → Fields → Result Command RecordFault
+kind_of name fields =
+    if bytes_eq name (codes "zone") then zone_command fields
+    else (if bytes_eq name (codes "base") then base_command fields
+    else (if bytes_eq name (codes "baseprice") then base_price_command fields
+    else (if bytes_eq name (codes "flight") then flight_command fields
+    else (if bytes_eq name (codes "cancel") then cancel_command fields
+    else (if bytes_eq name (codes "retime") then retime_command fields
+    else (if bytes_eq name (codes "price") then price_command fields
+    else (if bytes_eq name (codes "settle") then plain_command fields Settle
+    else (if bytes_eq name (codes "best") then plain_command fields Best
+    else Err UnknownRecord))))))))
+
+abbrev pub named_command : Fields → Result Command RecordFault
+named_command fields = kind_of (field_of fields 0) fields
+
+abbrev pub command_or_refuse : Result Command RecordFault → Command
+command_or_refuse (Ok command) = command
+command_or_refuse (Err fault) = Refuse fault
+
+-- what a record asks for
+abbrev pub command_of : Fields → Command
+command_of fields = command_or_refuse (named_command fields)
+
+-- a departure that needs a report clock is an instant that a text may name
+abbrev pub IsDated : Command → Type 0
+IsDated (AddZone code zone) = Unit {0}
+IsDated (Submit edit) = Unit {0}
+IsDated (AddFlight id from to dep arr price) = IsInYears dep
+IsDated (Retime id from dep arr) = IsInYears dep
+IsDated Settle = Unit {0}
+IsDated Best = Unit {0}
+IsDated (Refuse fault) = Unit {0}

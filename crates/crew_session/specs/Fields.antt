@@ -1,0 +1,70 @@
+-- What a field of a record means. A field is a list of bytes.
+use Rattle.std.specs.Prelude.{◌+◌, ◌-◌, ◌*◌, ◌&&◌, ◌==◌, ℕ, ℤ, pos, neg_ℤ, nat_le, nat_lt, not, slice_index, Bool, List, [], ◌∷◌, Option, Some, None, Result, Ok, Err, length, codes, if◌then◌else◌}
+use Rattle.std.specs.Result.{result_map_both}
+use Rattle.std.specs.Char.{is_ascii_digit}
+use Rattle.std.specs.List.{list_all}
+use Rattle.std.specs.Str.{bytes_eq}
+use Rattle.csv.specs.Records.{field_at}
+use Rattle.jiff_tz.specs.PosixText.{TzText}
+use Rattle.crew_time.specs.Civil.{text_minute}
+use Rattle.crew_time.specs.Zone.{text_zone}
+use Rattle.crew_flights.specs.Codes.{is_code}
+use Rattle.crew_session.specs.Rows.{Fields}
+use Rattle.crew_session.specs.declared.fault.RecordFault.{RecordFault}
+use Rattle.crew_session.specs.declared.fault.RecordFault.TheVariants.{Text, BadField, FieldCount}
+
+-- one step after another, up to the first that fails
+infixl 10 ◌>>=◌
+abbrev pub ◌>>=◌ : {A B E : Type 0} → Result A E → (A → Result B E) → Result B E
+Ok x >>= f = f x
+Err e >>= f = Err e
+
+-- a record's field, where a missing one is empty
+abbrev pub field_or : Option (List ℕ) → List ℕ
+field_or None = []
+field_or (Some f) = f
+
+abbrev pub field_of : Fields → ℕ → List ℕ
+field_of fields i = field_or (field_at fields i)
+
+-- so many fields
+abbrev pub count_field : Fields → ℕ → Result (Unit {0}) RecordFault
+count_field fields n = if length fields == n then Ok tt else Err FieldCount
+
+-- CODE: three bytes of A-Z
+abbrev pub code_field : List ℕ → Result (List ℕ) RecordFault
+code_field f = if is_code f then Ok f else Err BadField
+
+-- the number that digits write after a number
+abbrev pub read_on : ℕ → List ℕ → ℕ
+read_on n [] = n
+read_on n (b ∷ bs) = read_on (n * 10 + (b - 48)) bs
+
+-- 1 to so many digits without a leading zero
+abbrev pub is_number : ℕ → List ℕ → Bool
+is_number most f = nat_lt 0 (length f) && (not (slice_index f 0 == 48) && (list_all is_ascii_digit f && nat_le (length f) most))
+
+abbrev pub number_field : ℕ → List ℕ → Result ℕ RecordFault
+number_field most f = if is_number most f then Ok (read_on 0 f) else Err BadField
+
+-- ID: 1 to 6 digits without a leading zero
+abbrev pub id_field : List ℕ → Result ℕ RecordFault
+id_field f = number_field 6 f
+
+-- PRICE: `0`, or an optional `-` and 1 to 18 digits without a leading zero
+abbrev pub signed_field : List ℕ → Result ℤ RecordFault
+signed_field [] = Err BadField
+signed_field (b ∷ bs) =
+    if b == 45 then result_map_both (λ n. neg_ℤ (pos n)) (λ e. e) (number_field 18 bs)
+    else result_map_both pos (λ e. e) (number_field 18 (b ∷ bs))
+
+abbrev pub price_field : List ℕ → Result ℤ RecordFault
+price_field f = if bytes_eq f (codes "0") then Ok (pos 0) else signed_field f
+
+-- TIME: the text of an instant
+abbrev pub time_field : List ℕ → Result ℤ RecordFault
+time_field f = result_map_both (λ m. m) Text (text_minute f)
+
+-- ZONE: the text of a rule
+abbrev pub zone_field : List ℕ → Result TzText RecordFault
+zone_field f = result_map_both (λ z. z) Text (text_zone f)

@@ -1,0 +1,13 @@
+pub mod Bests
+pub mod Commands
+pub mod Engines
+pub mod Faults
+pub mod Fields
+pub mod Journals
+pub mod Lines
+pub mod Offers
+pub mod Plains
+pub mod Rows
+pub mod Session
+pub mod Verdicts
+pub mod Versions

@@ -1,0 +1,56 @@
+-- The lines that a session writes.
+use Rattle.std.specs.Prelude.{ℕ, ◌++◌, List, [], ◌∷◌, Option, Some, None, codes, decimal, length, map, if◌then◌else◌}
+use Rattle.std.specs.Fmt.{signed_decimal}
+use Rattle.std.specs.FinMap as fin
+use Rattle.crew_flights.specs.Refusals.{number_of}
+use Rattle.crew_flights.specs.declared.edit.Verdict.{Verdict}
+use Rattle.crew_flights.specs.declared.edit.Verdict.TheVariants.{Accepted, Refused}
+use Rattle.crew_duty.specs.declared.leg.Leg.{Leg}
+use Rattle.crew_session.specs.Versions.{Snapshot, timetable_of}
+use Rattle.crew_session.specs.declared.best.Best.{Best}
+
+-- texts with a byte between each two
+abbrev pub after_first : ℕ → List (List ℕ) → List ℕ
+after_first byte [] = []
+after_first byte (text ∷ texts) = (byte ∷ text) ++ after_first byte texts
+
+abbrev pub joined : ℕ → List (List ℕ) → List ℕ
+joined byte [] = []
+joined byte (text ∷ texts) = text ++ after_first byte texts
+
+-- a leg: the number of its flight, with a `d` where it is deadheaded
+abbrev pub leg_text : Leg → List ℕ
+leg_text l = decimal l.flight ++ (if l.deadhead then codes "d" else [])
+
+-- a duty: its legs joined by `-`
+abbrev pub key_text : List Leg → List ℕ
+key_text legs = joined 45 (map leg_text legs)
+
+-- a walk: its duties joined by a space
+abbrev pub walk_text : List (List Leg) → List ℕ
+walk_text keys = joined 32 (map key_text keys)
+
+-- ---- whole lines, with their ends
+
+abbrev pub refused_line : ℕ → ℕ → List ℕ
+refused_line number why = codes "record " ++ decimal number ++ codes " refused " ++ decimal why ++ codes "\n"
+
+-- what a verdict on the entry that a record made writes: a line where it is a refusal
+abbrev pub verdict_line : ℕ → Verdict → List ℕ
+verdict_line number Accepted = []
+verdict_line number (Refused why) = refused_line number (number_of why)
+
+-- the same for the verdicts on the entries that these records made
+abbrev pub refused_lines : List ℕ → List Verdict → List ℕ
+refused_lines [] verdicts = []
+refused_lines (number ∷ numbers) [] = []
+refused_lines (number ∷ numbers) (verdict ∷ verdicts) = verdict_line number verdict ++ refused_lines numbers verdicts
+
+abbrev pub version_line : Snapshot → List ℕ
+version_line v =
+    codes "version " ++ decimal v.number ++ codes " entries " ++ decimal (length v.entries) ++ codes " flights " ++ decimal (fin.len (timetable_of v.entries).flights) ++ codes "\n"
+
+abbrev pub best_line : Option Best → List ℕ
+best_line None = codes "best none\n"
+best_line (Some b) =
+    codes "best " ++ b.base ++ codes " cost " ++ signed_decimal b.cost ++ codes " pay " ++ signed_decimal b.pay ++ codes " away " ++ signed_decimal b.away ++ codes " " ++ walk_text b.walk ++ codes "\n"

@@ -1,0 +1,117 @@
+-- What a session writes.
+use Rattle.std.specs.Prelude.{◌≡◌, ◌⊎◌, ◌+◌, ◌-ℤ◌, ℕ, ℤ, pos, nat_le, nat_lt, List, [], ◌∷◌, ◌++◌, length, drop, Option, Some, None, option_map, if◌then◌else◌}
+use Rattle.std.specs.FinMap as map
+use Rattle.jiff_tz.specs.PosixText.{TzText}
+use Rattle.crew_time.specs.Zone.{clock_of}
+use Rattle.crew_rules.specs.declared.settings.Settings.{Settings}
+use Rattle.crew_flights.specs.Codes.{code_cmp}
+use Rattle.crew_flights.specs.declared.edit.Edit.{Edit}
+use Rattle.crew_flights.specs.declared.edit.Edit.TheVariants as edit
+use Rattle.crew_flights.specs.declared.entries.Entry.{Entry}
+use Rattle.crew_flights.specs.declared.flight.Flight.{Flight}
+use Rattle.crew_duty.specs.Duties.{HasTooMany}
+use Rattle.crew_session.specs.Commands.{command_of}
+use Rattle.crew_session.specs.Faults.{record_number}
+use Rattle.crew_session.specs.Lines.{best_line, refused_line, refused_lines, version_line}
+use Rattle.crew_session.specs.Rows.{Fields, records_of}
+use Rattle.crew_session.specs.Versions.{IsNext, IsRight, Snapshot, entry_of, opening, timetable_of, verdicts_of}
+use Rattle.crew_session.specs.declared.command.Command.{Command}
+use Rattle.crew_session.specs.declared.command.Command.TheVariants.{AddZone, Submit, AddFlight, Retime, Settle, Best, Refuse}
+
+-- the zones of airports
+abbrev pub Zones : Type 0
+Zones = map.FinMap code_cmp TzText
+
+-- where a session stands: the zones, the last version, the entries since it, and the records that made them
+pub record State : Type 0 where
+  pub zones : Zones
+  pub version : Snapshot
+  pub entries : List Entry
+  pub records : List ℕ
+
+-- before any record
+abbrev pub start : Settings → State
+start s = record { zones = map.empty; version = opening s; entries = []; records = [] }
+
+-- ---- what a record does: the state after it, and what it writes
+
+abbrev pub refuse : ℕ → ℕ → State → State × List ℕ
+refuse number why a = (a, refused_line number why)
+
+abbrev pub entry_count : State → ℕ
+entry_count a = length a.version.entries + length a.entries
+
+-- an edit becomes an entry, up to 1,000,000 of them
+abbrev pub with_entry : ℕ → Edit → State → State
+with_entry number e a = record a { entries = a.entries ++ entry_of (entry_count a) e ∷ []; records = a.records ++ number ∷ [] }
+
+abbrev pub submit : ℕ → Edit → State → State × List ℕ
+submit number e a = if nat_lt (entry_count a) 1_000_000 then (with_entry number e a, []) else refuse number 61 a
+
+-- an airport has one zone, and 2,000 airports have one
+abbrev pub with_zone : List ℕ → TzText → State → State
+with_zone code zone a = record a { zones = map.insert a.zones code zone }
+
+abbrev pub add_zone : ℕ → List ℕ → TzText → State → State × List ℕ
+add_zone number code zone a =
+    if map.contains_key a.zones code then refuse number 74 a
+    else (if nat_le 2_000 (map.len a.zones) then refuse number 75 a else (with_zone code zone a, []))
+
+-- the clock, in a zone, at the report of a duty that begins with this departure
+abbrev pub report_clock : Settings → ℤ → TzText → ℕ
+report_clock s dep zone = clock_of zone (dep -ℤ pos s.lead)
+
+-- the same at an airport, if it has a zone
+abbrev pub clock_at : Settings → Zones → List ℕ → ℤ → Option ℕ
+clock_at s zones from dep = option_map (report_clock s dep) (map.get zones from)
+
+-- an edit that needs a report clock
+abbrev pub submit_at : Option ℕ → (ℕ → Edit) → ℕ → State → State × List ℕ
+submit_at None e number a = refuse number 73 a
+submit_at (Some clock) e number a = submit number (e clock) a
+
+abbrev pub flight_with : ℕ → List ℕ → List ℕ → ℤ → ℤ → ℤ → ℕ → Edit
+flight_with id from to dep arr price clock = edit.AddFlight (record { id = id; from = from; to = to; dep = dep; arr = arr; report_clock = clock; price = price })
+
+-- ---- what a settle does
+
+-- it makes the next version of all entries so far
+pub record Publishes (a b : State) (text : List ℕ) : Type 0 where
+  pub next : IsNext a.version a.entries b.version
+  pub right : IsRight b.version
+  pub after : b ≡ record { zones = a.zones; version = b.version; entries = []; records = [] }
+  pub written : text ≡ refused_lines a.records (drop (length a.version.entries) (verdicts_of b.version.entries)) ++ version_line b.version
+
+-- or there are too many legal duties: the entries stay, and belong to the next settle
+pub record Declines (number : ℕ) (a b : State) (text : List ℕ) : Type 0 where
+  pub many : HasTooMany a.version.settings (timetable_of (a.version.entries ++ a.entries))
+  pub after : b ≡ a
+  pub written : text ≡ refused_line number 40
+
+abbrev pub Settles : ℕ → State → State → List ℕ → Type 0
+Settles number a b text = Publishes a b text ⊎ Declines number a b text
+
+-- ---- a record, by what it asks for
+
+-- the state after it and what it writes are these
+abbrev pub Does : State → List ℕ → State × List ℕ → Type 0
+Does b text p = (b ≡ p.0) × (text ≡ p.1)
+
+abbrev pub Obeys : Settings → ℕ → Command → State → State → List ℕ → Type 0
+Obeys s number (AddZone code zone) a b text = Does b text (add_zone number code zone a)
+Obeys s number (Submit e) a b text = Does b text (submit number e a)
+Obeys s number (AddFlight id from to dep arr price) a b text = Does b text (submit_at (clock_at s a.zones from dep) (flight_with id from to dep arr price) number a)
+Obeys s number (Retime id from dep arr) a b text = Does b text (submit_at (clock_at s a.zones from dep) (edit.Retime id from dep arr) number a)
+Obeys s number Settle a b text = Settles number a b text
+Obeys s number Best a b text = Does b text (a, best_line a.version.best)
+Obeys s number (Refuse fault) a b text = Does b text (refuse number (record_number fault) a)
+
+-- what records write, one after another, where so many came before them
+abbrev pub Writes : Settings → ℕ → State → List Fields → List ℕ → Type 0
+Writes s number a [] text = text ≡ []
+Writes s number a (row ∷ rows) text =
+    (b : State) × (line : List ℕ) × (rest : List ℕ) × Obeys s (number + 1) (command_of row) a b line × Writes s (number + 1) b rows rest × (text ≡ line ++ rest)
+
+-- what a session of these bytes writes
+abbrev pub IsSessionText : Settings → List ℕ → List ℕ → Type 0
+IsSessionText s bytes text = Writes s 0 (start s) (records_of bytes) text

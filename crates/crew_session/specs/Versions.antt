@@ -1,0 +1,57 @@
+-- Versions: what the entries of a log come to.
+use Rattle.std.specs.Prelude.{◌≡◌, ◌+◌, ℕ, List, [], ◌∷◌, ◌++◌, Option, None, reverse}
+use Rattle.std.specs.Prelude.{Vec}
+use Rattle.std.specs.Global.{Global}
+use Rattle.crew_rules.specs.Settings.{IsChecked}
+use Rattle.crew_rules.specs.declared.settings.Settings.{Settings}
+use Rattle.crew_flights.specs.Fold.{HasTaken, Standing, fold_of}
+use Rattle.crew_flights.specs.Timetable.{Timetable}
+use Rattle.crew_flights.specs.declared.edit.Edit.{Edit}
+use Rattle.crew_flights.specs.declared.edit.Verdict.{Verdict}
+use Rattle.crew_flights.specs.declared.entries.Entry.{Entry}
+use Rattle.crew_session.specs.Bests.{IsBest}
+use Rattle.crew_session.specs.declared.best.Best.{Best}
+
+-- what a version shows
+pub record Snapshot : Type 0 where
+  pub number : ℕ
+  pub settings : Settings
+  pub entries : List Entry
+  pub best : Option Best
+
+-- the timetable and the verdicts that its entries come to
+abbrev pub timetable_of : List Entry → Timetable
+timetable_of entries = (fold_of entries).0
+
+abbrev pub verdicts_of : List Entry → List Verdict
+verdicts_of entries = (fold_of entries).1
+
+-- the version before any entry
+abbrev pub opening : Settings → Snapshot
+opening settings = record { number = 0; settings = settings; entries = []; best = None }
+
+-- an edit as the entry of a log with one seat, after so many entries
+abbrev pub entry_of : ℕ → Edit → Entry
+entry_of number edit = record { seat = 0; number = number; edit = edit }
+
+-- the next version: so many entries more, and their best
+pub record IsNext (before : Snapshot) (entries : List Entry) (after : Snapshot) : Type 0 where
+  pub number : after.number ≡ before.number + 1
+  pub settings : after.settings ≡ before.settings
+  pub grown : after.entries ≡ before.entries ++ entries
+
+-- a version whose best is that of its entries
+abbrev pub IsRight : Snapshot → Type 0
+IsRight v = IsBest v.settings (timetable_of v.entries) v.best
+
+-- what the parts of a version in memory have in common
+pub record IsKept (s : Settings) (entries : List Entry) (verdicts : List Verdict) (standing : Standing) (best : Option Best) : Type 0 where
+  pub checked : IsChecked s
+  pub judged : verdicts ≡ verdicts_of entries
+  pub taken : HasTaken entries standing
+  pub least : IsBest s (timetable_of entries) best
+
+-- a fold gone on with these entries, and their verdicts
+abbrev pub FoldsOn : Standing → List Entry → Standing × Vec Verdict Global → Type 0
+FoldsOn before entries after =
+    (earlier : List Entry) → HasTaken earlier before → HasTaken (earlier ++ entries) after.0 × (verdicts_of (earlier ++ entries) ≡ verdicts_of earlier ++ after.1.items)

@@ -1,0 +1,19 @@
+//! The best pairing of a version.
+
+use crew_duty::Walk;
+use crew_flights::Code;
+
+/// A pairing with its cost. Money is in points.
+#[derive(Debug, Drop)]
+pub struct Best {
+    /// The base that it leaves and comes back to.
+    pub base: Code,
+    /// Its pay, less the prices of the flights that it flies and of its base.
+    pub cost: i64,
+    /// Its pay.
+    pub pay: i64,
+    /// The minutes from its first report to its last release.
+    pub away: i64,
+    /// The keys of its duties.
+    pub walk: Walk,
+}

@@ -1,0 +1,193 @@
+//! What a record asks for.
+
+ghost use Rattle.std.specs.Prelude.{◌≡◌, IfOk};
+ghost use Rattle.csv.specs.Records.{fields_of};
+ghost use Rattle.crew_session.specs.Commands.{IsDated, command_of};
+ghost use Rattle.crew_session.specs.Commands as Spec;
+
+use crate::fault::RecordFault;
+use crate::fields::{count_fields, field, read_code, read_id, read_price, read_time, read_zone};
+use crew_flights::{Code, Edit, FlightId};
+use crew_time::{Minute, Zone};
+use csv::ByteRecord;
+
+/// What a record asks for.
+#[derive(Drop)]
+pub enum Command {
+    /// A zone for an airport.
+    AddZone {
+        code: Code,
+        zone: Zone,
+    },
+    /// An edit that needs no clock.
+    Submit(Edit),
+    /// A flight, whose report clock is that of its from-airport.
+    AddFlight {
+        id: FlightId,
+        from: Code,
+        to: Code,
+        dep: Minute,
+        arr: Minute,
+        price: i64,
+    },
+    /// Other times for a flight, whose report clock is that of its from-airport.
+    Retime {
+        id: FlightId,
+        from: Code,
+        dep: Minute,
+        arr: Minute,
+    },
+    /// A version of all entries so far.
+    Settle,
+    /// The best pairing of the last version.
+    Best,
+    /// Nothing: the record is refused.
+    Refuse(RecordFault),
+}
+
+#[tactic(auto, unfolding(crate::specs::Commands::zone_command))]
+fn zone_command(row: &ByteRecord) -> Result<Command, RecordFault>
+    ensures value { result ≡ Spec.zone_command (fields_of row.now) }
+    ensures dated { IfOk result IsDated }
+{
+    count_fields(row, 3)?;
+    let code = read_code(field(row, 1))?;
+    let zone = read_zone(field(row, 2))?;
+    Ok(Command::AddZone { code, zone })
+}
+
+#[tactic(auto, unfolding(crate::specs::Commands::base_command))]
+fn base_command(row: &ByteRecord) -> Result<Command, RecordFault>
+    ensures value { result ≡ Spec.base_command (fields_of row.now) }
+    ensures dated { IfOk result IsDated }
+{
+    count_fields(row, 3)?;
+    let code = read_code(field(row, 1))?;
+    let price = read_price(field(row, 2))?;
+    Ok(Command::Submit(Edit::AddBase { code, price }))
+}
+
+#[tactic(auto, unfolding(crate::specs::Commands::base_price_command))]
+fn base_price_command(row: &ByteRecord) -> Result<Command, RecordFault>
+    ensures value { result ≡ Spec.base_price_command (fields_of row.now) }
+    ensures dated { IfOk result IsDated }
+{
+    count_fields(row, 3)?;
+    let code = read_code(field(row, 1))?;
+    let price = read_price(field(row, 2))?;
+    Ok(Command::Submit(Edit::BasePrice { code, price }))
+}
+
+#[tactic(auto, unfolding(crate::specs::Commands::flight_command))]
+fn flight_command(row: &ByteRecord) -> Result<Command, RecordFault>
+    ensures value { result ≡ Spec.flight_command (fields_of row.now) }
+    ensures dated { IfOk result IsDated }
+{
+    count_fields(row, 7)?;
+    let id = read_id(field(row, 1))?;
+    let from = read_code(field(row, 2))?;
+    let to = read_code(field(row, 3))?;
+    let dep = read_time(field(row, 4))?;
+    let arr = read_time(field(row, 5))?;
+    let price = read_price(field(row, 6))?;
+    Ok(Command::AddFlight {
+        id,
+        from,
+        to,
+        dep,
+        arr,
+        price,
+    })
+}
+
+#[tactic(auto, unfolding(crate::specs::Commands::cancel_command))]
+fn cancel_command(row: &ByteRecord) -> Result<Command, RecordFault>
+    ensures value { result ≡ Spec.cancel_command (fields_of row.now) }
+    ensures dated { IfOk result IsDated }
+{
+    count_fields(row, 2)?;
+    let id = read_id(field(row, 1))?;
+    Ok(Command::Submit(Edit::Cancel(id)))
+}
+
+#[tactic(auto, unfolding(crate::specs::Commands::retime_command))]
+fn retime_command(row: &ByteRecord) -> Result<Command, RecordFault>
+    ensures value { result ≡ Spec.retime_command (fields_of row.now) }
+    ensures dated { IfOk result IsDated }
+{
+    count_fields(row, 5)?;
+    let id = read_id(field(row, 1))?;
+    let from = read_code(field(row, 2))?;
+    let dep = read_time(field(row, 3))?;
+    let arr = read_time(field(row, 4))?;
+    Ok(Command::Retime { id, from, dep, arr })
+}
+
+#[tactic(auto, unfolding(crate::specs::Commands::price_command))]
+fn price_command(row: &ByteRecord) -> Result<Command, RecordFault>
+    ensures value { result ≡ Spec.price_command (fields_of row.now) }
+    ensures dated { IfOk result IsDated }
+{
+    count_fields(row, 3)?;
+    let id = read_id(field(row, 1))?;
+    let price = read_price(field(row, 2))?;
+    Ok(Command::Submit(Edit::Price { id, price }))
+}
+
+#[tactic(auto, unfolding(crate::specs::Commands::plain_command))]
+fn plain_command(row: &ByteRecord, command: Command) -> Result<Command, RecordFault>
+    requires { IsDated command }
+    ensures value { result ≡ Spec.plain_command (fields_of row.now) command }
+    ensures dated { IfOk result IsDated }
+{
+    count_fields(row, 1)?;
+    Ok(command)
+}
+
+// What a record of this name asks for, or why it is refused.
+fn named_command(row: &ByteRecord) -> Result<Command, RecordFault>
+    ensures value { result ≡ Spec.named_command (fields_of row.now) }
+    ensures dated { IfOk result IsDated }
+{
+    let name = field(row, 0);
+    if name == b"zone".as_slice() {
+        return zone_command(row);
+    }
+    if name == b"base".as_slice() {
+        return base_command(row);
+    }
+    if name == b"baseprice".as_slice() {
+        return base_price_command(row);
+    }
+    if name == b"flight".as_slice() {
+        return flight_command(row);
+    }
+    if name == b"cancel".as_slice() {
+        return cancel_command(row);
+    }
+    if name == b"retime".as_slice() {
+        return retime_command(row);
+    }
+    if name == b"price".as_slice() {
+        return price_command(row);
+    }
+    if name == b"settle".as_slice() {
+        return plain_command(row, Command::Settle);
+    }
+    if name == b"best".as_slice() {
+        return plain_command(row, Command::Best);
+    }
+    Err(RecordFault::UnknownRecord)
+}
+
+/// What a record asks for. It is refused by the first that applies: its name, its number of
+/// fields, and then its fields from left to right.
+pub fn read_command(row: &ByteRecord) -> Command
+    ensures value { result ≡ command_of (fields_of row.now) }
+    ensures dated { IsDated result }
+{
+    match named_command(row) {
+        Ok(command) => command,
+        Err(fault) => Command::Refuse(fault),
+    }
+}

@@ -1,0 +1,130 @@
+//! Readers of the fields of records.
+
+ghost use Rattle.std.specs.Prelude.{◌≡◌, ◌<◌, ◌≤◌, ◌^◌, ◌+◌, ◌-◌, ◌*◌, IfOk, length, slice_index, true};
+ghost use Rattle.std.specs.Char.{is_ascii_digit};
+ghost use Rattle.std.specs.List.{list_all};
+ghost use Rattle.csv.specs.Records.{fields_of};
+ghost use Rattle.crew_time.specs.Instant.{IsInYears};
+ghost use Rattle.crew_session.specs.Fields as Spec;
+
+use crate::fault::RecordFault;
+use crew_flights::{Code, FlightId};
+use crew_time::{Minute, Zone};
+use csv::ByteRecord;
+
+// A field, where a missing one is empty.
+pub(crate) fn field(row: &ByteRecord, i: usize) -> &[u8]
+    ensures { result.now ≡ Spec.field_of (fields_of row.now) i }
+{
+    match row.get(i) {
+        Some(field) => field,
+        None => &[],
+    }
+}
+
+// That a record has so many fields.
+pub(crate) fn count_fields(row: &ByteRecord, n: usize) -> Result<(), RecordFault>
+    ensures { result ≡ Spec.count_field (fields_of row.now) n }
+{
+    if row.len() == n {
+        Ok(())
+    } else {
+        Err(RecordFault::FieldCount)
+    }
+}
+
+// The code of an airport.
+pub(crate) fn read_code(field: &[u8]) -> Result<Code, RecordFault>
+    ensures { result ≡ Spec.code_field field.now }
+{
+    match field {
+        [a, b, c] => Code::new([*a, *b, *c]).ok_or(RecordFault::BadField),
+        _ => Err(RecordFault::BadField),
+    }
+}
+
+// Whether there are digits alone.
+fn are_digits(bytes: &[u8]) -> bool
+    ensures { result ≡ list_all is_ascii_digit bytes.now }
+{
+    bytes.iter().all(|b| b.is_ascii_digit())
+}
+
+// Whether there are 1 to so many digits without a leading zero.
+fn is_number(digits: &[u8], most: usize) -> bool
+    ensures { result ≡ Spec.is_number most digits.now }
+{
+    !digits.is_empty() && digits[0] != b'0' && are_digits(digits) && digits.len() <= most
+}
+
+// The number that at most 18 digits write.
+#[tactic(auto, using(crate::proofs::NumberFacts::number_facts))]
+fn number_of(digits: &[u8]) -> u64
+    requires digits { list_all is_ascii_digit digits.now ≡ true }
+    requires few { length digits.now ≤ 18 }
+    ensures { result ≡ Spec.read_on 0 digits.now }
+{
+    let mut number = 0;
+    for digit in digits {
+        number = number * 10 + u64::from(*digit - b'0');
+    }
+    number
+}
+
+// A number of 1 to so many digits without a leading zero.
+#[tactic(auto, using(crate::proofs::NumberFacts::number_facts))]
+fn read_number(field: &[u8], most: usize) -> Result<u64, RecordFault>
+    requires { most ≤ 18 }
+    ensures value { result ≡ Spec.number_field most field.now }
+    ensures least { IfOk result (λ n. 1 ≤ n) }
+    ensures most { IfOk result (λ n. n < 10 ^ most) }
+{
+    if is_number(field, most) {
+        Ok(number_of(field))
+    } else {
+        Err(RecordFault::BadField)
+    }
+}
+
+// The number of a flight.
+pub(crate) fn read_id(field: &[u8]) -> Result<FlightId, RecordFault>
+    ensures { result ≡ Spec.id_field field.now }
+{
+    let number = read_number(field, 6)?;
+    FlightId::new(number as u32).ok_or(RecordFault::BadField)
+}
+
+// A price, whatever its range.
+pub(crate) fn read_price(field: &[u8]) -> Result<i64, RecordFault>
+    ensures { result ≡ Spec.price_field field.now }
+{
+    if field == b"0".as_slice() {
+        return Ok(0);
+    }
+    match field.split_first() {
+        None => Err(RecordFault::BadField),
+        Some((b'-', digits)) => Ok(-(read_number(digits, 18)? as i64)),
+        Some(_) => Ok(read_number(field, 18)? as i64),
+    }
+}
+
+// An instant.
+pub(crate) fn read_time(field: &[u8]) -> Result<Minute, RecordFault>
+    ensures value { result ≡ Spec.time_field field.now }
+    ensures years { IfOk result IsInYears }
+{
+    match crew_time::read_minute(field) {
+        Ok(minute) => Ok(minute),
+        Err(fault) => Err(RecordFault::Text(fault)),
+    }
+}
+
+// A zone.
+pub(crate) fn read_zone(field: &[u8]) -> Result<Zone, RecordFault>
+    ensures { result ≡ Spec.zone_field field.now }
+{
+    match Zone::read(field) {
+        Ok(zone) => Ok(zone),
+        Err(fault) => Err(RecordFault::Text(fault)),
+    }
+}

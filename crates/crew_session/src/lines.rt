@@ -1,0 +1,188 @@
+//! The lines that a session writes.
+
+ghost use Rattle.std.specs.Prelude.{◌≡◌, ◌++◌, ◌+◌, ◌≤◌, IfOk, OnOk, Some, decimal, drop, length};
+ghost use Rattle.std.specs.Fmt.{signed_decimal};
+ghost use Rattle.std.specs.Io.KnownBytes.{Appends};
+ghost use Rattle.crew_session.specs.Lines as Spec;
+ghost use Rattle.crew_session.specs.Verdicts.{verdict_text};
+ghost use Rattle.crew_session.specs.Versions.{verdicts_of};
+
+use crate::best::Best;
+use crate::fault::SessionFault;
+use crate::version::Version;
+use crew_duty::{Key, Leg, Walk};
+use crew_flights::Verdict;
+use std::alloc::{AllocError, Global};
+use std::io::Write;
+
+// Writes a whole line.
+pub(crate) fn write_line<W: Write>(writer: &mut W, line: &[u8]) -> Result<(), SessionFault>
+    ensures { OnOk result (Appends (W.contents writer.old) (W.contents writer.new) line.now) }
+{
+    match writer.write_all(line) {
+        Ok(()) => Ok(()),
+        Err(_) => Err(SessionFault::Write),
+    }
+}
+
+// Appends a number.
+fn put_number(line: &mut Vec<u8>, number: u32) -> Result<(), AllocError>
+    ensures { OnOk result (line.new.items ≡ line.old.items ++ decimal number) }
+{
+    match write!(line, "{number}") {
+        Ok(()) => Ok(()),
+        Err(_) => Err(AllocError),
+    }
+}
+
+// Appends a leg.
+fn put_leg(line: &mut Vec<u8>, leg: Leg) -> Result<(), AllocError>
+    ensures { OnOk result (line.new.items ≡ line.old.items ++ Spec.leg_text leg) }
+{
+    put_number(line, leg.flight.get())?;
+    if leg.deadhead {
+        line.push(b'd')?;
+    }
+    Ok(())
+}
+
+// Appends a duty.
+fn put_key(line: &mut Vec<u8>, key: &Key) -> Result<(), AllocError>
+    ensures { OnOk result (line.new.items ≡ line.old.items ++ Spec.key_text key.now) }
+{
+    let Some((first, others)) = key.legs().split_first() else {
+        return Ok(());
+    };
+    put_leg(line, *first)?;
+    for leg in others {
+        line.push(b'-')?;
+        put_leg(line, *leg)?;
+    }
+    Ok(())
+}
+
+// Appends a walk.
+fn put_walk(line: &mut Vec<u8>, walk: &Walk) -> Result<(), AllocError>
+    ensures { OnOk result (line.new.items ≡ line.old.items ++ Spec.walk_text walk.now) }
+{
+    let Some((first, others)) = walk.keys().split_first() else {
+        return Ok(());
+    };
+    put_key(line, first)?;
+    for key in others {
+        line.push(b' ')?;
+        put_key(line, key)?;
+    }
+    Ok(())
+}
+
+// Appends a signed number.
+fn put_signed(line: &mut Vec<u8>, number: i64) -> Result<(), AllocError>
+    ensures { OnOk result (line.new.items ≡ line.old.items ++ signed_decimal number) }
+{
+    match write!(line, "{number}") {
+        Ok(()) => Ok(()),
+        Err(_) => Err(AllocError),
+    }
+}
+
+// The line of a pairing.
+fn pairing_line(alloc: Global, best: &Best) -> Result<Vec<u8>, AllocError>
+    ensures { IfOk result (λ line. line.items ≡ Spec.best_line (Some best.now)) }
+{
+    let mut line = Vec::new(alloc);
+    line.extend_from_slice(b"best ")?;
+    line.extend_from_slice(&best.base.get())?;
+    line.extend_from_slice(b" cost ")?;
+    put_signed(&mut line, best.cost)?;
+    line.extend_from_slice(b" pay ")?;
+    put_signed(&mut line, best.pay)?;
+    line.extend_from_slice(b" away ")?;
+    put_signed(&mut line, best.away)?;
+    line.push(b' ')?;
+    put_walk(&mut line, &best.walk)?;
+    line.push(b'\n')?;
+    Ok(line)
+}
+
+// Writes that a record is refused.
+pub(crate) fn write_refused<W: Write>(
+    alloc: Global,
+    writer: &mut W,
+    number: u32,
+    why: u8,
+) -> Result<(), SessionFault>
+    ensures { OnOk result (Appends (W.contents writer.old) (W.contents writer.new) (Spec.refused_line number why)) }
+{
+    match format!(in alloc; "record {number} refused {why}\n") {
+        Ok(line) => write_line(writer, line.as_bytes()),
+        Err(_) => Err(SessionFault::Memory),
+    }
+}
+
+// Writes what a verdict on the entry that a record made writes.
+fn write_verdict<W: Write>(
+    alloc: Global,
+    writer: &mut W,
+    number: u32,
+    verdict: Option<Verdict>,
+) -> Result<(), SessionFault>
+    ensures { OnOk result (Appends (W.contents writer.old) (W.contents writer.new) (verdict_text number verdict)) }
+{
+    match verdict {
+        Some(Verdict::Refused(why)) => write_refused(alloc, writer, number, why.number()),
+        _ => Ok(()),
+    }
+}
+
+// Writes the refusals among the verdicts on the entries from `first` on, which these records made.
+pub(crate) fn write_refusals<W: Write>(
+    alloc: Global,
+    writer: &mut W,
+    numbers: &[u32],
+    version: &Version,
+    first: usize,
+) -> Result<(), SessionFault>
+    requires { first + length numbers.now ≤ 1_000_000 }
+    ensures { OnOk result (Appends (W.contents writer.old) (W.contents writer.new)
+        (Spec.refused_lines numbers.now (drop first (verdicts_of version.now.entries)))) }
+{
+    for (i, number) in numbers.iter().enumerate() {
+        write_verdict(alloc, writer, *number, version.verdict(first + i))?;
+    }
+    Ok(())
+}
+
+// Writes the number of a version and what it has.
+pub(crate) fn write_version<W: Write>(
+    alloc: Global,
+    writer: &mut W,
+    version: &Version,
+) -> Result<(), SessionFault>
+    ensures { OnOk result (Appends (W.contents writer.old) (W.contents writer.new) (Spec.version_line version.now)) }
+{
+    let number = version.number();
+    let entries = version.count();
+    let flights = version.flights();
+    match format!(in alloc; "version {number} entries {entries} flights {flights}\n") {
+        Ok(line) => write_line(writer, line.as_bytes()),
+        Err(_) => Err(SessionFault::Memory),
+    }
+}
+
+// Writes the best pairing of a version, if it has one.
+pub(crate) fn write_best<W: Write>(
+    alloc: Global,
+    writer: &mut W,
+    version: &Version,
+) -> Result<(), SessionFault>
+    ensures { OnOk result (Appends (W.contents writer.old) (W.contents writer.new) (Spec.best_line version.now.best)) }
+{
+    match version.best() {
+        None => write_line(writer, b"best none\n"),
+        Some(best) => match pairing_line(alloc, best) {
+            Ok(line) => write_line(writer, &line),
+            Err(_) => Err(SessionFault::Memory),
+        },
+    }
+}

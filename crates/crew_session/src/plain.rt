@@ -1,0 +1,72 @@
+//! The engine without workers.
+
+ghost use Rattle.std.specs.Prelude.{◌≡◌, ◌+◌, ◌≤◌, [], length, vec_len};
+ghost use Rattle.crew_rules.specs.Settings.{IsChecked};
+ghost use Rattle.crew_session.specs.Versions.{opening};
+
+use crate::engine::Engine;
+use crate::entry::make_entry;
+use crate::fault::EngineFault;
+use crate::version::Version;
+use crew_flights::{Edit, Entry};
+use crew_rules::Settings;
+use std::alloc::Global;
+use std::thread::Threads;
+
+/// The engine without workers: a settle works on the thread that calls it, and goes on from the
+/// fold of the version before.
+#[derive(Drop)]
+pub struct Plain {
+    version: Version,
+    pending: Vec<Entry>,
+    ghost few: { length version.entries + vec_len pending ≤ 1_000_000 },
+}
+
+impl Plain {
+    ghost use Rattle.crew_session.specs.Plains.{shown_by, taken_by};
+
+    /// An engine that has taken no edit, with version 0 under these settings.
+    pub fn new(alloc: Global, settings: &Settings) -> Self
+        requires { IsChecked settings.now }
+        ensures entries { taken_by result ≡ [] }
+        ensures shown { shown_by result ≡ opening settings.now }
+    {
+        Plain {
+            version: Version::opening(alloc, settings),
+            pending: Vec::new(alloc),
+        }
+    }
+}
+
+// The most edits that an engine takes.
+const EDITS: usize = 1_000_000;
+
+impl Engine for Plain {
+    ghost use Rattle.crew_session.specs.Plains.{shown_by, taken_by};
+
+    ghost entries = { taken_by };
+
+    ghost shown = { shown_by };
+
+    fn submit(&mut self, edit: Edit) -> Result<(), (Edit, EngineFault)> {
+        let number = self.version.count() + self.pending.len();
+        if number >= EDITS {
+            return Err((edit, EngineFault::SeatFull));
+        }
+        match self.pending.push(make_entry(number as u32, edit)) {
+            Ok(()) => Ok(()),
+            Err(failed) => Err((failed.value.edit, EngineFault::Memory)),
+        }
+    }
+
+    fn settle<R: Threads + Sync>(&mut self, rt: &R) -> Result<(), EngineFault> {
+        let alloc = *self.pending.allocator();
+        self.version.advance(rt, alloc, &self.pending)?;
+        self.pending.clear();
+        Ok(())
+    }
+
+    fn version(&self) -> &Version {
+        &self.version
+    }
+}

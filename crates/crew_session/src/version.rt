@@ -1,0 +1,168 @@
+//! Versions.
+
+ghost use Rattle.std.specs.Prelude.{◌≡◌, ◌+◌, ◌++◌, ◌≤◌, Err, List, IfOk, OnOk, OnErr, length, slice_get, vec_capacity, vec_len};
+ghost use Rattle.std.specs.Option.{option_copied};
+ghost use Rattle.std.specs.FinMap as map;
+ghost use Rattle.crew_rules.specs.Settings.{IsChecked};
+ghost use Rattle.crew_session.specs.Versions.{FoldsOn};
+
+use crate::best::Best;
+use crate::fault::EngineFault;
+use crate::offers::find_best;
+use crew_flights::{Entry, Folding, Verdict};
+use crew_rules::Settings;
+use std::alloc::{AllocError, Global};
+use std::marker::Model;
+use std::thread::Threads;
+
+/// A version: what the entries of a log come to under some settings.
+///
+/// A contract sees its number, settings, entries and best. Its verdicts and timetable are those of
+/// its entries, and its best is the least of all pairings of one duty.
+#[derive(Drop)]
+pub struct Version {
+    number: u64,
+    settings: Settings,
+    entries: Vec<Entry>,
+    verdicts: Vec<Verdict>,
+    fold: Folding,
+    best: Option<Best>,
+}
+
+impl Model for Version {
+    ghost use Rattle.crew_session.specs.Versions.{IsKept, Snapshot};
+
+    ghost Value = { Snapshot };
+
+    ghost view = { λ v. record { number = v.number; settings = v.settings; entries = v.entries.items; best = v.best } };
+
+    ghost invariant = { λ v. IsKept v.settings v.entries.items v.verdicts.items v.fold v.best };
+}
+
+// The fold gone on with these entries, and their verdicts.
+fn fold_on(
+    alloc: Global,
+    fold: &Folding,
+    entries: &[Entry],
+) -> Result<(Folding, Vec<Verdict>), AllocError>
+    ensures { IfOk result (FoldsOn fold.now entries.now) }
+{
+    let mut fold = fold.copy(alloc)?;
+    let mut verdicts = Vec::with_capacity(alloc, entries.len())?;
+    for entry in entries {
+        verdicts.push(fold.take(entry)?)?;
+    }
+    Ok((fold, verdicts))
+}
+
+// Appends items for which there is room.
+fn append<T: Copy>(vec: &mut Vec<T>, items: &[T])
+    requires { vec_len vec.old + length items.now ≤ vec_capacity vec.old }
+    ensures { vec.new.items ≡ vec.old.items ++ items.now }
+{
+    match vec.extend_from_slice(items) {
+        Ok(()) => {}
+        Err(_) => unreachable!(),
+    }
+}
+
+impl Version {
+    ghost use Rattle.crew_session.specs.Versions.{IsNext, IsRight};
+    ghost use Rattle.crew_session.specs.Versions as Spec;
+    ghost use Rattle.crew_duty.specs.Duties.{HasTooMany};
+
+    /// The version before any entry, number 0.
+    pub fn opening(alloc: Global, settings: &Settings) -> Self
+        requires { IsChecked settings.now }
+        ensures { result ≡ Spec.opening settings.now }
+    {
+        Version {
+            number: 0,
+            settings: *settings,
+            entries: Vec::new(alloc),
+            verdicts: Vec::new(alloc),
+            fold: Folding::new(alloc),
+            best: None,
+        }
+    }
+
+    /// The number, which the next version has one more of.
+    pub fn number(&self) -> u64
+        ensures value { result ≡ self.now.number }
+        ensures right { IsRight self.now }
+    {
+        self.number
+    }
+
+    /// The settings.
+    pub fn settings(&self) -> &Settings
+        ensures value { result.now ≡ self.now.settings }
+        ensures checked { IsChecked self.now.settings }
+    {
+        &self.settings
+    }
+
+    /// The entries, in place order.
+    pub fn entries(&self) -> &[Entry]
+        ensures { result.now ≡ self.now.entries }
+    {
+        &self.entries
+    }
+
+    /// How many entries there are.
+    pub fn count(&self) -> usize
+        ensures { result ≡ length self.now.entries }
+    {
+        self.entries.len()
+    }
+
+    /// The verdict on the entry at a place, if there is one.
+    pub fn verdict(&self, place: usize) -> Option<Verdict>
+        ensures { result ≡ slice_get (Spec.verdicts_of self.now.entries) place }
+    {
+        self.verdicts.get(place).copied()
+    }
+
+    /// How many flights its timetable holds.
+    pub fn flights(&self) -> usize
+        ensures { result ≡ map.len (Spec.timetable_of self.now.entries).flights }
+    {
+        self.fold.data().flight_count()
+    }
+
+    /// The best pairing, if there is one.
+    pub fn best(&self) -> Option<&Best>
+        ensures value { option_copied result ≡ self.now.best }
+        ensures right { IsRight self.now }
+    {
+        self.best.as_ref()
+    }
+
+    /// Becomes the next version, with these entries more. `TooManyDuties` only where they come to
+    /// more than 200,000 legal duties, `LastVersion` where the number is the greatest, or
+    /// `Memory`; it is then unchanged.
+    pub fn advance<R: Threads + Sync>(
+        &mut self,
+        rt: &R,
+        alloc: Global,
+        entries: &[Entry],
+    ) -> Result<(), EngineFault>
+        ensures ok { OnOk result (IsNext self.old entries.now self.new) }
+        ensures err { OnErr result (self.new ≡ self.old) }
+        ensures many { result ≡ Err EngineFault.TooManyDuties → HasTooMany self.old.settings (Spec.timetable_of (self.old.entries ++ entries.now)) }
+    {
+        let Some(number) = self.number.checked_add(1) else {
+            return Err(EngineFault::LastVersion);
+        };
+        let (fold, verdicts) = fold_on(alloc, &self.fold, entries)?;
+        let best = find_best(rt, alloc, &self.settings, fold.data())?;
+        self.entries.reserve(entries.len())?;
+        self.verdicts.reserve(verdicts.len())?;
+        append(&mut self.entries, entries);
+        append(&mut self.verdicts, &verdicts);
+        self.number = number;
+        self.fold = fold;
+        self.best = best;
+        Ok(())
+    }
+}
