@@ -17,6 +17,8 @@ use std::process::ExitCode;
 use std::rt::Env;
 
 #[cfg(test)]
+mod sessions;
+#[cfg(test)]
 mod tests;
 
 // The words of the command line, the program's own name first.
