@@ -1,7 +1,16 @@
 -- The statuses of the program, and the lines of its faults.
 use Rattle.std.specs.Prelude.{ℕ, List, [], ◌∷◌, ◌++◌, Option, Some, None, codes, decimal, option_map}
+use Rattle.crew_session.specs.declared.fault.SessionFault.{SessionFault}
+use Rattle.crew_session.specs.declared.fault.SessionFault.TheVariants as session
 use Rattle.crewprice.specs.declared.fault.Fault.{Fault}
 use Rattle.crewprice.specs.declared.fault.Fault.TheVariants.{Read, Write, Usage, Memory, Setting, Strange}
+
+-- the fault that a session's fault is
+abbrev pub fault_of : SessionFault → Fault
+fault_of session.Read = Read
+fault_of session.Write = Write
+fault_of session.Memory = Memory
+fault_of (session.Strange number) = Strange
 
 -- the status with which the program ends
 abbrev pub status_of : Fault → ℕ

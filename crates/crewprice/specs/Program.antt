@@ -1,13 +1,16 @@
 -- How a run of the program ends.
-use Rattle.std.specs.Prelude.{◌≡◌, ◌⊎◌, ⊤, ℕ, List, Option, Result, Ok, Err}
-use Rattle.std.specs.Io.KnownBytes.{Keeps}
+use Rattle.std.specs.Prelude.{◌≡◌, ◌⊎◌, ℕ, List, Option, Result, Ok, Err, IfSome}
+use Rattle.std.specs.Io.KnownBytes.{Appends, Keeps}
 use Rattle.clap.specs.Words.{kind_of}
 use Rattle.clap.specs.declared.error.Error.{Error}
 use Rattle.clap.specs.declared.error.kind.ErrorKind.{ErrorKind}
 use Rattle.clap.specs.declared.error.kind.ErrorKind.TheVariants as kind
 use Rattle.crew_rules.specs.Settings.{check_of}
+use Rattle.crew_rules.specs.declared.settings.Settings.{Settings}
 use Rattle.crew_rules.specs.declared.settings.BadSetting.{BadSetting}
-use Rattle.crewprice.specs.Faults.{status_of}
+use Rattle.crew_session.specs.Session.{IsSessionText}
+use Rattle.crew_session.specs.declared.fault.SessionFault.{SessionFault}
+use Rattle.crewprice.specs.Faults.{fault_of, status_of}
 use Rattle.crewprice.specs.declared.fault.Fault.{Fault}
 use Rattle.crewprice.specs.declared.fault.Fault.TheVariants.{Write, Usage, Memory, Setting}
 use Rattle.crewprice.specs.declared.options.Plan.{Plan}
@@ -29,12 +32,17 @@ Answers kind.DisplayHelp error before after r = (r ≡ Ok tt) ⊎ (r ≡ Err Wri
 Answers kind.DisplayVersion error before after r = (r ≡ Ok tt) ⊎ (r ≡ Err Write)
 Answers other error before after r = (r ≡ Err (Usage error)) × Keeps before after
 
--- a session: settings out of their ranges are refused and nothing is written
-abbrev pub Plays : Result (Unit {0}) BadSetting → Option (List ℕ) → Option (List ℕ) → Outcome → Type 0
-Plays (Err bad) before after r = (r ≡ Err (Setting bad)) × Keeps before after
-Plays (Ok checked) before after r = ⊤
+-- what a session comes to: it wrote what a session of the bytes writes, or it failed
+abbrev pub Played : Settings → Option (List ℕ) → Option (List ℕ) → Option (List ℕ) → Outcome → Type 0
+Played s input before after (Ok done) = IfSome input (λ bytes. (text : List ℕ) × Appends before after text × IsSessionText s bytes text)
+Played s input before after (Err fault) = (f : SessionFault) × (fault ≡ fault_of f)
 
--- what a run comes to, by what its words were read as
-abbrev pub Ends : Result Plan Error → Option (List ℕ) → Option (List ℕ) → Outcome → Type 0
-Ends (Err error) before after r = Answers (kind_of error) error before after r
-Ends (Ok (Run settings)) before after r = Plays (check_of settings) before after r
+-- a session: settings out of their ranges are refused and nothing is written
+abbrev pub Plays : Settings → Result (Unit {0}) BadSetting → Option (List ℕ) → Option (List ℕ) → Option (List ℕ) → Outcome → Type 0
+Plays s (Err bad) input before after r = (r ≡ Err (Setting bad)) × Keeps before after
+Plays s (Ok checked) input before after r = Played s input before after r
+
+-- what a run comes to, by what its words were read as, the bytes that it may read, and the bytes that its writer held and holds
+abbrev pub Ends : Result Plan Error → Option (List ℕ) → Option (List ℕ) → Option (List ℕ) → Outcome → Type 0
+Ends (Err error) input before after r = Answers (kind_of error) error before after r
+Ends (Ok (Run settings)) input before after r = Plays settings (check_of settings) input before after r

@@ -2,13 +2,13 @@
 
 ghost use Rattle.std.specs.Prelude.{◌≡◌, ◌≤◌, OnOk, IfSome};
 ghost use Rattle.std.specs.Io.KnownBytes.{Appends};
-ghost use Rattle.crewprice.specs.Faults.{line_of, status_of, text_of};
+ghost use Rattle.crewprice.specs.Faults.{fault_of, line_of, status_of, text_of};
 
 use crew_rules::BadSetting;
+use crew_session::SessionFault;
 use std::error::Error;
-use std::fmt;
-use std::io;
 use std::io::Write;
+use std::{fmt, io};
 
 /// Why a run fails.
 #[derive(Debug, Drop)]
@@ -45,6 +45,18 @@ impl fmt::Display for Fault {
 impl Error for Fault {}
 
 impl Fault {
+    /// The fault that a session's fault is.
+    pub fn of_session(fault: SessionFault) -> Fault
+        ensures { result ≡ fault_of fault }
+    {
+        match fault {
+            SessionFault::Read => Fault::Read,
+            SessionFault::Write => Fault::Write,
+            SessionFault::Memory => Fault::Memory,
+            SessionFault::Strange(_) => Fault::Strange,
+        }
+    }
+
     /// The status with which the program ends.
     pub fn status(&self) -> u8
         ensures value { result ≡ status_of self.now }

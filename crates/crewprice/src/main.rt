@@ -11,16 +11,15 @@ mod program;
 
 use fault::Fault;
 use program::command;
+use std::env;
 use std::io::{self, BufWriter};
 use std::process::ExitCode;
 use std::rt::Env;
-use std::env;
 
 #[cfg(test)]
+mod sessions;
+#[cfg(test)]
 mod tests;
-
-
-
 
 // The words of the command line, the program's own name first.
 fn words_of<R: Env + AllocGlobal>(rt: &R) -> io::Result<Vec<String>> {
@@ -33,10 +32,8 @@ fn words_of<R: Env + AllocGlobal>(rt: &R) -> io::Result<Vec<String>> {
 
 fn main(rt: HostRuntime) -> ExitCode {
     let mut faults = rt.stderr();
-    let (Ok(words), Ok(mut writer)) = (
-        words_of(&rt),
-        BufWriter::new(rt.alloc(), io::writer(&rt)),
-    ) else {
+    let (Ok(words), Ok(mut writer)) = (words_of(&rt), BufWriter::new(rt.alloc(), io::writer(&rt)))
+    else {
         let _ = Fault::Memory.tell(&mut faults);
         return ExitCode::from(Fault::Memory.status());
     };

@@ -16,6 +16,10 @@ pub enum Plan {
     Run { settings: Settings },
 }
 
+// What holds of each duty whatever the settings are, what pay is counted in, and how a run ends.
+static RULES: &str =
+    "A duty has at most 8 legs. By the local clock of its first airport at report, Table A limits its flight time and Table B its flight duty period, for a crew of two pilots (14 CFR 117.11, 117.13).\nPay is counted in points: a minute of flight pays 14, so 840 points are a paid hour.\nStatus: 0 done, 1 read or write fault, 2 fault in these words, 3 out of memory, 4 a setting out of its range, 5 strange log.";
+
 // An option of a setting: its name, what its number counts, and what it stands for.
 struct SettingOption {
     name: &'static str,
@@ -28,12 +32,12 @@ static OPTIONS: [SettingOption; 14] = [
     SettingOption {
         name: "lead",
         unit: "MINUTES",
-        help: "Time from report to the first departure of a duty: 0 to 240 minutes, 60 unless given. A flight duty period begins at report (14 CFR 117.3)",
+        help: "From report to the first departure of a duty: 0 to 240 minutes, 60 unless given\nA flight duty period begins at the required report (14 CFR 117.3)",
     },
     SettingOption {
         name: "debrief",
         unit: "MINUTES",
-        help: "Time from the last arrival of a duty to release: 0 to 240 minutes, 30 unless given. Rest begins at release (14 CFR 117.25)",
+        help: "From the last arrival of a duty to release: 0 to 240 minutes, 30 unless given\nRest is counted from release (14 CFR 117.25)",
     },
     SettingOption {
         name: "connect",
@@ -43,57 +47,57 @@ static OPTIONS: [SettingOption; 14] = [
     SettingOption {
         name: "sit",
         unit: "MINUTES",
-        help: "Most time on the ground between two legs of a duty: from the least time to 1440 minutes, 240 unless given. All of it counts toward the flight duty period, which Table B limits by start and legs (14 CFR 117.13)",
+        help: "Most time on the ground between two legs of a duty: from --connect to 1440 minutes, 240 unless given\nIt counts toward the flight duty period, which Table B limits (14 CFR 117.13)",
     },
     SettingOption {
         name: "max-rest",
         unit: "MINUTES",
-        help: "Longest rest between two duties: 600 to 8280 minutes, 1800 unless given. The shortest is always 600, ten hours from release to report (14 CFR 117.25(e))",
+        help: "Longest rest between two duties: 600 to 8280 minutes, 1800 unless given\nThe shortest is always 600: ten hours from release to report (14 CFR 117.25(e))",
     },
     SettingOption {
         name: "max-duties",
         unit: "DUTIES",
-        help: "Most duties in a pairing: 1 to 12, 4 unless given",
+        help: "Most duties of a pairing: 1 to 12, 4 unless given",
     },
     SettingOption {
         name: "fdp-cap",
         unit: "MINUTES",
-        help: "Most flight duty time in a pairing: 1 to 3600 minutes, 3600 unless given, the 60 hours of any 168 (14 CFR 117.23(c))",
+        help: "Most flight duty time of a pairing: 1 to 3600 minutes, 3600 unless given\nAt most 60 hours in any 168 (14 CFR 117.23(c)); Table B limits each duty (14 CFR 117.13)",
     },
     SettingOption {
         name: "fly-cap",
         unit: "MINUTES",
-        help: "Most flight time in a pairing: 1 to 6000 minutes, 6000 unless given, the 100 hours of any 672 (14 CFR 117.23(b)). Table A limits it in each duty by the time of report (14 CFR 117.11)",
+        help: "Most flight time of a pairing: 1 to 6000 minutes, 6000 unless given\nAt most 100 hours in any 672 (14 CFR 117.23(b)); Table A limits each duty (14 CFR 117.11)",
     },
     SettingOption {
         name: "away-cap",
         unit: "MINUTES",
-        help: "Most time from the first report of a pairing to its last release: 1 to 8280 minutes, 8280 unless given, the 168 hours of a week less the 30 free of duty before it (14 CFR 117.25(b))",
+        help: "Most time from first report to last release of a pairing: 1 to 8280 minutes, 8280 unless given\nWith the 30 hours free from duty before it, a pairing fits in 168 hours (14 CFR 117.25(b))",
     },
     SettingOption {
         name: "duty-rig",
         unit: "POINTS",
-        help: "Pay for each minute from report to release of a duty: 0 to 14 points, 7 unless given. 14 points are a paid minute, and a minute of flight pays 14",
+        help: "Pay for each minute from report to release of a duty: 0 to 14 points, 7 unless given\nA duty pays this, its flight time or --duty-min, whichever is most",
     },
     SettingOption {
         name: "trip-rig",
         unit: "POINTS",
-        help: "Pay for each minute away on a pairing: 0 to 14 points, 4 unless given",
+        help: "Pay for each minute away from base: 0 to 14 points, 4 unless given\nA pairing pays this, the sum of its duties or --guarantee for each, whichever is most",
     },
     SettingOption {
         name: "duty-min",
         unit: "POINTS",
-        help: "Least pay of a duty: 0 to 20000 points, 2520 unless given, which are three hours",
+        help: "Least pay of a duty: 0 to 20000 points, 2520 unless given",
     },
     SettingOption {
         name: "guarantee",
         unit: "POINTS",
-        help: "Least pay of a pairing for each of its duties: 0 to 20000 points, 4200 unless given, which are five hours",
+        help: "Least pay of a pairing for each of its duties: 0 to 20000 points, 4200 unless given",
     },
     SettingOption {
         name: "deadheads",
         unit: "LEGS",
-        help: "Most legs of a duty on which the crew rides as passengers: 0 or 1, 0 unless given. Such a leg is duty but not rest, and no flight time (14 CFR 117.3)",
+        help: "Most legs of a duty on which the crew rides as passengers: 0 or 1, 0 unless given\nSuch a leg is duty and not rest, and no flight segment (14 CFR 117.3)",
     },
 ];
 
@@ -110,7 +114,11 @@ fn arg_of<'a>(alloc: Global, option: &SettingOption) -> Arg<'a> {
 // The subcommand `run`, with each setting as an option.
 fn run_command<'a>(alloc: Global) -> Result<Command<'a>, Error> {
     let mut command = Command::new(alloc, "run")
-        .about("Prices a session: reads records on standard input, one a line, and writes to standard output");
+        .about(
+            "Prices a session: reads records on standard input, one a line, and writes answers to standard output",
+        )
+        .after_help(RULES)
+        .next_line_help(true);
     for option in OPTIONS.iter() {
         command = command.arg(arg_of(alloc, option))?;
     }
@@ -119,11 +127,15 @@ fn run_command<'a>(alloc: Global) -> Result<Command<'a>, Error> {
 
 // The whole command line.
 fn program<'a>(alloc: Global) -> Result<Command<'a>, Error> {
-    Ok(Command::new(alloc, "crewprice")
-        .about("Finds the legal crew pairing of least reduced cost, again after each change of flights and prices")
-        .subcommand_required(true)
-        .disable_help_subcommand(true)
-        .subcommand(run_command(alloc)?)?)
+    Ok(
+        Command::new(alloc, "crewprice")
+            .about(
+                "Finds the legal crew pairing of least reduced cost, again after each change of flights and prices",
+            )
+            .subcommand_required(true)
+            .disable_help_subcommand(true)
+            .subcommand(run_command(alloc)?)?,
+    )
 }
 
 // The number of an option, or its default where it isn't given.

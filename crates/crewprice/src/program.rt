@@ -12,6 +12,7 @@ use crate::fault::Fault;
 use crate::options::{Plan, read_words};
 use clap::error::ErrorKind;
 use crew_rules::Settings;
+use crew_session::{Plain, run};
 use std::alloc::Global;
 use std::convert::AsStr;
 use std::io;
@@ -40,18 +41,22 @@ fn answer<W: Write>(error: clap::Error, writer: &mut W) -> Result<(), Fault>
 
 // Runs a session under these settings.
 fn run_session<T: Threads + Sync, R: Read, W: Write>(
-    _rt: &T,
-    _alloc: Global,
+    rt: &T,
+    alloc: Global,
     settings: &Settings,
-    _reader: &mut R,
+    reader: &mut R,
     writer: &mut W,
 ) -> Result<(), Fault>
-    ensures { Plays (check_of settings.now) (W.contents writer.old) (W.contents writer.new) result }
+    ensures { Plays settings.now (check_of settings.now) (R.remaining reader.old) (W.contents writer.old) (W.contents writer.new) result }
 {
     if let Err(bad) = settings.check() {
         return Err(Fault::Setting(bad));
     }
-    Ok(())
+    let mut engine = Plain::new(alloc, settings);
+    match run(rt, alloc, reader, writer, settings, &mut engine) {
+        Ok(()) => Ok(()),
+        Err(fault) => Err(Fault::of_session(fault)),
+    }
 }
 
 // Does what the words ask for.
@@ -62,7 +67,7 @@ fn run_words<T: Threads + Sync, S: AsStr, R: Read, W: Write>(
     reader: &mut R,
     writer: &mut W,
 ) -> Result<(), Fault>
-    ensures { (read : Result PlanOf Error) × Ends read (W.contents writer.old) (W.contents writer.new) result }
+    ensures { (read : Result PlanOf Error) × Ends read (R.remaining reader.old) (W.contents writer.old) (W.contents writer.new) result }
 {
     match read_words(alloc, words) {
         Ok(Plan::Run { settings }) => run_session(rt, alloc, &settings, reader, writer),
@@ -82,7 +87,7 @@ pub fn command<T: Threads + Sync, S: AsStr, R: Read, W: Write, F: Write>(
     faults: &mut F,
 ) -> u8
     // For what the words were read as, the run comes to the outcome whose status this is.
-    ensures status { (read : Result PlanOf Error) × (r : Outcome) × Ends read (W.contents writer.old) (W.contents writer.new) r × (result ≡ status_after r) }
+    ensures status { (read : Result PlanOf Error) × (r : Outcome) × Ends read (R.remaining reader.old) (W.contents writer.old) (W.contents writer.new) r × (result ≡ status_after r) }
     ensures most { result ≤ 5 }
 {
     match run_words(rt, alloc, words, reader, writer) {
