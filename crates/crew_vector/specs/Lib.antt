@@ -1,0 +1,5 @@
+pub mod Amounts
+pub mod Costs
+pub mod Pairing
+pub mod Parts
+pub mod Terms

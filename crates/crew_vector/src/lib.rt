@@ -1,0 +1,12 @@
+//! The resource vector of a crew pairing: seven whole numbers of a list of duties, each one sum over the whole list,
+//! kept duty by duty.
+#![tactic(auto)]
+
+mod amounts;
+mod cost;
+mod parts;
+mod vector;
+
+pub use cost::ReducedCost;
+pub use parts::{Parts, Value};
+pub use vector::{PairingVector, Vector};
