@@ -1,3 +1,4 @@
+pub mod Along
 pub mod Amounts
 pub mod Costs
 pub mod Pairing

@@ -5,6 +5,7 @@
 mod amounts;
 mod cost;
 mod parts;
+mod value;
 mod vector;
 
 pub use cost::ReducedCost;

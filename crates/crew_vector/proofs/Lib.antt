@@ -1,0 +1,2 @@
+mod Extended
+mod Valued
