@@ -1,2 +1,4 @@
+mod Composed
 mod Extended
+mod Fitting
 mod Valued

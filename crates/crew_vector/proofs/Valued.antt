@@ -17,7 +17,7 @@ rises-total : (f : Duty → ℤ) (x : Duty) (ys : List Duty) → rises (λ _ d. 
 rises-total f x [] = refl
 rises-total f x (y ∷ ys) = omega (arith, ints, rises-total f y ys)
 
-sum-total : (f : Duty → ℤ) (ds : List Duty) → sum_of (λ d. pos 0 +ℤ f d) (λ _ d. pos 0 +ℤ f d) ds ≡ total f ds
+pub sum-total : (f : Duty → ℤ) (ds : List Duty) → sum_of (λ d. pos 0 +ℤ f d) (λ _ d. pos 0 +ℤ f d) ds ≡ total f ds
 sum-total f [] = refl
 sum-total f (x ∷ ys) = omega (arith, ints, rises-total f x ys)
 
@@ -25,7 +25,7 @@ rises-count : (x : Duty) (ys : List Duty) → rises (λ _ _. pos 1) x ys ≡ pos
 rises-count x [] = refl
 rises-count x (y ∷ ys) = omega (arith, ints, rises-count y ys)
 
-sum-count : (ds : List Duty) → sum_of (λ _. pos 1) (λ _ _. pos 1) ds ≡ pos (length ds)
+pub sum-count : (ds : List Duty) → sum_of (λ _. pos 1) (λ _ _. pos 1) ds ≡ pos (length ds)
 sum-count [] = refl
 sum-count (x ∷ ys) = omega (arith, ints, rises-count x ys)
 
@@ -33,7 +33,7 @@ rises-away : (x : Duty) (ys : List Duty) → rises away_next x ys ≡ last_relea
 rises-away x [] = omega (arith, ints)
 rises-away x (y ∷ ys) = omega (arith, ints, rises-away y ys)
 
-sum-away : (ds : List Duty) → sum_of away_first away_next ds ≡ minutes_away ds
+pub sum-away : (ds : List Duty) → sum_of away_first away_next ds ≡ minutes_away ds
 sum-away [] = refl
 sum-away (x ∷ ys) = omega (arith, ints, rises-away x ys)
 
@@ -79,7 +79,7 @@ all-true (x ∷ xs) = all-true xs
 free : (first : Duty → ℤ) (next : Duty → Duty → ℤ) (x : Duty) (ys : List Duty) → capped_sum first next None (x ∷ ys) ≡ Some (sum_of first next (x ∷ ys))
 free first next x ys = ap (λ b. cond b (Some (sum_of first next (x ∷ ys))) None) (all-true (beginnings (x ∷ ys)))
 
-same-all : {A : Type 0} (p q : A → Bool) → ((a : A) → p a ≡ q a) → (xs : List A) → list_all p xs ≡ list_all q xs
+pub same-all : {A : Type 0} (p q : A → Bool) → ((a : A) → p a ≡ q a) → (xs : List A) → list_all p xs ≡ list_all q xs
 same-all p q h [] = refl
 same-all p q h (x ∷ xs) = ap (λ b. b && list_all p xs) (h x) ∙ ap (λ b. q x && b) (same-all p q h xs)
 
@@ -124,7 +124,7 @@ composed s b ds =
     (both (capped_sum fdp_first fdp_next (Some (pos s.fdp_cap)) ds) (capped_sum fly_first fly_next (Some (pos s.fly_cap)) ds))
     (both (capped_sum (λ _. pos 1) (λ _ _. pos 1) (Some (pos s.max_duties)) ds) (capped_sum away_first away_next (Some (pos s.away_cap)) ds)))
 
-caps-together : (s : Settings) (bs : List (List Duty))
+pub caps-together : (s : Settings) (bs : List (List Duty))
     → ((list_all (λ ds. int_le (total (λ d. d.fdp) ds) (pos s.fdp_cap)) bs && list_all (λ ds. int_le (total (λ d. d.fly) ds) (pos s.fly_cap)) bs)
     && (list_all (λ ds. int_le (pos (length ds)) (pos s.max_duties)) bs && list_all (λ ds. int_le (minutes_away ds) (pos s.away_cap)) bs))
     ≡ list_all (is_within_caps s) bs

@@ -4,10 +4,12 @@
 
 mod amounts;
 mod cost;
+pub mod laws;
 mod parts;
 mod value;
 mod vector;
 
 pub use cost::ReducedCost;
 pub use parts::{Parts, Value};
+pub use value::value_of_list;
 pub use vector::{PairingVector, Vector};

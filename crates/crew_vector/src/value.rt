@@ -37,3 +37,21 @@ fn along<P: Placed, R: Staged<P>>(
     }
     Ok(Some(value))
 }
+
+/// The value of a list of duties of one base, from its first duty on: its vector, and none where the list is empty, or
+/// where it or a beginning of it passes a cap.
+pub fn value_of_list(
+    settings: &Settings,
+    base_price: i64,
+    duties: &[Duty],
+) -> Result<Option<Value>, AllocError>
+    requires checked { IsChecked settings.now }
+    requires price { IsBasePrice base_price }
+    requires line { IsLine duties.now }
+    ensures { IfOk result (λ value. value ≡ value_of settings.now base_price duties.now) }
+{
+    let Some((first, others)) = duties.split_first() else {
+        return Ok(None);
+    };
+    along(&PairingVector::new(settings, base_price), first, others)
+}

@@ -1,7 +1,9 @@
 //! The vector as one resource.
-ghost use Rattle.std.specs.Prelude.{◌≡◌, pos};
+ghost use Rattle.std.specs.Prelude.{◌≡◌, ◌≤◌, ℕ, List, pos};
+ghost use Rattle.crew_duty.specs.declared.duty.Duty.{Duty};
 ghost use Rattle.crew_rules.specs.Settings.{IsChecked};
 ghost use Rattle.crew_vector.specs.Pairing.{pairing_vector};
+ghost use Rattle.crew_vector.specs.Parts.{value_of};
 ghost use Rattle.crew_vector.specs.Terms.{IsBasePrice};
 
 use crate::amounts::{DutyMinutes, DutyPay, FlightMinutes, Guarantee, MinutesAway, TripRig};
@@ -191,19 +193,30 @@ fn limits(settings: &Settings) -> Limits
     }
 }
 
+fn pairing(settings: &Settings, base_price: i64) -> PairingVector
+    requires { IsBasePrice base_price }
+    ensures { result ≡ pairing_vector settings.now base_price }
+{
+    let base_price = base_price as i32;
+    Vector {
+        parts: Both {
+            first: money(settings, base_price),
+            second: limits(settings),
+        },
+    }
+}
+
 impl PairingVector {
-    /// The resource of a base's pairings.
+    /// The resource of a base's pairings. The value of each list of duties is its vector, and none exactly where the
+    /// list is empty or a beginning of it passes a cap; a value has at most `max_duties` duties, and sums fit.
     pub fn new(settings: &Settings, base_price: i64) -> PairingVector
         requires checked { IsChecked settings.now }
         requires price { IsBasePrice base_price }
         ensures made { result ≡ pairing_vector settings.now base_price }
+        ensures values { (duties : List Duty) → ⟦<PairingVector as Resource>⟧.value_of result duties ≡ value_of settings.now base_price duties }
+        ensures most { ⟦<PairingVector as Staged<Duty>>⟧.most result ≡ Some settings.now.max_duties }
+        ensures fits { (n : ℕ) → n ≤ 100_000 → ⟦<PairingVector as Staged<Duty>>⟧.fits result n }
     {
-        let base_price = base_price as i32;
-        Vector {
-            parts: Both {
-                first: money(settings, base_price),
-                second: limits(settings),
-            },
-        }
+        pairing(settings, base_price)
     }
 }
