@@ -13,3 +13,6 @@ pub use cost::ReducedCost;
 pub use parts::{Parts, Value};
 pub use value::value_of_list;
 pub use vector::{PairingVector, Vector};
+
+#[cfg(test)]
+mod tests;
