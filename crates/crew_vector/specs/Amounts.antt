@@ -91,7 +91,7 @@ between : (z : ℤ) (n : ℕ) → pos 0 ≤ℤ z → z ≤ℤ pos n → LiesWith
 between z n h k = record { least = omega (arith, ints); most = omega (arith, ints) }
 
 -- so many for each of at most so many minutes
-rate_share : (rate n : ℕ) (z : ℤ) → pos 0 ≤ℤ z → z ≤ℤ pos n → (pos 0 ≤ℤ (pos rate *ℤ z)) × ((pos rate *ℤ z) ≤ℤ pos (rate * n))
+pub rate_share : (rate n : ℕ) (z : ℤ) → pos 0 ≤ℤ z → z ≤ℤ pos n → (pos 0 ≤ℤ (pos rate *ℤ z)) × ((pos rate *ℤ z) ≤ℤ pos (rate * n))
 rate_share rate n (pos m) h k =
     let l : m ≤ n = omega (arith, ints) in
     let p = mul-le-mul_left rate l in

@@ -88,8 +88,8 @@ impl Amount for DutyPay {
     }
 
     #[inline]
-    fn next(&self, _last: &Duty, duty: &Duty) -> i64 {
-        duty.pay - duty.price
+    fn next(&self, _last: &Duty, next: &Duty) -> i64 {
+        next.pay - next.price
     }
 
     #[inline]
@@ -214,8 +214,8 @@ impl Amount for Guarantee {
     }
 
     #[inline]
-    fn next(&self, _last: &Duty, duty: &Duty) -> i64 {
-        i64::from(self.points) - duty.price
+    fn next(&self, _last: &Duty, next: &Duty) -> i64 {
+        i64::from(self.points) - next.price
     }
 
     #[inline]

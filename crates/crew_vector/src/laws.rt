@@ -1,6 +1,11 @@
 //! Laws over the definitions alone.
 ghost use Rattle.std.specs.Prelude.{◌≡◌, ℤ, List, ◌∷◌, Some, length};
+ghost use Rattle.crew_duty.specs.Duties.{AreDuties};
+ghost use Rattle.crew_duty.specs.Events.{IsSound};
+ghost use Rattle.crew_duty.specs.Members.{Member};
 ghost use Rattle.crew_duty.specs.declared.duty.Duty.{Duty};
+ghost use Rattle.crew_flights.specs.Timetable as TimetableSpec;
+ghost use Rattle.crew_flights.specs.Timetable.{Timetable};
 ghost use Rattle.crew_rules.specs.Settings.{IsChecked};
 ghost use Rattle.crew_rules.specs.declared.settings.Settings.{Settings};
 ghost use Rattle.crew_vector.specs.Along.{IsLine};
@@ -25,5 +30,11 @@ pub fn caps_on_the_whole_list_suffice()
 /// The grade of a list's value is the number of its duties.
 pub fn grade_is_the_number_of_duties()
     ensures { (s : Settings) (base_price : ℤ) (duties : List Duty) (value : Value) → IsChecked s → value_of s base_price duties ≡ Some value → ⟦<PairingVector as Resource>⟧.grade_of value ≡ length duties }
+{
+}
+
+/// Each legal duty of a timetable is sound: every sum over a pairing of legal duties fits.
+pub fn legal_duties_are_sound()
+    ensures { (s : Settings) (t : Timetable) (duties : List Duty) → IsChecked s → TimetableSpec.IsSound t → AreDuties s t duties → (d : Duty) → Member duties d → IsSound d }
 {
 }

@@ -122,5 +122,6 @@ fn order(rt: HostRuntime) -> Result<(), Fail> {
     laws::cost_is_pay_less_prices();
     laws::caps_on_the_whole_list_suffice();
     laws::grade_is_the_number_of_duties();
+    laws::legal_duties_are_sound();
     Ok(())
 }
