@@ -1,4 +1,5 @@
 pub mod Duties
+pub mod Events
 pub mod Keys
 pub mod Legality
 pub mod Listing

@@ -5,6 +5,7 @@
 
 mod duties;
 mod duty;
+mod events;
 mod facts;
 mod key;
 mod leg;
@@ -12,6 +13,7 @@ mod search;
 
 pub use duties::{Duties, list_duties};
 pub use duty::Duty;
+pub use events::{Arrival, Departure};
 pub use key::{Key, Walk};
 pub use leg::{Leg, TimedLeg};
 pub use search::DutyFault;

@@ -1,0 +1,5 @@
+mod Composed
+mod Extended
+mod Fitting
+mod LegalDuties
+mod Valued

@@ -1,0 +1,80 @@
+-- The seven parts of a list of duties, each one sum over the whole list. Resource vectors of labels are those of Irnich and
+-- Desaulniers 2005, "Shortest path problems with resource constraints"; the pay is that of Barnhart et al. 2003, "Airline crew scheduling".
+use Rattle.std.specs.Prelude.{◌≡◌, ℕ, ℤ, pos, ◌+ℤ◌, ◌-ℤ◌, ◌*ℤ◌, int_le, Bool, ◌&&◌, cond, List, [], ◌∷◌, length, Option, Some, None}
+use Rattle.std.specs.List.{list_all}
+use Rattle.crew_duty.specs.Legality.{total}
+use Rattle.crew_duty.specs.declared.duty.Duty.{Duty}
+use Rattle.crew_resource.specs.Sum.{beginnings}
+use Rattle.crew_rules.specs.Pay.{pairing_pay}
+use Rattle.crew_rules.specs.declared.settings.Settings.{Settings}
+use Rattle.crew_vector.specs.declared.parts.Parts.{Parts}
+
+-- the release of the last of a first duty and others
+abbrev pub last_release : Duty → List Duty → ℤ
+last_release first [] = first.release
+last_release first (next ∷ others) = last_release next others
+
+-- minutes away from base: from the first report to the last release
+abbrev pub minutes_away : List Duty → ℤ
+minutes_away [] = pos 0
+minutes_away (first ∷ others) = last_release first others -ℤ first.report
+
+-- the prices of all flights flown, and the base's
+abbrev pub prices : ℤ → List Duty → ℤ
+prices base_price duties = total (λ d. d.price) duties +ℤ base_price
+
+-- what the crew is paid
+abbrev pub pay_of : Settings → List Duty → ℤ
+pay_of s duties = pairing_pay s (total (λ d. d.pay) duties) (minutes_away duties) (length duties)
+
+-- reduced cost: pay less prices
+abbrev pub cost_of : Settings → ℤ → List Duty → ℤ
+cost_of s base_price duties = pay_of s duties -ℤ prices base_price duties
+
+-- the vector
+abbrev pub parts_of : Settings → ℤ → List Duty → Parts
+parts_of s base_price duties = record {
+  duty_pay = total (λ d. d.pay) duties -ℤ prices base_price duties;
+  trip_rig = pos s.trip_rig *ℤ minutes_away duties -ℤ prices base_price duties;
+  guarantee = pos s.guarantee *ℤ pos (length duties) -ℤ prices base_price duties;
+  fdp = total (λ d. d.fdp) duties;
+  fly = total (λ d. d.fly) duties;
+  duties = pos (length duties);
+  away = minutes_away duties
+}
+
+-- the caps on totals. A pairing spans at most 138 hours, so that one window of 168 consecutive hours covers it: 117.23(c) caps
+-- its flight duty minutes and 117.23(b)(1) its flight minutes; and it ends before the 30 hours of 117.25(b) are due
+abbrev pub is_within_caps : Settings → List Duty → Bool
+is_within_caps s duties =
+    int_le (total (λ d. d.fdp) duties) (pos s.fdp_cap)
+    && (int_le (total (λ d. d.fly) duties) (pos s.fly_cap)
+    && (int_le (pos (length duties)) (pos s.max_duties)
+    && int_le (minutes_away duties) (pos s.away_cap)))
+
+-- the list and each of its beginnings are within the caps
+abbrev pub stays_within_caps : Settings → List Duty → Bool
+stays_within_caps s duties = list_all (is_within_caps s) (beginnings duties)
+
+-- a value: the parts in order, those of money and those of time in pairs
+abbrev pub Value : Type 0
+Value = (ℤ × (ℤ × ℤ)) × ((ℤ × ℤ) × (ℤ × ℤ))
+
+abbrev pub value_of_parts : Parts → Value
+value_of_parts p = ((p.duty_pay, (p.trip_rig, p.guarantee)), ((p.fdp, p.fly), (p.duties, p.away)))
+
+abbrev pub parts_of_value : Value → Parts
+parts_of_value v = record {
+  duty_pay = v.0.0;
+  trip_rig = v.0.1.0;
+  guarantee = v.0.1.1;
+  fdp = v.1.0.0;
+  fly = v.1.0.1;
+  duties = v.1.1.0;
+  away = v.1.1.1
+}
+
+-- the value of a list: its vector, and none where the list is empty or a beginning of it passes a cap
+abbrev pub value_of : Settings → ℤ → List Duty → Option Value
+value_of s base_price [] = None
+value_of s base_price (first ∷ others) = cond (stays_within_caps s (first ∷ others)) (Some (value_of_parts (parts_of s base_price (first ∷ others)))) None

@@ -1,0 +1,430 @@
+//! What each duty adds to a part, and what a rest before it adds.
+ghost use Rattle.std.specs.Prelude.{◌≡◌, ◌+◌, ◌*◌, ◌≤ℤ◌, ◌+ℤ◌, ◌-ℤ◌, ◌*ℤ◌, neg_ℤ, ℤ, pos, negsuc, Some, None, unsigned_abs, refl};
+ghost use Rattle.crew_duty.specs.Events.{IsSound};
+ghost use Rattle.crew_vector.specs.Amounts as Spec;
+
+use crew_duty::{Arrival, Departure, Duty};
+use crew_resource::{Amount, StagedAmount};
+
+/// The minutes from one instant to another.
+#[inline]
+fn minutes(from: i64, to: i64) -> i64
+    requires least { pos 0 ≤ℤ (to -ℤ from) }
+    requires most { (to -ℤ from) ≤ℤ pos 10_000 }
+    ensures { result ≡ to -ℤ from }
+{
+    to - from
+}
+
+/// So many points for each of some minutes.
+#[inline]
+fn product(rate: u32, minutes: i64) -> i64
+    requires least { pos 0 ≤ℤ minutes }
+    requires most { minutes ≤ℤ pos 10_000 }
+    ensures value { result ≡ pos rate *ℤ minutes }
+    ensures least { pos 0 ≤ℤ result }
+    ensures most { result ≤ℤ pos 42_949_672_960_000 }
+{
+    i64::from(rate) * minutes
+}
+
+/// So many points for each minute from one instant to another.
+#[inline]
+fn rated(rate: u32, from: i64, to: i64) -> i64
+    requires least { pos 0 ≤ℤ (to -ℤ from) }
+    requires most { (to -ℤ from) ≤ℤ pos 10_000 }
+    ensures value { result ≡ pos rate *ℤ (to -ℤ from) }
+    ensures least { pos 0 ≤ℤ result }
+    ensures most { result ≤ℤ pos 42_949_672_960_000 }
+{
+    product(rate, minutes(from, to))
+}
+
+/// So many points for each elapsed minute of a duty, less its price.
+#[inline]
+fn elapsed_less_price(rate: u32, duty: &Duty) -> i64
+    requires { IsSound duty.now }
+    ensures value { result ≡ Spec.rig_own rate duty.now }
+    ensures least { negsuc 8_000_000_000 ≤ℤ result }
+    ensures most { result ≤ℤ pos 43_000_000_000_000 }
+{
+    let points = rated(rate, duty.report, duty.release);
+    points - duty.price
+}
+
+/// So many points for each minute of the rest between two duties.
+#[inline]
+fn rest(rate: u32, last: &Duty, duty: &Duty) -> i64
+    requires { Spec.CanFollow last.now duty.now }
+    ensures value { result ≡ Spec.rig_wait rate (Spec.arrival_of last.now) (Spec.departure_of duty.now) }
+    ensures least { pos 0 ≤ℤ result }
+    ensures most { result ≤ℤ pos 42_949_672_960_000 }
+{
+    rated(rate, last.release, duty.report)
+}
+
+/// The duties' pays, less prices.
+#[derive(Clone, Copy, Debug)]
+pub struct DutyPay {
+    pub base_price: i32,
+}
+
+impl Amount for DutyPay {
+    type Item = Duty;
+
+    ghost first_of = { λ a d. Spec.pay_first a.base_price d };
+
+    ghost next_of = { λ _. Spec.pay_next };
+
+    ghost cap_of = { λ _. None };
+
+    ghost can_first = { λ _ d. IsSound d };
+
+    ghost can_next = { λ _ _ d. IsSound d };
+
+    #[inline]
+    fn first(&self, duty: &Duty) -> i64 {
+        duty.pay - duty.price - i64::from(self.base_price)
+    }
+
+    #[inline]
+    fn next(&self, _last: &Duty, next: &Duty) -> i64 {
+        next.pay - next.price
+    }
+
+    #[inline]
+    fn cap(&self) -> Option<i64> {
+        None
+    }
+}
+
+impl StagedAmount<Duty> for DutyPay {
+    ghost idle_amount = { λ a _. neg_ℤ a.base_price };
+
+    ghost wait_amount = { λ _ _ _. pos 0 };
+
+    ghost own_amount = { λ _. Spec.pay_own };
+
+    ghost share = { λ a. unsigned_abs a.base_price + 8_000_020_000 };
+
+    ghost amounts = { λ a. Spec.pay_laws a.base_price };
+
+    #[inline]
+    fn idle(&self, _departure: &Departure) -> i64 {
+        -i64::from(self.base_price)
+    }
+
+    #[inline]
+    fn wait(&self, _arrival: &Arrival, _departure: &Departure) -> i64 {
+        0
+    }
+
+    #[inline]
+    fn own(&self, duty: &Duty) -> i64 {
+        duty.pay - duty.price
+    }
+}
+
+/// The trip rig for each minute away, less prices.
+#[derive(Clone, Copy, Debug)]
+pub struct TripRig {
+    pub rate: u32,
+    pub base_price: i32,
+}
+
+impl Amount for TripRig {
+    type Item = Duty;
+
+    ghost first_of = { λ a d. Spec.rig_first a.rate a.base_price d };
+
+    ghost next_of = { λ a last d. Spec.rig_next a.rate last d };
+
+    ghost cap_of = { λ _. None };
+
+    ghost can_first = { λ _ d. IsSound d };
+
+    ghost can_next = { λ _. Spec.CanFollow };
+
+    #[inline]
+    fn first(&self, duty: &Duty) -> i64 {
+        elapsed_less_price(self.rate, duty) - i64::from(self.base_price)
+    }
+
+    #[inline]
+    fn next(&self, last: &Duty, duty: &Duty) -> i64 {
+        rest(self.rate, last, duty) + elapsed_less_price(self.rate, duty)
+    }
+
+    #[inline]
+    fn cap(&self) -> Option<i64> {
+        None
+    }
+}
+
+impl StagedAmount<Duty> for TripRig {
+    ghost idle_amount = { λ a _. neg_ℤ a.base_price };
+
+    ghost wait_amount = { λ a x g. Spec.rig_wait a.rate x g };
+
+    ghost own_amount = { λ a d. Spec.rig_own a.rate d };
+
+    ghost share = { λ a. a.rate * 10_000 + unsigned_abs a.base_price + 8_000_000_000 };
+
+    ghost amounts = { λ a. Spec.rig_laws a.rate a.base_price };
+
+    #[inline]
+    fn idle(&self, _departure: &Departure) -> i64 {
+        -i64::from(self.base_price)
+    }
+
+    #[inline]
+    fn wait(&self, arrival: &Arrival, departure: &Departure) -> i64 {
+        rated(self.rate, arrival.release, departure.report)
+    }
+
+    #[inline]
+    fn own(&self, duty: &Duty) -> i64 {
+        elapsed_less_price(self.rate, duty)
+    }
+}
+
+/// The guarantee for each duty, less prices.
+#[derive(Clone, Copy, Debug)]
+pub struct Guarantee {
+    pub points: u32,
+    pub base_price: i32,
+}
+
+impl Amount for Guarantee {
+    type Item = Duty;
+
+    ghost first_of = { λ a d. Spec.guarantee_first a.points a.base_price d };
+
+    ghost next_of = { λ a last d. Spec.guarantee_next a.points last d };
+
+    ghost cap_of = { λ _. None };
+
+    ghost can_first = { λ _ d. IsSound d };
+
+    ghost can_next = { λ _ _ d. IsSound d };
+
+    #[inline]
+    fn first(&self, duty: &Duty) -> i64 {
+        i64::from(self.points) - duty.price - i64::from(self.base_price)
+    }
+
+    #[inline]
+    fn next(&self, _last: &Duty, next: &Duty) -> i64 {
+        i64::from(self.points) - next.price
+    }
+
+    #[inline]
+    fn cap(&self) -> Option<i64> {
+        None
+    }
+}
+
+impl StagedAmount<Duty> for Guarantee {
+    ghost idle_amount = { λ a _. neg_ℤ a.base_price };
+
+    ghost wait_amount = { λ _ _ _. pos 0 };
+
+    ghost own_amount = { λ a d. Spec.guarantee_own a.points d };
+
+    ghost share = { λ a. a.points + unsigned_abs a.base_price + 8_000_000_000 };
+
+    ghost amounts = { λ a. Spec.guarantee_laws a.points a.base_price };
+
+    #[inline]
+    fn idle(&self, _departure: &Departure) -> i64 {
+        -i64::from(self.base_price)
+    }
+
+    #[inline]
+    fn wait(&self, _arrival: &Arrival, _departure: &Departure) -> i64 {
+        0
+    }
+
+    #[inline]
+    fn own(&self, duty: &Duty) -> i64 {
+        i64::from(self.points) - duty.price
+    }
+}
+
+/// Flight duty minutes.
+#[derive(Clone, Copy, Debug)]
+pub struct DutyMinutes {
+    pub cap: u32,
+}
+
+impl Amount for DutyMinutes {
+    type Item = Duty;
+
+    ghost first_of = { λ _. Spec.fdp_first };
+
+    ghost next_of = { λ _. Spec.fdp_next };
+
+    ghost cap_of = { λ a. Some (pos a.cap) };
+
+    #[inline]
+    fn first(&self, duty: &Duty) -> i64 {
+        duty.fdp
+    }
+
+    #[inline]
+    fn next(&self, _last: &Duty, duty: &Duty) -> i64 {
+        duty.fdp
+    }
+
+    #[inline]
+    fn cap(&self) -> Option<i64> {
+        Some(i64::from(self.cap))
+    }
+}
+
+impl StagedAmount<Duty> for DutyMinutes {
+    ghost idle_amount = { λ _ _. pos 0 };
+
+    ghost wait_amount = { λ _ _ _. pos 0 };
+
+    ghost own_amount = { λ _ d. d.fdp };
+
+    ghost share = { λ _. 840 };
+
+    ghost amounts = { λ _. Spec.fdp_laws };
+
+    #[inline]
+    fn idle(&self, _departure: &Departure) -> i64 {
+        0
+    }
+
+    #[inline]
+    fn wait(&self, _arrival: &Arrival, _departure: &Departure) -> i64 {
+        0
+    }
+
+    #[inline]
+    fn own(&self, duty: &Duty) -> i64 {
+        duty.fdp
+    }
+}
+
+/// Flight minutes.
+#[derive(Clone, Copy, Debug)]
+pub struct FlightMinutes {
+    pub cap: u32,
+}
+
+impl Amount for FlightMinutes {
+    type Item = Duty;
+
+    ghost first_of = { λ _. Spec.fly_first };
+
+    ghost next_of = { λ _. Spec.fly_next };
+
+    ghost cap_of = { λ a. Some (pos a.cap) };
+
+    #[inline]
+    fn first(&self, duty: &Duty) -> i64 {
+        duty.fly
+    }
+
+    #[inline]
+    fn next(&self, _last: &Duty, duty: &Duty) -> i64 {
+        duty.fly
+    }
+
+    #[inline]
+    fn cap(&self) -> Option<i64> {
+        Some(i64::from(self.cap))
+    }
+}
+
+impl StagedAmount<Duty> for FlightMinutes {
+    ghost idle_amount = { λ _ _. pos 0 };
+
+    ghost wait_amount = { λ _ _ _. pos 0 };
+
+    ghost own_amount = { λ _ d. d.fly };
+
+    ghost share = { λ _. 540 };
+
+    ghost amounts = { λ _. Spec.fly_laws };
+
+    #[inline]
+    fn idle(&self, _departure: &Departure) -> i64 {
+        0
+    }
+
+    #[inline]
+    fn wait(&self, _arrival: &Arrival, _departure: &Departure) -> i64 {
+        0
+    }
+
+    #[inline]
+    fn own(&self, duty: &Duty) -> i64 {
+        duty.fly
+    }
+}
+
+/// Minutes away, from the first report to the last release.
+#[derive(Clone, Copy, Debug)]
+pub struct MinutesAway {
+    pub cap: u32,
+}
+
+impl Amount for MinutesAway {
+    type Item = Duty;
+
+    ghost first_of = { λ _. Spec.away_first };
+
+    ghost next_of = { λ _. Spec.away_next };
+
+    ghost cap_of = { λ a. Some (pos a.cap) };
+
+    ghost can_first = { λ _ d. IsSound d };
+
+    ghost can_next = { λ _. Spec.CanFollow };
+
+    #[inline]
+    fn first(&self, duty: &Duty) -> i64 {
+        duty.release - duty.report
+    }
+
+    #[inline]
+    fn next(&self, last: &Duty, duty: &Duty) -> i64 {
+        (duty.report - last.release) + (duty.release - duty.report)
+    }
+
+    #[inline]
+    fn cap(&self) -> Option<i64> {
+        Some(i64::from(self.cap))
+    }
+}
+
+impl StagedAmount<Duty> for MinutesAway {
+    ghost idle_amount = { λ _ _. pos 0 };
+
+    ghost wait_amount = { λ _ x g. g.report -ℤ x.release };
+
+    ghost own_amount = { λ _ d. d.release -ℤ d.report };
+
+    ghost share = { λ _. 8_280 };
+
+    ghost amounts = { λ _. Spec.away_laws };
+
+    #[inline]
+    fn idle(&self, _departure: &Departure) -> i64 {
+        0
+    }
+
+    #[inline]
+    fn wait(&self, arrival: &Arrival, departure: &Departure) -> i64 {
+        departure.report - arrival.release
+    }
+
+    #[inline]
+    fn own(&self, duty: &Duty) -> i64 {
+        duty.release - duty.report
+    }
+}

@@ -1,0 +1,23 @@
+//! The resource vector of crew pairings. Of a list of duties it holds seven whole numbers, each one sum over the whole
+//! list: three ways to pay the pairing, each less the prices of its flights and of its base, and four totals, three of
+//! minutes and the number of duties, under the caps of the settings. `PairingVector` is the resource that keeps them
+//! duty by duty, in steps and in stages; the value of each list is its vector by definition, and none exactly where a
+//! beginning of the list passes a cap. `value_of_list` works one out, `Parts` names the parts of a value, and
+//! `ReducedCost` is a pairing's pay less prices. Every sum fits: `laws` has it that legal duties keep the bounds that this
+//! rests on, that a cap on a whole list is a cap on each beginning, and what costs and grades say.
+#![tactic(auto)]
+
+mod amounts;
+mod cost;
+pub mod laws;
+mod parts;
+mod value;
+mod vector;
+
+pub use cost::ReducedCost;
+pub use parts::{Parts, Value};
+pub use value::value_of_list;
+pub use vector::{PairingVector, Vector};
+
+#[cfg(test)]
+mod tests;
