@@ -23,3 +23,6 @@ pub use fault::{EngineFault, RecordFault, SessionFault};
 pub use plain::Plain;
 pub use session::run;
 pub use version::Version;
+
+#[cfg(test)]
+mod tests;
