@@ -1,9 +1,7 @@
 -- A value, extended along a list, is the value of the whole list.
-use Rattle.std.proofs.Common.{◌≡◌, ℕ, suc, ◌+◌, ◌≤◌, Bool, List, [], ◌∷◌, ◌++◌, Option, Some, None, ℤ, pos, ◌+ℤ◌, refl, sym, ◌∙◌, ap, append_assoc, arith}
+use Rattle.std.proofs.Common.{◌≡◌, Bool, List, [], ◌∷◌, ◌++◌, Option, Some, None, refl, sym, ◌∙◌, ap, append_assoc}
 use Rattle.std.specs.Option.{option_and_then}
-use Rattle.std.proofs.lemmas.Int.{ints}
 use Rattle.crew_resource.specs.Resource.{StepLaws}
-use Rattle.crew_resource.specs.Stages.{StagedLaws, CountingLaws}
 use Rattle.crew_vector.specs.Along.{extended}
 
 module _ (V I : Type 0) (opens : I → Option V) (extends : V → I → I → Option V) (below : V → V → Bool) (value_of : List I → Option V) (steps : StepLaws opens extends below value_of) where

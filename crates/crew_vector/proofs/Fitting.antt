@@ -1,10 +1,10 @@
 -- Sums over many duties fit, the value tells the number of duties, and what it costs.
-use Rattle.std.proofs.Common.{◌≡◌, ℕ, suc, ◌+◌, ◌*◌, ◌^◌, ◌≤◌, ◌<◌, Bool, true, false, ◌&&◌, cond, List, [], ◌∷◌, map, length, Option, Some, None, ℤ, pos, negsuc, ◌+ℤ◌, ◌-ℤ◌, ◌*ℤ◌, ◌≤ℤ◌, int_le, refl, sym, ◌∙◌, ap, arith}
+use Rattle.std.proofs.Common.{◌≡◌, ℕ, ◌+◌, ◌*◌, ◌≤◌, Bool, true, false, ◌&&◌, List, [], ◌∷◌, length, Some, ℤ, pos, negsuc, ◌-ℤ◌, ◌*ℤ◌, int_le, sym, ◌∙◌, ap, arith}
 use Rattle.std.specs.Prelude.{unsigned_abs, max}
 use Rattle.std.specs.Int.{int_max}
 use Rattle.std.specs.List.{list_all}
 use Rattle.std.proofs.Math.Nat.{mul-le-mul_right}
-use Rattle.std.proofs.lemmas.Bool.{and_parts, and_from}
+use Rattle.std.proofs.lemmas.Bool.{and_parts}
 use Rattle.std.proofs.lemmas.Int.{ints}
 use Rattle.std.proofs.lemmas.List.Folds.{list_all-map}
 use Rattle.std.proofs.lemmas.Option.{cond_some}
@@ -20,7 +20,7 @@ use Rattle.crew_rules.specs.declared.settings.Settings.{Settings}
 use Rattle.crew_vector.specs.Along.{GoesOn, IsLine}
 use Rattle.crew_vector.specs.Amounts.{arrival_of, departure_of, fdp_first, fdp_next, fly_first, fly_next, away_first, away_next}
 use Rattle.crew_vector.specs.Costs.{reduced_cost}
-use Rattle.crew_vector.specs.Parts.{Value, minutes_away, prices, pay_of, cost_of, parts_of, is_within_caps, stays_within_caps, value_of_parts, value_of}
+use Rattle.crew_vector.specs.Parts.{Value, minutes_away, prices, cost_of, parts_of, is_within_caps, stays_within_caps, value_of_parts, value_of}
 use Rattle.crew_vector.specs.Terms.{IsBasePrice}
 use Rattle.crew_vector.proofs.Valued.{caps-together, same-all, sum-total, sum-count, sum-away}
 
@@ -41,10 +41,9 @@ pub all-fit : (s : Settings) (b : ℤ) → IsChecked s → IsBasePrice b → (n 
 all-fit s b checked price n h =
     let size = price-size b price in
     let rig = checked.trip_rig in
-    let points = checked.guarantee in
-    (
+    let points = checked.guarantee in (
       (fits-within (unsigned_abs b + 8_000_020_000) n (omega (arith, size)) h, (fits-within (s.trip_rig * 10_000 + unsigned_abs b + 8_000_000_000) n (omega (arith, size, rig)) h, fits-within (s.guarantee + unsigned_abs b + 8_000_000_000) n (omega (arith, size, points)) h)),
-      ((fits-within 840 n (omega arith) h, fits-within 540 n (omega arith) h), (fits-within 1 n (omega arith) h, fits-within 8_280 n (omega arith) h))
+      ((fits-within 840 n (omega arith) h, fits-within 540 n (omega arith) h), (fits-within 1 n (omega arith) h, fits-within 8_280 n (omega arith) h)),
     )
 
 -- the cost is pay less prices

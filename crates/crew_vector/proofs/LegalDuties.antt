@@ -1,12 +1,12 @@
 -- Each legal duty over sound flights is sound.
-use Rattle.std.proofs.Common.{◌≡◌, ℕ, zero, suc, ◌+◌, ◌*◌, ◌≤◌, Bool, true, false, ◌&&◌, List, [], ◌∷◌, length, ℤ, pos, negsuc, neg_ℤ, ◌+ℤ◌, ◌-ℤ◌, ◌*ℤ◌, ◌≤ℤ◌, nat_le, refl, sym, subst, arith, if◌then◌else◌}
+use Rattle.std.proofs.Common.{◌≡◌, ℕ, zero, suc, ◌*◌, ◌≤◌, Bool, true, false, List, [], ◌∷◌, length, ℤ, pos, negsuc, neg_ℤ, ◌-ℤ◌, ◌*ℤ◌, ◌≤ℤ◌, nat_le, refl, sym, subst, arith, if◌then◌else◌}
 use Rattle.std.specs.Prelude.{slice_index, min, ◌-◌}
 use Rattle.std.specs.Int.{int_max}
 use Rattle.std.specs.List.{list_all}
 use Rattle.std.proofs.lemmas.Bool.{and_parts}
 use Rattle.std.proofs.lemmas.Bool.Decides.{nat_tests}
 use Rattle.std.proofs.lemmas.Int.{ints}
-use Rattle.crew_flights.specs.Timetable.{IsFlight, IsSound, Timetable}
+use Rattle.crew_flights.specs.Timetable.{IsSound, Timetable}
 use Rattle.crew_flights.specs.declared.flight.Flight.{Flight}
 use Rattle.crew_rules.specs.Pay.{duty_pay}
 use Rattle.crew_rules.specs.Settings.{IsChecked}
@@ -14,7 +14,7 @@ use Rattle.crew_rules.specs.Tables.{Row, in_force, rows_a, rows_b, table_a, tabl
 use Rattle.crew_rules.specs.declared.settings.Settings.{Settings}
 use Rattle.crew_duty.specs.Duties.{AreDuties, flights_of}
 use Rattle.crew_duty.specs.Events as Events
-use Rattle.crew_duty.specs.Legality.{IsLegal, duty_of, flight_duty_period, flight_time, last_of, price_of, release, report, segments, total}
+use Rattle.crew_duty.specs.Legality.{IsLegal, duty_of, flight_duty_period, flight_time, price_of, release, report, segments, total}
 use Rattle.crew_duty.specs.Members.{Member}
 use Rattle.crew_duty.specs.Plans.{AreFlights}
 use Rattle.crew_duty.specs.declared.duty.Duty.{Duty}

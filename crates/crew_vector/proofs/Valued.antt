@@ -1,5 +1,5 @@
 -- The value that the parts side by side give to a list is its vector, and none exactly where a beginning passes a cap.
-use Rattle.std.proofs.Common.{◌≡◌, ℕ, suc, Bool, true, false, ◌&&◌, cond, List, [], ◌∷◌, length, Option, Some, None, ℤ, pos, neg_ℤ, ◌+ℤ◌, ◌-ℤ◌, ◌*ℤ◌, int_le, refl, sym, ◌∙◌, ap, arith}
+use Rattle.std.proofs.Common.{◌≡◌, ℕ, suc, Bool, true, false, ◌&&◌, cond, List, [], ◌∷◌, length, Option, Some, None, ℤ, pos, ◌+ℤ◌, ◌-ℤ◌, ◌*ℤ◌, int_le, refl, ◌∙◌, ap, arith}
 use Rattle.std.specs.List.{list_all}
 use Rattle.std.proofs.Math.IntN.{*ℤ-zero}
 use Rattle.std.proofs.lemmas.Int.{ints}
@@ -7,10 +7,10 @@ use Rattle.crew_duty.specs.Legality.{total}
 use Rattle.crew_duty.specs.declared.duty.Duty.{Duty}
 use Rattle.crew_resource.specs.Both.{both}
 use Rattle.crew_resource.specs.Sum.{is_within, rises, sum_of, beginnings, capped_sum}
-use Rattle.crew_resource.proofs.SignedProducts.{*ℤ-+ℤ, joined}
+use Rattle.crew_resource.proofs.SignedProducts.{joined}
 use Rattle.crew_rules.specs.declared.settings.Settings.{Settings}
 use Rattle.crew_vector.specs.Amounts.{pay_first, pay_next, rig_first, rig_next, guarantee_first, guarantee_next, fdp_first, fdp_next, fly_first, fly_next, away_first, away_next}
-use Rattle.crew_vector.specs.Parts.{Value, last_release, minutes_away, prices, parts_of, is_within_caps, stays_within_caps, value_of_parts, value_of}
+use Rattle.crew_vector.specs.Parts.{Value, last_release, minutes_away, parts_of, is_within_caps, value_of_parts, value_of}
 
 -- each part's sum along a list is its sum over the whole list
 rises-total : (f : Duty → ℤ) (x : Duty) (ys : List Duty) → rises (λ _ d. pos 0 +ℤ f d) x ys ≡ total f ys
@@ -152,11 +152,11 @@ composed-value s b (x ∷ ys) =
     let guarantees = free (guarantee_first s.guarantee b) (guarantee_next s.guarantee) x ys ∙ ap Some (sum-guarantee s b x ys) in
     let money = both-is _ _ _ _ pays (both-is _ _ _ _ rigs guarantees) in
     let minutes =
-        both-is _ _ _ _ (capped fdp_first fdp_next (λ ds. total (λ d. d.fdp) ds) s.fdp_cap (sum-total (λ d. d.fdp)) x ys) (capped fly_first fly_next (λ ds. total (λ d. d.fly) ds) s.fly_cap (sum-total (λ d. d.fly)) x ys)
-        ∙ both-capped fdp fly p.fdp p.fly in
+    both-is _ _ _ _ (capped fdp_first fdp_next (λ ds. total (λ d. d.fdp) ds) s.fdp_cap (sum-total (λ d. d.fdp)) x ys) (capped fly_first fly_next (λ ds. total (λ d. d.fly) ds) s.fly_cap (sum-total (λ d. d.fly)) x ys)
+    ∙ both-capped fdp fly p.fdp p.fly in
     let spans =
-        both-is _ _ _ _ (capped (λ _. pos 1) (λ _ _. pos 1) (λ ds. pos (length ds)) s.max_duties sum-count x ys) (capped away_first away_next minutes_away s.away_cap sum-away x ys)
-        ∙ both-capped count away p.duties p.away in
+    both-is _ _ _ _ (capped (λ _. pos 1) (λ _ _. pos 1) (λ ds. pos (length ds)) s.max_duties sum-count x ys) (capped away_first away_next minutes_away s.away_cap sum-away x ys)
+    ∙ both-capped count away p.duties p.away in
     let limits = both-is _ _ _ _ minutes spans ∙ both-capped (fdp && fly) (count && away) (p.fdp, p.fly) (p.duties, p.away) in
     both-is _ _ _ _ money limits
     ∙ (both-free ((fdp && fly) && (count && away)) (p.duty_pay, (p.trip_rig, p.guarantee)) ((p.fdp, p.fly), (p.duties, p.away))

@@ -1,5 +1,5 @@
 -- The resource of a base's pairings under some settings: its parts side by side.
-use Rattle.std.specs.Prelude.{ℤ, pos, List}
+use Rattle.std.specs.Prelude.{ℤ}
 use Rattle.crew_duty.specs.declared.duty.Duty.{Duty}
 use Rattle.crew_resource.specs.declared.both.Both.{Both}
 use Rattle.crew_resource.specs.declared.count.Count.{Count}
@@ -24,18 +24,18 @@ pairing_vector s base_price = record {
       first = record { amount = record { base_price = base_price } };
       second = record {
         first = record { amount = record { rate = s.trip_rig; base_price = base_price } };
-        second = record { amount = record { points = s.guarantee; base_price = base_price } }
-      }
+        second = record { amount = record { points = s.guarantee; base_price = base_price } };
+      };
     };
     second = record {
       first = record {
         first = record { amount = record { cap = s.fdp_cap } };
-        second = record { amount = record { cap = s.fly_cap } }
+        second = record { amount = record { cap = s.fly_cap } };
       };
       second = record {
-        first = record { most = s.max_duties; items = record { } };
-        second = record { amount = record { cap = s.away_cap } }
-      }
-    }
-  }
+        first = record { most = s.max_duties; items = record {} };
+        second = record { amount = record { cap = s.away_cap } };
+      };
+    };
+  };
 }

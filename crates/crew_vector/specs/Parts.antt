@@ -1,6 +1,6 @@
 -- The seven parts of a list of duties, each one sum over the whole list. Resource vectors of labels are those of Irnich and
 -- Desaulniers 2005, "Shortest path problems with resource constraints"; the pay is that of Barnhart et al. 2003, "Airline crew scheduling".
-use Rattle.std.specs.Prelude.{◌≡◌, ℕ, ℤ, pos, ◌+ℤ◌, ◌-ℤ◌, ◌*ℤ◌, int_le, Bool, ◌&&◌, cond, List, [], ◌∷◌, length, Option, Some, None}
+use Rattle.std.specs.Prelude.{ℤ, pos, ◌+ℤ◌, ◌-ℤ◌, ◌*ℤ◌, int_le, Bool, ◌&&◌, cond, List, [], ◌∷◌, length, Option, Some, None}
 use Rattle.std.specs.List.{list_all}
 use Rattle.crew_duty.specs.Legality.{total}
 use Rattle.crew_duty.specs.declared.duty.Duty.{Duty}
@@ -40,7 +40,7 @@ parts_of s base_price duties = record {
   fdp = total (λ d. d.fdp) duties;
   fly = total (λ d. d.fly) duties;
   duties = pos (length duties);
-  away = minutes_away duties
+  away = minutes_away duties;
 }
 
 -- the caps on totals. A pairing spans at most 138 hours, so that one window of 168 consecutive hours covers it: 117.23(c) caps
@@ -71,7 +71,7 @@ parts_of_value v = record {
   fdp = v.1.0.0;
   fly = v.1.0.1;
   duties = v.1.1.0;
-  away = v.1.1.1
+  away = v.1.1.1;
 }
 
 -- the value of a list: its vector, and none where the list is empty or a beginning of it passes a cap

@@ -10,7 +10,6 @@ fn airport(letters: [u8; 3]) -> Result<Code, Fail> {
     Ok(Code::new(letters).ok_or("letters")?)
 }
 
-
 #[test]
 fn vector_of_a_short_duty(rt: HostRuntime) -> Result<(), Fail> {
     let duty = Duty {
@@ -27,7 +26,18 @@ fn vector_of_a_short_duty(rt: HostRuntime) -> Result<(), Fail> {
     let value = value_of_list(&Settings::standard(), 0, &[duty])?.ok_or("no value")?;
     assert!(rt; value == ((-480, (-2_360, 1_200)), ((130, 70), (1, 160))));
     let parts = Parts::of(&value);
-    assert!(rt; parts == Parts { duty_pay: -480, trip_rig: -2_360, guarantee: 1_200, fdp: 130, fly: 70, duties: 1, away: 160 });
+    assert!(rt;
+        parts
+            == Parts {
+                duty_pay: -480,
+                trip_rig: -2_360,
+                guarantee: 1_200,
+                fdp: 130,
+                fly: 70,
+                duties: 1,
+                away: 160
+            }
+    );
     assert!(rt; ReducedCost.cost(&value) == 1_200);
     Ok(())
 }
@@ -51,8 +61,7 @@ fn vector_of_a_long_duty(rt: HostRuntime) -> Result<(), Fail> {
 }
 
 // Out at 2025-07-01T14:00 and on at 2025-07-02T12:00.
-fn two_duties(alloc: Global, settings: &Settings) -> Result<Option<Value>, Fail>
-{
+fn two_duties(alloc: Global, settings: &Settings) -> Result<Option<Value>, Fail> {
     settings.check()?;
     let (home, away, on) = (airport(*b"JFK")?, airport(*b"BOS")?, airport(*b"ORD")?);
     let first = Duty {
@@ -85,12 +94,54 @@ fn vector_of_two_duties(rt: HostRuntime) -> Result<(), Fail> {
     let standard = Settings::standard();
     let value = two_duties(rt.alloc(), &standard)?.ok_or("no value")?;
     assert!(rt; value == ((5_040, (5_880, 8_400)), ((250, 130), (2, 1_470))));
-    let reached = Settings { fdp_cap: 250, fly_cap: 130, max_duties: 2, away_cap: 1_470, ..standard };
+    let reached = Settings {
+        fdp_cap: 250,
+        fly_cap: 130,
+        max_duties: 2,
+        away_cap: 1_470,
+        ..standard
+    };
     assert!(rt; two_duties(rt.alloc(), &reached)?.is_some());
-    assert!(rt; two_duties(rt.alloc(), &Settings { fdp_cap: 249, ..standard })?.is_none());
-    assert!(rt; two_duties(rt.alloc(), &Settings { fly_cap: 129, ..standard })?.is_none());
-    assert!(rt; two_duties(rt.alloc(), &Settings { max_duties: 1, ..standard })?.is_none());
-    assert!(rt; two_duties(rt.alloc(), &Settings { away_cap: 1_469, ..standard })?.is_none());
+    assert!(rt;
+        two_duties(
+            rt.alloc(),
+            &Settings {
+                fdp_cap: 249,
+                ..standard
+            }
+        )?
+        .is_none()
+    );
+    assert!(rt;
+        two_duties(
+            rt.alloc(),
+            &Settings {
+                fly_cap: 129,
+                ..standard
+            }
+        )?
+        .is_none()
+    );
+    assert!(rt;
+        two_duties(
+            rt.alloc(),
+            &Settings {
+                max_duties: 1,
+                ..standard
+            }
+        )?
+        .is_none()
+    );
+    assert!(rt;
+        two_duties(
+            rt.alloc(),
+            &Settings {
+                away_cap: 1_469,
+                ..standard
+            }
+        )?
+        .is_none()
+    );
     Ok(())
 }
 

@@ -123,21 +123,19 @@ impl<P: Placed, R: Staged<P>> Staged<P> for Vector<R> {
     }
 
     #[inline]
-    fn board(
-        &self,
-        value: &R::Value,
-        item: &P,
-    ) -> Result<Option<R::Value>, AllocError> {
+    fn board(&self, value: &R::Value, item: &P) -> Result<Option<R::Value>, AllocError> {
         self.parts.board(value, item)
     }
 }
-
 
 /// What a pairing is paid three ways, each less prices.
 pub type Money = Both<Sum<DutyPay>, Both<Sum<TripRig>, Sum<Guarantee>>>;
 
 /// What the caps are on.
-pub type Limits = Both<Both<Sum<DutyMinutes>, Sum<FlightMinutes>>, Both<Count<Duty>, Sum<MinutesAway>>>;
+pub type Limits = Both<
+    Both<Sum<DutyMinutes>, Sum<FlightMinutes>>,
+    Both<Count<Duty>, Sum<MinutesAway>>,
+>;
 
 /// The seven parts side by side, over duties.
 pub type PairingVector = Vector<Both<Money, Limits>>;

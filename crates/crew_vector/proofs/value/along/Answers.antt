@@ -1,4 +1,4 @@
-use Rattle.std.proofs.Common.{◌≡◌, ℕ, suc, ◌+◌, ◌≤◌, List, [], ◌∷◌, ◌++◌, drop, Some, None, pos, refl, sym, ◌∙◌, ap, subst, arith, add-one}
+use Rattle.std.proofs.Common.{◌≡◌, suc, ◌+◌, [], ◌∷◌, drop, sym, ◌∙◌, ap, subst, arith, add-one}
 use Rattle.std.specs.Option.{option_and_then}
 use Rattle.std.proofs.Math.Seq.{drop-cons}
 use Rattle.std.proofs.lemmas.Int.{ints}
@@ -43,7 +43,7 @@ loop-next-preserved g c =
     let z = c.in-Some-2.longer in
     let rest = drop (c.loop-next.next-index + 1) others in
     let split : drop c.loop-next.next-index others ≡ next ∷ rest =
-        drop-cons others c.loop-next.next-index next c.loop-next-test.true ∙ (ap (λ d. d ∷ drop (suc c.loop-next.next-index) others) (sym c.next-item.is) ∙ ap (λ k. next ∷ drop k others) (sym (add-one c.loop-next.next-index))) in
+    drop-cons others c.loop-next.next-index next c.loop-next-test.true ∙ (ap (λ d. d ∷ drop (suc c.loop-next.next-index) others) (sym c.next-item.is) ∙ ap (λ k. next ∷ drop k others) (sym (add-one c.loop-next.next-index))) in
     let longer = sym c.in_ok-longer.ensures.value ∙ c.in-Some-2.is in
     let staged = g.met.R.Staged.staged r in
     let waited = g.R.Staged.waited r v (g.P.Placed.arrives last) (g.P.Placed.leaves next) in
