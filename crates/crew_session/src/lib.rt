@@ -1,4 +1,8 @@
-//! Sessions: records of comma-separated fields in, lines out.
+//! Sessions: records of comma-separated fields in, lines out. A session keeps the zones of airports,
+//! hands edits to an engine behind the trait `Engine`, and shows the versions that the engine makes of
+//! them. The crate promises that what `run` writes is the text of the session, for any reader, any
+//! writer and any engine: each refusal is named by its record, nothing that was taken is lost, and the
+//! best that a version shows is the least of all its pairings of one duty.
 #![tactic(auto)]
 
 mod best;

@@ -96,4 +96,3 @@ best none\n\
 record 14 refused 70\n\
 ",
 );
-

@@ -131,7 +131,10 @@ fn sessions_and_what_they_write(rt: HostRuntime) -> Result<(), Fail> {
         (returns.as_slice(), wanted),
         (empty_lines.as_slice(), wanted),
         (b"", b""),
-        (b"settle\nbest\n", b"version 1 entries 0 flights 0\nbest none\n"),
+        (
+            b"settle\nbest\n",
+            b"version 1 entries 0 flights 0\nbest none\n",
+        ),
     ];
     for (input, wanted) in cases {
         let ended = run(&rt, &["crewprice", "run"], input);
@@ -167,17 +170,38 @@ fn streams_that_fail(rt: HostRuntime) {
     let words: [&str; 2] = ["crewprice", "run"];
     let mut written = Vec::new(rt.alloc());
     let mut faults = Vec::new(rt.alloc());
-    let status = command(&rt, rt.alloc(), &words, &mut Broken, &mut written, &mut faults);
+    let status = command(
+        &rt,
+        rt.alloc(),
+        &words,
+        &mut Broken,
+        &mut written,
+        &mut faults,
+    );
     assert_eq!(rt; status, 1);
     assert_eq!(rt; faults.as_slice(), b"crewprice: read fault\n".as_slice());
     let (mut input, _) = ONE_DUTY;
     let mut faults = Vec::new(rt.alloc());
-    let status = command(&rt, rt.alloc(), &words, &mut input, &mut Broken, &mut faults);
+    let status = command(
+        &rt,
+        rt.alloc(),
+        &words,
+        &mut input,
+        &mut Broken,
+        &mut faults,
+    );
     assert_eq!(rt; status, 1);
     assert_eq!(rt; faults.as_slice(), b"crewprice: write fault\n".as_slice());
     let (mut input, _) = ONE_DUTY;
     assert_eq!(rt;
-        command(&rt, rt.alloc(), &words, &mut input, &mut Broken, &mut Broken),
+        command(
+            &rt,
+            rt.alloc(),
+            &words,
+            &mut input,
+            &mut Broken,
+            &mut Broken
+        ),
         1
     );
     let help: [&str; 2] = ["crewprice", "--help"];
