@@ -503,17 +503,19 @@ fn writes_that_fail(rt: HostRuntime) -> Result<(), Fail> {
     Ok(())
 }
 
+// Whether the engine takes a base.
+fn takes_a_base(engine: &mut Plain, code: Code) -> bool {
+    engine.submit(Edit::AddBase { code, price: 0 }).is_ok()
+}
+
 #[test]
 fn the_edit_after_1_000_000(rt: HostRuntime) -> Result<(), Fail> {
     let mut engine = Plain::new(rt.alloc(), &Settings::standard());
     let code = Code::new(*b"JFK").ok_or("a code")?;
-    let edit = Edit::AddBase { code, price: 0 };
     for _ in 0..1_000_000u32 {
-        if let Err((_, fault)) = engine.submit(edit) {
-            return Err(Fail::from(fault));
-        }
+        assert!(rt; takes_a_base(&mut engine, code));
     }
-    assert_eq!(rt; engine.submit(edit), Err((edit, EngineFault::SeatFull)));
+    assert!(rt; !takes_a_base(&mut engine, code));
     engine.settle(&rt)?;
     let version: &Version = engine.version();
     assert_eq!(rt; version.number(), 1);
