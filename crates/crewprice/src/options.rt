@@ -168,7 +168,8 @@ fn settings_of(found: &ArgMatches<'_>) -> Settings
     }
 }
 
-/// What these words ask for; the first is the program's own name.
+/// What these words ask for; the first is the program's own name. Which words the parser takes is
+/// shown by tests: a clause would need the whole command as a value.
 pub fn read_words<S: AsStr>(alloc: Global, words: &[S]) -> Result<Plan, Error> {
     let matches = program(alloc)?.try_get_matches_from(words)?;
     let settings = match matches.subcommand() {
