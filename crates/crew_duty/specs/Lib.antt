@@ -4,4 +4,5 @@ pub mod Keys
 pub mod Legality
 pub mod Listing
 pub mod Members
+pub mod Pairings
 pub mod Plans

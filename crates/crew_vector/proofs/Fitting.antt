@@ -20,7 +20,8 @@ use Rattle.crew_rules.specs.declared.settings.Settings.{Settings}
 use Rattle.crew_vector.specs.Along.{GoesOn, IsLine}
 use Rattle.crew_vector.specs.Amounts.{arrival_of, departure_of, fdp_first, fdp_next, fly_first, fly_next, away_first, away_next}
 use Rattle.crew_vector.specs.Costs.{reduced_cost}
-use Rattle.crew_vector.specs.Parts.{Value, minutes_away, prices, cost_of, parts_of, is_within_caps, stays_within_caps, value_of_parts, value_of}
+use Rattle.crew_duty.specs.Pairings.{is_within_caps, minutes_away}
+use Rattle.crew_vector.specs.Parts.{Value, prices, cost_of, parts_of, stays_within_caps, value_of_parts, value_of}
 use Rattle.crew_vector.specs.Terms.{IsBasePrice}
 use Rattle.crew_vector.proofs.Valued.{caps-together, same-all, sum-total, sum-count, sum-away}
 

@@ -10,7 +10,8 @@ use Rattle.crew_resource.specs.Sum.{is_within, rises, sum_of, beginnings, capped
 use Rattle.crew_resource.proofs.SignedProducts.{joined}
 use Rattle.crew_rules.specs.declared.settings.Settings.{Settings}
 use Rattle.crew_vector.specs.Amounts.{pay_first, pay_next, rig_first, rig_next, guarantee_first, guarantee_next, fdp_first, fdp_next, fly_first, fly_next, away_first, away_next}
-use Rattle.crew_vector.specs.Parts.{Value, last_release, minutes_away, parts_of, is_within_caps, value_of_parts, value_of}
+use Rattle.crew_duty.specs.Pairings.{is_within_caps, last_duty, minutes_away}
+use Rattle.crew_vector.specs.Parts.{Value, parts_of, value_of_parts, value_of}
 
 -- each part's sum along a list is its sum over the whole list
 rises-total : (f : Duty → ℤ) (x : Duty) (ys : List Duty) → rises (λ _ d. pos 0 +ℤ f d) x ys ≡ total f ys
@@ -29,7 +30,7 @@ pub sum-count : (ds : List Duty) → sum_of (λ _. pos 1) (λ _ _. pos 1) ds ≡
 sum-count [] = refl
 sum-count (x ∷ ys) = omega (arith, ints, rises-count x ys)
 
-rises-away : (x : Duty) (ys : List Duty) → rises away_next x ys ≡ last_release x ys -ℤ x.release
+rises-away : (x : Duty) (ys : List Duty) → rises away_next x ys ≡ (last_duty x ys).release -ℤ x.release
 rises-away x [] = omega (arith, ints)
 rises-away x (y ∷ ys) = omega (arith, ints, rises-away y ys)
 
@@ -53,13 +54,13 @@ none-away r a =
 stretch : (r a b c p : ℤ) → r *ℤ (b -ℤ a) +ℤ (r *ℤ (c -ℤ b) -ℤ p) ≡ r *ℤ (c -ℤ a) -ℤ p
 stretch r a b c p = omega (arith, ints, joined r a b c (pos 0) p)
 
-rises-rig : (r : ℕ) (x : Duty) (ys : List Duty) → rises (rig_next r) x ys ≡ pos r *ℤ (last_release x ys -ℤ x.release) -ℤ total (λ d. d.price) ys
+rises-rig : (r : ℕ) (x : Duty) (ys : List Duty) → rises (rig_next r) x ys ≡ pos r *ℤ ((last_duty x ys).release -ℤ x.release) -ℤ total (λ d. d.price) ys
 rises-rig r x [] = none-away (pos r) x.release
 rises-rig r x (y ∷ ys) =
-    omega (arith, ints, rises-rig r y ys, stretch (pos r) x.release y.report y.release y.price, joined (pos r) x.release y.release (last_release y ys) y.price (total (λ d. d.price) ys))
+    omega (arith, ints, rises-rig r y ys, stretch (pos r) x.release y.report y.release y.price, joined (pos r) x.release y.release (last_duty y ys).release y.price (total (λ d. d.price) ys))
 
 sum-rig : (s : Settings) (b : ℤ) (x : Duty) (ys : List Duty) → sum_of (rig_first s.trip_rig b) (rig_next s.trip_rig) (x ∷ ys) ≡ (parts_of s b (x ∷ ys)).trip_rig
-sum-rig s b x ys = omega (arith, ints, rises-rig s.trip_rig x ys, joined (pos s.trip_rig) x.report x.release (last_release x ys) x.price (total (λ d. d.price) ys))
+sum-rig s b x ys = omega (arith, ints, rises-rig s.trip_rig x ys, joined (pos s.trip_rig) x.report x.release (last_duty x ys).release x.price (total (λ d. d.price) ys))
 
 one-more : (p n : ℕ) → pos p *ℤ pos (suc n) ≡ pos p +ℤ pos p *ℤ pos n
 one-more p n = omega (arith, ints)

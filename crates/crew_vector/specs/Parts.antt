@@ -1,23 +1,14 @@
 -- The seven parts of a list of duties, each one sum over the whole list. Resource vectors of labels are those of Irnich and
 -- Desaulniers 2005, "Shortest path problems with resource constraints"; the pay is that of Barnhart et al. 2003, "Airline crew scheduling".
-use Rattle.std.specs.Prelude.{ℤ, pos, ◌+ℤ◌, ◌-ℤ◌, ◌*ℤ◌, int_le, Bool, ◌&&◌, cond, List, [], ◌∷◌, length, Option, Some, None}
+use Rattle.std.specs.Prelude.{ℤ, pos, ◌+ℤ◌, ◌-ℤ◌, ◌*ℤ◌, Bool, cond, List, [], ◌∷◌, length, Option, Some, None}
 use Rattle.std.specs.List.{list_all}
 use Rattle.crew_duty.specs.Legality.{total}
+use Rattle.crew_duty.specs.Pairings.{is_within_caps, minutes_away}
 use Rattle.crew_duty.specs.declared.duty.Duty.{Duty}
 use Rattle.crew_resource.specs.Sum.{beginnings}
 use Rattle.crew_rules.specs.Pay.{pairing_pay}
 use Rattle.crew_rules.specs.declared.settings.Settings.{Settings}
 use Rattle.crew_vector.specs.declared.parts.Parts.{Parts}
-
--- the release of the last of a first duty and others
-abbrev pub last_release : Duty → List Duty → ℤ
-last_release first [] = first.release
-last_release first (next ∷ others) = last_release next others
-
--- minutes away from base: from the first report to the last release
-abbrev pub minutes_away : List Duty → ℤ
-minutes_away [] = pos 0
-minutes_away (first ∷ others) = last_release first others -ℤ first.report
 
 -- the prices of all flights flown, and the base's
 abbrev pub prices : ℤ → List Duty → ℤ
@@ -42,15 +33,6 @@ parts_of s base_price duties = record {
   duties = pos (length duties);
   away = minutes_away duties;
 }
-
--- the caps on totals. A pairing spans at most 138 hours, so that one window of 168 consecutive hours covers it: 117.23(c) caps
--- its flight duty minutes and 117.23(b)(1) its flight minutes; and it ends before the 30 hours of 117.25(b) are due
-abbrev pub is_within_caps : Settings → List Duty → Bool
-is_within_caps s duties =
-    int_le (total (λ d. d.fdp) duties) (pos s.fdp_cap)
-    && (int_le (total (λ d. d.fly) duties) (pos s.fly_cap)
-    && (int_le (pos (length duties)) (pos s.max_duties)
-    && int_le (minutes_away duties) (pos s.away_cap)))
 
 -- the list and each of its beginnings are within the caps
 abbrev pub stays_within_caps : Settings → List Duty → Bool

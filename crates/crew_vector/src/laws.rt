@@ -3,6 +3,7 @@ ghost use Rattle.std.specs.Prelude.{◌≡◌, ℤ, List, ◌∷◌, Some, lengt
 ghost use Rattle.crew_duty.specs.Duties.{AreDuties};
 ghost use Rattle.crew_duty.specs.Events.{IsSound};
 ghost use Rattle.crew_duty.specs.Members.{Member};
+ghost use Rattle.crew_duty.specs.Pairings.{is_within_caps};
 ghost use Rattle.crew_duty.specs.declared.duty.Duty.{Duty};
 ghost use Rattle.crew_flights.specs.Timetable as TimetableSpec;
 ghost use Rattle.crew_flights.specs.Timetable.{Timetable};
@@ -10,7 +11,7 @@ ghost use Rattle.crew_rules.specs.Settings.{IsChecked};
 ghost use Rattle.crew_rules.specs.declared.settings.Settings.{Settings};
 ghost use Rattle.crew_vector.specs.Along.{IsLine};
 ghost use Rattle.crew_vector.specs.Costs.{reduced_cost};
-ghost use Rattle.crew_vector.specs.Parts.{Value, cost_of, is_within_caps, parts_of, stays_within_caps, value_of, value_of_parts};
+ghost use Rattle.crew_vector.specs.Parts.{Value, cost_of, parts_of, stays_within_caps, value_of, value_of_parts};
 
 use crate::vector::PairingVector;
 use crew_resource::Resource;
