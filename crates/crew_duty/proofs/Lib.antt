@@ -6,6 +6,8 @@ pub mod Complete
 pub mod Falling
 pub mod InList
 pub mod InOrder
+pub mod InPlace
 pub mod Legal
 pub mod Rising
+pub mod Slots
 pub mod Timetables

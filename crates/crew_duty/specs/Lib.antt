@@ -6,3 +6,4 @@ pub mod Listing
 pub mod Members
 pub mod Pairings
 pub mod Plans
+pub mod Slots

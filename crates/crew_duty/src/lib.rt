@@ -3,6 +3,7 @@
 //! duties that it lists are exactly the legal ones of a timetable, by key.
 #![tactic(auto)]
 
+mod departures;
 mod duties;
 mod duty;
 mod events;

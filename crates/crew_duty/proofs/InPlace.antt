@@ -1,0 +1,177 @@
+-- Slots that pass a test, put in order of place, are the places of the flights that pass it.
+use Rattle.std.proofs.Common.{◌≡◌, ◌≢◌, ◌≤◌, ◌<◌, ◌+◌, ℕ, zero, suc, List, [], ◌∷◌, Some, Bool, true, false, cond, length, refl, sym, ap, subst, ◌∙◌, arith, get_or, filter, map, inl, inr}
+use Rattle.std.specs.Prelude.{slice_get, IsPermutation, IsSorted, ◌==◌}
+use Rattle.std.specs.List.{AllByRecursion, IsDistinct}
+use Rattle.std.specs.Ordering.{nat_cmp}
+use Rattle.std.specs.Cmp.{nat_cmp_total}
+use Rattle.std.proofs.lemmas.List.Sorted.{All-permutation, IsPermutation-map, IsPermutation-sym, ranks_by, sorted_far}
+use Rattle.std.proofs.lemmas.Map.Keys.{IsDistinct-IsPermutation, IsDistinct-head, IsDistinct-tail, IsDistinct-cons, IsDistinct-from_apart, ge_from_not_lt}
+use Rattle.std.proofs.lemmas.List.Elements.{All-from_recursion, recursion_from_All}
+use Rattle.crew_flights.specs.declared.flight.Flight.{Flight}
+use Rattle.crew_duty.specs.Members.{Each, Member}
+use Rattle.crew_duty.specs.Plans.{StandAt}
+use Rattle.crew_duty.specs.Slots.{slot_of, slots_from}
+use Rattle.crew_duty.specs.declared.departures.Slot.{Slot}
+use Rattle.crew_duty.proofs.InList.{Each-filter, Member-filter, filter-Member}
+use Rattle.crew_duty.proofs.Tree.{Each-map, Each-member}
+
+-- what stands in a list stands in each shuffle of it
+all-of : {X : Type 0} (P : X → Type 0) (xs : List X) → ((x : X) → Member xs x → P x) → AllByRecursion P xs
+all-of P [] f = tt
+all-of P (x ∷ xs) f = (f x (inl refl), all-of P xs (λ y m. f y (inr m)))
+
+all-at : {X : Type 0} (P : X → Type 0) (xs : List X) (x : X) → AllByRecursion P xs → Member xs x → P x
+all-at P [] x h m = absurd m
+all-at P (y ∷ xs) x h (inl e) = subst P e h.0
+all-at P (y ∷ xs) x h (inr m) = all-at P xs x h.1 m
+
+pub Member-shuffled : {X : Type 0} (xs ys : List X) (x : X) → IsPermutation xs ys → Member xs x → Member ys x
+Member-shuffled xs ys x s m = 
+    all-at (Member ys) xs x (recursion_from_All (Member ys) xs (All-permutation (Member ys) ys xs (IsPermutation-sym xs ys s) (All-from_recursion (Member ys) ys (all-of (Member ys) ys (λ y n. n))))) m
+
+-- numbers each below all later ones
+abbrev pub Climb : List ℕ → Type 0
+Climb [] = Unit {0}
+Climb (n ∷ ns) = Each (λ m. n < m) ns × Climb ns
+
+-- two such lists of the same numbers are one
+pub climb-unique : (xs ys : List ℕ) → Climb xs → Climb ys → ((n : ℕ) → Member xs n → Member ys n) → ((n : ℕ) → Member ys n → Member xs n) → xs ≡ ys
+climb-unique [] [] a b f g = refl
+climb-unique [] (y ∷ ys) a b f g = absurd (g y (inl refl))
+climb-unique (x ∷ xs) [] a b f g = absurd (f x (inl refl))
+climb-unique (x ∷ xs) (y ∷ ys) a b f g =
+    let above = λ (n : ℕ) (m : Member xs n). Each-member (λ k. x < k) xs n a.0 m in
+    let over = λ (n : ℕ) (m : Member ys n). Each-member (λ k. y < k) ys n b.0 m in
+    let same : x ≡ y = elim (f x (inl refl)) [
+      | inl e ↦ sym e
+      | inr m ↦ elim (g y (inl refl)) [ inl e ↦ e | inr k ↦ absurd (let p = over x m in let q = above y k in omega (arith, p, q)) ]
+    ] in
+    let rest : xs ≡ ys = climb-unique xs ys a.1 b.1
+    (λ n m. elim (f n (inr m)) [ inl e ↦ absurd (let p = above n m in omega (arith, p, e, same)) | inr k ↦ k ])
+    (λ n m. elim (g n (inr m)) [ inl e ↦ absurd (let p = over n m in omega (arith, p, e, same)) | inr k ↦ k ]) in
+    λ i. same i ∷ rest i
+
+each-of : {X : Type 0} (P : X → Type 0) (xs : List X) → ((k : ℕ) (d : X) → k < length xs → P (get_or xs k d)) → Each P xs
+each-of P [] f = tt
+each-of P (x ∷ xs) f = (f 0 x (omega arith), each-of P xs (λ k d m. f (suc k) d (omega arith)))
+
+climb-of : (ns : List ℕ) → ((i j d : ℕ) → i < j → j < length ns → get_or ns i d < get_or ns j d) → Climb ns
+climb-of [] f = tt
+climb-of (n ∷ ns) f = (each-of (λ m. n < m) ns (λ k d m. f 0 (suc k) d (omega arith) (omega arith)), climb-of ns (λ i j d a b. f (suc i) (suc j) d (omega arith) (omega arith)))
+
+-- slots each of a place below those of all later ones
+abbrev pub PlacesClimb : List Slot → Type 0
+PlacesClimb [] = Unit {0}
+PlacesClimb (s ∷ slots) = Each (λ t. s.place < t.place) slots × PlacesClimb slots
+
+each-mapped : {X Y : Type 0} (f : X → Y) (P : Y → Type 0) (xs : List X) → Each (λ x. P (f x)) xs → Each P (map f xs)
+each-mapped f P [] h = tt
+each-mapped f P (x ∷ xs) h = (h.0, each-mapped f P xs h.1)
+
+pub climb-places : (slots : List Slot) → PlacesClimb slots → Climb (map (λ s. s.place) slots)
+climb-places [] h = tt
+climb-places (s ∷ slots) h = (each-mapped (λ (t : Slot). t.place) (λ m. s.place < m) slots h.0, climb-places slots h.1)
+
+pub climb-filter : (p : Slot → Bool) (slots : List Slot) → PlacesClimb slots → PlacesClimb (filter p slots)
+climb-filter p [] h = tt
+climb-filter p (s ∷ slots) h = by (p s) (climb-filter p slots h.1)
+  where
+    by : (b : Bool) → PlacesClimb (filter p slots) → PlacesClimb (cond b (s ∷ filter p slots) (filter p slots))
+    by true r = (Each-filter (λ (t : Slot). s.place < t.place) p slots h.0, r)
+    by false r = r
+
+from-on : (i : ℕ) (fs : List Flight) → Each (λ s. i ≤ s.place) (slots_from i fs)
+from-on i [] = tt
+from-on i (f ∷ fs) = (omega arith, Each-map (λ (s : Slot). suc i ≤ s.place) (λ (s : Slot). i ≤ s.place) (slots_from (suc i) fs) (λ s h. omega (arith, h)) (from-on (suc i) fs))
+
+pub climb-from : (i : ℕ) (fs : List Flight) → PlacesClimb (slots_from i fs)
+climb-from i [] = tt
+climb-from i (f ∷ fs) = (Each-map (λ (s : Slot). suc i ≤ s.place) (λ (s : Slot). i < s.place) (slots_from (suc i) fs) (λ s h. omega (arith, h)) (from-on (suc i) fs), climb-from (suc i) fs)
+
+-- no two numbers are equal
+abbrev pub AreApart : List ℕ → Type 0
+AreApart = IsDistinct ◌==◌
+
+nothing-apart : AreApart []
+nothing-apart = IsDistinct-from_apart ◌==◌ [] (λ i j d a b. absurd (omega (arith, b)))
+
+apart-all : (n : ℕ) (ns : List ℕ) → Each (λ m. n < m) ns → AllByRecursion (λ m. (n == m) ≡ false) ns
+apart-all n [] h = tt
+apart-all n (m ∷ ns) h = (let p : n < m = h.0 in grind (arith), apart-all n ns h.1)
+
+apart-climb : (ns : List ℕ) → Climb ns → AreApart ns
+apart-climb [] h = nothing-apart
+apart-climb (n ∷ ns) h = IsDistinct-cons ◌==◌ n ns (apart-all n ns h.0) (apart-climb ns h.1)
+
+all-filter : (P : ℕ → Type 0) (p : Slot → Bool) (slots : List Slot) → AllByRecursion P (map (λ s. s.place) slots) → AllByRecursion P (map (λ s. s.place) (filter p slots))
+all-filter P p [] h = tt
+all-filter P p (s ∷ slots) h = by (p s) (all-filter P p slots h.1)
+  where
+    by : (b : Bool) → AllByRecursion P (map (λ s. s.place) (filter p slots)) → AllByRecursion P (map (λ s. s.place) (cond b (s ∷ filter p slots) (filter p slots)))
+    by true r = (h.0, r)
+    by false r = r
+
+apart-filter : (p : Slot → Bool) (slots : List Slot) → AreApart (map (λ s. s.place) slots) → AreApart (map (λ s. s.place) (filter p slots))
+apart-filter p [] h = h
+apart-filter p (s ∷ slots) h = by (p s) (apart-filter p slots (IsDistinct-tail ◌==◌ s.place (map (λ t. t.place) slots) h))
+  where
+    by : (b : Bool) → AreApart (map (λ s. s.place) (filter p slots)) → AreApart (map (λ s. s.place) (cond b (s ∷ filter p slots) (filter p slots)))
+    by true r = IsDistinct-cons ◌==◌ s.place (map (λ t. t.place) (filter p slots)) (all-filter (λ m. (s.place == m) ≡ false) p slots (IsDistinct-head ◌==◌ s.place (map (λ t. t.place) slots) h)) r
+    by false r = r
+
+each-above : (n : ℕ) (ns : List ℕ) → Each (λ m. n ≤ m) ns → AllByRecursion (λ m. (n == m) ≡ false) ns → Each (λ m. n < m) ns
+each-above n [] h k = tt
+each-above n (m ∷ ns) h k = (let p : n ≤ m = h.0 in let q : (n == m) ≡ false = k.0 in grind (arith), each-above n ns h.1 k.1)
+
+climb-apart : (ns : List ℕ) → ((i j d : ℕ) → i ≤ j → j < length ns → get_or ns i d ≤ get_or ns j d) → AreApart ns → Climb ns
+climb-apart [] f a = tt
+climb-apart (n ∷ ns) f a =
+    (each-above n ns (each-of (λ m. n ≤ m) ns (λ k d m. f 0 (suc k) d (omega arith) (omega arith))) (IsDistinct-head ◌==◌ n ns a), climb-apart ns (λ i j d p q. f (suc i) (suc j) d (omega arith) (omega arith)) (IsDistinct-tail ◌==◌ n ns a))
+
+pub climb-sorted : (ns : List ℕ) → IsSorted nat_cmp ns → AreApart ns → Climb ns
+climb-sorted ns s a = climb-apart ns (λ i j d p q. ge_from_not_lt (get_or ns j d) (get_or ns i d) (sorted_far _ (ranks_by nat_cmp_total (λ (x : ℕ). x)) ns s i j d p q)) a
+
+-- the flights that pass a test, by their slots
+stand-by : (all : List Flight) (i : ℕ) (f : Flight) (slots : List Slot) (fs : List Flight) (b : Bool) → slice_get all i ≡ Some f → StandAt all (map (λ s. s.place) slots) fs
+    → StandAt all (map (λ s. s.place) (cond b (slot_of i f ∷ slots) slots)) (cond b (f ∷ fs) fs)
+stand-by all i f slots fs true at h = (at, h)
+stand-by all i f slots fs false at h = h
+
+pub stand : (p : Flight → Bool) (q : Slot → Bool) (all fs : List Flight) (i : ℕ) → ((k : ℕ) (g : Flight) → slice_get fs k ≡ Some g → slice_get all (i + k) ≡ Some g) → ((place : ℕ) → Each (λ f. q (slot_of place f) ≡ p f) fs)
+    → StandAt all (map (λ s. s.place) (filter q (slots_from i fs))) (filter p fs)
+stand p q all [] i at agree = tt
+stand p q all (f ∷ fs) i at agree =
+    let here : slice_get all i ≡ Some f = subst (λ (k : ℕ). slice_get all k ≡ Some f) (omega arith) (at 0 f refl) in
+    let rest = stand p q all fs (suc i) (λ k g e. subst (λ (n : ℕ). slice_get all n ≡ Some g) (omega arith) (at (suc k) g e)) (λ place. (agree place).1) in
+    rw (agree i).0 (stand-by all i f (filter q (slots_from (suc i) fs)) (filter p fs) (p f) here rest)
+
+map-Member : (slots : List Slot) (n : ℕ) → Member (map (λ s. s.place) slots) n → (s : Slot) × Member slots s × (s.place ≡ n)
+map-Member [] n m = absurd m
+map-Member (s ∷ slots) n (inl e) = (s, inl refl, e)
+map-Member (s ∷ slots) n (inr m) = let r = map-Member slots n m in (r.0, inr r.1, r.2)
+
+Member-map : (slots : List Slot) (s : Slot) → Member slots s → Member (map (λ t. t.place) slots) s.place
+Member-map [] s m = absurd m
+Member-map (t ∷ slots) s (inl e) = inl (ap (λ (u : Slot). u.place) e)
+Member-map (t ∷ slots) s (inr m) = inr (Member-map slots s m)
+
+-- the same slots pass a test in each order
+kept-places : (q : Slot → Bool) (xs ys : List Slot) (n : ℕ) → IsPermutation xs ys → Member (map (λ s. s.place) (filter q xs)) n → Member (map (λ s. s.place) (filter q ys)) n
+kept-places q xs ys n s m =
+    let r = map-Member (filter q xs) n m in
+    let k = filter-Member q xs r.0 r.1 in
+    subst (Member (map (λ (t : Slot). t.place) (filter q ys))) r.2 (Member-map (filter q ys) r.0 (Member-filter q ys r.0 k.0 (Member-shuffled xs ys r.0 s k.1)))
+
+-- the places of the slots that pass, put in order, are those of the flights that do
+pub in-place : (p : Flight → Bool) (q : Slot → Bool) (flights : List Flight) (slots : List Slot) (sorted : List ℕ) → ((place : ℕ) → Each (λ f. q (slot_of place f) ≡ p f) flights) → IsPermutation (slots_from 0 flights) slots
+    → IsPermutation (map (λ s. s.place) (filter q slots)) sorted → IsSorted nat_cmp sorted → StandAt flights sorted (filter p flights)
+in-place p q flights slots sorted agree all perm up =
+    let home = slots_from 0 flights in
+    let places = λ (l : List Slot). map (λ (s : Slot). s.place) l in
+    let climb = climb-from 0 flights in
+    let apart : AreApart (places slots) = IsDistinct-IsPermutation ◌==◌ (λ x y. grind (arith)) (places home) (places slots) (IsPermutation-map (λ (s : Slot). s.place) home slots all) (apart-climb (places home) (climb-places home climb)) in
+    let apart' : AreApart sorted = IsDistinct-IsPermutation ◌==◌ (λ x y. grind (arith)) (places (filter q slots)) sorted perm (apart-filter q slots apart) in
+    let same : places (filter q home) ≡ sorted = climb-unique (places (filter q home)) sorted (climb-places (filter q home) (climb-filter q home climb)) (climb-sorted sorted up apart')
+    (λ n m. Member-shuffled (places (filter q slots)) sorted n perm (kept-places q home slots n all m))
+    (λ n m. kept-places q slots home n (IsPermutation-sym home slots all) (Member-shuffled sorted (places (filter q slots)) n (IsPermutation-sym (places (filter q slots)) sorted perm) m)) in
+    subst (λ (l : List ℕ). StandAt flights l (filter p flights)) same (stand p q flights flights 0 (λ k g e. subst (λ (n : ℕ). slice_get flights n ≡ Some g) (omega arith) e) agree)

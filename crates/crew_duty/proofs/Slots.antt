@@ -1,0 +1,210 @@
+-- The slots between two moments are those of the flights that may follow, and in order of place they are theirs.
+use Rattle.std.proofs.Common.{◌≡◌, ◌≤◌, ◌<◌, ◌+◌, ◌-◌, ◌*◌, ℕ, zero, suc, ℤ, pos, ◌≤ℤ◌, ◌+ℤ◌, ◌-ℤ◌, List, [], ◌∷◌, ◌++◌, Some, Bool, true, false, ◌&&◌, cond, length, refl, sym, ap, subst, ◌∙◌, arith, take, drop, get_or, filter, map, inl, inr, int_le}
+use Rattle.std.specs.Prelude.{◌==◌, int_lt}
+use Rattle.std.specs.List.Sorted.{IsPartitionPoint, IsPartitionedBy}
+use Rattle.std.specs.List.{list_all}
+use Rattle.std.specs.Ordering.{eq_by_cmp, int_cmp, is_lt, nat_cmp, ordering_then}
+use Rattle.std.specs.declared.cmp.Ordering.{Ordering}
+use Rattle.std.specs.declared.cmp.Ordering.TheVariants.{Equal, Greater, Less}
+use Rattle.std.specs.Cmp.{IsStrictWeakOrder, eq_by_cmp_equiv, int_cmp_total, nat_cmp_total, on_total, then_total}
+use Rattle.std.proofs.lemmas.List.{get_or-drop, length-drop}
+use Rattle.std.proofs.lemmas.List.Sorted.{ranks_by}
+use Rattle.std.proofs.lemmas.Bool.{and_parts, and_from}
+use Rattle.std.proofs.lemmas.Map.Text.{is_eq-slice_cmp}
+use Rattle.std.proofs.lemmas.Slice.Eq.{bytes_eq-Decides}
+use Rattle.std.proofs.lemmas.Cmp.{int_ranked}
+use Rattle.std.proofs.lemmas.Int.{ints}
+use Rattle.crew_duty.specs.Members.{Each}
+use Rattle.crew_time.specs.Instant.{IsInstant}
+use Rattle.crew_flights.specs.Codes.{code_cmp, code_cmp_total, is_code, is_letter}
+use Rattle.crew_flights.specs.declared.flight.Flight.{Flight}
+use Rattle.crew_rules.specs.Settings.{IsChecked}
+use Rattle.crew_rules.specs.declared.settings.Settings.{Settings}
+use Rattle.crew_duty.specs.Legality.{may_follow}
+use Rattle.crew_duty.specs.Slots.{Ascend, IsNamed, is_between, code_number, moment, slot_of, slots_from}
+use Rattle.crew_duty.specs.declared.departures.Slot.{Slot}
+
+-- what passes a test, where that is what stands from one place up to another
+none-pass : {X : Type 0} (p : X → Bool) (xs : List X) → ((k : ℕ) (d : X) → k < length xs → p (get_or xs k d) ≡ false) → filter p xs ≡ []
+none-pass p [] h = refl
+none-pass p (x ∷ xs) h = rw (h 0 x (omega arith)) (none-pass p xs (λ k d m. h (suc k) d (omega arith)))
+
+front : {X : Type 0} (p : X → Bool) (xs : List X) (n : ℕ) → n ≤ length xs → ((k : ℕ) (d : X) → k < n → p (get_or xs k d) ≡ true) → ((k : ℕ) (d : X) → n ≤ k → k < length xs → p (get_or xs k d) ≡ false)
+    → take n xs ≡ filter p xs
+front p [] zero a f g = refl
+front p [] (suc n) a f g = absurd (omega (arith, a))
+front p (x ∷ xs) zero a f g = sym (none-pass p (x ∷ xs) (λ k d m. g k d (omega arith) m))
+front {X} p (x ∷ xs) (suc n) a f g =
+    rw (f 0 x (omega arith)) (ap (λ (l : List X). x ∷ l) (front p xs n (omega (arith, a)) (λ k d m. f (suc k) d (omega arith)) (λ k d m o. g (suc k) d (omega arith) (omega arith))))
+
+pub window : {X : Type 0} (p : X → Bool) (xs : List X) (i n : ℕ) → n ≤ length (drop i xs)
+    → ((k : ℕ) (d : X) → k < i → k < length xs → p (get_or xs k d) ≡ false)
+    → ((k : ℕ) (d : X) → k < n → p (get_or (drop i xs) k d) ≡ true)
+    → ((k : ℕ) (d : X) → n ≤ k → k < length (drop i xs) → p (get_or (drop i xs) k d) ≡ false)
+    → take n (drop i xs) ≡ filter p xs
+window p xs zero n a f g h = front p xs n a g h
+window p [] (suc i) zero a f g h = refl
+window p [] (suc i) (suc n) a f g h = absurd (omega (arith, a))
+window p (x ∷ xs) (suc i) n a f g h = rw (f 0 x (omega arith) (omega arith)) (window p xs i n a (λ k d m o. f (suc k) d (omega arith) (omega arith)) g h)
+
+letter-within : (x : ℕ) → is_letter x ≡ true → (65 ≤ x) × (x ≤ 90)
+letter-within x h = grind (arith)
+
+code-apart : (a b c x y z : ℕ) → is_letter a ≡ true → is_letter b ≡ true → is_letter c ≡ true → is_letter x ≡ true → is_letter y ≡ true → is_letter z ≡ true
+    → code_number (a ∷ b ∷ c ∷ []) ≡ code_number (x ∷ y ∷ z ∷ []) → (a ∷ b ∷ c ∷ []) ≡ (x ∷ y ∷ z ∷ [])
+code-apart a b c x y z ha hb hc hx hy hz e =
+    let ka = letter-within a ha in let kb = letter-within b hb in let kc = letter-within c hc in
+    let kx = letter-within x hx in let ky = letter-within y hy in let kz = letter-within z hz in
+    let first : a ≡ x = omega (arith, ka.0, ka.1, kb.0, kb.1, kc.0, kc.1, kx.0, kx.1, ky.0, ky.1, kz.0, kz.1, e) in
+    let second : b ≡ y = omega (arith, ka.0, ka.1, kb.0, kb.1, kc.0, kc.1, kx.0, kx.1, ky.0, ky.1, kz.0, kz.1, e) in
+    let third : c ≡ z = omega (arith, ka.0, ka.1, kb.0, kb.1, kc.0, kc.1, kx.0, kx.1, ky.0, ky.1, kz.0, kz.1, e) in
+    λ i. first i ∷ second i ∷ third i ∷ []
+
+three-letters : (code : List ℕ) → length code ≡ 3 → (a : ℕ) × (b : ℕ) × (c : ℕ) × (code ≡ a ∷ b ∷ c ∷ [])
+three-letters [] e = absurd (omega arith)
+three-letters (a ∷ []) e = absurd (omega arith)
+three-letters (a ∷ b ∷ []) e = absurd (omega arith)
+three-letters (a ∷ b ∷ c ∷ []) e = (a, b, c, refl)
+three-letters (a ∷ b ∷ c ∷ d ∷ rest) e = absurd (omega arith)
+
+code-parts : (code : List ℕ) → is_code code ≡ true → ((length code == 3) ≡ true) × (list_all is_letter code ≡ true)
+code-parts code h = and_parts (length code == 3) (list_all is_letter code) h
+
+has-three : (code : List ℕ) → is_code code ≡ true → length code ≡ 3
+has-three code h = let p : (length code == 3) ≡ true = (code-parts code h).0 in grind (arith)
+
+are-letters : (a b c : ℕ) → is_code (a ∷ b ∷ c ∷ []) ≡ true → (is_letter a ≡ true) × (is_letter b ≡ true) × (is_letter c ≡ true)
+are-letters a b c h =
+    let p = and_parts (is_letter a) (is_letter b && (is_letter c && true)) (code-parts (a ∷ b ∷ c ∷ []) h).1 in
+    let q = and_parts (is_letter b) (is_letter c && true) p.1 in
+    (p.0, q.0, (and_parts (is_letter c) true q.1).0)
+
+same-three : (a b c x y z : ℕ) → is_code (a ∷ b ∷ c ∷ []) ≡ true → is_code (x ∷ y ∷ z ∷ []) ≡ true → code_number (a ∷ b ∷ c ∷ []) ≡ code_number (x ∷ y ∷ z ∷ []) → (a ∷ b ∷ c ∷ []) ≡ (x ∷ y ∷ z ∷ [])
+same-three a b c x y z h k e =
+    let p = are-letters a b c h in
+    let q = are-letters x y z k in
+    code-apart a b c x y z p.0 p.1 p.2 q.0 q.1 q.2 e
+
+-- airports with one number are one
+pub code-same : (a b : List ℕ) → is_code a ≡ true → is_code b ≡ true → code_number a ≡ code_number b → a ≡ b
+code-same a b h k e =
+    let p = three-letters a (has-three a h) in
+    let q = three-letters b (has-three b k) in
+    pa-then p.3 q.3 (same-three p.0 p.1 p.2 q.0 q.1 q.2 (subst (λ (x : List ℕ). is_code x ≡ true) p.3 h) (subst (λ (x : List ℕ). is_code x ≡ true) q.3 k) (sym (ap code_number p.3) ∙ (e ∙ ap code_number q.3)))
+  where
+    pa-then : {x y : List ℕ} → a ≡ x → b ≡ y → x ≡ y → a ≡ b
+    pa-then f g h = f ∙ (h ∙ sym g)
+
+-- the slot of a flight lies between them just where the flight leaves that airport between them
+moments-in : (n m : ℕ) (t e l : ℤ) → IsInstant t → pos 0 ≤ℤ e → l ≤ℤ pos 100_000_000 → (pos (n * 134_217_728) +ℤ e) ≤ℤ (pos (m * 134_217_728) +ℤ t) → (pos (m * 134_217_728) +ℤ t) ≤ℤ (pos (n * 134_217_728) +ℤ l)
+    → (m ≡ n) × (e ≤ℤ t) × (t ≤ℤ l)
+moments-in n m t e l i a b h k =
+    let lo = i.from in let hi = i.to in
+    let same : m ≡ n = omega (arith, ints, lo, hi, a, b, h, k) in
+    (same, omega (arith, ints, same, h), omega (arith, ints, same, k))
+
+code-equal : (a b : List ℕ) → eq_by_cmp code_cmp a b ≡ true → a ≡ b
+code-equal a b h = (bytes_eq-Decides a b).0 (sym (is_eq-slice_cmp a b) ∙ h)
+
+both-ways : (a b : Bool) → (a ≡ true → b ≡ true) → (b ≡ true → a ≡ true) → a ≡ b
+both-ways true true f g = refl
+both-ways true false f g = sym (f refl)
+both-ways false true f g = g refl
+both-ways false false f g = refl
+
+pub between-follows : (s : Settings) (before f : Flight) (place : ℕ) → IsChecked s → IsNamed f → is_code before.to ≡ true → IsInstant before.arr
+    → is_between (moment before.to (before.arr +ℤ pos s.connect)) (moment before.to (before.arr +ℤ pos s.sit)) (slot_of place f) ≡ may_follow s before f
+between-follows s before f place checked named code time =
+    both-ways (is_between (moment before.to (before.arr +ℤ pos s.connect)) (moment before.to (before.arr +ℤ pos s.sit)) (slot_of place f)) (may_follow s before f) forth back
+  where
+    forth : is_between (moment before.to (before.arr +ℤ pos s.connect)) (moment before.to (before.arr +ℤ pos s.sit)) (slot_of place f) ≡ true → may_follow s before f ≡ true
+    forth h =
+        let low = moment before.to (before.arr +ℤ pos s.connect) in
+        let high = moment before.to (before.arr +ℤ pos s.sit) in
+        let p = and_parts (int_le low (moment f.from f.dep)) (int_le (moment f.from f.dep) high) h in
+        let a : low ≤ℤ moment f.from f.dep = grind (arith, ints, p.0) in
+        let b : moment f.from f.dep ≤ℤ high = grind (arith, ints, p.1) in
+        let lo = time.from in let hi = time.to in
+        let c = checked.sit_most in
+        let q = moments-in (code_number before.to) (code_number f.from) f.dep (before.arr +ℤ pos s.connect) (before.arr +ℤ pos s.sit) named.time (omega (arith, ints, lo)) (omega (arith, ints, hi, c)) a b in
+        let same : before.to ≡ f.from = sym (code-same f.from before.to named.code code q.0) in
+        let equal : eq_by_cmp code_cmp before.to f.from ≡ true = subst (λ (x : List ℕ). eq_by_cmp code_cmp before.to x ≡ true) same ((eq_by_cmp_equiv code_cmp_total).refl before.to) in
+        let least : int_le (pos s.connect) (f.dep -ℤ before.arr) ≡ true = grind (arith, ints, q.1) in
+        let most : int_le (f.dep -ℤ before.arr) (pos s.sit) ≡ true = grind (arith, ints, q.2) in
+        and_from _ _ equal (and_from _ _ least most)
+    back : may_follow s before f ≡ true → is_between (moment before.to (before.arr +ℤ pos s.connect)) (moment before.to (before.arr +ℤ pos s.sit)) (slot_of place f) ≡ true
+    back h =
+        let gap = f.dep -ℤ before.arr in
+        let p = and_parts (eq_by_cmp code_cmp before.to f.from) (int_le (pos s.connect) gap && int_le gap (pos s.sit)) h in
+        let q = and_parts (int_le (pos s.connect) gap) (int_le gap (pos s.sit)) p.1 in
+        let same : before.to ≡ f.from = code-equal before.to f.from p.0 in
+        let least : int_le (moment f.from (before.arr +ℤ pos s.connect)) (moment f.from f.dep) ≡ true = grind (arith, ints, q.0) in
+        let most : int_le (moment f.from f.dep) (moment f.from (before.arr +ℤ pos s.sit)) ≡ true = grind (arith, ints, q.1) in
+        subst (λ (x : List ℕ). is_between (moment x (before.arr +ℤ pos s.connect)) (moment x (before.arr +ℤ pos s.sit)) (slot_of place f) ≡ true) (sym same) (and_from _ _ least most)
+
+-- one slot more
+pub slots-more : (i : ℕ) (fs : List Flight) (k : ℕ) (d : Flight) → k < length fs → slots_from i (take (k + 1) fs) ≡ slots_from i (take k fs) ++ slot_of (i + k) (get_or fs k d) ∷ []
+slots-more i [] k d h = absurd (omega (arith, h))
+slots-more i (f ∷ fs) zero d h = let e : i + 0 ≡ i = omega arith in rw e refl
+slots-more i (f ∷ fs) (suc k) d h =
+    let e : suc i + k ≡ i + suc k = omega arith in
+    let on : suc k + 1 ≡ suc (k + 1) = omega arith in
+    rw on (ap (λ (l : List Slot). slot_of i f ∷ l) (slots-more (suc i) fs k d (omega (arith, h)) ∙ ap (λ (n : ℕ). slots_from (suc i) (take k fs) ++ slot_of n (get_or fs k d) ∷ []) e))
+
+pub named-more : (fs : List Flight) (k : ℕ) (d : Flight) → k < length fs → Each IsNamed (take k fs) → IsNamed (get_or fs k d) → Each IsNamed (take (k + 1) fs)
+named-more [] k d h a n = absurd (omega (arith, h))
+named-more (f ∷ fs) zero d h a n = (n, tt)
+named-more (f ∷ fs) (suc k) d h a n =
+    let on : suc k + 1 ≡ suc (k + 1) = omega arith in
+    rw on (a.0, named-more fs k d (omega (arith, h)) a.1 n)
+
+pub later-at : (x y : Slot) → is_lt (ordering_then (int_cmp y.at x.at) (nat_cmp y.place x.place)) ≡ false → x.at ≤ℤ y.at
+later-at x y h = by (int_cmp y.at x.at) (nat_cmp y.place x.place) refl h
+  where
+    by : (r s : Ordering) → int_cmp y.at x.at ≡ r → is_lt (ordering_then r s) ≡ false → x.at ≤ℤ y.at
+    by Less s e h = absurd (cc)
+    by Equal s e h = let r = int_ranked y.at x.at Equal (sym e) in omega (arith, ints, r)
+    by Greater s e h = let r = int_ranked y.at x.at Greater (sym e) in omega (arith, ints, r)
+
+pub each-follows : (s : Settings) (before : Flight) (fs : List Flight) (place : ℕ) → IsChecked s → Each IsNamed fs → is_code before.to ≡ true → IsInstant before.arr
+    → Each (λ f. is_between (moment before.to (before.arr +ℤ pos s.connect)) (moment before.to (before.arr +ℤ pos s.sit)) (slot_of place f) ≡ may_follow s before f) fs
+each-follows s before [] place c n code time = tt
+each-follows s before (f ∷ fs) place c n code time = (between-follows s before f place c n.0 code time, each-follows s before fs place c n.1 code time)
+
+pub early-parted : (slots : List Slot) (m : ℤ) → Ascend slots → IsPartitionedBy (λ s. int_lt s.at m) slots
+early-parted slots m up i j d a b h = let k = up i j d a b in grind (arith, ints)
+
+pub late-parted : (slots : List Slot) (m : ℤ) → Ascend slots → IsPartitionedBy (λ s. int_le s.at m) slots
+late-parted slots m up i j d a b h = let k = up i j d a b in grind (arith, ints)
+
+pub ascend-drop : (slots : List Slot) (n : ℕ) → Ascend slots → Ascend (drop n slots)
+ascend-drop slots zero up = up
+ascend-drop [] (suc n) up = λ i j d a b. absurd (omega (arith, b))
+ascend-drop (x ∷ slots) (suc n) up = ascend-drop slots n (λ i j d a b. up (suc i) (suc j) d (omega arith) (omega arith))
+
+pub slot-order : IsStrictWeakOrder (λ (a b : Slot). is_lt (ordering_then (int_cmp a.at b.at) (nat_cmp a.place b.place)))
+slot-order = ranks_by (then_total (on_total (λ (s : Slot). s.at) int_cmp_total) (on_total (λ (s : Slot). s.place) nat_cmp_total)) (λ s. s)
+
+not-early : (a b : ℤ) (r : Bool) → int_lt a b ≡ true → int_le b a && r ≡ false
+not-early a b r h = grind (arith, ints)
+
+in-time : (a b l : ℤ) → int_lt a b ≡ false → int_le a l ≡ true → int_le b a && int_le a l ≡ true
+in-time a b l h k = grind (arith, ints)
+
+too-late : (a b l : ℤ) → int_le a l ≡ false → int_le b a && int_le a l ≡ false
+too-late a b l h = grind (arith, ints)
+
+-- what stands between two partition points
+pub between-points : (slots : List Slot) (earliest latest : ℤ) (i n : ℕ) → i ≤ length slots → n ≤ length (drop i slots)
+    → IsPartitionPoint (λ s. int_lt s.at earliest ≡ true) (λ s. int_lt s.at earliest ≡ false) slots i
+    → IsPartitionPoint (λ s. int_le s.at latest ≡ true) (λ s. int_le s.at latest ≡ false) (drop i slots) n
+    → take n (drop i slots) ≡ filter (is_between earliest latest) slots
+between-points slots earliest latest i n a b early late =
+    window (is_between earliest latest) slots i n b
+    (λ k d m o. not-early (get_or slots k d).at earliest (int_le (get_or slots k d).at latest) (early.0 k d (omega arith) m))
+    (λ k d m.
+    let long = length-drop i slots in
+    let place = get_or-drop i slots k d in
+    let later = early.1 (i + k) d (omega arith) (omega (arith, long, b, m, a)) in
+    in-time (get_or (drop i slots) k d).at earliest latest (rw place later) (late.0 k d (omega arith) m))
+    (λ k d m o. too-late (get_or (drop i slots) k d).at earliest latest (late.1 k d m o))
