@@ -26,7 +26,7 @@ all-at P (y ∷ xs) x h (inl e) = subst P e h.0
 all-at P (y ∷ xs) x h (inr m) = all-at P xs x h.1 m
 
 pub Member-shuffled : {X : Type 0} (xs ys : List X) (x : X) → IsPermutation xs ys → Member xs x → Member ys x
-Member-shuffled xs ys x s m = 
+Member-shuffled xs ys x s m =
     all-at (Member ys) xs x (recursion_from_All (Member ys) xs (All-permutation (Member ys) ys xs (IsPermutation-sym xs ys s) (All-from_recursion (Member ys) ys (all-of (Member ys) ys (λ y n. n))))) m
 
 -- numbers each below all later ones

@@ -132,6 +132,7 @@ between-follows s before f place checked named code time =
         let least : int_le (pos s.connect) (f.dep -ℤ before.arr) ≡ true = grind (arith, ints, q.1) in
         let most : int_le (f.dep -ℤ before.arr) (pos s.sit) ≡ true = grind (arith, ints, q.2) in
         and_from _ _ equal (and_from _ _ least most)
+
     back : may_follow s before f ≡ true → is_between (moment before.to (before.arr +ℤ pos s.connect)) (moment before.to (before.arr +ℤ pos s.sit)) (slot_of place f) ≡ true
     back h =
         let gap = f.dep -ℤ before.arr in

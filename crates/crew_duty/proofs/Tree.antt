@@ -3,6 +3,7 @@ use Rattle.std.proofs.Common.{◌≡◌, ◌≤◌, ◌<◌, ◌+◌, ◌-◌, �
 use Rattle.std.specs.Prelude.{slice_get}
 use Rattle.std.specs.List.{flat_map}
 use Rattle.std.proofs.lemmas.List.{flat_map_more, take_more}
+use Rattle.std.proofs.Math.Seq.{take-append_seam}
 use Rattle.std.proofs.lemmas.Option.{get_or_from_slice_get}
 use Rattle.crew_flights.specs.declared.flight.Flight.{Flight}
 use Rattle.crew_rules.specs.declared.settings.Settings.{Settings}
@@ -222,3 +223,9 @@ second-over s flights i f before between n at b m h =
       flat_map-room F flights i f at,
       length-append (listing 8 s flights (timed false f) []) (listing 8 s flights (timed true f) []),
     )
+
+-- what a last element leaves when it goes
+pub pop-back : {X : Type 0} (others old new : List X) (x : X) (n : ℕ) → n ≡ length old → old ≡ others ++ x ∷ [] → new ≡ take (n - 1) old → new ≡ others
+pop-back others old new x n long e k =
+    let short : n - 1 ≡ length others = omega (arith, long, ap length e, length-append others (x ∷ [])) in
+    k ∙ rw (short, e) (take-append_seam others (x ∷ []))

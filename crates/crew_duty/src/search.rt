@@ -10,6 +10,7 @@ ghost use Rattle.crew_duty.specs.Listing.{is_hopeless, listing, own, timed};
 ghost use Rattle.crew_duty.specs.Members.{Each, Member};
 ghost use Rattle.crew_duty.specs.Plans.{AreFlights, AreNext, IsBeginning, StandAt, rows};
 
+use crate::departures::Departures;
 use crate::duty::Duty;
 use crate::facts::{
     deadheads, flight_duty_period, flight_time, last_leg, price, release, report, segments,
@@ -66,35 +67,6 @@ pub(crate) struct Plan<'a> {
     pub(crate) next: &'a [Vec<u32>],
 }
 
-// Whether a flight may come next after another.
-fn may_come_next(settings: &Settings, before: &Flight, next: &Flight) -> bool
-    requires { IsChecked settings.now }
-    ensures { result ≡ may_follow settings.now before.now next.now }
-{
-    let gap = next.dep.get() - before.arr.get();
-    before.to == next.from && i64::from(settings.connect) <= gap && gap <= i64::from(settings.sit)
-}
-
-// The places of the flights that may follow this one.
-fn places_after(
-    alloc: Global,
-    settings: &Settings,
-    flights: &[Flight],
-    before: &Flight,
-) -> Result<Vec<u32>, AllocError>
-    requires checked { IsChecked settings.now }
-    requires few { length flights.now ≤ 5_000 }
-    ensures { IfOk result (λ places. StandAt flights.now places.items (filter (may_follow settings.now before.now) flights.now)) }
-{
-    let mut places = Vec::new(alloc);
-    for (place, next) in flights.iter().enumerate() {
-        if may_come_next(settings, before, next) {
-            places.push(place as u32)?;
-        }
-    }
-    Ok(places)
-}
-
 // Whether no duty can begin with these legs.
 fn cannot_begin(settings: &Settings, first: &TimedLeg, others: &[TimedLeg]) -> bool
     requires checked { IsChecked settings.now }
@@ -120,9 +92,10 @@ pub(crate) fn next_places(
     requires few { length flights.now ≤ 5_000 }
     ensures { IfOk result (λ next. AreNext settings.now flights.now flights.now (rows next.items)) }
 {
-    let mut next = Vec::new(alloc);
+    let departures = Departures::new(alloc, flights)?;
+    let mut next = Vec::with_capacity(alloc, flights.len())?;
     for flight in flights {
-        next.push(places_after(alloc, settings, flights, flight)?)?;
+        next.push(departures.after(alloc, settings, flight)?)?;
     }
     Ok(next)
 }
@@ -140,7 +113,7 @@ fn duty_from(
     requires connected { AllConnect settings.now first.now others.now }
     ensures { IfOk result (λ duty. duty ≡ duty_of settings.now first.now others.now) }
 {
-    let mut legs = Vec::with_capacity(alloc, LEGS)?;
+    let mut legs = Vec::with_capacity(alloc, others.len() + 1)?;
     legs.push(first.leg())?;
     for leg in others {
         legs.push(leg.leg())?;
@@ -187,22 +160,14 @@ fn list_own(
     Ok(())
 }
 
-// These legs, and then one more.
-fn followed_by(
-    alloc: Global,
-    legs: &[TimedLeg],
-    flight: &Flight,
-    deadhead: bool,
-) -> Result<Vec<TimedLeg>, AllocError>
-    ensures { IfOk result (λ longer. longer.items ≡ legs.now ++ timed deadhead flight.now ∷ []) }
+// A flight as a leg.
+fn timed_leg(flight: &Flight, deadhead: bool) -> TimedLeg
+    ensures { result ≡ timed deadhead flight.now }
 {
-    let mut longer = Vec::with_capacity(alloc, LEGS)?;
-    longer.extend_from_slice(legs)?;
-    longer.push(TimedLeg {
+    TimedLeg {
         flight: *flight,
         deadhead,
-    })?;
-    Ok(longer)
+    }
 }
 
 // The places of the flights that may follow the one at a place.
@@ -221,20 +186,21 @@ fn list(
     found: &mut Vec<Duty>,
     plan: &Plan<'_>,
     first: &TimedLeg,
-    others: &[TimedLeg],
+    others: &mut Vec<TimedLeg>,
     last: usize,
 ) -> Result<(), DutyFault>
     requires checked { IsChecked plan.now.settings.now }
     requires flights { AreFlights plan.now.flights.now }
     requires next { AreNext plan.now.settings.now plan.now.flights.now plan.now.flights.now (rows plan.now.next.now) }
-    requires beginning { IsBeginning plan.now.settings.now plan.now.flights.now first.now others.now }
-    requires few { length others.now ≤ 8 }
-    requires last { slice_get plan.now.flights.now last ≡ Some (last_of first.now others.now).flight }
+    requires beginning { IsBeginning plan.now.settings.now plan.now.flights.now first.now others.old.items }
+    requires few { length others.old.items ≤ 8 }
+    requires last { slice_get plan.now.flights.now last ≡ Some (last_of first.now others.old.items).flight }
     ensures ok { OnOk result (found.new.items ≡ found.old.items
-        ++ listing (8 - length others.now) plan.now.settings.now plan.now.flights.now first.now others.now) }
+        ++ listing (8 - length others.old.items) plan.now.settings.now plan.now.flights.now first.now others.old.items) }
+    ensures kept { OnOk result (others.new.items ≡ others.old.items) }
     ensures few { OnOk result (length found.old.items ≤ 200_000 → length found.new.items ≤ 200_000) }
     ensures over { result ≡ Err DutyFault.TooManyDuties
-        → 200_000 < length found.old.items + length (listing (8 - length others.now) plan.now.settings.now plan.now.flights.now first.now others.now) }
+        → 200_000 < length found.old.items + length (listing (8 - length others.old.items) plan.now.settings.now plan.now.flights.now first.now others.old.items) }
 {
     if others.len() >= LEGS || cannot_begin(plan.settings, first, others) {
         return Ok(());
@@ -243,10 +209,12 @@ fn list(
     for place in places_of(plan, last) {
         let place = *place as usize;
         let flight = &plan.flights[place];
-        let flown = followed_by(alloc, others, flight, false)?;
-        list(alloc, found, plan, first, &flown, place)?;
-        let ridden = followed_by(alloc, others, flight, true)?;
-        list(alloc, found, plan, first, &ridden, place)?;
+        others.push(timed_leg(flight, false))?;
+        list(alloc, found, plan, first, others, place)?;
+        others.pop();
+        others.push(timed_leg(flight, true))?;
+        list(alloc, found, plan, first, others, place)?;
+        others.pop();
     }
     Ok(())
 }
@@ -269,9 +237,7 @@ pub(crate) fn list_first(
     ensures over { result ≡ Err DutyFault.TooManyDuties → (flight : Flight) → slice_get plan.now.flights.now place ≡ Some flight
         → 200_000 < length found.old.items + length (listing 8 plan.now.settings.now plan.now.flights.now (timed deadhead flight) []) }
 {
-    let first = TimedLeg {
-        flight: plan.flights[place],
-        deadhead,
-    };
-    list(alloc, found, plan, &first, &[], place)
+    let first = timed_leg(&plan.flights[place], deadhead);
+    let mut others = Vec::with_capacity(alloc, LEGS)?;
+    list(alloc, found, plan, &first, &mut others, place)
 }

@@ -5,11 +5,12 @@ use Rattle.crew_duty.specs.Listing.{below, own}
 use Rattle.crew_duty.proofs.search.+list.Given as goal
 
 abbrev pub decreases-list : goal.decreases-list
-decreases-list l = 9 - length l.others.now
+decreases-list l = 9 - length l.others.now.items
 
 abbrev pub invariant-loop-place : goal.invariant-loop-place
 invariant-loop-place l =
-    (l.found.items ≡ (l.fn.found.items ++ own l.plan.settings.now l.first l.others)
-    ++ flat_map (below (7 - length l.others) l.plan.settings.now l.plan.flights.now l.first l.others)
-    (take l.place-index (filter (may_follow l.plan.settings.now (last_of l.first l.others).flight) l.plan.flights.now)))
+    (l.found.items ≡ (l.fn.found.items ++ own l.plan.settings.now l.first l.fn.others.items)
+    ++ flat_map (below (7 - length l.fn.others.items) l.plan.settings.now l.plan.flights.now l.first l.fn.others.items)
+    (take l.place-index (filter (may_follow l.plan.settings.now (last_of l.first l.fn.others.items).flight) l.plan.flights.now)))
     × (length l.fn.found.items ≤ 200_000 → length l.found.items ≤ 200_000)
+    × (l.others.items ≡ l.fn.others.items)

@@ -1,8 +1,12 @@
-use Rattle.std.proofs.Common.{◌≡◌, ◌<◌, ◌+◌, ◌++◌, [], ap, get_or, length, subst}
+use Rattle.std.proofs.Common.{◌≡◌, ◌<◌, ◌+◌, ◌-◌, ◌++◌, [], ◌∷◌, ◌∙◌, List, ap, get_or, length, subst}
+use Rattle.std.specs.Prelude.{Some, slice_get}
 use Rattle.std.proofs.lemmas.Option.{get_or_from_slice_get, slice_get-get_or}
 use Rattle.std.proofs.lemmas.Result.{on_ok_weaker}
 use Rattle.crew_flights.specs.declared.flight.Flight.{Flight}
+use Rattle.crew_duty.specs.Legality.{last_of}
 use Rattle.crew_duty.specs.Listing.{listing, timed}
+use Rattle.crew_duty.specs.Plans.{IsBeginning}
+use Rattle.crew_duty.specs.declared.duty.Duty.{Duty}
 use Rattle.crew_duty.specs.declared.leg.TimedLeg.{TimedLeg}
 use Rattle.crew_duty.proofs.Tree.{slice_get-Member}
 use Rattle.crew_duty.proofs.search.list_first.Goals as goal
@@ -10,26 +14,33 @@ use Rattle.crew_duty.proofs.search.list_first.Goals as goal
 pub list-requires-clause-beginning : goal.list-requires-clause-beginning
 list-requires-clause-beginning c =
     let flights = c.args.plan.now.flights.now in
-    let flight = get_or flights c.args.place c.index-plan-place.result in
-    record { known = (slice_get-Member flights c.args.place flight (slice_get-get_or flights c.args.place c.index-plan-place.result c.requires.place), tt); connected = tt }
+    let s = c.args.plan.now.settings.now in
+    let d = c.index-plan-place.result in
+    let flight = get_or flights c.args.place d in
+    let begins : IsBeginning s flights (timed c.args.deadhead flight) [] =
+    record { known = (slice_get-Member flights c.args.place flight (slice_get-get_or flights c.args.place d c.requires.place), tt); connected = tt } in
+    rw (c.timed_leg-first.ensures, c.in_ok-others.ensures.items) begins
 
 pub list-requires-clause-last : goal.list-requires-clause-last
-list-requires-clause-last c = slice_get-get_or c.args.plan.now.flights.now c.args.place c.index-plan-place.result c.requires.place
+list-requires-clause-last c =
+    rw (c.timed_leg-first.ensures, c.in_ok-others.ensures.items) (slice_get-get_or c.args.plan.now.flights.now c.args.place c.index-plan-place.result c.requires.place)
 
 pub returns-clause-ok : goal.returns-clause-ok
 returns-clause-ok c =
     let s = c.args.plan.now.settings.now in
     let flights = c.args.plan.now.flights.now in
+    let none = c.in_ok-others.ensures.items in
     on_ok_weaker c.list.result
     (λ e flight h.
-    let same = ap (λ (f : Flight). timed c.args.deadhead f) (get_or_from_slice_get flights c.args.place flight c.index-plan-place.result h) in
-    subst (λ (l : TimedLeg). c.list.new.found.items ≡ c.args.found.now.items ++ listing 8 s flights l []) same e)
+    let same = c.timed_leg-first.ensures ∙ ap (timed c.args.deadhead) (get_or_from_slice_get flights c.args.place flight c.index-plan-place.result h) in
+    e ∙ (λ j. c.args.found.now.items ++ listing (8 - length (none j)) s flights (same j) (none j)))
     c.list.ensures.ok
 
 pub returns-clause-over : goal.returns-clause-over
 returns-clause-over c =
     let s = c.args.plan.now.settings.now in
     let flights = c.args.plan.now.flights.now in
+    let none = c.in_ok-others.ensures.items in
     λ e flight h.
-    let same = ap (λ (f : Flight). timed c.args.deadhead f) (get_or_from_slice_get flights c.args.place flight c.index-plan-place.result h) in
-    subst (λ (l : TimedLeg). 200_000 < length c.args.found.now.items + length (listing 8 s flights l [])) same (c.list.ensures.over e)
+    let same = c.timed_leg-first.ensures ∙ ap (timed c.args.deadhead) (get_or_from_slice_get flights c.args.place flight c.index-plan-place.result h) in
+    subst (λ (l : List Duty). 200_000 < length c.args.found.now.items + length l) (λ j. listing (8 - length (none j)) s flights (same j) (none j)) (c.list.ensures.over e)
