@@ -1,4 +1,5 @@
 pub mod Sums
+pub mod Parts
 pub mod Places
 pub mod Times
 pub mod Tree

@@ -1,5 +1,5 @@
 -- One step of the tree of duties.
-use Rattle.std.proofs.Common.{◌≡◌, ◌≤◌, ◌<◌, ◌+◌, ◌-◌, ℕ, zero, suc, List, [], ◌∷◌, ◌++◌, Some, Bool, true, false, cond, length, refl, sym, ap, ◌∙◌, arith, take, get_or, filter, length-append, append_assoc, inl, inr, if◌then◌else◌}
+use Rattle.std.proofs.Common.{◌≡◌, ◌≤◌, ◌<◌, ◌+◌, ◌-◌, min, ℕ, zero, suc, List, [], ◌∷◌, ◌++◌, Some, Bool, true, false, cond, length, refl, sym, ap, ◌∙◌, arith, take, get_or, filter, length-append, append_assoc, inl, inr, if◌then◌else◌}
 use Rattle.std.specs.Prelude.{slice_get}
 use Rattle.std.specs.List.{flat_map}
 use Rattle.std.proofs.lemmas.List.{flat_map_more, take_more}
@@ -127,105 +127,33 @@ below-more s flights first others flown ridden gs i g base before between after 
     let grown : take (i + 1) gs ≡ take i gs ++ g ∷ [] = take_more gs i g within ∙ ap (λ (x : Flight). take i gs ++ x ∷ []) item in
     all ∙ ap (λ (t : List Flight). base ++ flat_map (below (7 - length others) s flights first others) t) (sym grown)
 
--- more than 200,000 of the first duties are more than 200,000 of all
-pub over-own : (n m : ℕ) (listed ow rest : List Duty) → listed ≡ ow ++ rest → n < m + length ow → n < m + length listed
-over-own n m listed ow rest e h = omega (arith, ap length e, length-append ow rest)
-
-pub over-flown : (s : Settings) (flights : List Flight) (first : TimedLeg) (others flown : List TimedLeg) (gs : List Flight) (i : ℕ) (g : Flight) (start ow before listed : List Duty) (n : ℕ)
-    → slice_get gs i ≡ Some g → flown ≡ others ++ timed false g ∷ []
-    → listed ≡ ow ++ flat_map (below (7 - length others) s flights first others) gs
-    → before ≡ (start ++ ow) ++ flat_map (below (7 - length others) s flights first others) (take i gs)
-    → n < length before + length (listing (8 - length flown) s flights first flown) → n < length start + length listed
-over-flown s flights first others flown gs i g start ow before listed n at f e b h =
-    let F = below (7 - length others) s flights first others in
-    let fl = ap length (listing-longer s flights first others flown (timed false g) f) in
-    let room = flat_map-room F gs i g at in
-    omega (
-      arith,
-      h,
-      fl,
-      room,
-      ap length e,
-      ap length b,
-      length-append ow (flat_map F gs),
-      length-append (start ++ ow) (flat_map F (take i gs)),
-      length-append start ow,
-      length-append (listing (7 - length others) s flights first (others ++ timed false g ∷ [])) (listing (7 - length others) s flights first (others ++ timed true g ∷ [])),
-    )
-
-pub over-ridden : (s : Settings) (flights : List Flight) (first : TimedLeg) (others flown ridden : List TimedLeg) (gs : List Flight) (i : ℕ) (g : Flight) (start ow before between listed : List Duty) (n : ℕ)
-    → slice_get gs i ≡ Some g → flown ≡ others ++ timed false g ∷ [] → ridden ≡ others ++ timed true g ∷ []
-    → listed ≡ ow ++ flat_map (below (7 - length others) s flights first others) gs
-    → before ≡ (start ++ ow) ++ flat_map (below (7 - length others) s flights first others) (take i gs)
-    → between ≡ before ++ listing (8 - length flown) s flights first flown
-    → n < length between + length (listing (8 - length ridden) s flights first ridden) → n < length start + length listed
-over-ridden s flights first others flown ridden gs i g start ow before between listed n at f r e b m h =
-    let F = below (7 - length others) s flights first others in
-    let fl = ap length (listing-longer s flights first others flown (timed false g) f) in
-    let rd = ap length (listing-longer s flights first others ridden (timed true g) r) in
-    let room = flat_map-room F gs i g at in
-    omega (
-      arith,
-      h,
-      fl,
-      rd,
-      room,
-      ap length e,
-      ap length b,
-      ap length m,
-      length-append before (listing (8 - length flown) s flights first flown),
-      length-append ow (flat_map F gs),
-      length-append (start ++ ow) (flat_map F (take i gs)),
-      length-append start ow,
-      length-append (listing (7 - length others) s flights first (others ++ timed false g ∷ [])) (listing (7 - length others) s flights first (others ++ timed true g ∷ [])),
-    )
-
 -- what stands at a place is in the list
 pub slice_get-Member : {X : Type 0} (xs : List X) (i : ℕ) (x : X) → slice_get xs i ≡ Some x → Member xs x
 slice_get-Member [] i x e = cc
 slice_get-Member (y ∷ xs) zero x e = inl (cc)
 slice_get-Member (y ∷ xs) (suc i) x e = inr (slice_get-Member xs i x e)
 
-pub slice_get-of : {X : Type 0} (xs : List X) (i : ℕ) → i < length xs → (x : X) × (slice_get xs i ≡ Some x)
-slice_get-of [] i h = absurd (omega arith)
-slice_get-of (x ∷ xs) zero h = (x, refl)
-slice_get-of (x ∷ xs) (suc i) h = slice_get-of xs i (omega arith)
-
--- one first flight more
-pub first-more : (s : Settings) (flights : List Flight) (i : ℕ) (f : Flight) (before between after : List Duty) → slice_get flights i ≡ Some f
-    → before ≡ flat_map (from_flight s flights) (take i flights) → between ≡ before ++ listing 8 s flights (timed false f) [] → after ≡ between ++ listing 8 s flights (timed true f) []
-    → after ≡ flat_map (from_flight s flights) (take (i + 1) flights)
-first-more s flights i f before between after at b m a =
-    let F = from_flight s flights in
-    let within = slice_get-within flights i f at in
-    let item : get_or flights i f ≡ f = get_or_from_slice_get flights i f f at in
-    let grown : take (i + 1) flights ≡ take i flights ++ f ∷ [] = take_more flights i f within ∙ ap (λ (x : Flight). take i flights ++ x ∷ []) item in
-    let two : after ≡ before ++ F f = a ∙ rw m (append_assoc before _ _) in
-    two ∙ rw b (flat_map_more F [] (take i flights) f) ∙ ap (λ (t : List Flight). flat_map F t) (sym grown)
-
-pub first-over : (s : Settings) (flights : List Flight) (i : ℕ) (f : Flight) (before : List Duty) (n : ℕ) → slice_get flights i ≡ Some f
-    → before ≡ flat_map (from_flight s flights) (take i flights) → n < length before + length (listing 8 s flights (timed false f) []) → n < length (all_duties s flights)
-first-over s flights i f before n at b h =
-    let F = from_flight s flights in
-    omega (arith, h, ap length b, flat_map-room F flights i f at, length-append (listing 8 s flights (timed false f) []) (listing 8 s flights (timed true f) []))
-
-pub second-over : (s : Settings) (flights : List Flight) (i : ℕ) (f : Flight) (before between : List Duty) (n : ℕ) → slice_get flights i ≡ Some f
-    → before ≡ flat_map (from_flight s flights) (take i flights) → between ≡ before ++ listing 8 s flights (timed false f) []
-    → n < length between + length (listing 8 s flights (timed true f) []) → n < length (all_duties s flights)
-second-over s flights i f before between n at b m h =
-    let F = from_flight s flights in
-    omega (
-      arith,
-      h,
-      ap length b,
-      ap length m,
-      length-append before (listing 8 s flights (timed false f) []),
-      flat_map-room F flights i f at,
-      length-append (listing 8 s flights (timed false f) []) (listing 8 s flights (timed true f) []),
-    )
-
 -- what a last element leaves when it goes
 pub pop-back : {X : Type 0} (others old new : List X) (x : X) (n : ℕ) → n ≡ length old → old ≡ others ++ x ∷ [] → new ≡ take (n - 1) old → new ≡ others
 pop-back others old new x n long e k =
     let short : n - 1 ≡ length others = omega (arith, long, ap length e, length-append others (x ∷ [])) in
     k ∙ rw (short, e) (take-append_seam others (x ∷ []))
+
+-- the same, counted up to a limit
+pub count-more : (s : Settings) (flights : List Flight) (first : TimedLeg) (others flown ridden : List TimedLeg) (gs : List Flight) (i : ℕ) (g : Flight) (base before between after : ℕ)
+    → slice_get gs i ≡ Some g → flown ≡ others ++ timed false g ∷ [] → ridden ≡ others ++ timed true g ∷ []
+    → before ≡ min (base + length (flat_map (below (7 - length others) s flights first others) (take i gs))) 200_001
+    → between ≡ min (before + length (listing (8 - length flown) s flights first flown)) 200_001
+    → after ≡ min (between + length (listing (8 - length ridden) s flights first ridden)) 200_001
+    → after ≡ min (base + length (flat_map (below (7 - length others) s flights first others) (take (i + 1) gs))) 200_001
+count-more s flights first others flown ridden gs i g base before between after at f r b m a =
+    let F = below (7 - length others) s flights first others in
+    let fl = listing-longer s flights first others flown (timed false g) f in
+    let rd = listing-longer s flights first others ridden (timed true g) r in
+    let within = slice_get-within gs i g at in
+    let item : get_or gs i g ≡ g = get_or_from_slice_get gs i g g at in
+    let grown : take (i + 1) gs ≡ take i gs ++ g ∷ [] = take_more gs i g within ∙ ap (λ (x : Flight). take i gs ++ x ∷ []) item in
+    let more : flat_map F (take (i + 1) gs) ≡ flat_map F (take i gs) ++ F g = ap (flat_map F) grown ∙ sym (flat_map_more F [] (take i gs) g) in
+    let long = length-append (flat_map F (take i gs)) (F g) in
+    let two = length-append (listing (7 - length others) s flights first (others ++ timed false g ∷ [])) (listing (7 - length others) s flights first (others ++ timed true g ∷ [])) in
+    omega (arith, b, m, a, ap length fl, ap length rd, ap length more, long, two)

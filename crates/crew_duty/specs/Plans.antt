@@ -1,9 +1,10 @@
 -- What the search for duties works with.
-use Rattle.std.specs.Prelude.{◌≡◌, ℕ, List, [], ◌∷◌, Some, filter, slice_get}
+use Rattle.std.specs.Prelude.{◌≡◌, ◌≤◌, ℕ, List, length, [], ◌∷◌, Some, filter, slice_get}
 use Rattle.std.specs.declared.cmp.Ordering.TheVariants.{Less}
 use Rattle.std.specs.Ordering.{nat_cmp}
 use Rattle.crew_flights.specs.Timetable.{IsFlight}
 use Rattle.crew_flights.specs.declared.flight.Flight.{Flight}
+use Rattle.crew_rules.specs.Settings.{IsChecked}
 use Rattle.crew_rules.specs.declared.settings.Settings.{Settings}
 use Rattle.std.specs.Prelude.{Vec}
 use Rattle.std.specs.Global.{Global}
@@ -44,3 +45,10 @@ rows (v ∷ vs) = v.items ∷ rows vs
 pub record IsBeginning (s : Settings) (flights : List Flight) (first : TimedLeg) (others : List TimedLeg) : Type 0 where
   pub known : Each (λ l. Member flights l.flight) (first ∷ others)
   pub connected : AllConnect s first others
+
+-- what the search works with: checked settings, the flights of a timetable, and for each the places of those that may follow it
+pub record IsPlan (s : Settings) (flights : List Flight) (next : List (List ℕ)) : Type 0 where
+  pub checked : IsChecked s
+  pub are_flights : AreFlights flights
+  pub few : length flights ≤ 5_000
+  pub are_next : AreNext s flights flights next

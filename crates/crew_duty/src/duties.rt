@@ -1,17 +1,20 @@
 //! All legal duties of a timetable.
 
-ghost use Rattle.std.specs.Prelude.{◌≡◌, ◌≤◌, ◌<◌, ◌+◌, ◌↔◌, ◌++◌, [], List, IsTrue, IfOk, OnOk, length};
+ghost use Rattle.std.specs.Prelude.{◌≡◌, ◌≤◌, ◌<◌, ◌↔◌, [], List, Some, IsTrue, IfOk, length, min, slice_get, sum};
+ghost use Rattle.std.specs.List.{flat_map};
+ghost use Rattle.crew_flights.specs.declared.flight.Flight.{Flight};
 ghost use Rattle.crew_flights.specs.Timetable.{IsSound};
 ghost use Rattle.crew_rules.specs.Settings.{IsChecked};
 ghost use Rattle.crew_duty.specs.Duties.{AreDuties, HasTooMany, flights_of};
-ghost use Rattle.crew_duty.specs.Listing.{all_duties};
-ghost use Rattle.crew_duty.specs.Plans.{AreFlights, AreNext, rows};
+ghost use Rattle.crew_duty.specs.Listing.{all_duties, from_flight};
+ghost use Rattle.crew_duty.specs.Plans.{IsPlan, rows};
 ghost use Rattle.crew_duty.specs.declared.duty.Duty.{Duty};
 
 use crate::duty::Duty;
-use crate::search::{DutyFault, Plan, list_first, next_places};
+use crate::search::{DUTIES, DutyFault, Plan, count_from, list_from, next_places};
 use crew_flights::{Data, Flight};
 use crew_rules::Settings;
+use rayon::prelude::*;
 use std::alloc::{AllocError, Global};
 use std::marker::Model;
 use std::thread::Threads;
@@ -61,32 +64,79 @@ fn held_flights(alloc: Global, data: &Data) -> Result<Vec<Flight>, AllocError>
     data.flights().copied().collect(alloc)
 }
 
-// All duties over these flights.
-fn list_all(alloc: Global, settings: &Settings, flights: &[Flight]) -> Result<Vec<Duty>, DutyFault>
-    requires checked { IsChecked settings.now }
-    requires flights { AreFlights flights.now }
-    requires few { length flights.now ≤ 5_000 }
-    ensures ok { IfOk result (λ found. (found.items ≡ all_duties settings.now flights.now) × (length found.items ≤ 200_000)) }
-    ensures over { result ≡ Err DutyFault.TooManyDuties → 200_000 < length (all_duties settings.now flights.now) }
+// The lists one after another.
+fn join_parts(alloc: Global, parts: Vec<Vec<Duty>>) -> Result<Vec<Duty>, AllocError>
+    ensures { IfOk result (λ found. found.items ≡ flat_map (λ part. part.items) parts.items) }
 {
-    let next = next_places(alloc, settings, flights)?;
-    let plan = Plan {
-        settings,
-        flights,
-        next: &next,
-    };
     let mut found = Vec::new(alloc);
-    for place in 0..flights.len() {
-        list_first(alloc, &mut found, &plan, place, false)?;
-        list_first(alloc, &mut found, &plan, place, true)?;
+    for mut part in parts {
+        found.append(&mut part)?;
     }
     Ok(found)
 }
 
+// Whether these numbers come to more than may be listed.
+fn come_to_more(counts: &[usize]) -> bool
+    ensures { IsTrue result ↔ (200_000 < sum counts.now) }
+{
+    let mut total: usize = 0;
+    for count in counts {
+        total = total.saturating_add(*count);
+    }
+    total > DUTIES
+}
+
+// Whether there are more duties than may be listed.
+fn are_too_many<R: Threads + Sync>(
+    rt: &R,
+    alloc: Global,
+    plan: &Plan<'_>,
+) -> Result<bool, AllocError>
+    requires { IsPlan plan.now.settings.now plan.now.flights.now (rows plan.now.next.now) }
+    ensures { IfOk result (λ many. IsTrue many ↔ (200_000 < length (all_duties plan.now.settings.now plan.now.flights.now))) }
+{
+    let counts = (0..plan.flights.len())
+        .into_par_iter()
+        .map(
+            |place: usize| -> Result<usize, AllocError>
+                requires { IsPlan plan.now.settings.now plan.now.flights.now (rows plan.now.next.now) × (place < length plan.now.flights.now) }
+                ensures { IfOk result (λ n. (flight : Flight) → slice_get plan.entry.now.flights.now place ≡ Some flight
+                    → n ≡ min (length (from_flight plan.entry.now.settings.now plan.entry.now.flights.now flight)) 200_001) }
+            { count_from(alloc, plan, place) },
+        )
+        .collect::<Result<Vec<usize>, AllocError>>(rt, alloc)??;
+    Ok(come_to_more(&counts))
+}
+
+// All duties, those of each first flight after those of the flights before it.
+fn list_all<R: Threads + Sync>(
+    rt: &R,
+    alloc: Global,
+    plan: &Plan<'_>,
+) -> Result<Vec<Duty>, AllocError>
+    requires { IsPlan plan.now.settings.now plan.now.flights.now (rows plan.now.next.now) }
+    ensures { IfOk result (λ found. found.items ≡ all_duties plan.now.settings.now plan.now.flights.now) }
+{
+    let parts = (0..plan.flights.len())
+        .into_par_iter()
+        .map(
+            |place: usize| -> Result<Vec<Duty>, AllocError>
+                requires { IsPlan plan.now.settings.now plan.now.flights.now (rows plan.now.next.now) × (place < length plan.now.flights.now) }
+                ensures { IfOk result (λ found. (flight : Flight) → slice_get plan.entry.now.flights.now place ≡ Some flight
+                    → found.items ≡ from_flight plan.entry.now.settings.now plan.entry.now.flights.now flight) }
+            { list_from(alloc, plan, place) },
+        )
+        .collect::<Result<Vec<Vec<Duty>>, AllocError>>(rt, alloc)??;
+    join_parts(alloc, parts)
+}
+
 /// The legal duties of a timetable: exactly those, by key. `TooManyDuties` where there are more
 /// than 200,000, and `Memory` only where a growth was refused.
+///
+/// They are counted first and then listed, from as many first flights at once as `rayon` has
+/// threads for.
 pub fn list_duties<R: Threads + Sync>(
-    _rt: &R,
+    rt: &R,
     alloc: Global,
     settings: &Settings,
     data: &Data,
@@ -97,6 +147,15 @@ pub fn list_duties<R: Threads + Sync>(
     ensures too_many { result ≡ Err DutyFault.TooManyDuties → HasTooMany settings.now data.now }
 {
     let flights = held_flights(alloc, data)?;
-    let list = list_all(alloc, settings, &flights)?;
+    let next = next_places(alloc, settings, &flights)?;
+    let plan = Plan {
+        settings,
+        flights: &flights,
+        next: &next,
+    };
+    if are_too_many(rt, alloc, &plan)? {
+        return Err(DutyFault::TooManyDuties);
+    }
+    let list = list_all(rt, alloc, &plan)?;
     Ok(Duties { list })
 }

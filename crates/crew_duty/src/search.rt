@@ -1,14 +1,15 @@
 //! The search for legal duties: a tree for each first leg, with the next legs in order.
 
-ghost use Rattle.std.specs.Prelude.{◌≡◌, ◌+◌, ◌-◌, ◌<◌, ◌≤◌, ◌++◌, ◌∷◌, [], Some, OnOk, IfOk, OnErr, length, map, slice_get, vec_len, filter};
+ghost use Rattle.std.specs.Prelude.{◌≡◌, ◌+◌, ◌-◌, ◌<◌, ◌≤◌, min, ◌++◌, ◌∷◌, [], Some, OnOk, IfOk, OnErr, length, map, slice_get, vec_len, filter};
 ghost use Rattle.crew_flights.specs.declared.flight.Flight.{Flight};
 ghost use Rattle.crew_flights.specs.Timetable.{IsFlight};
 ghost use Rattle.crew_rules.specs.Settings.{IsChecked};
+ghost use Rattle.crew_rules.specs.declared.settings.Settings.{Settings};
 ghost use Rattle.crew_duty.specs.Legality.{AllConnect, duty_of, last_of, may_follow};
 ghost use Rattle.crew_duty.specs.Legality as Spec;
-ghost use Rattle.crew_duty.specs.Listing.{is_hopeless, listing, own, timed};
+ghost use Rattle.crew_duty.specs.Listing.{from_flight, is_hopeless, listing, own, timed};
 ghost use Rattle.crew_duty.specs.Members.{Each, Member};
-ghost use Rattle.crew_duty.specs.Plans.{AreFlights, AreNext, IsBeginning, StandAt, rows};
+ghost use Rattle.crew_duty.specs.Plans.{AreNext, IsBeginning, IsPlan, StandAt, rows};
 
 use crate::departures::Departures;
 use crate::duty::Duty;
@@ -25,7 +26,7 @@ use std::alloc::{AllocError, AllocFailed, Global};
 const LEGS: usize = 8;
 
 /// The most duties that are listed.
-const DUTIES: usize = 200_000;
+pub(crate) const DUTIES: usize = 200_000;
 
 /// Why duties are not listed.
 #[derive(Clone, Copy, Debug, PartialEq, Eq)]
@@ -141,23 +142,28 @@ fn list_own(
     settings: &Settings,
     first: &TimedLeg,
     others: &[TimedLeg],
-) -> Result<(), DutyFault>
+) -> Result<(), AllocError>
     requires checked { IsChecked settings.now }
     requires few { length others.now ≤ 7 }
     requires sound { Each (λ l. IsFlight l.flight.id l.flight) (first.now ∷ others.now) }
     requires connected { AllConnect settings.now first.now others.now }
-    ensures ok { OnOk result (found.new.items ≡ found.old.items ++ own settings.now first.now others.now) }
-    ensures few { OnOk result (length found.old.items ≤ 200_000 → length found.new.items ≤ 200_000) }
-    ensures over { result ≡ Err DutyFault.TooManyDuties → 200_000 < length found.old.items + length (own settings.now first.now others.now) }
+    ensures { OnOk result (found.new.items ≡ found.old.items ++ own settings.now first.now others.now) }
 {
-    if last_leg(first, others).deadhead {
-        return Ok(());
-    }
-    found.push(duty_from(alloc, settings, first, others)?)?;
-    if found.len() > DUTIES {
-        return Err(DutyFault::TooManyDuties);
+    if !last_leg(first, others).deadhead {
+        found.push(duty_from(alloc, settings, first, others)?)?;
     }
     Ok(())
+}
+
+// How many duties have just these legs: none where the last is deadheaded.
+fn count_own(first: &TimedLeg, others: &[TimedLeg]) -> usize
+    ensures { (s : Settings) → result ≡ length (own s first.now others.now) }
+{
+    if last_leg(first, others).deadhead {
+        0
+    } else {
+        1
+    }
 }
 
 // A flight as a leg.
@@ -172,7 +178,7 @@ fn timed_leg(flight: &Flight, deadhead: bool) -> TimedLeg
 
 // The places of the flights that may follow the one at a place.
 fn places_of<'a>(plan: &Plan<'a>, place: usize) -> &'a [u32]
-    requires next { AreNext plan.now.settings.now plan.now.flights.now plan.now.flights.now (rows plan.now.next.now) }
+    requires plan { IsPlan plan.now.settings.now plan.now.flights.now (rows plan.now.next.now) }
     requires place { place < length plan.now.flights.now }
     ensures { (flight : Flight) → slice_get plan.now.flights.now place ≡ Some flight
         → StandAt plan.now.flights.now result.now (filter (may_follow plan.now.settings.now flight) plan.now.flights.now) }
@@ -188,19 +194,14 @@ fn list(
     first: &TimedLeg,
     others: &mut Vec<TimedLeg>,
     last: usize,
-) -> Result<(), DutyFault>
-    requires checked { IsChecked plan.now.settings.now }
-    requires flights { AreFlights plan.now.flights.now }
-    requires next { AreNext plan.now.settings.now plan.now.flights.now plan.now.flights.now (rows plan.now.next.now) }
+) -> Result<(), AllocError>
+    requires plan { IsPlan plan.now.settings.now plan.now.flights.now (rows plan.now.next.now) }
     requires beginning { IsBeginning plan.now.settings.now plan.now.flights.now first.now others.old.items }
     requires few { length others.old.items ≤ 8 }
     requires last { slice_get plan.now.flights.now last ≡ Some (last_of first.now others.old.items).flight }
-    ensures ok { OnOk result (found.new.items ≡ found.old.items
+    ensures listed { OnOk result (found.new.items ≡ found.old.items
         ++ listing (8 - length others.old.items) plan.now.settings.now plan.now.flights.now first.now others.old.items) }
     ensures kept { OnOk result (others.new.items ≡ others.old.items) }
-    ensures few { OnOk result (length found.old.items ≤ 200_000 → length found.new.items ≤ 200_000) }
-    ensures over { result ≡ Err DutyFault.TooManyDuties
-        → 200_000 < length found.old.items + length (listing (8 - length others.old.items) plan.now.settings.now plan.now.flights.now first.now others.old.items) }
 {
     if others.len() >= LEGS || cannot_begin(plan.settings, first, others) {
         return Ok(());
@@ -219,25 +220,103 @@ fn list(
     Ok(())
 }
 
+// Adds how many duties begin with these legs to those so far, and ends at one more than may be
+// listed.
+fn count(
+    plan: &Plan<'_>,
+    first: &TimedLeg,
+    others: &mut Vec<TimedLeg>,
+    last: usize,
+    so_far: usize,
+) -> Result<usize, AllocError>
+    requires plan { IsPlan plan.now.settings.now plan.now.flights.now (rows plan.now.next.now) }
+    requires beginning { IsBeginning plan.now.settings.now plan.now.flights.now first.now others.old.items }
+    requires few { length others.old.items ≤ 8 }
+    requires last { slice_get plan.now.flights.now last ≡ Some (last_of first.now others.old.items).flight }
+    requires so_far { so_far ≤ 200_001 }
+    ensures counted { IfOk result (λ n. n ≡ min (so_far
+        + length (listing (8 - length others.old.items) plan.now.settings.now plan.now.flights.now first.now others.old.items)) 200_001) }
+    ensures kept { OnOk result (others.new.items ≡ others.old.items) }
+{
+    if so_far > DUTIES || others.len() >= LEGS || cannot_begin(plan.settings, first, others) {
+        return Ok(so_far);
+    }
+    let mut counted = so_far + count_own(first, others);
+    for place in places_of(plan, last) {
+        let place = *place as usize;
+        let flight = &plan.flights[place];
+        others.push(timed_leg(flight, false))?;
+        counted = count(plan, first, others, place, counted)?;
+        others.pop();
+        others.push(timed_leg(flight, true))?;
+        counted = count(plan, first, others, place, counted)?;
+        others.pop();
+    }
+    Ok(counted)
+}
+
 // Lists the duties that begin with the flight at a place, flown or deadheaded.
-pub(crate) fn list_first(
+fn list_first(
     alloc: Global,
     found: &mut Vec<Duty>,
     plan: &Plan<'_>,
     place: usize,
     deadhead: bool,
-) -> Result<(), DutyFault>
-    requires checked { IsChecked plan.now.settings.now }
-    requires flights { AreFlights plan.now.flights.now }
-    requires next { AreNext plan.now.settings.now plan.now.flights.now plan.now.flights.now (rows plan.now.next.now) }
+) -> Result<(), AllocError>
+    requires plan { IsPlan plan.now.settings.now plan.now.flights.now (rows plan.now.next.now) }
     requires place { place < length plan.now.flights.now }
-    ensures ok { OnOk result ((flight : Flight) → slice_get plan.now.flights.now place ≡ Some flight
+    ensures { OnOk result ((flight : Flight) → slice_get plan.now.flights.now place ≡ Some flight
         → found.new.items ≡ found.old.items ++ listing 8 plan.now.settings.now plan.now.flights.now (timed deadhead flight) []) }
-    ensures few { OnOk result (length found.old.items ≤ 200_000 → length found.new.items ≤ 200_000) }
-    ensures over { result ≡ Err DutyFault.TooManyDuties → (flight : Flight) → slice_get plan.now.flights.now place ≡ Some flight
-        → 200_000 < length found.old.items + length (listing 8 plan.now.settings.now plan.now.flights.now (timed deadhead flight) []) }
 {
     let first = timed_leg(&plan.flights[place], deadhead);
     let mut others = Vec::with_capacity(alloc, LEGS)?;
     list(alloc, found, plan, &first, &mut others, place)
+}
+
+// Counts the duties that begin with the flight at a place, flown or deadheaded.
+fn count_first(
+    alloc: Global,
+    plan: &Plan<'_>,
+    place: usize,
+    deadhead: bool,
+    counted: usize,
+) -> Result<usize, AllocError>
+    requires plan { IsPlan plan.now.settings.now plan.now.flights.now (rows plan.now.next.now) }
+    requires place { place < length plan.now.flights.now }
+    requires counted { counted ≤ 200_001 }
+    ensures counted { IfOk result (λ n. (flight : Flight) → slice_get plan.now.flights.now place ≡ Some flight
+        → n ≡ min (counted + length (listing 8 plan.now.settings.now plan.now.flights.now (timed deadhead flight) [])) 200_001) }
+    ensures bound { IfOk result (λ n. n ≤ 200_001) }
+{
+    let first = timed_leg(&plan.flights[place], deadhead);
+    let mut others = Vec::with_capacity(alloc, LEGS)?;
+    count(plan, &first, &mut others, place, counted)
+}
+
+/// The duties that begin with the flight at a place.
+pub(crate) fn list_from(
+    alloc: Global,
+    plan: &Plan<'_>,
+    place: usize,
+) -> Result<Vec<Duty>, AllocError>
+    requires plan { IsPlan plan.now.settings.now plan.now.flights.now (rows plan.now.next.now) }
+    requires place { place < length plan.now.flights.now }
+    ensures { IfOk result (λ found. (flight : Flight) → slice_get plan.now.flights.now place ≡ Some flight
+        → found.items ≡ from_flight plan.now.settings.now plan.now.flights.now flight) }
+{
+    let mut found = Vec::new(alloc);
+    list_first(alloc, &mut found, plan, place, false)?;
+    list_first(alloc, &mut found, plan, place, true)?;
+    Ok(found)
+}
+
+/// How many duties begin with the flight at a place; more than may be listed are one more.
+pub(crate) fn count_from(alloc: Global, plan: &Plan<'_>, place: usize) -> Result<usize, AllocError>
+    requires plan { IsPlan plan.now.settings.now plan.now.flights.now (rows plan.now.next.now) }
+    requires place { place < length plan.now.flights.now }
+    ensures { IfOk result (λ n. (flight : Flight) → slice_get plan.now.flights.now place ≡ Some flight
+        → n ≡ min (length (from_flight plan.now.settings.now plan.now.flights.now flight)) 200_001) }
+{
+    let flown = count_first(alloc, plan, place, false, 0)?;
+    count_first(alloc, plan, place, true, flown)
 }

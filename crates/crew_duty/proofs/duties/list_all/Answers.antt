@@ -1,30 +1,38 @@
-use Rattle.std.proofs.lemmas.Result.{err_from_is_err_and}
-use Rattle.crew_duty.proofs.Tree.{first-more, first-over, second-over, slice_get-of}
+use Rattle.std.proofs.Common.{◌≡◌, ◌≤◌, ◌<◌, ◌-◌, ◌∙◌, ℕ, List, Some, ap, length, min, sum, sym, subst, arith}
+use Rattle.std.specs.Prelude.{IfOk, slice_get, Vec}
+use Rattle.std.specs.Global.{Global}
+use Rattle.std.specs.List.{AllZip, flat_map, range_with_len}
+use Rattle.crew_flights.specs.declared.flight.Flight.{Flight}
+use Rattle.crew_duty.specs.Listing.{from_flight}
+use Rattle.crew_duty.specs.Plans.{IsPlan, rows}
+use Rattle.crew_duty.specs.declared.duty.Duty.{Duty}
+use Rattle.crew_duty.proofs.Parts.{collected, counted, joined}
+use Rattle.rayon.specs.Numbers.{nat_range}
+use Rattle.rayon.proofs.ListFacts.{IfOk-then}
+use Rattle.rayon.proofs.ToStd.{nat_range-All}
 use Rattle.crew_duty.proofs.duties.list_all.Goals as goal
 
-pub returns-in_err-list_first-clause-over : goal.returns-in_err-list_first-clause-over
-returns-in_err-list_first-clause-over c =
-    let s = c.args.settings.now in
-    let flights = c.args.flights.now in
-    let at = slice_get-of flights c.loop-place.place c.loop-place-test.true in
-    let p = err_from_is_err_and c.from_residual-in_err-list_first.result c.from_residual-in_err-list_first.ensures.1 in
-    λ e. first-over s flights c.loop-place.place at.0 c.loop-place.found.items 200_000 at.1 c.loop-place.invariant.0 (c.in_err-list_first.ensures.over (cc) at.0 at.1)
+pub collect-requires-clause-ready : goal.collect-requires-clause-ready
+collect-requires-clause-ready g c κs q =
+    let plan = c.args.plan.now in
+    let ends = c.into_par_iter.ensures in
+    let inside = nat_range-All (λ i. IsPlan plan.settings.now plan.flights.now (rows plan.next.now) × (i < length plan.flights.now)) 0 (length plan.flights.now) (λ i low high. (c.requires, high)) in
+    rw (c.map.ensures.base, c.map.ensures.f, ends.0, ends.1) (λ k d lt. (inside k d lt, λ y p. tt))
 
-pub returns-in_err-list_first-2-clause-over : goal.returns-in_err-list_first-2-clause-over
-returns-in_err-list_first-2-clause-over c =
-    let s = c.args.settings.now in
-    let flights = c.args.flights.now in
-    let at = slice_get-of flights c.loop-place.place c.loop-place-test.true in
-    let p = err_from_is_err_and c.from_residual-in_err-list_first-2.result c.from_residual-in_err-list_first-2.ensures.1 in
-    λ e. second-over s flights c.loop-place.place at.0 c.loop-place.found.items c.list_first.new.found.items 200_000 at.1 c.loop-place.invariant.0 (c.in_ok-list_first.ensures.ok at.0 at.1)
-    (c.in_err-list_first-2.ensures.over (cc) at.0 at.1)
-
-pub loop-place-preserved : goal.loop-place-preserved
-loop-place-preserved c =
-    let s = c.args.settings.now in
-    let flights = c.args.flights.now in
-    let at = slice_get-of flights c.loop-place.place c.loop-place-test.true in (
-      first-more s flights c.loop-place.place at.0 c.loop-place.found.items c.list_first.new.found.items c.list_first-in-loop-place.new.found.items at.1 c.loop-place.invariant.0
-          (c.in_ok-list_first.ensures.ok at.0 at.1) (c.in_ok-list_first-2.ensures.ok at.0 at.1),
-      c.in_ok-list_first-2.ensures.few (c.in_ok-list_first.ensures.few c.loop-place.invariant.1),
-    )
+pub returns : goal.returns
+returns g c =
+    let s = c.args.plan.now.settings.now in
+    let flights = c.args.plan.now.flights.now in
+    let n = length flights in
+    let ends = c.into_par_iter.ensures in
+    let P = λ (i : ℕ) (part : Vec Duty Global). (flight : Flight) → slice_get flights i ≡ Some flight → part.items ≡ from_flight s flights flight in
+    let h = c.in_ok-collect.ensures in
+    let chain = rw (c.map.ensures.base, c.map.ensures.f) at h.1 in
+    let whole : n - 0 ≡ n = omega arith in
+    let places : chain.0 ≡ range_with_len 0 n = chain.1 ∙ (λ i. nat_range (ends.0 i) (ends.1 i)) ∙ ap (range_with_len 0) whole in
+    let z = subst (λ (l : List ℕ). AllZip (λ i o. IfOk o (P i)) l h.0) places chain.2 in
+    let all = collected (λ (v : Vec (Vec Duty Global) Global). v.items) P (range_with_len 0 n) c.in_ok-collect.field-0 h.0 z h.2 in
+    let each : AllZip P (range_with_len 0 n) c.in_ok-parts.parts.items = subst (λ r. IfOk r (λ (v : Vec (Vec Duty Global) Global). AllZip P (range_with_len 0 n) v.items)) c.in_ok-parts.was all in
+    let at = λ (k : ℕ) (f : Flight) (e : slice_get flights k ≡ Some f). subst (λ (m : ℕ). slice_get flights m ≡ Some f) (omega arith) e in
+    let same = joined (from_flight s flights) flights flights 0 c.in_ok-parts.parts.items at each in
+    IfOk-then c.join_parts.result _ _ c.join_parts.ensures (λ found e. e ∙ same)

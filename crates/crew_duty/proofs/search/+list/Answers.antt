@@ -13,12 +13,12 @@ use Rattle.crew_duty.specs.declared.duty.Duty.{Duty}
 use Rattle.crew_duty.specs.declared.leg.TimedLeg.{TimedLeg}
 use Rattle.crew_duty.proofs.Places.{StandAt-at, StandAt-length}
 use Rattle.crew_duty.proofs.Sums.{last_of-push}
-use Rattle.crew_duty.proofs.Tree.{Each-map, Each-member, IsBeginning-more, below-more, filter-member, listing-at, listing-closed, listing-none, over-flown, over-own, over-ridden, pop-back, slice_get-within}
+use Rattle.crew_duty.proofs.Tree.{Each-map, Each-member, IsBeginning-more, below-more, filter-member, listing-at, listing-closed, listing-none, pop-back, slice_get-within}
 use Rattle.crew_duty.proofs.search.+list.Goals as goal
 use Rattle.crew_duty.proofs.search.+list.Goals.{then-len-ge-LEGS-via-then-len-ge-LEGS, then-len-ge-LEGS-via-else-len-ge-LEGS+then-cannot_begin}
 
-pub returns-then-len-ge-LEGS-clause-ok : goal.returns-then-len-ge-LEGS-clause-ok
-returns-then-len-ge-LEGS-clause-ok t c =
+pub returns-then-len-ge-LEGS-clause-listed : goal.returns-then-len-ge-LEGS-clause-listed
+returns-then-len-ge-LEGS-clause-listed t c =
     let s = c.args.plan.now.settings.now in
     let flights = c.args.plan.now.flights.now in
     let first = c.args.first.now in
@@ -34,21 +34,7 @@ pub list_own-requires-clause-sound : goal.list_own-requires-clause-sound
 list_own-requires-clause-sound t c =
     rw c.deref-2.ensures.value
     (Each-map (λ (l : TimedLeg). Member c.args.plan.now.flights.now l.flight) (λ (l : TimedLeg). IsFlight l.flight.id l.flight) (c.args.first.now ∷ c.args.others.now.items)
-    (λ l m. Each-member (λ (f : Flight). IsFlight f.id f) c.args.plan.now.flights.now l.flight c.requires.flights.each m) c.requires.beginning.known)
-
-pub returns-in_err-list_own-clause-over : goal.returns-in_err-list_own-clause-over
-returns-in_err-list_own-clause-over t c =
-    let s = c.args.plan.now.settings.now in
-    let flights = c.args.plan.now.flights.now in
-    let first = c.args.first.now in
-    let others = c.args.others.now.items in
-    let few : length others < 8 = omega (arith, c.if-len-ge-LEGS.false, c.len.ensures, c.args.others.now.ok.0) in
-    let hope = sym (c.cannot_begin.ensures ∙ ap (is_hopeless s first) c.deref.ensures.value) ∙ c.if-cannot_begin.false in
-    let gs = filter (may_follow s (last_of first others).flight) flights in
-    let listed = listing-at s flights first others few hope in
-    let p = err_from_is_err_and c.from_residual.result c.from_residual.ensures.1 in
-    λ e. over-own 200_000 (length c.args.found.now.items) (listing (8 - length others) s flights first others) (own s first others) _ listed
-    (subst (λ (l : List TimedLeg). 200_000 < length c.args.found.now.items + length (own s first l)) c.deref-2.ensures.value (c.in_err-list_own.ensures.over (cc)))
+    (λ l m. Each-member (λ (f : Flight). IsFlight f.id f) c.args.plan.now.flights.now l.flight c.requires.plan.are_flights.each m) c.requires.beginning.known)
 
 pub places_of-place-items-requires-clause-place : goal.places_of-place-items-requires-clause-place
 places_of-place-items-requires-clause-place t c = slice_get-within c.args.plan.now.flights.now c.args.last _ c.requires.last
@@ -79,36 +65,13 @@ list-requires t c =
     let at = StandAt-at flights items gs i (get_or items i 0) (c.places_of-place-items.ensures (last_of first others).flight c.requires.last) (slice_get-get_or items i 0 c.loop-place-test.true) in
     let d = c.index-plan-place.result in
     let flight : get_or flights (get_or items i 0) d ≡ at.0 = get_or_from_slice_get flights (get_or items i 0) at.0 d at.2 in
-    let path : c.loop-place.others.items ≡ others = c.loop-place.invariant.2 in
+    let path : c.loop-place.others.items ≡ others = c.loop-place.invariant.1 in
     let flown : c.push.new.self.items ≡ others ++ timed false at.0 ∷ [] = c.in_ok-push.ensures.items ∙ (λ j. path j ++ (c.timed_leg.ensures ∙ ap (timed false) flight) j ∷ []) in
     let passes = filter-member (may_follow s (last_of first others).flight) flights i at.0 at.1 in
     let more = IsBeginning-more s flights first others false at.0 c.requires.beginning passes.0 passes.1 in
     let long : length c.push.new.self.items ≡ length others + 1 = ap length flown ∙ length-append others (timed false at.0 ∷ []) in
     let last : last_of first c.push.new.self.items ≡ timed false at.0 = rw flown (last_of-push first others (timed false at.0)) in
-    (omega arith, (c.requires.checked, (c.requires.flights, (c.requires.next, (rw flown more, (omega arith, rw last at.2))))))
-
-pub returns-in_err-list-clause-over : goal.returns-in_err-list-clause-over
-returns-in_err-list-clause-over t c =
-    let s = c.args.plan.now.settings.now in
-    let flights = c.args.plan.now.flights.now in
-    let first = c.args.first.now in
-    let others = c.args.others.now.items in
-    let few : length others < 8 = omega (arith, c.if-len-ge-LEGS.false, c.len.ensures, c.args.others.now.ok.0) in
-    let hope = sym (c.cannot_begin.ensures ∙ ap (is_hopeless s first) c.deref.ensures.value) ∙ c.if-cannot_begin.false in
-    let gs = filter (may_follow s (last_of first others).flight) flights in
-    let items = c.places_of-place-items.result.now in
-    let i = c.loop-place.place-index in
-    let at = StandAt-at flights items gs i (get_or items i 0) (c.places_of-place-items.ensures (last_of first others).flight c.requires.last) (slice_get-get_or items i 0 c.loop-place-test.true) in
-    let d = c.index-plan-place.result in
-    let flight : get_or flights (get_or items i 0) d ≡ at.0 = get_or_from_slice_get flights (get_or items i 0) at.0 d at.2 in
-    let path : c.loop-place.others.items ≡ others = c.loop-place.invariant.2 in
-    let flown : c.push.new.self.items ≡ others ++ timed false at.0 ∷ [] = c.in_ok-push.ensures.items ∙ (λ j. path j ++ (c.timed_leg.ensures ∙ ap (timed false) flight) j ∷ []) in
-    let start = c.args.found.now.items in
-    let before = c.loop-place.found.items in
-    let listed = listing-at s flights first others few hope in
-    let p = err_from_is_err_and c.from_residual-in_err-list.result c.from_residual-in_err-list.ensures.1 in
-    λ e. over-flown s flights first others c.push.new.self.items gs i at.0 start (own s first others) before (listing (8 - length others) s flights first others) 200_000 at.1 flown listed
-    c.loop-place.invariant.0 (c.in_err-list.ensures.over (cc))
+    (omega arith, (c.requires.plan, (rw flown more, (omega arith, rw last at.2))))
 
 pub list-requires-in-loop-place : goal.list-requires-in-loop-place
 list-requires-in-loop-place t c =
@@ -124,7 +87,7 @@ list-requires-in-loop-place t c =
     let at = StandAt-at flights items gs i (get_or items i 0) (c.places_of-place-items.ensures (last_of first others).flight c.requires.last) (slice_get-get_or items i 0 c.loop-place-test.true) in
     let d = c.index-plan-place.result in
     let flight : get_or flights (get_or items i 0) d ≡ at.0 = get_or_from_slice_get flights (get_or items i 0) at.0 d at.2 in
-    let path : c.loop-place.others.items ≡ others = c.loop-place.invariant.2 in
+    let path : c.loop-place.others.items ≡ others = c.loop-place.invariant.1 in
     let flown : c.push.new.self.items ≡ others ++ timed false at.0 ∷ [] = c.in_ok-push.ensures.items ∙ (λ j. path j ++ (c.timed_leg.ensures ∙ ap (timed false) flight) j ∷ []) in
     let back : c.pop.new.self.items ≡ others = pop-back others c.list.new.others.items c.pop.new.self.items (timed false at.0) (vec_len c.list.new.others) c.list.new.others.ok.0 (c.in_ok-list.ensures.kept ∙ flown) c.pop.ensures.rest in
     let ridden : c.push-in-loop-place.new.self.items ≡ others ++ timed true at.0 ∷ [] = c.in_ok-push-2.ensures.items ∙ (λ j. back j ++ (c.timed_leg-in-loop-place.ensures ∙ ap (timed true) flight) j ∷ []) in
@@ -132,32 +95,7 @@ list-requires-in-loop-place t c =
     let more = IsBeginning-more s flights first others true at.0 c.requires.beginning passes.0 passes.1 in
     let long : length c.push-in-loop-place.new.self.items ≡ length others + 1 = ap length ridden ∙ length-append others (timed true at.0 ∷ []) in
     let last : last_of first c.push-in-loop-place.new.self.items ≡ timed true at.0 = rw ridden (last_of-push first others (timed true at.0)) in
-    (omega arith, (c.requires.checked, (c.requires.flights, (c.requires.next, (rw ridden more, (omega arith, rw last at.2))))))
-
-pub returns-in_err-list-2-clause-over : goal.returns-in_err-list-2-clause-over
-returns-in_err-list-2-clause-over t c =
-    let s = c.args.plan.now.settings.now in
-    let flights = c.args.plan.now.flights.now in
-    let first = c.args.first.now in
-    let others = c.args.others.now.items in
-    let few : length others < 8 = omega (arith, c.if-len-ge-LEGS.false, c.len.ensures, c.args.others.now.ok.0) in
-    let hope = sym (c.cannot_begin.ensures ∙ ap (is_hopeless s first) c.deref.ensures.value) ∙ c.if-cannot_begin.false in
-    let gs = filter (may_follow s (last_of first others).flight) flights in
-    let items = c.places_of-place-items.result.now in
-    let i = c.loop-place.place-index in
-    let at = StandAt-at flights items gs i (get_or items i 0) (c.places_of-place-items.ensures (last_of first others).flight c.requires.last) (slice_get-get_or items i 0 c.loop-place-test.true) in
-    let d = c.index-plan-place.result in
-    let flight : get_or flights (get_or items i 0) d ≡ at.0 = get_or_from_slice_get flights (get_or items i 0) at.0 d at.2 in
-    let path : c.loop-place.others.items ≡ others = c.loop-place.invariant.2 in
-    let flown : c.push.new.self.items ≡ others ++ timed false at.0 ∷ [] = c.in_ok-push.ensures.items ∙ (λ j. path j ++ (c.timed_leg.ensures ∙ ap (timed false) flight) j ∷ []) in
-    let back : c.pop.new.self.items ≡ others = pop-back others c.list.new.others.items c.pop.new.self.items (timed false at.0) (vec_len c.list.new.others) c.list.new.others.ok.0 (c.in_ok-list.ensures.kept ∙ flown) c.pop.ensures.rest in
-    let ridden : c.push-in-loop-place.new.self.items ≡ others ++ timed true at.0 ∷ [] = c.in_ok-push-2.ensures.items ∙ (λ j. back j ++ (c.timed_leg-in-loop-place.ensures ∙ ap (timed true) flight) j ∷ []) in
-    let start = c.args.found.now.items in
-    let before = c.loop-place.found.items in
-    let listed = listing-at s flights first others few hope in
-    let p = err_from_is_err_and c.from_residual-in_err-list-2.result c.from_residual-in_err-list-2.ensures.1 in
-    λ e. over-ridden s flights first others c.push.new.self.items c.push-in-loop-place.new.self.items gs i at.0 start (own s first others) before c.list.new.found.items
-    (listing (8 - length others) s flights first others) 200_000 at.1 flown ridden listed c.loop-place.invariant.0 c.in_ok-list.ensures.ok (c.in_err-list-2.ensures.over (cc))
+    (omega arith, (c.requires.plan, (rw ridden more, (omega arith, rw last at.2))))
 
 pub loop-place-preserved : goal.loop-place-preserved
 loop-place-preserved t c =
@@ -171,28 +109,26 @@ loop-place-preserved t c =
     let at = StandAt-at flights items gs i (get_or items i 0) (c.places_of-place-items.ensures (last_of first others).flight c.requires.last) (slice_get-get_or items i 0 c.loop-place-test.true) in
     let d = c.index-plan-place.result in
     let flight : get_or flights (get_or items i 0) d ≡ at.0 = get_or_from_slice_get flights (get_or items i 0) at.0 d at.2 in
-    let path : c.loop-place.others.items ≡ others = c.loop-place.invariant.2 in
+    let path : c.loop-place.others.items ≡ others = c.loop-place.invariant.1 in
     let flown : c.push.new.self.items ≡ others ++ timed false at.0 ∷ [] = c.in_ok-push.ensures.items ∙ (λ j. path j ++ (c.timed_leg.ensures ∙ ap (timed false) flight) j ∷ []) in
     let back : c.pop.new.self.items ≡ others = pop-back others c.list.new.others.items c.pop.new.self.items (timed false at.0) (vec_len c.list.new.others) c.list.new.others.ok.0 (c.in_ok-list.ensures.kept ∙ flown) c.pop.ensures.rest in
     let ridden : c.push-in-loop-place.new.self.items ≡ others ++ timed true at.0 ∷ [] = c.in_ok-push-2.ensures.items ∙ (λ j. back j ++ (c.timed_leg-in-loop-place.ensures ∙ ap (timed true) flight) j ∷ []) in
     let start = c.args.found.now.items in
     let before = c.loop-place.found.items in (
       below-more s flights first others c.push.new.self.items c.push-in-loop-place.new.self.items gs i at.0 (start ++ own s first others) before c.list.new.found.items
-          c.list-in-loop-place.new.found.items at.1 flown ridden c.loop-place.invariant.0 c.in_ok-list.ensures.ok c.in_ok-list-2.ensures.ok,
-      λ h. c.in_ok-list-2.ensures.few (c.in_ok-list.ensures.few (c.loop-place.invariant.1 h)),
+          c.list-in-loop-place.new.found.items at.1 flown ridden c.loop-place.invariant.0 c.in_ok-list.ensures.listed c.in_ok-list-2.ensures.listed,
       pop-back others c.list-in-loop-place.new.others.items c.pop-in-loop-place.new.self.items (timed true at.0) (vec_len c.list-in-loop-place.new.others) c.list-in-loop-place.new.others.ok.0 (c.in_ok-list-2.ensures.kept ∙ ridden) c.pop-in-loop-place.ensures.rest,
     )
 
 pub loop-place-init : goal.loop-place-init
 loop-place-init t c =
     let start = c.args.found.now.items ++ own c.args.plan.now.settings.now c.args.first.now c.args.others.now.items in (
-      c.in_ok-list_own.ensures.ok ∙ (ap (λ (l : List TimedLeg). c.args.found.now.items ++ own c.args.plan.now.settings.now c.args.first.now l) c.deref-2.ensures.value ∙ sym (append-nil start)),
-      c.in_ok-list_own.ensures.few,
+      c.in_ok-list_own.ensures ∙ (ap (λ (l : List TimedLeg). c.args.found.now.items ++ own c.args.plan.now.settings.now c.args.first.now l) c.deref-2.ensures.value ∙ sym (append-nil start)),
       refl,
     )
 
-pub returns-clause-ok : goal.returns-clause-ok
-returns-clause-ok t c =
+pub returns-clause-listed : goal.returns-clause-listed
+returns-clause-listed t c =
     let s = c.args.plan.now.settings.now in
     let flights = c.args.plan.now.flights.now in
     let first = c.args.first.now in

@@ -1,4 +1,4 @@
-use Rattle.std.proofs.Common.{◌≡◌, ◌++◌, ◌-◌, ◌≤◌, take, length, filter}
+use Rattle.std.proofs.Common.{◌≡◌, ◌++◌, ◌-◌, take, length, filter}
 use Rattle.std.specs.List.{flat_map}
 use Rattle.crew_duty.specs.Legality.{last_of, may_follow}
 use Rattle.crew_duty.specs.Listing.{below, own}
@@ -12,5 +12,4 @@ invariant-loop-place l =
     (l.found.items ≡ (l.fn.found.items ++ own l.plan.settings.now l.first l.fn.others.items)
     ++ flat_map (below (7 - length l.fn.others.items) l.plan.settings.now l.plan.flights.now l.first l.fn.others.items)
     (take l.place-index (filter (may_follow l.plan.settings.now (last_of l.first l.fn.others.items).flight) l.plan.flights.now)))
-    × (length l.fn.found.items ≤ 200_000 → length l.found.items ≤ 200_000)
     × (l.others.items ≡ l.fn.others.items)

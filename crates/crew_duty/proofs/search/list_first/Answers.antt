@@ -25,8 +25,8 @@ pub list-requires-clause-last : goal.list-requires-clause-last
 list-requires-clause-last c =
     rw (c.timed_leg-first.ensures, c.in_ok-others.ensures.items) (slice_get-get_or c.args.plan.now.flights.now c.args.place c.index-plan-place.result c.requires.place)
 
-pub returns-clause-ok : goal.returns-clause-ok
-returns-clause-ok c =
+pub returns : goal.returns
+returns c =
     let s = c.args.plan.now.settings.now in
     let flights = c.args.plan.now.flights.now in
     let none = c.in_ok-others.ensures.items in
@@ -34,13 +34,4 @@ returns-clause-ok c =
     (λ e flight h.
     let same = c.timed_leg-first.ensures ∙ ap (timed c.args.deadhead) (get_or_from_slice_get flights c.args.place flight c.index-plan-place.result h) in
     e ∙ (λ j. c.args.found.now.items ++ listing (8 - length (none j)) s flights (same j) (none j)))
-    c.list.ensures.ok
-
-pub returns-clause-over : goal.returns-clause-over
-returns-clause-over c =
-    let s = c.args.plan.now.settings.now in
-    let flights = c.args.plan.now.flights.now in
-    let none = c.in_ok-others.ensures.items in
-    λ e flight h.
-    let same = c.timed_leg-first.ensures ∙ ap (timed c.args.deadhead) (get_or_from_slice_get flights c.args.place flight c.index-plan-place.result h) in
-    subst (λ (l : List Duty). 200_000 < length c.args.found.now.items + length l) (λ j. listing (8 - length (none j)) s flights (same j) (none j)) (c.list.ensures.over e)
+    c.list.ensures.listed

@@ -1,0 +1,15 @@
+use Rattle.std.proofs.Common.{◌≡◌, ◌+◌, ◌-◌, take, length, filter, min}
+use Rattle.std.specs.List.{flat_map}
+use Rattle.crew_duty.specs.Legality.{last_of, may_follow}
+use Rattle.crew_duty.specs.Listing.{below, own}
+use Rattle.crew_duty.proofs.search.+count.Given as goal
+
+abbrev pub decreases-count : goal.decreases-count
+decreases-count l = 9 - length l.others.now.items
+
+abbrev pub invariant-loop-place : goal.invariant-loop-place
+invariant-loop-place l =
+    (l.counted ≡ min (l.fn.so_far + length (own l.plan.settings.now l.first l.fn.others.items)
+    + length (flat_map (below (7 - length l.fn.others.items) l.plan.settings.now l.plan.flights.now l.first l.fn.others.items)
+    (take l.place-index (filter (may_follow l.plan.settings.now (last_of l.first l.fn.others.items).flight) l.plan.flights.now)))) 200_001)
+    × (l.others.items ≡ l.fn.others.items)

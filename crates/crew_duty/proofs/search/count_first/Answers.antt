@@ -1,0 +1,39 @@
+use Rattle.std.proofs.Common.{◌≡◌, ◌<◌, ◌+◌, ◌-◌, ◌++◌, min, [], ◌∷◌, ◌∙◌, List, ap, get_or, length, subst, arith}
+use Rattle.std.specs.Prelude.{Some, slice_get}
+use Rattle.std.proofs.lemmas.Option.{get_or_from_slice_get, slice_get-get_or}
+use Rattle.rayon.proofs.ListFacts.{IfOk-then}
+use Rattle.crew_flights.specs.declared.flight.Flight.{Flight}
+use Rattle.crew_duty.specs.Legality.{last_of}
+use Rattle.crew_duty.specs.Listing.{listing, timed}
+use Rattle.crew_duty.specs.Plans.{IsBeginning}
+use Rattle.crew_duty.specs.declared.duty.Duty.{Duty}
+use Rattle.crew_duty.specs.declared.leg.TimedLeg.{TimedLeg}
+use Rattle.crew_duty.proofs.Tree.{slice_get-Member}
+use Rattle.crew_duty.proofs.search.count_first.Goals as goal
+
+pub count-requires-clause-beginning : goal.count-requires-clause-beginning
+count-requires-clause-beginning c =
+    let flights = c.args.plan.now.flights.now in
+    let s = c.args.plan.now.settings.now in
+    let d = c.index-plan-place.result in
+    let flight = get_or flights c.args.place d in
+    let begins : IsBeginning s flights (timed c.args.deadhead flight) [] =
+    record { known = (slice_get-Member flights c.args.place flight (slice_get-get_or flights c.args.place d c.requires.place), tt); connected = tt } in
+    rw (c.timed_leg-first.ensures, c.in_ok-others.ensures.items) begins
+
+pub count-requires-clause-last : goal.count-requires-clause-last
+count-requires-clause-last c =
+    rw (c.timed_leg-first.ensures, c.in_ok-others.ensures.items) (slice_get-get_or c.args.plan.now.flights.now c.args.place c.index-plan-place.result c.requires.place)
+
+pub returns-clause-counted : goal.returns-clause-counted
+returns-clause-counted c =
+    let s = c.args.plan.now.settings.now in
+    let flights = c.args.plan.now.flights.now in
+    let none = c.in_ok-others.ensures.items in
+    IfOk-then c.count.result _ _ c.count.ensures.counted
+    (λ n e flight h.
+    let same = c.timed_leg-first.ensures ∙ ap (timed c.args.deadhead) (get_or_from_slice_get flights c.args.place flight c.index-plan-place.result h) in
+    e ∙ (λ j. min (c.args.counted + length (listing (8 - length (none j)) s flights (same j) (none j))) 200_001))
+
+pub returns-clause-bound : goal.returns-clause-bound
+returns-clause-bound c = IfOk-then c.count.result _ _ c.count.ensures.counted (λ n e. omega (arith, e))
