@@ -1,7 +1,12 @@
+mod Cheapest
 mod Composed
 mod Cuts
 mod Extended
 mod Fitting
 mod LegalDuties
+mod Nodes
+mod Orders
+mod Paths
 mod Steps
+mod Unique
 mod Valued

@@ -2,10 +2,13 @@
 -- clean walk that has it. Labels, and the dominance among them, are those of Irnich and Desaulniers 2005, "Shortest path problems
 -- with resource constraints".
 -- `price` is the base's price, by which the vectors of its partials are less.
-use Rattle.std.specs.Prelude.{◌≡◌, ℕ, Bool, ℤ, List, ◌∷◌, ◌++◌, map}
-use Rattle.std.specs.Ordering.{is_le}
+use Rattle.std.specs.Prelude.{◌≡◌, ℕ, Bool, ℤ, List, [], ◌∷◌, ◌++◌, map}
+use Rattle.std.specs.Ordering.{int_cmp, is_le, ordering_then}
+use Rattle.std.specs.declared.cmp.Ordering.{Ordering}
+use Rattle.std.specs.declared.cmp.Ordering.TheVariants.{Less}
 use Rattle.crew_duty.specs.Duties.{flights_of}
 use Rattle.crew_duty.specs.Keys.{walk_cmp}
+use Rattle.crew_duty.specs.Members.{Each}
 use Rattle.crew_duty.specs.Pairings.{IsPartial, last_duty}
 use Rattle.crew_duty.specs.declared.duty.Duty.{Duty}
 use Rattle.crew_duty.specs.declared.leg.Leg.{Leg}
@@ -30,6 +33,17 @@ walk_at_most a b = is_le (walk_cmp a b)
 -- one vector beats another: it is at most the other in each part, and isn't the other
 abbrev pub VectorBeats : Value → Value → Type 0
 VectorBeats = Beats is_at_most
+
+-- vectors are listed by their parts in order
+abbrev pub vector_cmp : Value → Value → Ordering
+vector_cmp a b =
+    ordering_then (ordering_then (int_cmp a.0.0 b.0.0) (ordering_then (int_cmp a.0.1.0 b.0.1.0) (int_cmp a.0.1.1 b.0.1.1)))
+    (ordering_then (ordering_then (int_cmp a.1.0.0 b.1.0.0) (int_cmp a.1.0.1 b.1.0.1)) (ordering_then (int_cmp a.1.1.0 b.1.1.0) (int_cmp a.1.1.1 b.1.1.1)))
+
+-- each entry stands before all later ones by its vector
+abbrev pub RiseByVector : List (Value × List (List Leg)) → Type 0
+RiseByVector [] = Unit {0}
+RiseByVector (entry ∷ entries) = Each (λ later. vector_cmp entry.0 later.0 ≡ Less) entries × RiseByVector entries
 
 -- a partial of the base whose last duty is d, by its vector and its walk
 pub record At (s : Settings) (t : Timetable) (base : List ℕ) (price : ℤ) (d : Duty) (v : Value) (w : List (List Leg)) : Type 0 where

@@ -1,16 +1,20 @@
 //! Laws over the definitions alone.
-ghost use Rattle.std.specs.Prelude.{◌≡◌, ℤ, List, ◌∷◌, Some, length};
+ghost use Rattle.std.specs.Prelude.{◌≡◌, ◌≤ℤ◌, ℕ, ℤ, List, ◌∷◌, Some, length};
 ghost use Rattle.crew_duty.specs.Duties.{AreDuties};
 ghost use Rattle.crew_duty.specs.Events.{IsSound};
 ghost use Rattle.crew_duty.specs.Members.{Member};
 ghost use Rattle.crew_duty.specs.Pairings.{is_within_caps};
 ghost use Rattle.crew_duty.specs.declared.duty.Duty.{Duty};
+ghost use Rattle.crew_duty.specs.declared.leg.Leg.{Leg};
 ghost use Rattle.crew_flights.specs.Timetable as TimetableSpec;
 ghost use Rattle.crew_flights.specs.Timetable.{Timetable};
+ghost use Rattle.crew_resource.specs.Labels as Labels;
 ghost use Rattle.crew_rules.specs.Settings.{IsChecked};
 ghost use Rattle.crew_rules.specs.declared.settings.Settings.{Settings};
 ghost use Rattle.crew_vector.specs.Along.{IsLine};
+ghost use Rattle.crew_vector.specs.Bests.{IsBest, IsCleanPairing, IsPairing, PricedPairing};
 ghost use Rattle.crew_vector.specs.Costs.{reduced_cost};
+ghost use Rattle.crew_vector.specs.Fronts.{Clean, IsFrontAt, IsUndominated, RiseByVector};
 ghost use Rattle.crew_vector.specs.Parts.{Value, cost_of, parts_of, stays_within_caps, value_of, value_of_parts};
 
 use crate::vector::PairingVector;
@@ -34,4 +38,21 @@ pub fn grade_is_the_number_of_duties()
 /// Each legal duty of a timetable is sound: every sum over a pairing of legal duties fits.
 pub fn legal_duties_are_sound()
     ensures { (s : Settings) (t : Timetable) (duties : List Duty) → IsChecked s → TimetableSpec.IsSound t → AreDuties s t duties → (d : Duty) → Member duties d → IsSound d }
+{}
+
+/// Each undominated vector of a node has a clean partial there.
+pub fn undominated_vectors_have_clean_partials()
+    ensures { (s : Settings) (t : Timetable) (base : List ℕ) (price : ℤ) (d : Duty) (v : Value) → IsChecked s → TimetableSpec.IsSound t → IsUndominated s t base price d v → (w : List (List Leg)) × Clean s t base price d v w }
+{}
+
+/// A node has one front: two of them have the same entries, and in order of vector they are one list.
+pub fn fronts_are_unique()
+    ensures entries { (s : Settings) (t : Timetable) (base : List ℕ) (price : ℤ) (d : Duty) (es fs : List (Value × List (List Leg))) → IsFrontAt s t base price d es → IsFrontAt s t base price d fs → (v : Value) (w : List (List Leg)) → Labels.Member es (v, w) → Labels.Member fs (v, w) }
+    ensures listed { (s : Settings) (t : Timetable) (base : List ℕ) (price : ℤ) (d : Duty) (es fs : List (Value × List (List Leg))) → IsFrontAt s t base price d es → IsFrontAt s t base price d fs → RiseByVector es → RiseByVector fs → es ≡ fs }
+{}
+
+/// Under each pairing lies a clean one that costs no more; so the best costs the least of all pairings, clean or not.
+pub fn best_costs_least()
+    ensures clean { (s : Settings) (t : Timetable) (p : PricedPairing) → IsChecked s → TimetableSpec.IsSound t → IsPairing s t p → (q : PricedPairing) × IsCleanPairing s t q × (q.cost ≤ℤ p.cost) }
+    ensures least { (s : Settings) (t : Timetable) (best p : PricedPairing) → IsChecked s → TimetableSpec.IsSound t → IsBest s t (Some best) → IsPairing s t p → best.cost ≤ℤ p.cost }
 {}
