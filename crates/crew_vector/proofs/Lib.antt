@@ -2,7 +2,9 @@ mod Cheapest
 mod Composed
 mod Cuts
 mod Extended
+mod Feeding
 mod Fitting
+mod Growth
 mod LegalDuties
 mod Nodes
 mod Orders

@@ -3,6 +3,7 @@ pub mod Amounts
 pub mod Bests
 pub mod Costs
 pub mod Fronts
+pub mod Locals
 pub mod Pairing
 pub mod Parts
 pub mod Terms

@@ -1,9 +1,9 @@
 //! Laws over the definitions alone.
-ghost use Rattle.std.specs.Prelude.{◌≡◌, ◌≤ℤ◌, ℕ, ℤ, List, ◌∷◌, Some, length};
-ghost use Rattle.crew_duty.specs.Duties.{AreDuties};
+ghost use Rattle.std.specs.Prelude.{◌≡◌, ◌≤ℤ◌, ℕ, ℤ, cond, List, [], ◌∷◌, Some, None, length};
+ghost use Rattle.crew_duty.specs.Duties.{AreDuties, flights_of};
 ghost use Rattle.crew_duty.specs.Events.{IsSound};
 ghost use Rattle.crew_duty.specs.Members.{Member};
-ghost use Rattle.crew_duty.specs.Pairings.{is_within_caps};
+ghost use Rattle.crew_duty.specs.Pairings.{IsDuty, is_within_caps};
 ghost use Rattle.crew_duty.specs.declared.duty.Duty.{Duty};
 ghost use Rattle.crew_duty.specs.declared.leg.Leg.{Leg};
 ghost use Rattle.crew_flights.specs.Timetable as TimetableSpec;
@@ -13,8 +13,10 @@ ghost use Rattle.crew_rules.specs.Settings.{IsChecked};
 ghost use Rattle.crew_rules.specs.declared.settings.Settings.{Settings};
 ghost use Rattle.crew_vector.specs.Along.{IsLine};
 ghost use Rattle.crew_vector.specs.Bests.{IsBest, IsCleanPairing, IsPairing, PricedPairing};
-ghost use Rattle.crew_vector.specs.Costs.{reduced_cost};
-ghost use Rattle.crew_vector.specs.Fronts.{Clean, IsFrontAt, IsUndominated, RiseByVector};
+ghost use Rattle.crew_vector.specs.Costs.{is_at_most, reduced_cost};
+ghost use Rattle.crew_vector.specs.Fronts.{Clean, IsFrontAt, IsUndominated, RiseByVector, vector_of};
+ghost use Rattle.crew_vector.specs.Locals.{AreFrontsBefore, Feed, IsLocalAt, grown, is_vector_within_caps};
+ghost use Rattle.crew_vector.specs.Pairing.{pairing_vector};
 ghost use Rattle.crew_vector.specs.Parts.{Value, cost_of, parts_of, stays_within_caps, value_of, value_of_parts};
 
 use crate::vector::PairingVector;
@@ -55,4 +57,19 @@ pub fn fronts_are_unique()
 pub fn best_costs_least()
     ensures clean { (s : Settings) (t : Timetable) (p : PricedPairing) → IsChecked s → TimetableSpec.IsSound t → IsPairing s t p → (q : PricedPairing) × IsCleanPairing s t q × (q.cost ≤ℤ p.cost) }
     ensures least { (s : Settings) (t : Timetable) (best p : PricedPairing) → IsChecked s → TimetableSpec.IsSound t → IsBest s t (Some best) → IsPairing s t p → best.cost ≤ℤ p.cost }
+{}
+
+/// Local and front are one: given the fronts of the nodes before, entries are local exactly where they are the node's
+/// front. So a node that is fed alike in two timetables has one front in both.
+pub fn local_entries_are_the_front()
+    ensures front { (s : Settings) (t : Timetable) (base : List ℕ) (price : ℤ) (d : Duty) (feed : Feed) (entries : List (Value × List (List Leg))) → IsChecked s → TimetableSpec.IsSound t → IsDuty s (flights_of t) d → AreFrontsBefore s t base price d feed → IsLocalAt s base price d feed entries → IsFrontAt s t base price d entries }
+    ensures local { (s : Settings) (t : Timetable) (base : List ℕ) (price : ℤ) (d : Duty) (feed : Feed) (entries : List (Value × List (List Leg))) → IsChecked s → TimetableSpec.IsSound t → IsDuty s (flights_of t) d → AreFrontsBefore s t base price d feed → IsFrontAt s t base price d entries → IsLocalAt s base price d feed entries }
+    ensures alike { (s : Settings) (t u : Timetable) (base : List ℕ) (price : ℤ) (d : Duty) (feed : Feed) (entries : List (Value × List (List Leg))) → IsChecked s → TimetableSpec.IsSound t → TimetableSpec.IsSound u → IsDuty s (flights_of t) d → IsDuty s (flights_of u) d → AreFrontsBefore s t base price d feed → AreFrontsBefore s u base price d feed → IsFrontAt s t base price d entries → IsFrontAt s u base price d entries }
+{}
+
+/// The resource's order, and its start and step of a duty, are those of the definitions.
+pub fn steps_are_those_of_the_vector()
+    ensures order { (a b : Value) → ⟦<PairingVector as Resource>⟧.below a b ≡ is_at_most a b }
+    ensures start { (s : Settings) (price : ℤ) (d : Duty) → ⟦<PairingVector as Resource>⟧.opens (pairing_vector s price) d ≡ cond (is_within_caps s (d ∷ [])) (Some (vector_of s price (d ∷ []))) None }
+    ensures step { (s : Settings) (price : ℤ) (last next : Duty) (v : Value) → ⟦<PairingVector as Resource>⟧.extends (pairing_vector s price) v last next ≡ cond (is_vector_within_caps s (grown s last next v)) (Some (grown s last next v)) None }
 {}
