@@ -9,6 +9,7 @@ mod LegalDuties
 mod Nodes
 mod Orders
 mod Paths
+mod Pooled
 mod Steps
 mod Unique
 mod Valued
