@@ -6,6 +6,7 @@ use Rattle.crew_duty.specs.Pairings.{IsDuty, IsPartial, is_pairing, minutes_away
 use Rattle.crew_duty.specs.declared.duty.Duty.{Duty}
 use Rattle.crew_duty.specs.declared.leg.Leg.{Leg}
 use Rattle.crew_flights.specs.Timetable.{Timetable}
+use Rattle.crew_resource.specs.Labels.{Member}
 use Rattle.crew_rules.specs.declared.settings.Settings.{Settings}
 use Rattle.crew_vector.specs.Fronts.{IsFrontAt, StaysUndominated, walk_at_most, walk_of}
 use Rattle.crew_vector.specs.Parts.{Value, cost_of, pay_of}
@@ -36,15 +37,29 @@ pub record IsCleanPairing (s : Settings) (t : Timetable) (p : PricedPairing) : T
   pub stays : StaysUndominated s t p.base pairing.price pairing.first pairing.others
 
 -- by cost, and then by walk
-abbrev pub NoDearer : PricedPairing → PricedPairing → Type 0
-NoDearer p q = (p.cost <ℤ q.cost) ⊎ ((p.cost ≡ q.cost) × (walk_at_most p.walk q.walk ≡ true))
+abbrev pub NoDearer : ℤ → List (List Leg) → ℤ → List (List Leg) → Type 0
+NoDearer cost walk other_cost other_walk = (cost <ℤ other_cost) ⊎ ((cost ≡ other_cost) × (walk_at_most walk other_walk ≡ true))
 
 -- of the clean pairings of all bases the one that is least by cost and walk; none where there is no pairing
 abbrev pub IsBest : Settings → Timetable → Option PricedPairing → Type 0
 IsBest s t None = (p : PricedPairing) → IsPairing s t p → ⊥
-IsBest s t (Some best) = IsCleanPairing s t best × ((p : PricedPairing) → IsCleanPairing s t p → NoDearer best p)
+IsBest s t (Some best) = IsCleanPairing s t best × ((p : PricedPairing) → IsCleanPairing s t p → NoDearer best.cost best.walk p.cost p.walk)
+
+-- the front of each base and legal duty
+abbrev pub AreFronts : Settings → Timetable → (List ℕ → Duty → List (Value × List (List Leg))) → Type 0
+AreFronts s t front =
+    (base : List ℕ) (price : ℤ) (d : Duty) → map.get t.bases base ≡ Some price → IsDuty s (flights_of t) d → IsFrontAt s t base price d (front base d)
+
+-- an entry of a node that arrives at its base
+pub record IsHomeEntry (s : Settings) (t : Timetable) (front : List ℕ → Duty → List (Value × List (List Leg))) (base : List ℕ) (v : Value) (w : List (List Leg)) : Type 0 where
+  pub price : ℤ
+  pub based : map.get t.bases base ≡ Some price
+  pub duty : Duty
+  pub legal : IsDuty s (flights_of t) duty
+  pub home : duty.to ≡ base
+  pub held : Member (front base duty) (v, w)
 
 -- from scratch: the front of each base and legal duty, and the best pairing
 pub record IsScratch (s : Settings) (t : Timetable) (front : List ℕ → Duty → List (Value × List (List Leg))) (best : Option PricedPairing) : Type 0 where
-  pub fronts : (base : List ℕ) (price : ℤ) (d : Duty) → map.get t.bases base ≡ Some price → IsDuty s (flights_of t) d → IsFrontAt s t base price d (front base d)
+  pub fronts : AreFronts s t front
   pub best_is : IsBest s t best
