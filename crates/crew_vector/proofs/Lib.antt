@@ -7,6 +7,7 @@ mod Fitting
 mod Growth
 mod LegalDuties
 mod Nodes
+mod OneBest
 mod Orders
 mod Paths
 mod Pooled

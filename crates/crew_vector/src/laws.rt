@@ -1,5 +1,5 @@
 //! Laws over the definitions alone.
-ghost use Rattle.std.specs.Prelude.{◌≡◌, ◌≤ℤ◌, ℕ, ℤ, cond, List, [], ◌∷◌, Some, None, length};
+ghost use Rattle.std.specs.Prelude.{◌≡◌, ◌≤ℤ◌, ℕ, ℤ, cond, List, [], ◌∷◌, Option, Some, None, length};
 ghost use Rattle.crew_duty.specs.Duties.{AreDuties, flights_of};
 ghost use Rattle.crew_duty.specs.Events.{IsSound};
 ghost use Rattle.crew_duty.specs.Members.{Member};
@@ -63,6 +63,11 @@ pub fn fronts_are_unique()
 pub fn best_costs_least()
     ensures clean { (s : Settings) (t : Timetable) (p : PricedPairing) → IsChecked s → TimetableSpec.IsSound t → IsPairing s t p → (q : PricedPairing) × IsCleanPairing s t q × (q.cost ≤ℤ p.cost) }
     ensures least { (s : Settings) (t : Timetable) (best p : PricedPairing) → IsChecked s → TimetableSpec.IsSound t → IsBest s t (Some best) → IsPairing s t p → best.cost ≤ℤ p.cost }
+{}
+
+/// There is one best pairing, or none: cost and walk tell its base, its pay and its minutes away.
+pub fn best_is_unique()
+    ensures { (s : Settings) (t : Timetable) (a b : Option PricedPairing) → TimetableSpec.IsSound t → IsBest s t a → IsBest s t b → a ≡ b }
 {}
 
 /// Local and front are one: given the fronts of the nodes before, entries are local exactly where they are the node's

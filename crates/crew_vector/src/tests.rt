@@ -177,6 +177,7 @@ fn order(rt: HostRuntime) -> Result<(), Fail> {
     laws::undominated_vectors_have_clean_partials();
     laws::fronts_are_unique();
     laws::best_costs_least();
+    laws::best_is_unique();
     laws::best_is_the_least_entry_at_home();
     laws::local_entries_are_the_front();
     laws::steps_are_those_of_the_vector();
