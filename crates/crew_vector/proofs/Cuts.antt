@@ -1,5 +1,5 @@
 -- A list as its first element and the others, and as its last element and those before it.
-use Rattle.std.proofs.Common.{◌≡◌, List, [], ◌∷◌, ◌++◌, ◌⊎◌, inl, inr, refl, sym, ◌∙◌, ap, append_assoc}
+use Rattle.std.proofs.Common.{◌≡◌, List, [], ◌∷◌, ◌++◌, inl, inr, refl, sym, ◌∙◌, ap, append_assoc}
 use Rattle.crew_duty.specs.Members.{Member, Each}
 use Rattle.crew_duty.specs.Pairings.{last_duty}
 use Rattle.crew_duty.specs.declared.duty.Duty.{Duty}

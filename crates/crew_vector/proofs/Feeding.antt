@@ -1,11 +1,11 @@
 -- Entries that are local, given the fronts of the nodes before, are the node's front; and a front is local.
-use Rattle.std.proofs.Common.{◌≡◌, ℕ, Bool, true, false, cond, List, ◌∷◌, inl, inr, Option, Some, None, ℤ, refl, ◌∙◌, ap}
+use Rattle.std.proofs.Common.{◌≡◌, ℕ, Bool, true, false, cond, List, inl, inr, Option, Some, None, ℤ, refl, ◌∙◌, ap}
 use Rattle.crew_duty.specs.Duties.{flights_of}
 use Rattle.crew_duty.specs.Pairings.{IsDuty, may_stand_after}
 use Rattle.crew_duty.specs.declared.duty.Duty.{Duty}
 use Rattle.crew_duty.specs.declared.leg.Leg.{Leg}
 use Rattle.crew_flights.specs.Timetable.{IsSound, Timetable}
-use Rattle.crew_resource.specs.Labels.{IsFront, IsLocal, Member}
+use Rattle.crew_resource.specs.Labels.{IsLocal, Member}
 use Rattle.crew_resource.proofs.Local.{local_from_front}
 use Rattle.crew_resource.proofs.Members.{Member-filter_in, Member-filter_out}
 use Rattle.crew_resource.proofs.Scratch.{Right, covers_from_front, some_front}

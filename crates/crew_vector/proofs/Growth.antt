@@ -1,5 +1,5 @@
 -- The resource's step is a vector with one more duty, within the caps.
-use Rattle.std.proofs.Common.{◌≡◌, ℕ, Bool, true, ◌&&◌, cond, [], ◌∷◌, Option, Some, None, ℤ, pos, ◌+ℤ◌, ◌-ℤ◌, ◌*ℤ◌, int_le, refl, sym, ◌∙◌, ap, arith}
+use Rattle.std.proofs.Common.{◌≡◌, Bool, true, ◌&&◌, cond, [], ◌∷◌, Some, None, ℤ, pos, ◌+ℤ◌, ◌-ℤ◌, int_le, refl, sym, ◌∙◌, ap, arith}
 use Rattle.std.proofs.lemmas.Int.{ints}
 use Rattle.std.proofs.lemmas.Option.{cond_some}
 use Rattle.crew_duty.specs.Pairings.{is_within_caps}
@@ -9,7 +9,7 @@ use Rattle.crew_rules.specs.declared.settings.Settings.{Settings}
 use Rattle.crew_vector.specs.Amounts.{pay_next, rig_next, guarantee_next, fdp_next, fly_next, away_next}
 use Rattle.crew_vector.specs.Fronts.{vector_of}
 use Rattle.crew_vector.specs.Locals.{grown, is_vector_within_caps}
-use Rattle.crew_vector.specs.Parts.{Value, value_of}
+use Rattle.crew_vector.specs.Parts.{Value}
 use Rattle.crew_vector.proofs.Steps.{extends, opens, steps}
 use Rattle.crew_vector.proofs.Valued.{both-capped, both-free, shuffle, stretch}
 

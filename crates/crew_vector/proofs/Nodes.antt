@@ -1,15 +1,13 @@
 -- The theory of fronts at the nodes of a timetable.
-use Rattle.std.proofs.Common.{◌≡◌, ℕ, ◌+◌, ◌<◌, Bool, true, false, List, [], ◌∷◌, ◌++◌, inl, inr, Option, ℤ, pos, negsuc, ◌+ℤ◌, ◌-ℤ◌, neg_ℤ, refl, sym, ◌∙◌, ap, subst, arith}
+use Rattle.std.proofs.Common.{◌≡◌, ℕ, ◌+◌, ◌<◌, true, List, [], ◌∷◌, inl, inr, Option, ℤ, pos, negsuc, ◌+ℤ◌, subst, arith}
 use Rattle.std.specs.Prelude.{◌≤ℤ◌, ◌<ℤ◌, unsigned_abs}
 use Rattle.std.proofs.lemmas.Int.{ints}
-use Rattle.crew_duty.specs.Duties.{flights_of}
 use Rattle.crew_duty.specs.Keys.{key_cmp, key_total}
-use Rattle.crew_duty.specs.Listing.{all_duties}
-use Rattle.crew_duty.specs.Pairings.{IsDuty, may_stand_after}
+use Rattle.crew_duty.specs.Pairings.{may_stand_after}
 use Rattle.crew_duty.specs.declared.duty.Duty.{Duty}
 use Rattle.crew_duty.specs.declared.leg.Leg.{Leg}
 use Rattle.crew_flights.specs.Timetable.{IsSound, Timetable}
-use Rattle.crew_resource.specs.Labels.{IsFront, Member, Undominated}
+use Rattle.crew_resource.specs.Labels.{Member}
 use Rattle.crew_resource.proofs.Instance.{more, one, opening, preds, rules}
 use Rattle.crew_resource.proofs.ListOrder.{lists_grow}
 use Rattle.crew_resource.proofs.Members.{Member-filter_out}

@@ -1,7 +1,5 @@
 -- There is one best pairing: a walk tells its duties.
-use Rattle.std.proofs.Common.{◌≡◌, ℕ, true, List, [], ◌∷◌, map, inl, inr, Option, Some, None, ℤ, refl, sym, ◌∙◌, ap, subst, ⊎_elim, arith}
-use Rattle.std.specs.Prelude.{◌<ℤ◌}
-use Rattle.std.specs.FinMap as fin
+use Rattle.std.proofs.Common.{◌≡◌, ℕ, List, [], ◌∷◌, inl, inr, Option, Some, None, refl, sym, ◌∙◌, ap, subst, arith}
 use Rattle.std.specs.declared.cmp.Ordering.TheVariants.{Less, Equal}
 use Rattle.std.proofs.lemmas.Cmp.{tied_itself}
 use Rattle.std.proofs.lemmas.Int.{ints}
@@ -13,12 +11,11 @@ use Rattle.crew_duty.specs.Listing.{all_duties}
 use Rattle.crew_duty.specs.Members.{Each, Member}
 use Rattle.crew_duty.specs.Pairings.{IsDuty, minutes_away}
 use Rattle.crew_duty.specs.declared.duty.Duty.{Duty}
-use Rattle.crew_duty.specs.declared.leg.Leg.{Leg}
 use Rattle.crew_flights.specs.Timetable.{IsSound, Timetable}
 use Rattle.crew_rules.specs.declared.settings.Settings.{Settings}
 use Rattle.crew_vector.specs.Bests.{IsBest, IsPairing, NoDearer, PricedPairing}
 use Rattle.crew_vector.specs.Fronts.{walk_of}
-use Rattle.crew_vector.specs.Parts.{cost_of, pay_of}
+use Rattle.crew_vector.specs.Parts.{pay_of}
 use Rattle.crew_vector.proofs.Orders.{walk-order}
 
 each-member : (P : Duty → Type 0) (xs : List Duty) (x : Duty) → Each P xs → Member xs x → P x

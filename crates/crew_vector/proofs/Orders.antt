@@ -1,11 +1,10 @@
 -- Codes, keys and walks by their order: what the order does not tell apart is the same.
-use Rattle.std.proofs.Common.{◌≡◌, ℕ, Bool, true, false, List, refl, sym, ◌∙◌, ap, Ordering}
-use Rattle.std.specs.Cmp.Lexicographic.{slice_cmp}
+use Rattle.std.proofs.Common.{◌≡◌, ℕ, Bool, true, false, List, refl, ◌∙◌, ap, Ordering}
 use Rattle.std.specs.FinMap.{nat_cmp-IsAntisymmetric, slice_cmp-IsAntisymmetric}
 use Rattle.std.specs.Ordering.{bool_cmp, eq_by_cmp, is_eq, nat_cmp}
 use Rattle.std.specs.declared.cmp.Ordering.TheVariants.{Less, Equal, Greater}
 use Rattle.std.proofs.lemmas.Cmp.{eq_by_cmp_equiv}
-use Rattle.crew_duty.specs.Keys.{key_cmp, key_total, leg_cmp, walk_cmp, walk_total}
+use Rattle.crew_duty.specs.Keys.{key_cmp, leg_cmp, walk_cmp, walk_total}
 use Rattle.crew_duty.specs.declared.leg.Leg.{Leg}
 use Rattle.crew_flights.specs.Codes.{code_cmp, code_cmp_total}
 use Rattle.crew_resource.proofs.ListOrder.{at_most_order, at_most_total, lists_exact}

@@ -1,5 +1,5 @@
 -- The partials of a node are the lists of label setting: of known duties, each of which may stand after the one before, with a value.
-use Rattle.std.proofs.Common.{◌≡◌, ℕ, ◌<◌, Bool, true, false, ◌&&◌, cond, List, [], ◌∷◌, ◌++◌, ◌⊎◌, inl, inr, map, Option, Some, None, ℤ, pos, ◌-ℤ◌, refl, sym, ◌∙◌, ap, subst, ⊎_elim, arith}
+use Rattle.std.proofs.Common.{◌≡◌, ℕ, Bool, true, cond, List, [], ◌∷◌, ◌++◌, ◌⊎◌, inl, inr, Option, Some, None, ℤ, pos, ◌-ℤ◌, refl, sym, ◌∙◌, ap, subst, ⊎_elim, arith}
 use Rattle.std.specs.Prelude.{◌≤ℤ◌, int_le}
 use Rattle.std.specs.Ordering.{eq_by_cmp}
 use Rattle.std.proofs.lemmas.Bool.{and_parts}
@@ -11,12 +11,11 @@ use Rattle.crew_duty.specs.Events as Events
 use Rattle.crew_duty.specs.Events.{MayFollow}
 use Rattle.crew_duty.specs.Listing.{all_duties}
 use Rattle.crew_duty.specs.Members.{Each}
-use Rattle.crew_duty.specs.Pairings.{AllRested, IsDuty, IsPartial, is_within_caps, last_duty, may_stand_after}
+use Rattle.crew_duty.specs.Pairings.{AllRested, IsDuty, IsPartial, last_duty, may_stand_after}
 use Rattle.crew_duty.specs.declared.duty.Duty.{Duty}
 use Rattle.crew_duty.specs.declared.leg.Leg.{Leg}
 use Rattle.crew_flights.specs.Codes.{code_cmp}
 use Rattle.crew_flights.specs.Timetable.{IsSound, Timetable}
-use Rattle.crew_flights.specs.declared.flight.Flight.{Flight}
 use Rattle.crew_resource.specs.Labels.{IsFront, Member, Undominated}
 use Rattle.crew_resource.specs.Paths.{Begins, CleanPathTo, Linked, LinkedFrom, PathTo}
 use Rattle.crew_resource.proofs.Members.{Member-append, Member-append_left}
@@ -26,14 +25,13 @@ use Rattle.crew_vector.specs.Along.{GoesOn, IsLine}
 use Rattle.crew_vector.specs.Amounts.{arrival_of, departure_of}
 use Rattle.crew_vector.specs.Costs.{is_at_most}
 use Rattle.crew_vector.specs.Fronts.{At, Clean, IsFrontAt, IsUndominated, vector_of, walk_at_most, walk_of}
-use Rattle.crew_vector.specs.Parts.{Value, stays_within_caps, value_of}
+use Rattle.crew_vector.specs.Parts.{Value, value_of}
 use Rattle.crew_vector.proofs.Cuts.{before_last, by-first, cut, each-of, from-member, last-split, to-member, whole-split}
 use Rattle.crew_vector.proofs.Extended.{none-goes-on}
 use Rattle.crew_vector.proofs.Fitting.{caps-of-whole, value-out}
 use Rattle.crew_vector.proofs.LegalDuties.{legal-sound}
 use Rattle.crew_vector.proofs.Orders.{code-itself, same-code}
 use Rattle.crew_vector.proofs.Steps.{extends, opens, steps}
-
 
 test-le : (a b : ℤ) → int_le a b ≡ true → a ≤ℤ b
 test-le a b h = grind (arith, ints)

@@ -11,7 +11,7 @@ use Rattle.crew_resource.specs.SumLaws.{sum_order, sum_steps}
 use Rattle.crew_rules.specs.declared.settings.Settings.{Settings}
 use Rattle.crew_vector.specs.Amounts.{pay_first, pay_next, rig_first, rig_next, guarantee_first, guarantee_next, fdp_first, fdp_next, fly_first, fly_next, away_first, away_next}
 use Rattle.crew_vector.specs.Costs.{is_at_most}
-use Rattle.crew_vector.specs.Parts.{Value, parts_of, value_of}
+use Rattle.crew_vector.specs.Parts.{Value, value_of}
 use Rattle.crew_vector.proofs.Fitting.{value-out}
 use Rattle.crew_vector.proofs.Valued.{composed, composed-value}
 
