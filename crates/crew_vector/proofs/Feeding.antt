@@ -35,6 +35,9 @@ module _ (s : Settings) (t : Timetable) (base : List ℕ) (price : ℤ) (checked
   some : (d : Duty) → (entries : List (Value × List (List Leg))) × Right Duty Value (List (List Leg)) (One s t base price checked sound) (More s t base price checked sound) (Opening s t base price checked sound) (extends s) (Preds s t base price checked sound) is_at_most walk_at_most (PathAt s t base price checked sound) (CleanAt s t base price checked sound) (node-rules s t base price checked sound) (rank s t base price checked sound) (arcs-rise s t base price checked sound) d entries
   some = some_front Duty Value (List (List Leg)) (One s t base price checked sound) (More s t base price checked sound) (Opening s t base price checked sound) (extends s) (Preds s t base price checked sound) is_at_most walk_at_most (PathAt s t base price checked sound) (CleanAt s t base price checked sound) (node-rules s t base price checked sound) (rank s t base price checked sound) (arcs-rise s t base price checked sound) walk-either
 
+  pub some-front : (d : Duty) → IsDuty s (flights_of t) d → (entries : List (Value × List (List Leg))) × IsFrontAt s t base price d entries
+  some-front d legal = ((some d).0, front-from s t base price checked sound d (legal-known s t base price checked sound d legal) (some d).0 (some d).1.0)
+
   abbrev fronts : Duty → List (Value × List (List Leg))
   fronts e = (some e).0
 

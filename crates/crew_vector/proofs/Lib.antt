@@ -1,16 +1,16 @@
-mod Cheapest
-mod Composed
-mod Cuts
-mod Extended
-mod Feeding
-mod Fitting
-mod Growth
-mod LegalDuties
-mod Nodes
-mod OneBest
-mod Orders
-mod Paths
-mod Pooled
-mod Steps
-mod Unique
-mod Valued
+pub mod Cheapest
+pub mod Composed
+pub mod Cuts
+pub mod Extended
+pub mod Feeding
+pub mod Fitting
+pub mod Growth
+pub mod LegalDuties
+pub mod Nodes
+pub mod OneBest
+pub mod Orders
+pub mod Paths
+pub mod Pooled
+pub mod Steps
+pub mod Unique
+pub mod Valued

@@ -1,5 +1,5 @@
 -- The time-space network of a base: labels wait from the events at which duties arrive to those at which duties leave, and board
--- duties there. Time-space networks of crew pairing are those of Barnhart et al. 2003, "Airline crew scheduling".
+-- duties there. Networks of duties along time are described in Barnhart et al. 2003, "Airline crew scheduling".
 use Rattle.std.specs.Prelude.{ℕ, Bool, ◌&&◌, cond, int_le, ℤ, pos, ◌-ℤ◌, neg_ℤ, List, [], ◌∷◌, ◌++◌, Option, Some, None}
 use Rattle.std.specs.Ordering.{eq_by_cmp}
 use Rattle.crew_duty.specs.declared.duty.Duty.{Duty}

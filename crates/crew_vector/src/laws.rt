@@ -53,6 +53,11 @@ pub fn undominated_vectors_have_clean_partials()
     ensures { (s : Settings) (t : Timetable) (base : List ℕ) (price : ℤ) (d : Duty) (v : Value) → IsChecked s → TimetableSpec.IsSound t → IsUndominated s t base price d v → (w : List (List Leg)) × Clean s t base price d v w }
 {}
 
+/// Each node has a front.
+pub fn each_node_has_a_front()
+    ensures { (s : Settings) (t : Timetable) (base : List ℕ) (price : ℤ) (d : Duty) → IsChecked s → TimetableSpec.IsSound t → IsDuty s (flights_of t) d → (entries : List (Value × List (List Leg))) × IsFrontAt s t base price d entries }
+{}
+
 /// A node has one front: two of them have the same entries, and in order of vector they are one list.
 pub fn fronts_are_unique()
     ensures entries { (s : Settings) (t : Timetable) (base : List ℕ) (price : ℤ) (d : Duty) (es fs : List (Value × List (List Leg))) → IsFrontAt s t base price d es → IsFrontAt s t base price d fs → (v : Value) (w : List (List Leg)) → Labels.Member es (v, w) → Labels.Member fs (v, w) }

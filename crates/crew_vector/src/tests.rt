@@ -175,6 +175,7 @@ fn order(rt: HostRuntime) -> Result<(), Fail> {
     laws::grade_is_the_number_of_duties();
     laws::legal_duties_are_sound();
     laws::undominated_vectors_have_clean_partials();
+    laws::each_node_has_a_front();
     laws::fronts_are_unique();
     laws::best_costs_least();
     laws::best_is_unique();
