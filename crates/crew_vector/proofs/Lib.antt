@@ -1,5 +1,16 @@
-mod Composed
-mod Extended
-mod Fitting
-mod LegalDuties
-mod Valued
+pub mod Cheapest
+pub mod Composed
+pub mod Cuts
+pub mod Extended
+pub mod Feeding
+pub mod Fitting
+pub mod Growth
+pub mod LegalDuties
+pub mod Nodes
+pub mod OneBest
+pub mod Orders
+pub mod Paths
+pub mod Pooled
+pub mod Steps
+pub mod Unique
+pub mod Valued

@@ -51,7 +51,7 @@ none-away r a =
     omega (arith, ints, ap (λ z. r *ℤ z) zero ∙ *ℤ-zero r)
 
 -- a rest and the duty after it
-stretch : (r a b c p : ℤ) → r *ℤ (b -ℤ a) +ℤ (r *ℤ (c -ℤ b) -ℤ p) ≡ r *ℤ (c -ℤ a) -ℤ p
+pub stretch : (r a b c p : ℤ) → r *ℤ (b -ℤ a) +ℤ (r *ℤ (c -ℤ b) -ℤ p) ≡ r *ℤ (c -ℤ a) -ℤ p
 stretch r a b c p = omega (arith, ints, joined r a b c (pos 0) p)
 
 rises-rig : (r : ℕ) (x : Duty) (ys : List Duty) → rises (rig_next r) x ys ≡ pos r *ℤ ((last_duty x ys).release -ℤ x.release) -ℤ total (λ d. d.price) ys
@@ -90,16 +90,16 @@ capped first next f cap same x ys =
     ap (λ b. cond b (Some (sum_of first next (x ∷ ys))) None) (same-all (λ ds. is_within (Some (pos cap)) (sum_of first next ds)) (λ ds. int_le (f ds) (pos cap)) (λ ds. ap (λ z. int_le z (pos cap)) (same ds)) (beginnings (x ∷ ys)))
     ∙ ap (λ z. cond (list_all (λ ds. int_le (f ds) (pos cap)) (beginnings (x ∷ ys))) (Some z) None) (same (x ∷ ys))
 
-both-capped : {A B : Type 0} (p q : Bool) (a : A) (b : B) → both (cond p (Some a) None) (cond q (Some b) None) ≡ cond (p && q) (Some (a, b)) None
+pub both-capped : {A B : Type 0} (p q : Bool) (a : A) (b : B) → both (cond p (Some a) None) (cond q (Some b) None) ≡ cond (p && q) (Some (a, b)) None
 both-capped true true a b = refl
 both-capped true false a b = refl
 both-capped false q a b = refl
 
-both-free : {A B : Type 0} (q : Bool) (a : A) (b : B) → both (Some a) (cond q (Some b) None) ≡ cond q (Some (a, b)) None
+pub both-free : {A B : Type 0} (q : Bool) (a : A) (b : B) → both (Some a) (cond q (Some b) None) ≡ cond q (Some (a, b)) None
 both-free true a b = refl
 both-free false a b = refl
 
-shuffle : (a b c d : Bool) → (a && b) && (c && d) ≡ (a && (b && (c && d)))
+pub shuffle : (a b c d : Bool) → (a && b) && (c && d) ≡ (a && (b && (c && d)))
 shuffle true b c d = refl
 shuffle false b c d = refl
 

@@ -1,6 +1,10 @@
 pub mod Along
 pub mod Amounts
+pub mod Bests
 pub mod Costs
+pub mod Events
+pub mod Fronts
+pub mod Locals
 pub mod Pairing
 pub mod Parts
 pub mod Terms

@@ -4,7 +4,8 @@
 //! duty by duty, in steps and in stages; the value of each list is its vector by definition, and none exactly where a
 //! beginning of the list passes a cap. `value_of_list` works one out, `Parts` names the parts of a value, and
 //! `ReducedCost` is a pairing's pay less prices. Every sum fits: `laws` has it that legal duties keep the bounds that this
-//! rests on, that a cap on a whole list is a cap on each beginning, and what costs and grades say.
+//! rests on, that a cap on a whole list is a cap on each beginning, and what costs and grades say. `specs/` also has what
+//! the fronts of a timetable's nodes and its best pairing are, and `laws` what holds of them.
 #![tactic(auto)]
 
 mod amounts;

@@ -174,5 +174,14 @@ fn order(rt: HostRuntime) -> Result<(), Fail> {
     laws::caps_on_the_whole_list_suffice();
     laws::grade_is_the_number_of_duties();
     laws::legal_duties_are_sound();
+    laws::undominated_vectors_have_clean_partials();
+    laws::each_node_has_a_front();
+    laws::fronts_are_unique();
+    laws::best_costs_least();
+    laws::best_is_unique();
+    laws::best_is_the_least_entry_at_home();
+    laws::local_entries_are_the_front();
+    laws::steps_are_those_of_the_vector();
+    laws::views_of_local_pools_are_fronts();
     Ok(())
 }

@@ -1,0 +1,112 @@
+-- Under each pairing lies a clean one that costs no more, so that the best costs the least of all.
+use Rattle.std.proofs.Common.{◌≡◌, ℕ, true, List, [], ◌∷◌, Some, None, inl, inr, sym, ◌∙◌, ap, refl, subst, ⊎_elim, arith}
+use Rattle.std.specs.Prelude.{◌≤ℤ◌}
+use Rattle.std.specs.Ordering.{eq_by_cmp}
+use Rattle.std.proofs.lemmas.Int.{ints}
+use Rattle.crew_duty.specs.Pairings.{is_pairing, last_duty, minutes_away}
+use Rattle.crew_duty.specs.declared.duty.Duty.{Duty}
+use Rattle.crew_duty.specs.declared.leg.Leg.{Leg}
+use Rattle.crew_flights.specs.Codes.{code_cmp}
+use Rattle.crew_flights.specs.Timetable.{IsSound, Timetable}
+use Rattle.crew_rules.specs.Settings.{IsChecked}
+use Rattle.crew_rules.specs.declared.settings.Settings.{Settings}
+use Rattle.crew_vector.specs.Bests.{AreFronts, IsBest, IsCleanPairing, IsHomeEntry, IsPairing, NoDearer, PricedPairing}
+use Rattle.crew_vector.specs.Costs.{cost_respects, reduced_cost}
+use Rattle.crew_vector.specs.Fronts.{At, vector_of, walk_at_most, walk_of}
+use Rattle.crew_vector.specs.Parts.{Value, cost_of, pay_of}
+use Rattle.crew_vector.proofs.Fitting.{cost-is}
+use Rattle.crew_vector.proofs.Cuts.{append-nothing}
+use Rattle.crew_vector.proofs.Nodes.{each-below, each-clean}
+use Rattle.crew_vector.proofs.Orders.{code-itself, same-code, walk-order}
+use Rattle.crew_vector.proofs.Paths.{last-of-each}
+
+pub clean-below : (s : Settings) (t : Timetable) (p : PricedPairing) → IsChecked s → IsSound t → IsPairing s t p → (q : PricedPairing) × IsCleanPairing s t q × (q.cost ≤ℤ p.cost)
+clean-below s t p checked sound h =
+    let last = last_duty h.first h.others in
+    let vector = vector_of s h.price (h.first ∷ h.others) in
+    let here : At s t p.base h.price last vector (walk_of (h.first ∷ h.others)) = record { first = h.first; others = h.others; partial = h.partial; ends = refl; vector = refl; walk = refl } in
+    let low = each-below s t p.base h.price checked sound last vector (walk_of (h.first ∷ h.others)) here in
+    let clean = each-clean s t p.base h.price checked sound last low.0 low.1 in
+    let at = clean.1.at in
+    let q : PricedPairing = record {
+      base = p.base;
+      walk = walk_of (at.first ∷ at.others);
+      cost = cost_of s h.price (at.first ∷ at.others);
+      pay = pay_of s (at.first ∷ at.others);
+      away = minutes_away (at.first ∷ at.others);
+    } in
+    let home : is_pairing p.base at.first at.others ≡ true = ap (λ (d : Duty). eq_by_cmp code_cmp d.to p.base) at.ends ∙ h.returns in
+    let less = cost_respects low.0 vector low.2 in
+    let cost_q : reduced_cost low.0 ≡ cost_of s h.price (at.first ∷ at.others) = ap reduced_cost at.vector ∙ cost-is s h.price (at.first ∷ at.others) in
+    let cost_p : reduced_cost vector ≡ p.cost = cost-is s h.price (h.first ∷ h.others) ∙ sym h.cost in (
+      q,
+      record {
+        pairing = record { price = h.price; based = h.based; first = at.first; others = at.others; partial = at.partial; returns = home; walk = refl; cost = refl; pay = refl; away = refl };
+        stays = clean.1.stays;
+      },
+      subst (λ z. z ≤ℤ p.cost) cost_q (subst (λ z. reduced_cost low.0 ≤ℤ z) cost_p less),
+    )
+
+pub best-least : (s : Settings) (t : Timetable) (best p : PricedPairing) → IsChecked s → IsSound t → IsBest s t (Some best) → IsPairing s t p → best.cost ≤ℤ p.cost
+best-least s t best p checked sound is h =
+    let q = clean-below s t p checked sound h in
+    let less = q.2 in
+    ⊎_elim (λ lt. omega (arith, ints, lt, less)) (λ eq. let e = eq.0 in omega (arith, ints, e, less)) (is.1 q.0 q.1)
+
+-- an entry at home is a clean pairing
+pub entry-pairing : (s : Settings) (t : Timetable) (front : List ℕ → Duty → List (Value × List (List Leg))) → AreFronts s t front → (base : List ℕ) (v : Value) (w : List (List Leg)) → IsHomeEntry s t front base v w
+    → (p : PricedPairing) × IsCleanPairing s t p × (p.base ≡ base) × (p.walk ≡ w) × (p.cost ≡ reduced_cost v)
+entry-pairing s t front right base v w h =
+    let clean = (right base h.price h.duty h.based h.legal).clean v w h.held in
+    let at = clean.at in
+    let p : PricedPairing = record {
+      base = base;
+      walk = w;
+      cost = cost_of s h.price (at.first ∷ at.others);
+      pay = pay_of s (at.first ∷ at.others);
+      away = minutes_away (at.first ∷ at.others);
+    } in
+    let home : is_pairing base at.first at.others ≡ true = ap (λ (d : Duty). eq_by_cmp code_cmp d.to base) at.ends ∙ code-itself h.duty.to base h.home in (
+      p,
+      record {
+        pairing = record { price = h.price; based = h.based; first = at.first; others = at.others; partial = at.partial; returns = home; walk = at.walk; cost = refl; pay = refl; away = refl };
+        stays = clean.stays;
+      },
+      refl,
+      refl,
+      sym (ap reduced_cost at.vector ∙ cost-is s h.price (at.first ∷ at.others)),
+    )
+
+-- a clean pairing's vector is an entry at home, with a walk that is at most the pairing's
+pairing-entry : (s : Settings) (t : Timetable) (front : List ℕ → Duty → List (Value × List (List Leg))) → IsChecked s → IsSound t → AreFronts s t front → (p : PricedPairing) → IsCleanPairing s t p
+    → (v : Value) × (w : List (List Leg)) × IsHomeEntry s t front p.base v w × (reduced_cost v ≡ p.cost) × (walk_at_most w p.walk ≡ true)
+pairing-entry s t front checked sound right p c =
+    let is = c.pairing in
+    let last = last_duty is.first is.others in
+    let vector = vector_of s is.price (is.first ∷ is.others) in
+    let legal = last-of-each s t p.base is.price checked sound is.first is.others is.partial.legal in
+    let f = right p.base is.price last is.based legal in
+    let e = f.every vector (c.stays is.others [] (append-nothing is.others)) in (
+      vector,
+      e.0,
+      record { price = is.price; based = is.based; duty = last; legal = legal; home = same-code last.to p.base is.returns; held = e.1 },
+      cost-is s is.price (is.first ∷ is.others) ∙ sym is.cost,
+      f.least vector e.0 p.walk e.1 (record { at = record { first = is.first; others = is.others; partial = is.partial; ends = refl; vector = refl; walk = is.walk }; stays = c.stays }),
+    )
+
+pub least-entry : (s : Settings) (t : Timetable) (front : List ℕ → Duty → List (Value × List (List Leg))) (best : PricedPairing) → IsChecked s → IsSound t → AreFronts s t front → IsCleanPairing s t best
+    → ((base : List ℕ) (v : Value) (w : List (List Leg)) → IsHomeEntry s t front base v w → NoDearer best.cost best.walk (reduced_cost v) w) → IsBest s t (Some best)
+least-entry s t front best checked sound right clean least = (clean, each)
+  where
+    each : (p : PricedPairing) → IsCleanPairing s t p → NoDearer best.cost best.walk p.cost p.walk
+    each p c =
+        let e = pairing-entry s t front checked sound right p c in
+        let n : NoDearer best.cost best.walk p.cost e.1 = subst (λ z. NoDearer best.cost best.walk z e.1) e.3 (least p.base e.0 e.1 e.2) in
+        ⊎_elim inl (λ q. inr (q.0, walk-order.transitive best.walk e.1 p.walk q.1 e.4)) n
+
+pub no-entry : (s : Settings) (t : Timetable) (front : List ℕ → Duty → List (Value × List (List Leg))) → IsChecked s → IsSound t → AreFronts s t front
+    → ((base : List ℕ) (v : Value) (w : List (List Leg)) → IsHomeEntry s t front base v w → ⊥) → IsBest s t None
+no-entry s t front checked sound right none = λ p h.
+    let q = clean-below s t p checked sound h in
+    let e = pairing-entry s t front checked sound right q.0 q.1 in
+    none q.0.base e.0 e.1 e.2

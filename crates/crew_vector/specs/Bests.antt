@@ -1,0 +1,65 @@
+-- Pairings, the best of the clean ones, and what a timetable gives from scratch.
+use Rattle.std.specs.Prelude.{◌≡◌, ◌⊎◌, ℕ, true, ℤ, ◌<ℤ◌, List, ◌∷◌, Option, Some, None}
+use Rattle.std.specs.FinMap as map
+use Rattle.crew_duty.specs.Duties.{flights_of}
+use Rattle.crew_duty.specs.Pairings.{IsDuty, IsPartial, is_pairing, minutes_away}
+use Rattle.crew_duty.specs.declared.duty.Duty.{Duty}
+use Rattle.crew_duty.specs.declared.leg.Leg.{Leg}
+use Rattle.crew_flights.specs.Timetable.{Timetable}
+use Rattle.crew_resource.specs.Labels.{Member}
+use Rattle.crew_rules.specs.declared.settings.Settings.{Settings}
+use Rattle.crew_vector.specs.Fronts.{IsFrontAt, StaysUndominated, walk_at_most, walk_of}
+use Rattle.crew_vector.specs.Parts.{Value, cost_of, pay_of}
+
+-- a pairing by its walk, with its reduced cost, pay and minutes away
+pub record PricedPairing : Type 0 where
+  pub base : List ℕ
+  pub walk : List (List Leg)
+  pub cost : ℤ
+  pub pay : ℤ
+  pub away : ℤ
+
+-- a pairing of a base of the timetable: a partial that returns to its base
+pub record IsPairing (s : Settings) (t : Timetable) (p : PricedPairing) : Type 0 where
+  pub price : ℤ
+  pub based : map.get t.bases p.base ≡ Some price
+  pub first : Duty
+  pub others : List Duty
+  pub partial : IsPartial s (flights_of t) p.base first others
+  pub returns : is_pairing p.base first others ≡ true
+  pub walk : p.walk ≡ walk_of (first ∷ others)
+  pub cost : p.cost ≡ cost_of s price (first ∷ others)
+  pub pay : p.pay ≡ pay_of s (first ∷ others)
+  pub away : p.away ≡ minutes_away (first ∷ others)
+
+pub record IsCleanPairing (s : Settings) (t : Timetable) (p : PricedPairing) : Type 0 where
+  pub pairing : IsPairing s t p
+  pub stays : StaysUndominated s t p.base pairing.price pairing.first pairing.others
+
+-- by cost, and then by walk
+abbrev pub NoDearer : ℤ → List (List Leg) → ℤ → List (List Leg) → Type 0
+NoDearer cost walk other_cost other_walk = (cost <ℤ other_cost) ⊎ ((cost ≡ other_cost) × (walk_at_most walk other_walk ≡ true))
+
+-- of the clean pairings of all bases the one that is least by cost and walk; none where there is no pairing
+abbrev pub IsBest : Settings → Timetable → Option PricedPairing → Type 0
+IsBest s t None = (p : PricedPairing) → IsPairing s t p → ⊥
+IsBest s t (Some best) = IsCleanPairing s t best × ((p : PricedPairing) → IsCleanPairing s t p → NoDearer best.cost best.walk p.cost p.walk)
+
+-- the front of each base and legal duty
+abbrev pub AreFronts : Settings → Timetable → (List ℕ → Duty → List (Value × List (List Leg))) → Type 0
+AreFronts s t front =
+    (base : List ℕ) (price : ℤ) (d : Duty) → map.get t.bases base ≡ Some price → IsDuty s (flights_of t) d → IsFrontAt s t base price d (front base d)
+
+-- an entry of a node that arrives at its base
+pub record IsHomeEntry (s : Settings) (t : Timetable) (front : List ℕ → Duty → List (Value × List (List Leg))) (base : List ℕ) (v : Value) (w : List (List Leg)) : Type 0 where
+  pub price : ℤ
+  pub based : map.get t.bases base ≡ Some price
+  pub duty : Duty
+  pub legal : IsDuty s (flights_of t) duty
+  pub home : duty.to ≡ base
+  pub held : Member (front base duty) (v, w)
+
+-- from scratch: the front of each base and legal duty, and the best pairing
+pub record IsScratch (s : Settings) (t : Timetable) (front : List ℕ → Duty → List (Value × List (List Leg))) (best : Option PricedPairing) : Type 0 where
+  pub fronts : AreFronts s t front
+  pub best_is : IsBest s t best
