@@ -1,0 +1,4 @@
+pub mod Walks
+pub mod Entries
+pub mod Offers
+pub mod Local
