@@ -1,0 +1,128 @@
+-- Lists that rise with no element at most another.
+use Rattle.std.proofs.Common.{◌≡◌, ◌≢◌, ℕ, zero, suc, ◌+◌, ◌≤◌, Bool, true, false, cond, not, List, [], ◌∷◌, ◌++◌, length, take, drop, set, map, get_or, Some, None, inl, inr, refl, sym, ◌∙◌, ap, subst, ⊎_elim, arith, Ordering}
+use Rattle.std.specs.Prelude.{slice_get, unwrap_or}
+use Rattle.std.specs.List.{filter, insert, position, position_or_len, prefix_len, All, Any, AllByRecursion}
+use Rattle.std.proofs.lemmas.List.Quantifiers.{position-Some}
+use Rattle.std.proofs.lemmas.Option.{slice_get-get_or}
+use Rattle.std.specs.Ordering.{is_lt}
+use Rattle.std.specs.Cmp.{IsTotalOrder}
+use Rattle.std.specs.declared.cmp.Ordering.TheVariants.{Less, Equal, Greater}
+use Rattle.std.proofs.lemmas.Bool.{cases_Bool, false≢true, not-true}
+use Rattle.std.proofs.lemmas.List.Sums.{prefix_len-le-length, fails_before_first}
+use Rattle.std.proofs.lemmas.Bool.Decides.{nat_tests}
+use Rattle.std.proofs.Math.Numerals.{one-add}
+use Rattle.std.specs.Prelude.{}
+use Rattle.std.proofs.lemmas.List.Elements.{recursion_from_All}
+use Rattle.crew_resource.specs.Labels.{Member}
+use Rattle.crew_resource.proofs.Members.{Member-filter_out}
+use Rattle.crew_resource.specs.Resource.{OrderLaws}
+use Rattle.crew_front.specs.Entries.{Parted, PartedFromAll, IsApart, placed}
+
+-- an insert at the first place that passes
+pub insert-first : {X : Type 0} (p : X → Bool) (x : X) (xs : List X) → insert xs (position_or_len p xs) x ≡ placed p x xs
+insert-first p x [] = refl
+insert-first p x (y ∷ ys) =
+    elim (p y) as (λ b. take (cond (not b) (1 + position_or_len p ys) 0) (y ∷ ys) ++ x ∷ drop (cond (not b) (1 + position_or_len p ys) 0) (y ∷ ys) ≡ cond b (x ∷ y ∷ ys) (y ∷ placed p x ys))
+    [ true ↦ refl | false ↦ rw one-add (ap (λ r. y ∷ r) (insert-first p x ys)) ]
+
+pub unwrap_or-position : {X : Type 0} (p : X → Bool) (xs : List X) → unwrap_or (position p xs) (length xs) ≡ position_or_len p xs
+unwrap_or-position p xs = let h = prefix_len-le-length (λ x. not (p x)) xs in grind (arith, nat_tests)
+
+-- with no place, each element fails
+pub none_passes : {X : Type 0} (p : X → Bool) (xs : List X) → position p xs ≡ None → All (λ x. p x ≡ false) xs
+none_passes p xs e k d h = fails_before_first p xs k d (let q : length xs ≤ position_or_len p xs = grind (arith, nat_tests) in omega arith)
+
+member_recursion : {X : Type 0} (P : X → Type 0) (xs : List X) (x : X) → AllByRecursion P xs → Member xs x → P x
+member_recursion P [] x h m = absurd m
+member_recursion P (y ∷ ys) x h (inl e) = subst P e h.0
+member_recursion P (y ∷ ys) x h (inr m) = member_recursion P ys x h.1 m
+
+pub Member-All : {X : Type 0} (P : X → Type 0) (xs : List X) (x : X) → All P xs → Member xs x → P x
+Member-All P xs x h m = member_recursion P xs x (recursion_from_All P xs h) m
+
+-- what the elements of a filter are parted from
+pub PartedFromAll-filter : {X V : Type 0} (cmp : V → V → Ordering) (below : V → V → Bool) (f : X → V) (p : X → Bool) (a : V) (xs : List X) → PartedFromAll cmp below a (map f xs) → PartedFromAll cmp below a (map f (filter p xs))
+PartedFromAll-filter cmp below f p a [] h = tt
+PartedFromAll-filter cmp below f p a (x ∷ xs) h =
+    let rest = PartedFromAll-filter cmp below f p a xs h.1 in
+    elim (p x) as (λ b. PartedFromAll cmp below a (map f (cond b (x ∷ filter p xs) (filter p xs)))) [ true ↦ (h.0, rest) | false ↦ rest ]
+
+pub IsApart-filter : {X V : Type 0} (cmp : V → V → Ordering) (below : V → V → Bool) (f : X → V) (p : X → Bool) (xs : List X) → IsApart cmp below (map f xs) → IsApart cmp below (map f (filter p xs))
+IsApart-filter cmp below f p [] h = tt
+IsApart-filter cmp below f p (x ∷ xs) h =
+    let rest = IsApart-filter cmp below f p xs h.1 in
+    let here = PartedFromAll-filter cmp below f p (f x) xs h.0 in
+    elim (p x) as (λ b. IsApart cmp below (map f (cond b (x ∷ filter p xs) (filter p xs)))) [ true ↦ (here, rest) | false ↦ rest ]
+
+module _ {X V : Type 0} (cmp : V → V → Ordering) (below : V → V → Bool) (f : X → V) (total : IsTotalOrder cmp) (laws : OrderLaws cmp below) (v : X) where
+  PartedFromAll-before : (xs : List X) → ((y : X) → Member xs y → (below (f y) (f v) ≡ false) × (below (f v) (f y) ≡ false)) → (a : V) → cmp (f v) a ≡ Less → PartedFromAll cmp below a (map f xs) → PartedFromAll cmp below (f v) (map f xs)
+  PartedFromAll-before [] out a l h = tt
+  PartedFromAll-before (x ∷ xs) out a l h = (
+    record { rises = total.trans (f v) a (f x) l h.0.rises; forth = (out x (inl refl)).1; back = (out x (inl refl)).0 },
+    PartedFromAll-before xs (λ y m. out y (inr m)) a l h.1,
+  )
+
+  PartedFromAll-placed : (a : V) (xs : List X) → Parted cmp below a (f v) → PartedFromAll cmp below a (map f xs) → PartedFromAll cmp below a (map f (placed (λ y. is_lt (cmp (f v) (f y))) v xs))
+  PartedFromAll-placed a [] here h = (here, tt)
+  PartedFromAll-placed a (x ∷ xs) here h =
+      let rest = PartedFromAll-placed a xs here h.1 in
+      elim (is_lt (cmp (f v) (f x))) as (λ b. PartedFromAll cmp below a (map f (cond b (v ∷ x ∷ xs) (x ∷ placed (λ y. is_lt (cmp (f v) (f y))) v xs)))) [ true ↦ (here, h) | false ↦ (h.0, rest) ]
+
+  less_from_test : (o : Ordering) → is_lt o ≡ true → o ≡ Less
+  less_from_test Less e = refl
+  less_from_test Equal e = absurd (false≢true e)
+  less_from_test Greater e = absurd (false≢true e)
+
+  more_from_test : (o : Ordering) → is_lt o ≡ false → (o ≡ Equal → ⊥) → o ≡ Greater
+  more_from_test Less e n = absurd (false≢true (sym e))
+  more_from_test Equal e n = absurd (n refl)
+  more_from_test Greater e n = refl
+
+  -- what the elements are parted from may be placed among them
+  pub IsApart-placed : (xs : List X) → ((y : X) → Member xs y → (below (f y) (f v) ≡ false) × (below (f v) (f y) ≡ false)) → IsApart cmp below (map f xs) → IsApart cmp below (map f (placed (λ y. is_lt (cmp (f v) (f y))) v xs))
+  IsApart-placed [] out h = (tt, tt)
+  IsApart-placed (x ∷ xs) out h =
+      let q = out x (inl refl) in
+      ⊎_elim {C = IsApart cmp below (map f (placed (λ y. is_lt (cmp (f v) (f y))) v (x ∷ xs)))}
+      (λ t. rw t (
+        (
+          record { rises = less_from_test (cmp (f v) (f x)) t; forth = q.1; back = q.0 },
+          PartedFromAll-before xs (λ y m. out y (inr m)) (f x) (less_from_test (cmp (f v) (f x)) t) h.0,
+        ),
+        h,
+      ))
+      (λ n.
+      let more = more_from_test (cmp (f v) (f x)) n (λ e. false≢true (sym q.1 ∙ (ap (below (f v)) (sym (laws.exact (f v) (f x) e)) ∙ laws.reflexive (f v)))) in
+      let less : cmp (f x) (f v) ≡ Less = total.antisymm (f x) (f v) ∙ ap Rattle.std.specs.Ordering.ordering_reverse more in
+      rw n (
+        PartedFromAll-placed (f x) xs (record { rises = less; forth = q.0; back = q.1 }) h.0,
+        IsApart-placed xs (λ y m. out y (inr m)) h.1,
+      ))
+      (cases_Bool (is_lt (cmp (f v) (f x))))
+
+-- an entry's walk may change
+pub map-slice_set : {X V : Type 0} (f : X → V) (xs : List X) (i : ℕ) (x y : X) → slice_get xs i ≡ Some x → f y ≡ f x → map f (set xs i y) ≡ map f xs
+map-slice_set f [] i x y g e = refl
+map-slice_set f (z ∷ xs) zero x y g e = let q : z ≡ x = (cc) in ap (λ r. r ∷ map f xs) (e ∙ ap f (sym q))
+map-slice_set f (z ∷ xs) (suc i) x y g e = ap (λ r. f z ∷ r) (map-slice_set f xs i x y g e)
+
+-- an offer's three cases, over plain lists
+module _ {V W : Type 0} (cmp : V → V → Ordering) (below : V → V → Bool) (total : IsTotalOrder cmp) (laws : OrderLaws cmp below) (old : List (V × W)) (v : V) where
+  pub joined_apart : (w : W) → position (λ e. below e.0 v) old ≡ None → IsApart cmp below (map (λ e. e.0) old) → IsApart cmp below (map (λ e. e.0) (placed (λ e. is_lt (cmp v e.0)) (v, w) (filter (λ e. not (below v e.0)) old)))
+  joined_apart w none h =
+      IsApart-placed {X = V × W} cmp below (λ e. e.0) total laws (v, w) (filter (λ e. not (below v e.0)) old)
+      (λ y m.
+      let k = Member-filter_out (λ e. not (below v e.0)) old y m in
+      (Member-All (λ e. below e.0 v ≡ false) old y (none_passes (λ e. below e.0 v) old none) k.0, not-true (below v y.0) k.1))
+      (IsApart-filter cmp below (λ e. e.0) (λ e. not (below v e.0)) old h)
+
+  pub beaten_by : (i : ℕ) (e : V × W) → position (λ e. below e.0 v) old ≡ Some i → e ≡ get_or old i e → below v e.0 ≡ false → Any (λ e. (below e.0 v ≡ true) × (e.0 ≢ v)) old
+  beaten_by i e p is f =
+      let k = position-Some (λ e. below e.0 v) old i e p in
+      (i, e, k.0, sym is, (subst (λ (z : V × W). below z.0 v ≡ true) (sym is) k.1, λ q. false≢true (sym f ∙ (ap (below v) q ∙ laws.reflexive v))))
+
+  pub tied_with : (i : ℕ) (e : V × W) → position (λ e. below e.0 v) old ≡ Some i → e ≡ get_or old i e → below v e.0 ≡ true → slice_get old i ≡ Some (v, e.1)
+  tied_with i e p is t =
+      let k = position-Some (λ e. below e.0 v) old i e p in
+      let same : e.0 ≡ v = laws.antisymmetric e.0 v (subst (λ (z : V × W). below z.0 v ≡ true) (sym is) k.1) t in
+      slice_get-get_or old i e k.0 ∙ ap Some (sym is ∙ ap (λ z. (z, e.1)) same)

@@ -1,0 +1,23 @@
+use Rattle.std.proofs.Common.{◌∙◌, ap, not, arith, List, ℕ}
+use Rattle.std.specs.List.{filter, insert, position_or_len}
+use Rattle.std.specs.Ordering.{is_lt}
+use Rattle.std.proofs.lemmas.List.Sums.{prefix_len-le-length}
+use Rattle.crew_front.proofs.EntryLemmas.{insert-first}
+use Rattle.crew_duty.specs.declared.leg.Leg.{Leg}
+use Rattle.crew_front.specs.Entries.{placed}
+use Rattle.crew_front.proofs.front.join.Goals as goal
+
+pub insert-requires : goal.insert-requires
+insert-requires g c =
+    omega (arith, c.gap_for-gap.ensures, prefix_len-le-length (λ e. not (is_lt (g.R.Value.Ord.cmp c.args.value e.0))) c.deref.result.now, c.deref.ensures.len)
+
+pub returns-clause-ok : goal.returns-clause-ok
+returns-clause-ok g c =
+    let items = c.drop_beaten.new.entries.items in
+    let p = λ (e : g.row.R-Value.Denot × List (List Leg)). is_lt (g.R.Value.Ord.cmp c.args.value e.0) in
+    let q = λ (e : g.row.R-Value.Denot × List (List Leg)). not (g.R.Resource.below c.args.value e.0) in
+    let x : g.row.R-Value.Denot × List (List Leg) = (c.args.value, c.args.walk) in
+    c.in_ok-insert.ensures.items
+    ∙ (ap (λ i. insert items i x) (c.gap_for-gap.ensures ∙ ap (position_or_len p) c.deref.ensures.value)
+    ∙ (insert-first p x items
+    ∙ ap (placed p x) (c.drop_beaten.ensures.kept ∙ ap (filter q) c.in_ok-reserve.ensures.items)))

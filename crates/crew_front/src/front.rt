@@ -1,0 +1,199 @@
+//! A front.
+ghost use Rattle.std.specs.Prelude.{◌≡◌, ◌↔◌, [], List, ℕ, length, map, not, slice_get, IsTrue, IfOk, OnErr, ◌≤◌, vec_len, vec_capacity, OnOk, slice_set, ◌<◌, ◌++◌, ◌∷◌, MatchOption, None, Some};
+ghost use Rattle.std.specs.List.{position, position_or_len, filter, Any};
+ghost use Rattle.std.specs.Ordering.{is_lt};
+ghost use Rattle.std.specs.Slice.Iter.{iter_rest};
+ghost use Rattle.crew_duty.specs.declared.leg.Leg.{Leg};
+ghost use Rattle.crew_resource.specs.Labels.{Beats};
+ghost use Rattle.crew_front.specs.Entries.{IsApart, placed};
+ghost use Rattle.crew_front.specs.Walks.{lesser};
+ghost use Rattle.crew_front.specs.Local.{IsLocalOf};
+
+use crew_duty::Walk;
+use crew_resource::Resource;
+use std::alloc::{AllocError, Global};
+use std::marker::Model;
+use std::slice;
+
+/// What an offer did.
+#[derive(Clone, Copy, Debug, PartialEq, Eq)]
+pub enum Offer {
+    /// No entry was at most the vector: it joined, and those that it beats went.
+    Kept,
+    /// An entry beats the vector.
+    Beaten,
+    /// The vector was there: the lesser walk stays.
+    Tied,
+}
+
+/// The vectors that no other beats, in order of vector, each with its least walk.
+///
+/// A contract sees the list of the vectors with their walks.
+#[derive(Drop)]
+pub struct Front<R: Resource + Drop> {
+    resource: R,
+    entries: Vec<(R::Value, Walk)>,
+}
+
+impl<R: Resource + Drop> Model for Front<R> {
+    ghost Value = { List (R.Value × List (List Leg)) };
+
+    ghost view = { λ f. f.entries.items };
+
+    ghost invariant = { λ f. IsApart R.Value.cmp R.below (map (λ e. e.0) f.entries.items) };
+}
+
+impl<R: Resource + Drop> Front<R> {
+    ghost use Rattle.crew_front.specs.Offers.{Offered};
+
+    /// No entries, over the values of a resource.
+    pub fn new(alloc: Global, resource: R) -> Self
+        ensures { result ≡ [] }
+    {
+        Front {
+            resource,
+            entries: Vec::new(alloc),
+        }
+    }
+
+    /// How many entries there are.
+    pub fn len(&self) -> usize
+        ensures { result ≡ length self.now }
+    {
+        self.entries.len()
+    }
+
+    /// Whether there are none.
+    pub fn is_empty(&self) -> bool
+        ensures { IsTrue result ↔ (self.now ≡ []) }
+    {
+        self.entries.is_empty()
+    }
+
+    /// The entries, in order of vector: they rise, and none is at most another.
+    pub fn as_slice(&self) -> &[(R::Value, Walk)]
+        ensures all { result.now ≡ self.now }
+        ensures apart { IsApart R.Value.cmp R.below (map (λ e. e.0) self.now) }
+    {
+        self.entries.as_slice()
+    }
+
+    /// The entries, in order of vector.
+    pub fn iter(&self) -> slice::Iter<'_, (R::Value, Walk)>
+        ensures all { iter_rest result ≡ self.now }
+        ensures apart { IsApart R.Value.cmp R.below (map (λ e. e.0) self.now) }
+    {
+        self.entries.iter()
+    }
+
+    /// The entry at a place, from 0, in order of vector.
+    pub fn get(&self, place: usize) -> Option<&(R::Value, Walk)>
+        ensures { MatchOption result (slice_get self.now place ≡ None) (λ entry. slice_get self.now place ≡ Some entry.now) }
+    {
+        self.entries.get(place)
+    }
+
+    /// Offers a vector with a walk.
+    ///
+    /// `Beaten` exactly where an entry beats it, and nothing changes. `Tied` where the vector is there: the lesser walk
+    /// stays. Else `Kept`: exactly the entries that it beats go, and it joins. If the entries were what a list of
+    /// candidates leaves, they are then what that list leaves with this one after it. On want of memory nothing changes.
+    pub fn offer(&mut self, value: R::Value, walk: Walk) -> Result<Offer, AllocError>
+        ensures ok { IfOk result (Offered R.below R.Value.cmp self.old value walk self.new) }
+        ensures beaten { (result ≡ Ok Offer.Beaten) ↔ Any (λ e. Beats R.below e.0 value) self.old }
+        ensures local { OnOk result ((candidates : List (R.Value × List (List Leg))) → IsLocalOf R.below candidates self.old → IsLocalOf R.below (candidates ++ (value, walk) ∷ []) self.new) }
+        ensures err { OnErr result (self.new ≡ self.old) }
+    {
+        let Some(place) = first_at_most(&self.resource, &self.entries, &value) else {
+            join(&self.resource, &mut self.entries, value, walk)?;
+            return Ok(Offer::Kept);
+        };
+        if !self.resource.at_most(&value, &self.entries[place].0) {
+            return Ok(Offer::Beaten);
+        }
+        lower(&mut self.entries, place, walk);
+        Ok(Offer::Tied)
+    }
+}
+
+impl<R: Resource + Copy + Drop> Front<R> {
+    /// An equal front.
+    pub fn copy(&self, alloc: Global) -> Result<Front<R>, AllocError>
+        ensures { IfOk result (λ front. front ≡ self.now) }
+    {
+        let mut entries = Vec::new(alloc);
+        for entry in &self.entries {
+            let value = self.resource.copy(&entry.0)?;
+            let walk = entry.1.copy(alloc)?;
+            entries.push((value, walk))?;
+        }
+        Ok(Front {
+            resource: self.resource,
+            entries,
+        })
+    }
+}
+
+// Puts the lesser of its walk and this one into an entry.
+fn lower<V: Drop>(entries: &mut Vec<(V, Walk)>, place: usize, walk: Walk)
+    requires { place < vec_len entries.old }
+    ensures { (value : V) (was : List (List Leg)) → slice_get entries.old.items place ≡ Some (value, was) → entries.new.items ≡ slice_set entries.old.items place (value, lesser was walk) }
+{
+    let entry = &mut entries[place];
+    if walk < entry.1 {
+        entry.1 = walk;
+    }
+}
+
+// Puts a vector in its place, and lets go of those that it is at most.
+fn join<R: Resource>(
+    resource: &R,
+    entries: &mut Vec<(R::Value, Walk)>,
+    value: R::Value,
+    walk: Walk,
+) -> Result<(), AllocError>
+    ensures ok { OnOk result (entries.new.items ≡ placed (λ e. is_lt (R.Value.cmp value e.0)) (value, walk) (filter (λ e. not (R.below value e.0)) entries.old.items)) }
+    ensures err { OnErr result (entries.new.items ≡ entries.old.items) }
+{
+    entries.reserve(1)?;
+    drop_beaten(resource, entries, &value);
+    let gap = gap_for::<R>(entries, &value);
+    entries.insert(gap, (value, walk))?;
+    Ok(())
+}
+
+// Where the first entry is that is at most the vector.
+fn first_at_most<R: Resource>(
+    resource: &R,
+    entries: &[(R::Value, Walk)],
+    value: &R::Value,
+) -> Option<usize>
+    ensures { result ≡ position (λ e. R.below e.0 value.now) entries.now }
+{
+    entries
+        .iter()
+        .position(|entry| resource.at_most(&entry.0, value))
+}
+
+// Lets go of the entries that the vector is at most.
+fn drop_beaten<R: Resource>(resource: &R, entries: &mut Vec<(R::Value, Walk)>, value: &R::Value)
+    ensures kept { entries.new.items ≡ filter (λ e. not (R.below value.now e.0)) entries.old.items }
+    ensures fewer { vec_len entries.new ≤ vec_len entries.old }
+    ensures capacity { vec_capacity entries.new ≡ vec_capacity entries.old }
+{
+    entries.retain(|entry| !resource.at_most(value, &entry.0));
+}
+
+// The place of the first entry that is listed after the vector, or the end.
+fn gap_for<R: Resource>(entries: &[(R::Value, Walk)], value: &R::Value) -> usize
+    ensures { result ≡ position_or_len (λ e. is_lt (R.Value.cmp value.now e.0)) entries.now }
+{
+    first_after::<R>(entries, value).unwrap_or(entries.len())
+}
+
+// The place of the first entry that is listed after the vector.
+fn first_after<R: Resource>(entries: &[(R::Value, Walk)], value: &R::Value) -> Option<usize>
+    ensures { result ≡ position (λ e. is_lt (R.Value.cmp value.now e.0)) entries.now }
+{
+    entries.iter().position(|entry| value.cmp(&entry.0).is_lt())
+}
