@@ -1,5 +1,5 @@
 -- Slots that pass a test, put in order of place, are the places of the flights that pass it.
-use Rattle.std.proofs.Common.{◌≡◌, ◌≢◌, ◌≤◌, ◌<◌, ◌+◌, ℕ, zero, suc, List, [], ◌∷◌, Some, Bool, true, false, cond, length, refl, sym, ap, subst, ◌∙◌, arith, get_or, filter, map, inl, inr}
+use Rattle.std.proofs.Common.{◌≡◌, ◌≤◌, ◌<◌, ◌+◌, ℕ, suc, List, [], ◌∷◌, Some, Bool, true, false, cond, length, refl, sym, ap, subst, arith, get_or, filter, map, inl, inr}
 use Rattle.std.specs.Prelude.{slice_get, IsPermutation, IsSorted, ◌==◌}
 use Rattle.std.specs.List.{AllByRecursion, IsDistinct}
 use Rattle.std.specs.Ordering.{nat_cmp}

@@ -1,5 +1,5 @@
 -- What many threads list or count, one first flight each, joined in order.
-use Rattle.std.proofs.Common.{⊎_elim, Bool, true, false, ◌≡◌, ◌≤◌, ◌<◌, ◌+◌, ℕ, zero, suc, List, [], ◌∷◌, ◌++◌, Some, Ok, Err, length, map, sum, min, refl, sym, ap, subst, ◌∙◌, arith, length-append, Vec, Global}
+use Rattle.std.proofs.Common.{⊎_elim, Bool, true, false, ◌≡◌, ◌≤◌, ◌<◌, ◌+◌, ℕ, suc, List, [], ◌∷◌, ◌++◌, Some, Ok, Err, length, map, sum, min, refl, sym, subst, arith, length-append, Vec, Global}
 use Rattle.std.specs.Prelude.{Result, IfOk, MatchResult, nat_lt, slice_get}
 use Rattle.std.specs.List.{AllZip, Contains, flat_map, range_with_len}
 use Rattle.std.proofs.lemmas.Bool.{cases_Bool}

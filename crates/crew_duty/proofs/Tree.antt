@@ -8,7 +8,7 @@ use Rattle.std.proofs.lemmas.Option.{get_or_from_slice_get}
 use Rattle.crew_flights.specs.declared.flight.Flight.{Flight}
 use Rattle.crew_rules.specs.declared.settings.Settings.{Settings}
 use Rattle.crew_duty.specs.Legality.{AllConnect, last_of, may_follow}
-use Rattle.crew_duty.specs.Listing.{all_duties, below, from_flight, is_hopeless, listing, own, timed}
+use Rattle.crew_duty.specs.Listing.{below, is_hopeless, listing, own, timed}
 use Rattle.crew_duty.specs.Members.{Each, Member}
 use Rattle.crew_duty.specs.Plans.{IsBeginning}
 use Rattle.crew_duty.specs.declared.leg.TimedLeg.{TimedLeg}

@@ -1,5 +1,5 @@
 -- The events that duties leave and arrive at, and bounds under which every sum over a pairing fits.
-use Rattle.std.specs.Prelude.{◌≡◌, ℤ, pos, negsuc, ◌-ℤ◌, ◌≤ℤ◌}
+use Rattle.std.specs.Prelude.{◌≡◌, pos, negsuc, ◌-ℤ◌, ◌≤ℤ◌}
 use Rattle.crew_duty.specs.declared.duty.Duty.{Duty}
 use Rattle.crew_duty.specs.declared.events.Arrival.{Arrival}
 use Rattle.crew_duty.specs.declared.events.Departure.{Departure}

@@ -1,10 +1,8 @@
-use Rattle.std.proofs.Common.{rules, ◌≡◌, ◌≤◌, ◌-◌, ◌∙◌, ℕ, List, ap, sym, subst, take, drop, get_or, length, filter, int_le, true, false, arith}
-use Rattle.std.specs.Prelude.{int_lt, ◌&&◌}
-use Rattle.std.proofs.lemmas.Int.{ints}
+use Rattle.std.proofs.Common.{rules, ◌≡◌, ◌≤◌, ◌-◌, List, subst, take, drop, length, int_le, true, false}
+use Rattle.std.specs.Prelude.{int_lt}
 use Rattle.std.proofs.lemmas.List.{take_rest}
 use Rattle.std.proofs.lemmas.List.Sorted.{IsPartitionPoint-from_clause}
 use Rattle.std.specs.List.Sorted.{IsPartitionPoint}
-use Rattle.crew_duty.specs.Slots.{is_between}
 use Rattle.crew_duty.specs.declared.departures.Slot.{Slot}
 use Rattle.crew_duty.proofs.Slots.{ascend-drop, early-parted, between-points, late-parted}
 use Rattle.crew_duty.proofs.departures.slots_between.Goals as goal

@@ -1,12 +1,12 @@
-use Rattle.std.proofs.Common.{◌≡◌, ◌≤◌, ◌<◌, ◌-◌, ◌∙◌, ℕ, List, Some, ap, length, min, sum, sym, subst, arith}
+use Rattle.std.proofs.Common.{◌≡◌, ◌<◌, ◌-◌, ◌∙◌, ℕ, List, Some, ap, length, subst, arith}
 use Rattle.std.specs.Prelude.{IfOk, slice_get, Vec}
 use Rattle.std.specs.Global.{Global}
-use Rattle.std.specs.List.{AllZip, flat_map, range_with_len}
+use Rattle.std.specs.List.{AllZip, range_with_len}
 use Rattle.crew_flights.specs.declared.flight.Flight.{Flight}
 use Rattle.crew_duty.specs.Listing.{from_flight}
 use Rattle.crew_duty.specs.Plans.{IsPlan, rows}
 use Rattle.crew_duty.specs.declared.duty.Duty.{Duty}
-use Rattle.crew_duty.proofs.Parts.{collected, counted, joined}
+use Rattle.crew_duty.proofs.Parts.{collected, joined}
 use Rattle.rayon.specs.Numbers.{nat_range}
 use Rattle.rayon.proofs.ListFacts.{IfOk-then}
 use Rattle.rayon.proofs.ToStd.{nat_range-All}

@@ -1,10 +1,8 @@
-use Rattle.std.proofs.Common.{◌≡◌, ◌≤◌, ◌<◌, ◌∙◌, List, true, false, ap, length, subst, arith}
-use Rattle.std.specs.Prelude.{IsTrue}
+use Rattle.std.proofs.Common.{◌≡◌, ◌≤◌, ◌<◌, ◌∙◌, List, ap, length, subst}
 use Rattle.crew_flights.specs.declared.flight.Flight.{Flight}
 use Rattle.crew_duty.specs.Duties.{flights_of}
 use Rattle.crew_duty.specs.Listing.{all_duties}
 use Rattle.crew_duty.specs.Plans.{AreNext, rows}
-use Rattle.crew_duty.specs.declared.duty.Duty.{Duty}
 use Rattle.crew_duty.proofs.InOrder.{all-duties}
 use Rattle.crew_duty.proofs.Parts.{no-more}
 use Rattle.crew_duty.proofs.Timetables.{flights-few, flights-of-timetable}

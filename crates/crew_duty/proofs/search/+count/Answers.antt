@@ -1,19 +1,13 @@
-use Rattle.std.proofs.Common.{◌≡◌, ◌+◌, ◌-◌, ◌++◌, ◌∷◌, [], ◌∙◌, List, true, false, sym, ap, append_assoc, arith, append-nil, filter, get_or, length, min, length-append, refl, subst, take, ◌<◌}
+use Rattle.std.proofs.Common.{◌≡◌, ◌+◌, ◌-◌, ◌++◌, ◌∷◌, [], ◌∙◌, true, false, sym, ap, arith, filter, get_or, length, min, length-append, take, ◌<◌}
 use Rattle.std.specs.Prelude.{vec_len}
 use Rattle.std.specs.List.{flat_map}
 use Rattle.std.proofs.lemmas.List.{take_all}
 use Rattle.std.proofs.lemmas.Option.{get_or_from_slice_get, slice_get-get_or}
-use Rattle.std.proofs.lemmas.Result.{err_from_is_err_and}
-use Rattle.crew_flights.specs.Timetable.{IsFlight}
-use Rattle.crew_flights.specs.declared.flight.Flight.{Flight}
 use Rattle.crew_duty.specs.Legality.{last_of, may_follow}
 use Rattle.crew_duty.specs.Listing.{below, is_hopeless, listing, own, timed}
-use Rattle.crew_duty.specs.Members.{Member}
-use Rattle.crew_duty.specs.declared.duty.Duty.{Duty}
-use Rattle.crew_duty.specs.declared.leg.TimedLeg.{TimedLeg}
 use Rattle.crew_duty.proofs.Places.{StandAt-at, StandAt-length}
 use Rattle.crew_duty.proofs.Sums.{last_of-push}
-use Rattle.crew_duty.proofs.Tree.{Each-map, Each-member, IsBeginning-more, filter-member, listing-at, listing-closed, listing-none, count-more, pop-back, slice_get-within}
+use Rattle.crew_duty.proofs.Tree.{IsBeginning-more, filter-member, listing-at, listing-closed, listing-none, count-more, pop-back, slice_get-within}
 use Rattle.crew_duty.proofs.search.+count.Goals as goal
 use Rattle.crew_duty.proofs.search.+count.Goals.{then-so_far-gt-DUTIES-via-then-so_far-gt-DUTIES, then-so_far-gt-DUTIES-via-else-so_far-gt-DUTIES+then-len-ge-LEGS, then-so_far-gt-DUTIES-via-else-so_far-gt-DUTIES+else-len-ge-LEGS+then-cannot_begin}
 

@@ -1,13 +1,8 @@
-use Rattle.std.proofs.Common.{◌≡◌, ◌<◌, ◌+◌, ◌-◌, ◌++◌, min, [], ◌∷◌, ◌∙◌, List, ap, get_or, length, subst, arith}
-use Rattle.std.specs.Prelude.{Some, slice_get}
+use Rattle.std.proofs.Common.{◌+◌, ◌-◌, min, [], ◌∙◌, ap, get_or, length, arith}
 use Rattle.std.proofs.lemmas.Option.{get_or_from_slice_get, slice_get-get_or}
 use Rattle.rayon.proofs.ListFacts.{IfOk-then}
-use Rattle.crew_flights.specs.declared.flight.Flight.{Flight}
-use Rattle.crew_duty.specs.Legality.{last_of}
 use Rattle.crew_duty.specs.Listing.{listing, timed}
 use Rattle.crew_duty.specs.Plans.{IsBeginning}
-use Rattle.crew_duty.specs.declared.duty.Duty.{Duty}
-use Rattle.crew_duty.specs.declared.leg.TimedLeg.{TimedLeg}
 use Rattle.crew_duty.proofs.Tree.{slice_get-Member}
 use Rattle.crew_duty.proofs.search.count_first.Goals as goal
 

@@ -2,7 +2,6 @@ use Rattle.std.proofs.Common.{◌≡◌, ◌+◌, ◌++◌, ◌∷◌, [], ◌�
 use Rattle.std.specs.Prelude.{IsPermutation}
 use Rattle.std.proofs.lemmas.List.{take_all}
 use Rattle.std.proofs.lemmas.List.Sorted.{sorted_far}
-use Rattle.crew_flights.specs.declared.flight.Flight.{Flight}
 use Rattle.crew_duty.specs.Members.{Each}
 use Rattle.crew_duty.specs.Slots.{IsNamed, slot_of, slots_from}
 use Rattle.crew_duty.specs.declared.departures.Slot.{Slot}
