@@ -1,0 +1,4 @@
+pub mod Chains
+pub mod Flat
+pub mod Counts
+pub mod Steps
