@@ -80,5 +80,6 @@ pub fn enumerate(
 {
     let flights = held_flights(alloc, data)?;
     let bases = held_bases(alloc, data)?;
-    list_all(alloc, settings, &flights, &bases, limit)
+    let partials = list_all(alloc, settings, &flights, &bases, limit)?;
+    Ok(partials)
 }
