@@ -13,8 +13,8 @@ ghost use Rattle.crew_audit.specs.Listing.{after, listed, may_join, with_next};
 ghost use Rattle.crew_audit.specs.Ranges.{IsInRange};
 
 use crate::chain::{self, keep_within_caps, may_leave, partial_from};
-use crate::legs::{self, LEGS, cannot_begin, duty_from, may_come_next};
 use crate::facts::last_leg;
+use crate::legs::{self, LEGS, cannot_begin, duty_from, may_come_next};
 use crate::partial::{AuditFault, Partial};
 use crew_duty::{Duty, TimedLeg};
 use crew_flights::{Code, Flight};

@@ -26,7 +26,7 @@ returns-in_err-partials-clause-over c =
       all_partials s t,
       all-partials s t c.held_flights.ensures.sound,
       subst (λ (bs : List (List ℕ × ℤ)). c.args.limit < length (flat_map (of_base s (flights_of t)) bs)) bases
-      (subst (λ (fs : List Flight). c.args.limit < length (flat_map (of_base s fs) c.deref-2.result.now)) flights (c.in_err-partials.ensures.over (cc))),
+          (subst (λ (fs : List Flight). c.args.limit < length (flat_map (of_base s fs) c.deref-2.result.now)) flights (c.in_err-partials.ensures.over (cc))),
     )
 
 pub returns-clause-listed : goal.returns-clause-listed
