@@ -1,6 +1,5 @@
 -- The tree of partials lists every partial pairing.
-use Rattle.std.proofs.Common.{◌≡◌, ◌≤◌, ◌<◌, ◌+◌, ℕ, zero, suc, ℤ, pos, ◌≤ℤ◌, ◌-ℤ◌, int_le, Bool, true, false, List, [], ◌∷◌, ◌++◌, length, refl, sym, ap, subst, ◌∙◌, append_assoc, length-append, arith, inl, inr, if◌then◌else◌}
-use Rattle.std.specs.List.{flat_map}
+use Rattle.std.proofs.Common.{◌≡◌, ◌<◌, ℕ, zero, suc, ℤ, pos, ◌≤ℤ◌, ◌-ℤ◌, int_le, true, List, [], ◌∷◌, ◌++◌, length, refl, sym, ap, subst, ◌∙◌, append_assoc, length-append, arith, inl, inr}
 use Rattle.std.specs.Ordering.{eq_by_cmp, is_eq}
 use Rattle.std.proofs.lemmas.Bool.{and_parts}
 use Rattle.std.proofs.lemmas.Cmp.{tied_itself}
@@ -11,7 +10,7 @@ use Rattle.crew_rules.specs.declared.settings.Settings.{Settings}
 use Rattle.crew_duty.specs.Legality.{IsLegal, duty_of, total}
 use Rattle.crew_duty.specs.Listing.{all_duties}
 use Rattle.crew_duty.specs.Members.{Each, Member}
-use Rattle.crew_duty.specs.Pairings.{AllRested, IsDuty, IsPartial, is_within_caps, last_duty, may_stand_after, minutes_away}
+use Rattle.crew_duty.specs.Pairings.{AllRested, IsDuty, is_within_caps, last_duty, may_stand_after}
 use Rattle.crew_duty.specs.Plans.{AreFlights}
 use Rattle.crew_duty.specs.declared.duty.Duty.{Duty}
 use Rattle.crew_duty.proofs.Complete.{all-every}
@@ -21,7 +20,7 @@ use Rattle.crew_duty.proofs.Legal.{Each-after, known-sound}
 use Rattle.crew_duty.proofs.Sums.{total-append}
 use Rattle.crew_duty.proofs.Times.{ends-later, flown-total}
 use Rattle.crew_duty.proofs.Tree.{Each-map}
-use Rattle.crew_audit.specs.Listing.{after, goes_on, listed, may_join, with_next}
+use Rattle.crew_audit.specs.Listing.{after, goes_on, listed, with_next}
 use Rattle.crew_audit.specs.declared.partial.Partial.{Partial}
 use Rattle.crew_audit.proofs.Chains.{both-on, caps-kept, within-caps}
 use Rattle.crew_audit.proofs.Sound.{IsBegun}

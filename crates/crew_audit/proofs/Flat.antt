@@ -1,5 +1,5 @@
 -- Lists of lists, joined.
-use Rattle.std.proofs.Common.{◌≡◌, ◌≤◌, ◌<◌, ◌+◌, ℕ, List, [], ◌∷◌, ◌++◌, Some, Bool, true, false, cond, length, refl, sym, ap, ◌∙◌, arith, take, get_or, filter, length-append, append_assoc, append-nil, inl, inr, if◌then◌else◌}
+use Rattle.std.proofs.Common.{◌≡◌, ◌<◌, ◌+◌, ℕ, List, [], ◌∷◌, ◌++◌, Some, Bool, true, false, cond, length, refl, sym, ap, ◌∙◌, arith, take, get_or, filter, length-append, append-nil, inl, inr, if◌then◌else◌}
 use Rattle.std.specs.Prelude.{slice_get}
 use Rattle.std.specs.List.{flat_map}
 use Rattle.std.proofs.lemmas.List.{flat_map_more, take_more}

@@ -1,14 +1,12 @@
 -- The tree of partials lists partial pairings alone.
 use Rattle.std.proofs.Common.{◌≡◌, ℕ, zero, suc, ℤ, Bool, true, false, List, [], ◌∷◌, ◌++◌, refl, sym, ap, subst, ◌∙◌, append_assoc, inl, inr, if◌then◌else◌}
-use Rattle.std.specs.List.{flat_map}
 use Rattle.std.proofs.lemmas.Bool.{and_parts}
 use Rattle.std.proofs.lemmas.Map.Lookups.{exact_bytes}
 use Rattle.std.proofs.lemmas.Map.Views.{tells_apart}
-use Rattle.crew_flights.specs.Codes.{code_cmp}
 use Rattle.crew_flights.specs.declared.flight.Flight.{Flight}
 use Rattle.crew_rules.specs.declared.settings.Settings.{Settings}
 use Rattle.crew_duty.specs.Listing.{all_duties}
-use Rattle.crew_duty.specs.Members.{Each, Member}
+use Rattle.crew_duty.specs.Members.{Member}
 use Rattle.crew_duty.specs.Pairings.{AllRested, IsDuty, IsPartial, last_duty, may_stand_after}
 use Rattle.crew_duty.specs.declared.duty.Duty.{Duty}
 use Rattle.crew_duty.proofs.Complete.{all-sound}

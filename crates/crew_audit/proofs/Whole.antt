@@ -1,5 +1,5 @@
 -- The partials of all bases are exactly the partial pairings of the timetable, by base and walk.
-use Rattle.std.proofs.Common.{◌≡◌, ◌<◌, ℕ, ℤ, Bool, true, false, cond, List, [], ◌∷◌, ◌++◌, Some, length, refl, sym, ap, subst, ◌∙◌, ◌&&◌, arith, inl, inr}
+use Rattle.std.proofs.Common.{◌≡◌, ℕ, ℤ, Bool, true, false, cond, List, [], ◌∷◌, Some, refl, sym, ap, subst, ◌∙◌, ◌&&◌, arith, inl, inr}
 use lib.Dec.{T}
 use Rattle.std.specs.List.{flat_map}
 use Rattle.std.specs.declared.cmp.Ordering.{Ordering}
@@ -21,7 +21,7 @@ use Rattle.crew_duty.specs.Members.{Each, Member}
 use Rattle.crew_duty.proofs.InList.{Member-flat_map, flat_map-Member}
 use Rattle.crew_duty.proofs.Timetables.{flights-of-timetable}
 use Rattle.crew_audit.specs.Listing.{all_partials, of_base}
-use Rattle.crew_audit.specs.Partials.{ArePartials, IsPartialOf, Rise, partial_cmp, partial_of}
+use Rattle.crew_audit.specs.Partials.{ArePartials, Rise, partial_cmp, partial_of}
 use Rattle.crew_audit.specs.declared.partial.Partial.{Partial}
 use Rattle.crew_audit.proofs.Chains.{within-caps}
 use Rattle.crew_audit.proofs.Complete.{after-every}

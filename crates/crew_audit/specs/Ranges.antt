@@ -1,5 +1,5 @@
 -- Numbers of duties whose sums fit.
-use Rattle.std.specs.Prelude.{ℤ, pos, negsuc, ◌≤ℤ◌}
+use Rattle.std.specs.Prelude.{pos, negsuc, ◌≤ℤ◌}
 use Rattle.crew_duty.specs.declared.duty.Duty.{Duty}
 
 pub record IsInRange (d : Duty) : Type 0 where

@@ -1,10 +1,6 @@
-use Rattle.std.proofs.Common.{◌≡◌, ℤ, ◌+ℤ◌, ap, arith, get_or, of_z, to_z, w64}
+use Rattle.std.proofs.Common.{◌≡◌, ◌+ℤ◌, arith, of_z, to_z, w64}
 use Rattle.std.proofs.lemmas.Int.{ints}
-use Rattle.std.proofs.lemmas.Option.{slice_get-get_or}
 use Rattle.crew_duty.specs.declared.duty.Duty.{Duty}
-use Rattle.crew_duty.proofs.Sums.{total-take}
-use Rattle.crew_duty.proofs.Tree.{Each-member, slice_get-Member}
-use Rattle.crew_audit.specs.Ranges.{IsInRange}
 use Rattle.crew_audit.proofs.Chains.{fits-add, item-in-range, sum-more}
 use Rattle.crew_audit.proofs.chain.add_up.Goals as goal
 

@@ -1,7 +1,6 @@
 use Rattle.std.proofs.Common.{◌≡◌, ◌-ℤ◌, ◌∙◌, sym, ap, arith, of_z, to_z, w64}
 use Rattle.std.specs.Option.{option_copied}
 use Rattle.std.proofs.lemmas.Int.{ints}
-use Rattle.crew_duty.specs.Pairings as Spec
 use Rattle.crew_duty.proofs.Tree.{Each-member, slice_get-Member}
 use Rattle.crew_audit.specs.Ranges.{IsInRange}
 use Rattle.crew_audit.proofs.Chains.{away-ends}

@@ -1,6 +1,5 @@
-use Rattle.std.proofs.Common.{◌≡◌, ℤ, ◌+ℤ◌, ◌-ℤ◌, ◌*ℤ◌, ◌≤ℤ◌, ◌∙◌, ap, arith, length, of_z, pos, to_z, w64}
+use Rattle.std.proofs.Common.{◌≡◌, ℤ, ◌+ℤ◌, ◌-ℤ◌, ◌*ℤ◌, ◌∙◌, ap, arith, length, of_z, pos, to_z, w64}
 use Rattle.std.proofs.lemmas.Int.{ints}
-use Rattle.crew_duty.specs.Legality.{total}
 use Rattle.crew_duty.specs.Pairings.{minutes_away}
 use Rattle.crew_vector.specs.Parts.{parts_of, prices}
 use Rattle.crew_audit.proofs.Chains.{fits-less, fits-self}

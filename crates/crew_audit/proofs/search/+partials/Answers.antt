@@ -1,20 +1,15 @@
-use Rattle.std.proofs.Common.{◌≡◌, ◌<◌, ◌+◌, ◌-◌, ◌++◌, ◌∷◌, [], ◌∙◌, List, true, false, sym, ap, arith, append-nil, get_or, length, length-append, subst, take, inl, inr, if◌then◌else◌}
+use Rattle.std.proofs.Common.{◌≡◌, ◌+◌, ◌-◌, ◌++◌, ◌∷◌, [], ◌∙◌, List, true, false, sym, ap, arith, append-nil, length, length-append, take}
 use Rattle.std.specs.List.{flat_map}
 use Rattle.std.proofs.lemmas.List.{take_all}
-use Rattle.std.proofs.lemmas.Option.{get_or_from_slice_get, slice_get-get_or}
 use Rattle.std.proofs.lemmas.Result.{err_from_is_err_and}
-use Rattle.crew_flights.specs.Timetable.{IsFlight}
 use Rattle.crew_flights.specs.declared.flight.Flight.{Flight}
 use Rattle.crew_duty.specs.Legality.{duty_of, last_of, may_follow}
-use Rattle.crew_duty.specs.Listing.{below, from_flight, listing, timed}
-use Rattle.crew_duty.specs.Members.{Each, Member}
+use Rattle.crew_duty.specs.Listing.{from_flight, listing, timed}
 use Rattle.crew_duty.specs.declared.duty.Duty.{Duty}
 use Rattle.crew_duty.specs.declared.leg.TimedLeg.{TimedLeg}
 use Rattle.crew_duty.proofs.Legal.{known-sound}
-use Rattle.crew_duty.proofs.Sums.{last_of-push}
-use Rattle.crew_duty.proofs.Tree.{Each-push, IsBeginning-more, listing-closed, listing-longer, listing-none, slice_get-Member, slice_get-within}
-use Rattle.crew_audit.specs.Listing.{after, listed, may_join, with_next}
-use Rattle.crew_audit.specs.Ranges.{IsInRange}
+use Rattle.crew_duty.proofs.Tree.{IsBeginning-more, listing-closed, listing-none}
+use Rattle.crew_audit.specs.Listing.{with_next}
 use Rattle.crew_audit.specs.declared.partial.Partial.{Partial}
 use Rattle.crew_duty.specs.Pairings.{is_within_caps}
 use Rattle.std.proofs.lemmas.Grind.{common_steps}

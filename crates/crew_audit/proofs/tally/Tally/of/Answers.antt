@@ -1,4 +1,4 @@
-use Rattle.std.proofs.Common.{◌≡◌, List, [], ◌∷◌, ◌++◌, ◌∙◌, ap, arith, get_or, ◌+◌, sym, take}
+use Rattle.std.proofs.Common.{◌≡◌, [], ◌∷◌, ◌++◌, ◌∙◌, ap, ◌+◌, sym, take}
 use Rattle.std.proofs.lemmas.List.{take_more}
 use Rattle.crew_audit.specs.declared.partial.Partial.{Partial}
 use Rattle.crew_audit.proofs.Counts.{least-more}
