@@ -18,7 +18,9 @@ use Rattle.crew_session.specs.Lines.{refused_lines, version_line}
 use Rattle.crew_session.specs.Session.{Does, Obeys, Settles, State, Writes, refuse, start, submit, submit_at}
 use Rattle.crew_session.specs.Versions.{IsRight, Snapshot, opening, verdicts_of}
 use Rattle.crew_session.specs.declared.journal.Journal.{Journal}
+use Rattle.crew_session.specs.Audits.{Audits}
 use Rattle.crew_session.specs.declared.command.Command.{Command}
+use Rattle.crew_session.specs.declared.command.Command.TheVariants.{Audit}
 use Rattle.crew_session.proofs.LineFacts.{appends-both, appends-none}
 
 -- a session has come this far: what it wrote, with what the records that are left write, is what all write
@@ -88,6 +90,13 @@ no-clock o e number a h = ap (λ (x : Option ℕ). submit_at x e number a) (sym 
 
 pub at-clock : (o : Option ℕ) (clock : ℕ) (e : ℕ → Edit) (number : ℕ) (a : State) → o ≡ Some clock → submit number (e clock) a ≡ submit_at o e number a
 at-clock o clock e number a h = ap (λ (x : Option ℕ). submit_at x e number a) (sym h)
+
+-- an audit changes nothing
+pub audited : {F : Type 0} (r : Result (Unit {0}) F) (old new : Option (List ℕ)) (s : Settings) (number limit : ℕ) (command : Command) (j : Journal) (v w : Snapshot) → command ≡ Audit limit → w ≡ v
+    → OnOk r ((text : List ℕ) × Appends old new text × Audits limit number w text) → OnOk r ((text : List ℕ) × Appends old new text × Obeys s number command (state_of j v) (state_of j v) text)
+audited (Ok u) old new s number limit command j v w e f told =
+    (told.0, told.1, subst (λ (k : Command). Obeys s number k (state_of j v) (state_of j v) told.0) (sym e) (refl, subst (λ (x : Snapshot). Audits limit number x told.0) f told.2))
+audited (Err x) old new s number limit command j v w e f told = tt
 
 -- ---- a settle
 

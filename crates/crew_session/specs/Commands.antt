@@ -4,11 +4,11 @@ use Rattle.std.specs.Str.{bytes_eq}
 use Rattle.crew_time.specs.Instant.{IsInYears}
 use Rattle.crew_flights.specs.declared.edit.Edit.TheVariants as edit
 use Rattle.crew_session.specs.Rows.{Fields}
-use Rattle.crew_session.specs.Fields.{◌>>=◌, count_field, field_of, code_field, id_field, price_field, time_field, zone_field}
+use Rattle.crew_session.specs.Fields.{◌>>=◌, count_field, field_of, code_field, id_field, limit_field, price_field, time_field, zone_field}
 use Rattle.crew_session.specs.declared.fault.RecordFault.{RecordFault}
 use Rattle.crew_session.specs.declared.fault.RecordFault.TheVariants.{UnknownRecord}
 use Rattle.crew_session.specs.declared.command.Command.{Command}
-use Rattle.crew_session.specs.declared.command.Command.TheVariants.{AddZone, Submit, AddFlight, Retime, Settle, Best, Refuse}
+use Rattle.crew_session.specs.declared.command.Command.TheVariants.{AddZone, Submit, AddFlight, Retime, Settle, Best, Audit, Refuse}
 
 -- ---- each kind of record: its number of fields, then its fields from left to right
 
@@ -73,6 +73,13 @@ price_command fields = do
   price ← price_field (field_of fields 2)
   Ok (Submit (edit.Price id price))
 
+-- audit,LIMIT
+unfoldable pub audit_command : Fields → Result Command RecordFault
+audit_command fields = do
+  count ← count_field fields 2
+  limit ← limit_field (field_of fields 1)
+  Ok (Audit limit)
+
 -- a record of its name alone
 unfoldable pub plain_command : Fields → Command → Result Command RecordFault
 plain_command fields command = do
@@ -92,7 +99,8 @@ kind_of name fields =
     else (if bytes_eq name (codes "price") then price_command fields
     else (if bytes_eq name (codes "settle") then plain_command fields Settle
     else (if bytes_eq name (codes "best") then plain_command fields Best
-    else Err UnknownRecord))))))))
+    else (if bytes_eq name (codes "audit") then audit_command fields
+    else Err UnknownRecord)))))))))
 
 abbrev pub named_command : Fields → Result Command RecordFault
 named_command fields = kind_of (field_of fields 0) fields
@@ -113,4 +121,5 @@ IsDated (AddFlight id from to dep arr price) = IsInYears dep
 IsDated (Retime id from dep arr) = IsInYears dep
 IsDated Settle = Unit {0}
 IsDated Best = Unit {0}
+IsDated (Audit limit) = Unit {0}
 IsDated (Refuse fault) = Unit {0}

@@ -1,3 +1,4 @@
+pub mod Audits
 pub mod Bests
 pub mod Commands
 pub mod Engines

@@ -1,11 +1,12 @@
 -- The lines that a session writes.
-use Rattle.std.specs.Prelude.{ℕ, ◌++◌, List, [], ◌∷◌, Option, Some, None, codes, decimal, length, map, if◌then◌else◌}
+use Rattle.std.specs.Prelude.{ℕ, ℤ, ◌++◌, List, [], ◌∷◌, Option, Some, None, codes, decimal, length, map, if◌then◌else◌}
 use Rattle.std.specs.Fmt.{signed_decimal}
 use Rattle.std.specs.FinMap as fin
 use Rattle.crew_flights.specs.Refusals.{number_of}
 use Rattle.crew_flights.specs.declared.edit.Verdict.{Verdict}
 use Rattle.crew_flights.specs.declared.edit.Verdict.TheVariants.{Accepted, Refused}
 use Rattle.crew_duty.specs.declared.leg.Leg.{Leg}
+use Rattle.crew_audit.specs.declared.tally.Tally.{Tally}
 use Rattle.crew_session.specs.Versions.{Snapshot, timetable_of}
 use Rattle.crew_session.specs.declared.best.Best.{Best}
 
@@ -54,3 +55,12 @@ abbrev pub best_line : Option Best → List ℕ
 best_line None = codes "best none\n"
 best_line (Some b) =
     codes "best " ++ b.base ++ codes " cost " ++ signed_decimal b.cost ++ codes " pay " ++ signed_decimal b.pay ++ codes " away " ++ signed_decimal b.away ++ codes " " ++ walk_text b.walk ++ codes "\n"
+
+-- the least cost of a pairing, if there is one
+abbrev pub cost_text : Option ℤ → List ℕ
+cost_text None = codes "none"
+cost_text (Some cost) = signed_decimal cost
+
+abbrev pub audit_line : Tally → List ℕ
+audit_line tally =
+    codes "audit partials " ++ decimal tally.partials ++ codes " pairings " ++ decimal tally.pairings ++ codes " cost " ++ cost_text tally.cost ++ codes "\n"

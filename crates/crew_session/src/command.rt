@@ -6,7 +6,9 @@ ghost use Rattle.crew_session.specs.Commands.{IsDated, command_of};
 ghost use Rattle.crew_session.specs.Commands as Spec;
 
 use crate::fault::RecordFault;
-use crate::fields::{count_fields, field, read_code, read_id, read_price, read_time, read_zone};
+use crate::fields::{
+    count_fields, field, read_code, read_id, read_limit, read_price, read_time, read_zone,
+};
 use crew_flights::{Code, Edit, FlightId};
 use crew_time::{Minute, Zone};
 use csv::ByteRecord;
@@ -41,6 +43,10 @@ pub enum Command {
     Settle,
     /// The best pairing of the last version.
     Best,
+    /// The partial pairings of the last version, where there are at most so many.
+    Audit {
+        limit: u32,
+    },
     /// Nothing: the record is refused.
     Refuse(RecordFault),
 }
@@ -134,6 +140,16 @@ fn price_command(row: &ByteRecord) -> Result<Command, RecordFault>
     Ok(Command::Submit(Edit::Price { id, price }))
 }
 
+#[tactic(auto, unfolding(crate::specs::Commands::audit_command))]
+fn audit_command(row: &ByteRecord) -> Result<Command, RecordFault>
+    ensures value { result ≡ Spec.audit_command (fields_of row.now) }
+    ensures dated { IfOk result IsDated }
+{
+    count_fields(row, 2)?;
+    let limit = read_limit(field(row, 1))?;
+    Ok(Command::Audit { limit })
+}
+
 #[tactic(auto, unfolding(crate::specs::Commands::plain_command))]
 fn plain_command(row: &ByteRecord, command: Command) -> Result<Command, RecordFault>
     requires { IsDated command }
@@ -176,6 +192,9 @@ fn named_command(row: &ByteRecord) -> Result<Command, RecordFault>
     }
     if name == b"best".as_slice() {
         return plain_command(row, Command::Best);
+    }
+    if name == b"audit".as_slice() {
+        return audit_command(row);
     }
     Err(RecordFault::UnknownRecord)
 }

@@ -94,6 +94,17 @@ pub(crate) fn read_id(field: &[u8]) -> Result<FlightId, RecordFault>
     FlightId::new(number as u32).ok_or(RecordFault::BadField)
 }
 
+// The most that an audit lists.
+pub(crate) fn read_limit(field: &[u8]) -> Result<u32, RecordFault>
+    ensures { result ≡ Spec.limit_field field.now }
+{
+    let number = read_number(field, 8)?;
+    if number > 10_000_000 {
+        return Err(RecordFault::BadField);
+    }
+    Ok(number as u32)
+}
+
 // A price, whatever its range.
 pub(crate) fn read_price(field: &[u8]) -> Result<i64, RecordFault>
     ensures { result ≡ Spec.price_field field.now }

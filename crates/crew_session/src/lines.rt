@@ -10,6 +10,7 @@ ghost use Rattle.crew_session.specs.Versions.{verdicts_of};
 use crate::best::Best;
 use crate::fault::SessionFault;
 use crate::version::Version;
+use crew_audit::Tally;
 use crew_duty::{Key, Leg, Walk};
 use crew_flights::Verdict;
 use std::alloc::{AllocError, Global};
@@ -184,5 +185,54 @@ pub(crate) fn write_best<W: Write>(
             Ok(line) => write_line(writer, &line),
             Err(_) => Err(SessionFault::Memory),
         },
+    }
+}
+
+// Appends a count.
+fn put_count(line: &mut Vec<u8>, count: usize) -> Result<(), AllocError>
+    ensures { OnOk result (line.new.items ≡ line.old.items ++ decimal count) }
+{
+    match write!(line, "{count}") {
+        Ok(()) => Ok(()),
+        Err(_) => Err(AllocError),
+    }
+}
+
+// Appends the least cost of a pairing, if there is one.
+fn put_cost(line: &mut Vec<u8>, cost: Option<i64>) -> Result<(), AllocError>
+    ensures { OnOk result (line.new.items ≡ line.old.items ++ Spec.cost_text cost) }
+{
+    match cost {
+        None => line.extend_from_slice(b"none"),
+        Some(cost) => put_signed(line, cost),
+    }
+}
+
+// The line of an audit.
+fn counts_line(alloc: Global, tally: &Tally) -> Result<Vec<u8>, AllocError>
+    ensures { IfOk result (λ line. line.items ≡ Spec.audit_line tally.now) }
+{
+    let mut line = Vec::new(alloc);
+    line.extend_from_slice(b"audit partials ")?;
+    put_count(&mut line, tally.partials)?;
+    line.extend_from_slice(b" pairings ")?;
+    put_count(&mut line, tally.pairings)?;
+    line.extend_from_slice(b" cost ")?;
+    put_cost(&mut line, tally.cost)?;
+    line.push(b'\n')?;
+    Ok(line)
+}
+
+// Writes what an audit counted.
+pub(crate) fn write_audit<W: Write>(
+    alloc: Global,
+    writer: &mut W,
+    tally: &Tally,
+) -> Result<(), SessionFault>
+    ensures { OnOk result (Appends (W.contents writer.old) (W.contents writer.new) (Spec.audit_line tally.now)) }
+{
+    match counts_line(alloc, tally) {
+        Ok(line) => write_line(writer, &line),
+        Err(_) => Err(SessionFault::Memory),
     }
 }

@@ -12,6 +12,7 @@ ghost use Rattle.crew_session.specs.Session.{IsSessionText, Obeys, Writes};
 ghost use Rattle.crew_session.specs.Session as Spec;
 ghost use Rattle.crew_session.specs.Versions.{Snapshot, opening};
 
+use crate::audit::answer_audit;
 use crate::command::{Command, read_command};
 use crate::engine::Engine;
 use crate::entry::make_entry;
@@ -213,6 +214,7 @@ fn obey<R: Threads + Sync, W: Write, E: Engine>(
         }
         Command::Settle => settle(rt, alloc, number, journal, writer, engine),
         Command::Best => write_best(alloc, writer, engine.version()),
+        Command::Audit { limit } => answer_audit(alloc, number, limit, writer, engine.version()),
         Command::Refuse(fault) => write_refused(alloc, writer, number, fault.number()),
     }
 }

@@ -46,6 +46,49 @@ fn one_duty_pairing(rt: HostRuntime) -> Result<(), Fail> {
 }
 
 #[test]
+fn audits(rt: HostRuntime) -> Result<(), Fail> {
+    let out = played(
+        &rt,
+        rt.alloc(),
+        &Settings::standard(),
+        b"zone,JFK,\"EST5EDT,M3.2.0,M11.1.0\"\n\
+          zone,BOS,\"EST5EDT,M3.2.0,M11.1.0\"\n\
+          audit,1\n\
+          base,JFK,0\n\
+          flight,101,JFK,BOS,2025-07-01T12:00,2025-07-01T13:10,3000\n\
+          flight,102,BOS,JFK,2025-07-01T14:00,2025-07-01T15:15,2000\n\
+          settle\n\
+          best\n\
+          audit,2\n\
+          audit,1\n\
+          audit,0\n\
+          audit,01\n\
+          audit,10000000\n\
+          audit,10000001\n\
+          audit,100000000\n\
+          audit\n\
+          audit,1,2\n",
+    )?;
+    assert_eq!(rt;
+        out.as_slice(),
+        b"audit partials 0 pairings 0 cost none\n\
+          version 1 entries 3 flights 2\n\
+          best JFK cost -800 pay 4200 away 285 101-102\n\
+          audit partials 2 pairings 1 cost -800\n\
+          record 10 refused 45\n\
+          record 11 refused 72\n\
+          record 12 refused 72\n\
+          audit partials 2 pairings 1 cost -800\n\
+          record 14 refused 72\n\
+          record 15 refused 72\n\
+          record 16 refused 71\n\
+          record 17 refused 71\n"
+            .as_slice()
+    );
+    Ok(())
+}
+
+#[test]
 fn settle_nothing(rt: HostRuntime) -> Result<(), Fail> {
     let out = played(
         &rt,

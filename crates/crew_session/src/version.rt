@@ -9,7 +9,7 @@ ghost use Rattle.crew_session.specs.Versions.{FoldsOn};
 use crate::best::Best;
 use crate::fault::EngineFault;
 use crate::offers::find_best;
-use crew_flights::{Entry, Folding, Verdict};
+use crew_flights::{Data, Entry, Folding, Verdict};
 use crew_rules::Settings;
 use std::alloc::{AllocError, Global};
 use std::marker::Model;
@@ -128,6 +128,13 @@ impl Version {
         ensures { result ≡ map.len (Spec.timetable_of self.now.entries).flights }
     {
         self.fold.data().flight_count()
+    }
+
+    /// Its timetable.
+    pub fn data(&self) -> &Data
+        ensures { result.now ≡ Spec.timetable_of self.now.entries }
+    {
+        self.fold.data()
     }
 
     /// The best pairing, if there is one.

@@ -1,0 +1,191 @@
+-- One step of the tree of partials.
+use Rattle.std.proofs.Common.{◌≡◌, ◌≤◌, ◌<◌, ◌+◌, ◌-◌, ◌&&◌, ℕ, suc, ℤ, ◌≤ℤ◌, Bool, true, false, List, [], ◌∷◌, ◌++◌, length, refl, ap, ◌∙◌, arith, append-nil, append_assoc, length-append, filter, inl, inr, if◌then◌else◌}
+use Rattle.std.specs.List.{flat_map}
+use Rattle.std.proofs.lemmas.Grind.{flat_map-append}
+use Rattle.std.proofs.lemmas.Int.{ints}
+use Rattle.crew_flights.specs.declared.flight.Flight.{Flight}
+use Rattle.crew_rules.specs.declared.settings.Settings.{Settings}
+use Rattle.crew_duty.specs.Legality.{AllConnect, IsLegal, duty_of, last_of, may_follow, minutes_flown}
+use Rattle.crew_duty.specs.Listing.{all_duties, below, from_flight, is_hopeless, listing, own, timed}
+use Rattle.crew_flights.specs.Timetable.{IsFlight}
+use Rattle.crew_duty.specs.Members.{Member}
+use Rattle.crew_duty.specs.Pairings.{is_within_caps}
+use Rattle.crew_duty.specs.Plans.{AreFlights, IsBeginning}
+use Rattle.crew_duty.specs.declared.duty.Duty.{Duty}
+use Rattle.crew_duty.specs.declared.leg.TimedLeg.{TimedLeg}
+use Rattle.crew_duty.proofs.Complete.{listing-sound}
+use Rattle.crew_duty.proofs.InList.{Member-either}
+use Rattle.crew_duty.proofs.Legal.{AllConnect-after, Each-after, known-sound, last_of-append}
+use Rattle.crew_duty.proofs.Sums.{total-append}
+use Rattle.crew_duty.proofs.Times.{AllSound, ends-later, flown-total, no-earlier}
+use Rattle.crew_duty.proofs.Tree.{listing-at}
+use Rattle.crew_audit.specs.Listing.{after, goes_on, listed, may_join, with_next}
+use Rattle.crew_audit.specs.declared.partial.Partial.{Partial}
+use Rattle.crew_audit.proofs.Chains.{both-on, caps-shorter}
+use Rattle.crew_audit.proofs.Flat.{flat-filter, flat-flat, flat-none}
+
+pub after-none : (s : Settings) (flights : List Flight) (base : List ℕ) (price : ℤ) (before : List Duty) → after 0 s flights base price before ≡ []
+unfolding after
+after-none s flights base price before = refl
+
+pub after-open : (room : ℕ) (s : Settings) (flights : List Flight) (base : List ℕ) (price : ℤ) (before : List Duty)
+    → after (suc room) s flights base price before ≡ flat_map (with_next room s flights base price before) (all_duties s flights)
+unfolding after
+after-open room s flights base price before = refl
+
+-- no duty more
+pub after-full : (most n : ℕ) (s : Settings) (flights : List Flight) (base : List ℕ) (price : ℤ) (before : List Duty) → most ≤ n → after (most - n) s flights base price before ≡ []
+after-full most n s flights base price before h = let none : most - n ≡ 0 = omega arith in rw none (after-none s flights base price before)
+
+-- flight by flight
+pub after-flights : (most n : ℕ) (s : Settings) (flights : List Flight) (base : List ℕ) (price : ℤ) (before : List Duty) → n < most
+    → after (most - n) s flights base price before ≡ flat_map (λ f. flat_map (with_next (most - (n + 1)) s flights base price before) (from_flight s flights f)) flights
+after-flights most n s flights base price before h =
+    let more : most - n ≡ suc (most - (n + 1)) = omega arith in
+    rw more (after-open (most - (n + 1)) s flights base price before ∙ flat-flat (with_next (most - (n + 1)) s flights base price before) (from_flight s flights) flights)
+
+-- a duty that doesn't go on, and one that does
+off : {X : Type 0} (b : Bool) (xs : List X) → b ≡ false → (if b then xs else []) ≡ []
+off true xs e = cc
+off false xs e = refl
+
+on : {X : Type 0} (b : Bool) (xs : List X) → b ≡ true → (if b then xs else []) ≡ xs
+on true xs e = refl
+on false xs e = cc
+
+pub next-off : (room : ℕ) (s : Settings) (flights : List Flight) (base : List ℕ) (price : ℤ) (before : List Duty) (d : Duty) → goes_on base s before d ≡ false → with_next room s flights base price before d ≡ []
+next-off room s flights base price before d e = off (goes_on base s before d) _ e
+
+pub next-on : (room : ℕ) (s : Settings) (flights : List Flight) (base : List ℕ) (price : ℤ) (before : List Duty) (d : Duty) → goes_on base s before d ≡ true
+    → with_next room s flights base price before d ≡ listed s base price (before ++ d ∷ []) ∷ after room s flights base price (before ++ d ∷ [])
+next-on room s flights base price before d e = on (goes_on base s before d) _ e
+
+-- whether a duty may stand next depends on its first flight alone
+pub join-legs : (base : List ℕ) (s : Settings) (before : List Duty) (first : TimedLeg) (xs ys : List TimedLeg) → may_join base s before (duty_of s first xs) ≡ may_join base s before (duty_of s first ys)
+join-legs base s [] first xs ys = refl
+join-legs base s (d ∷ before) first xs ys = refl
+
+pub join-flight : (base : List ℕ) (s : Settings) (before : List Duty) (a b : Bool) (f : Flight) (xs ys : List TimedLeg)
+    → may_join base s before (duty_of s (timed a f) xs) ≡ may_join base s before (duty_of s (timed b f) ys)
+join-flight base s [] a b f xs ys = refl
+join-flight base s (d ∷ before) a b f xs ys = refl
+
+first-off : (a b : Bool) → a ≡ false → a && b ≡ false
+first-off true b e = cc
+first-off false b e = refl
+
+second-off : (a b : Bool) → b ≡ false → a && b ≡ false
+second-off true b e = e
+second-off false b e = refl
+
+is-off : (b : Bool) → (b ≡ true → ⊥) → b ≡ false
+is-off true h = absurd (h refl)
+is-off false h = refl
+
+-- a flight that doesn't leave where and when it must
+pub not-joined : (room : ℕ) (s : Settings) (flights : List Flight) (base : List ℕ) (price : ℤ) (before : List Duty) (f : Flight) → Member flights f
+    → may_join base s before (duty_of s (timed false f) []) ≡ false → flat_map (with_next room s flights base price before) (from_flight s flights f) ≡ []
+not-joined room s flights base price before f known e =
+    flat-none (with_next room s flights base price before) (from_flight s flights f) (λ d m.
+    elim (Member-either (listing 8 s flights (timed false f) []) (listing 8 s flights (timed true f) []) d m) [
+      | inl h ↦ let on = listing-sound 8 s flights (timed false f) [] d (record { known = (known, tt); connected = tt }) refl h in none d false on.0 on.2
+      | inr h ↦ let on = listing-sound 8 s flights (timed true f) [] d (record { known = (known, tt); connected = tt }) refl h in none d true on.0 on.2
+    ])
+  where
+    none : (d : Duty) (dead : Bool) (more : List TimedLeg) → d ≡ duty_of s (timed dead f) more → with_next room s flights base price before d ≡ []
+    none d dead more is =
+        let joins : may_join base s before d ≡ false = ap (may_join base s before) is ∙ join-flight base s before dead false f more [] ∙ e in
+        next-off room s flights base price before d (first-off (may_join base s before d) (is_within_caps s (before ++ d ∷ [])) joins)
+
+-- legs that pass a cap already
+last-later : (s : Settings) (last : TimedLeg) (more : List TimedLeg) → AllSound more → AllConnect s last more → last.flight.arr ≤ℤ (last_of last more).flight.arr
+last-later s last [] sound linked = omega (arith, ints)
+last-later s last (next ∷ more) sound linked =
+    omega (arith, ints, no-earlier s last.flight next.flight linked.0, ends-later s next more sound linked.1, sound.0.least_block)
+
+shorter : (s : Settings) (flights : List Flight) (before : List Duty) (first : TimedLeg) (others more : List TimedLeg) → AreFlights flights → IsLegal s flights first (others ++ more)
+    → is_within_caps s (before ++ duty_of s first (others ++ more) ∷ []) ≡ true → is_within_caps s (before ++ duty_of s first others ∷ []) ≡ true
+shorter s flights before first others more f legal h =
+    let sound = known-sound flights (first ∷ (others ++ more)) f legal.known in
+    let later = Each-after (λ (l : TimedLeg). IsFlight l.flight.id l.flight) (first ∷ others) more sound in
+    let end = last-later s (last_of first others) more later (AllConnect-after s first others more legal.connected) in
+    let same = ap (λ (l : TimedLeg). l.flight.arr) (last_of-append first others more) in
+    let time = total-append minutes_flown (first ∷ others) more in
+    let rest = flown-total more later in
+    caps-shorter s before (duty_of s first others) (duty_of s first (others ++ more)) (omega (arith, ints, end, same)) (omega (arith, ints, time, rest)) (omega (arith, ints, end, same)) refl h
+
+pub not-within : (room legs : ℕ) (s : Settings) (flights : List Flight) (base : List ℕ) (price : ℤ) (before : List Duty) (first : TimedLeg) (others : List TimedLeg) → AreFlights flights
+    → IsBeginning s flights first others → legs + length others ≡ 8 → is_within_caps s (before ++ duty_of s first others ∷ []) ≡ false
+    → flat_map (with_next room s flights base price before) (listing legs s flights first others) ≡ []
+not-within room legs s flights base price before first others f begin fits e =
+    flat-none (with_next room s flights base price before) (listing legs s flights first others) (λ d m. let on = listing-sound legs s flights first others d begin fits m in none d on.0 on.1 on.2)
+  where
+    none : (d : Duty) (more : List TimedLeg) → IsLegal s flights first (others ++ more) → d ≡ duty_of s first (others ++ more) → with_next room s flights base price before d ≡ []
+    none d more legal is =
+        let caps : is_within_caps s (before ++ duty_of s first (others ++ more) ∷ []) ≡ false =
+        is-off _ (λ h. let now = shorter s flights before first others more f legal h in cc) in
+        let same : is_within_caps s (before ++ d ∷ []) ≡ false = ap (λ (x : Duty). is_within_caps s (before ++ x ∷ [])) is ∙ caps in
+        next-off room s flights base price before d (second-off (may_join base s before d) (is_within_caps s (before ++ d ∷ [])) same)
+
+-- the legs' own duty, where it is one
+pub own-on : (room : ℕ) (s : Settings) (flights : List Flight) (base : List ℕ) (price : ℤ) (before : List Duty) (first : TimedLeg) (others : List TimedLeg)
+    → may_join base s before (duty_of s first others) ≡ true → is_within_caps s (before ++ duty_of s first others ∷ []) ≡ true
+    → flat_map (with_next room s flights base price before) (own s first others)
+    ≡ (if (last_of first others).deadhead then [] else listed s base price (before ++ duty_of s first others ∷ []) ∷ after room s flights base price (before ++ duty_of s first others ∷ []))
+own-on room s flights base price before first others joins caps = by (last_of first others).deadhead
+  where
+    by : (dead : Bool) → flat_map (with_next room s flights base price before) (if dead then [] else duty_of s first others ∷ [])
+        ≡ (if dead then [] else listed s base price (before ++ duty_of s first others ∷ []) ∷ after room s flights base price (before ++ duty_of s first others ∷ []))
+    by true = refl
+    by false =
+        append-nil (with_next room s flights base price before (duty_of s first others))
+        ∙ next-on room s flights base price before (duty_of s first others) (both-on _ _ joins caps)
+
+-- what goes on with a flight, if it may
+abbrev pub onward : ℕ → Settings → List Flight → List ℕ → ℤ → List Duty → TimedLeg → List TimedLeg → Flight → List Partial
+onward room s flights base price before first others g =
+    if may_follow s (last_of first others).flight g then flat_map (with_next room s flights base price before) (below (7 - length others) s flights first others g) else []
+
+-- leg by leg: the legs' own duty, and then flight by flight
+pub legs-open : (room : ℕ) (s : Settings) (flights : List Flight) (base : List ℕ) (price : ℤ) (before : List Duty) (first : TimedLeg) (others : List TimedLeg) → length others < 8
+    → is_hopeless s first others ≡ false → may_join base s before (duty_of s first others) ≡ true → is_within_caps s (before ++ duty_of s first others ∷ []) ≡ true
+    → flat_map (with_next room s flights base price before) (listing (8 - length others) s flights first others)
+    ≡ (if (last_of first others).deadhead then [] else listed s base price (before ++ duty_of s first others ∷ []) ∷ after room s flights base price (before ++ duty_of s first others ∷ []))
+    ++ flat_map (onward room s flights base price before first others) flights
+legs-open room s flights base price before first others few hope joins caps =
+    let W = with_next room s flights base price before in
+    let B = below (7 - length others) s flights first others in
+    let p = may_follow s (last_of first others).flight in
+    ap (flat_map W) (listing-at s flights first others few hope)
+    ∙ flat_map-append W (own s first others) (flat_map B (filter p flights))
+    ∙ ap (λ (t : List Partial). t ++ flat_map W (flat_map B (filter p flights))) (own-on room s flights base price before first others joins caps)
+    ∙ ap (λ (t : List Partial). (if (last_of first others).deadhead then [] else listed s base price (before ++ duty_of s first others ∷ []) ∷ after room s flights base price (before ++ duty_of s first others ∷ [])) ++ t)
+    (flat-flat W B (filter p flights) ∙ flat-filter (λ (g : Flight). flat_map W (B g)) p flights)
+
+pub onward-on : (room : ℕ) (s : Settings) (flights : List Flight) (base : List ℕ) (price : ℤ) (before : List Duty) (first : TimedLeg) (others : List TimedLeg) (g : Flight)
+    → may_follow s (last_of first others).flight g ≡ true → onward room s flights base price before first others g ≡ flat_map (with_next room s flights base price before) (below (7 - length others) s flights first others g)
+onward-on room s flights base price before first others g e = on (may_follow s (last_of first others).flight g) _ e
+
+pub onward-off : (room : ℕ) (s : Settings) (flights : List Flight) (base : List ℕ) (price : ℤ) (before : List Duty) (first : TimedLeg) (others : List TimedLeg) (g : Flight)
+    → may_follow s (last_of first others).flight g ≡ false → onward room s flights base price before first others g ≡ []
+onward-off room s flights base price before first others g e = off (may_follow s (last_of first others).flight g) _ e
+
+-- what is listed of the legs' own duty, as the code has it
+pub own-listed : (room : ℕ) (s : Settings) (flights : List Flight) (base : List ℕ) (price : ℤ) (before : List Duty) (d : Duty) (longer : List Duty) (last end : TimedLeg) → longer ≡ before ++ d ∷ [] → last ≡ end
+    → (if last.deadhead then [] else listed s base price longer ∷ after (s.max_duties - length longer) s flights base price longer)
+    ≡ (if end.deadhead then [] else listed s base price (before ++ d ∷ []) ∷ after (s.max_duties - (length before + 1)) s flights base price (before ++ d ∷ []))
+own-listed room s flights base price before d longer last end e l =
+    let long : s.max_duties - length (before ++ d ∷ []) ≡ s.max_duties - (length before + 1) = ap (λ (n : ℕ). s.max_duties - n) (length-append before (d ∷ [])) in
+    ap (λ (x : TimedLeg). if x.deadhead then [] else listed s base price longer ∷ after (s.max_duties - length longer) s flights base price longer) l
+    ∙ ap (λ (ds : List Duty). if end.deadhead then [] else listed s base price ds ∷ after (s.max_duties - length ds) s flights base price ds) e
+    ∙ ap (λ (n : ℕ). if end.deadhead then [] else listed s base price (before ++ d ∷ []) ∷ after n s flights base price (before ++ d ∷ [])) long
+
+-- more than so many in the first of two lists, and in the second
+pub more-than : (n m : ℕ) (mine own rest : List Partial) → mine ≡ own → n < m + length mine → n < m + length (own ++ rest)
+more-than n m mine own rest e h = omega (arith, h, ap length e, length-append own rest)
+
+pub more-after : (start now mine own rest : List Partial) (n : ℕ) → mine ≡ own → now ≡ start ++ mine → n < length now + length rest → n < length start + length (own ++ rest)
+more-after start now mine own rest n e a h = omega (arith, h, ap length e, ap length a, length-append start mine, length-append own rest)
+
+pub joined-up : (start now mine own rest end : List Partial) → mine ≡ own → now ≡ start ++ mine → end ≡ now ++ rest → end ≡ start ++ (own ++ rest)
+joined-up start now mine own rest end e a b = b ∙ rw (a, e) (append_assoc start own rest)

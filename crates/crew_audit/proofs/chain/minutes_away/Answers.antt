@@ -1,0 +1,30 @@
+use Rattle.std.proofs.Common.{◌≡◌, ◌-ℤ◌, ◌∙◌, sym, ap, arith, of_z, to_z, w64}
+use Rattle.std.specs.Option.{option_copied}
+use Rattle.std.proofs.lemmas.Int.{ints}
+use Rattle.crew_duty.proofs.Tree.{Each-member, slice_get-Member}
+use Rattle.crew_audit.specs.Ranges.{IsInRange}
+use Rattle.crew_audit.proofs.Chains.{away-ends}
+use Rattle.crew_audit.proofs.chain.minutes_away.Goals as goal
+
+pub returns-in-Some-Some-clause-value : goal.returns-in-Some-Some-clause-value
+returns-in-Some-Some-clause-value c =
+    let ds = c.args.duties.now in
+    let first = c.in-Some-Some.first.now in
+    let last = c.in-Some-Some.last.now in
+    let at = sym c.first.ensures.value ∙ ap option_copied c.in-Some-Some.is-0 in
+    let end = sym c.last.ensures.value ∙ ap option_copied c.in-Some-Some.is-1 in
+    let f = Each-member IsInRange ds first c.requires (slice_get-Member ds _ first at) in
+    let l = Each-member IsInRange ds last c.requires (slice_get-Member ds _ last end) in
+    let fits : to_z w64 (of_z w64 (to_z w64 (of_z w64 last.release) -ℤ to_z w64 (of_z w64 first.report))) ≡ last.release -ℤ first.report = omega (arith, ints, f.report, f.report_most, l.release, l.release_most) in
+    fits ∙ away-ends ds first last at end
+
+pub returns-in-Some-Some-clause-bound : goal.returns-in-Some-Some-clause-bound
+returns-in-Some-Some-clause-bound c =
+    let ds = c.args.duties.now in
+    let first = c.in-Some-Some.first.now in
+    let last = c.in-Some-Some.last.now in
+    let at = sym c.first.ensures.value ∙ ap option_copied c.in-Some-Some.is-0 in
+    let end = sym c.last.ensures.value ∙ ap option_copied c.in-Some-Some.is-1 in
+    let f = Each-member IsInRange ds first c.requires (slice_get-Member ds _ first at) in
+    let l = Each-member IsInRange ds last c.requires (slice_get-Member ds _ last end) in
+    (omega (arith, ints, f.report, f.report_most, l.release, l.release_most), omega (arith, ints, f.report, f.report_most, l.release, l.release_most))

@@ -1,0 +1,4 @@
+pub mod Listing
+pub mod Partials
+pub mod Ranges
+pub mod Tallies

@@ -1,0 +1,85 @@
+//! All partial pairings of a timetable.
+
+ghost use Rattle.std.specs.Prelude.{◌≡◌, ◌<◌, ◌≤◌, ℕ, ℤ, List, IfOk, Err, length};
+ghost use Rattle.std.specs.FinMap as fin;
+ghost use Rattle.std.specs.List.{flat_map};
+ghost use Rattle.crew_flights.specs.Timetable.{IsBasePrice, IsSound};
+ghost use Rattle.crew_rules.specs.Settings.{IsChecked};
+ghost use Rattle.crew_duty.specs.Duties.{flights_of};
+ghost use Rattle.crew_duty.specs.Members.{Each};
+ghost use Rattle.crew_duty.specs.Plans.{AreFlights};
+ghost use Rattle.crew_audit.specs.Listing.{of_base};
+ghost use Rattle.crew_audit.specs.Partials.{ArePartials, HasMoreThan};
+
+use crate::partial::{AuditFault, Partial};
+use crate::search::{Plan, list_after};
+use crew_flights::{Code, Data, Flight};
+use crew_rules::Settings;
+use std::alloc::{AllocError, Global};
+
+// The flights of a timetable, by number.
+fn held_flights(alloc: Global, data: &Data) -> Result<Vec<Flight>, AllocError>
+    ensures held { IfOk result (λ flights. flights.items ≡ flights_of data.now) }
+    ensures sound { IsSound data.now }
+{
+    data.flights().copied().collect(alloc)
+}
+
+// The bases of a timetable with their prices, by code.
+fn held_bases(alloc: Global, data: &Data) -> Result<Vec<(Code, i64)>, AllocError>
+    ensures held { IfOk result (λ bases. bases.items ≡ fin.entries data.now.bases) }
+    ensures sound { IsSound data.now }
+{
+    data.bases()
+        .map(|(code, price)| (*code, *price))
+        .collect(alloc)
+}
+
+// All partials of these bases over these flights.
+fn list_all(
+    alloc: Global,
+    settings: &Settings,
+    flights: &[Flight],
+    bases: &[(Code, i64)],
+    limit: usize,
+) -> Result<Vec<Partial>, AuditFault>
+    requires checked { IsChecked settings.now }
+    requires flights { AreFlights flights.now }
+    requires prices { Each (λ (b : List ℕ × ℤ). IsBasePrice b.1) bases.now }
+    ensures ok { IfOk result (λ found. found.items ≡ flat_map (of_base settings.now flights.now) bases.now) }
+    ensures few { IfOk result (λ found. length found.items ≤ limit) }
+    ensures over { result ≡ Err AuditFault.OverLimit → limit < length (flat_map (of_base settings.now flights.now) bases.now) }
+{
+    let mut found = Vec::new(alloc);
+    for &(base, base_price) in bases {
+        let plan = Plan {
+            settings,
+            flights,
+            base,
+            base_price,
+            limit,
+        };
+        list_after(alloc, &mut found, &plan, &[])?;
+    }
+    Ok(found)
+}
+
+/// The partial pairings of all bases of a timetable: exactly those, each once, by base and walk,
+/// each with its vector and whether it is a pairing. `OverLimit` exactly where there are more than
+/// `limit`, as soon as one more is found, and `Memory` only where a growth was refused.
+pub fn enumerate(
+    alloc: Global,
+    settings: &Settings,
+    data: &Data,
+    limit: usize,
+) -> Result<Vec<Partial>, AuditFault>
+    requires { IsChecked settings.now }
+    ensures listed { IfOk result (λ partials. ArePartials settings.now data.now partials.items) }
+    ensures few { IfOk result (λ partials. length partials.items ≤ limit) }
+    ensures over { result ≡ Err AuditFault.OverLimit → HasMoreThan settings.now data.now limit }
+{
+    let flights = held_flights(alloc, data)?;
+    let bases = held_bases(alloc, data)?;
+    let partials = list_all(alloc, settings, &flights, &bases, limit)?;
+    Ok(partials)
+}

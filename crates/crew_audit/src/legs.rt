@@ -1,0 +1,97 @@
+//! Lists of legs: which may go on, which can begin a duty, and the duty of such a list.
+
+ghost use Rattle.std.specs.Prelude.{◌≡◌, ◌≤◌, ◌++◌, ◌∷◌, [], IfOk, length};
+ghost use Rattle.crew_flights.specs.Timetable.{IsFlight};
+ghost use Rattle.crew_rules.specs.Settings.{IsChecked};
+ghost use Rattle.crew_duty.specs.Legality.{AllConnect, duty_of, may_follow};
+ghost use Rattle.crew_duty.specs.Listing.{is_hopeless, timed};
+ghost use Rattle.crew_duty.specs.Members.{Each};
+ghost use Rattle.crew_audit.specs.Ranges.{IsInRange};
+
+use crate::facts::{
+    deadheads, flight_duty_period, flight_time, last_leg, price, release, report, segments,
+};
+use crew_duty::{Duty, Key, TimedLeg};
+use crew_flights::Flight;
+use crew_rules::{Settings, duty_pay, table_a, table_b};
+use std::alloc::{AllocError, Global};
+
+/// The most legs of a duty.
+pub(crate) const LEGS: usize = 8;
+
+/// Whether a flight may come next after another.
+pub(crate) fn may_come_next(settings: &Settings, before: &Flight, next: &Flight) -> bool
+    requires { IsChecked settings.now }
+    ensures { result ≡ may_follow settings.now before.now next.now }
+{
+    let gap = next.dep.get() - before.arr.get();
+    before.to == next.from && i64::from(settings.connect) <= gap && gap <= i64::from(settings.sit)
+}
+
+/// Whether no duty can begin with these legs.
+pub(crate) fn cannot_begin(settings: &Settings, first: &TimedLeg, others: &[TimedLeg]) -> bool
+    requires checked { IsChecked settings.now }
+    requires few { length others.now ≤ 7 }
+    ensures { result ≡ is_hopeless settings.now first.now others.now }
+{
+    if deadheads(first, others) > settings.deadheads as usize {
+        return true;
+    }
+    let clock = first.flight.report_clock;
+    let counted = segments(first, others).max(1) as u8;
+    flight_time(first, others) > i64::from(table_a(clock))
+        || flight_duty_period(settings, first, others) > i64::from(table_b(clock, counted))
+}
+
+/// The facts of these legs, as those of a duty.
+pub(crate) fn duty_from(
+    alloc: Global,
+    settings: &Settings,
+    first: &TimedLeg,
+    others: &[TimedLeg],
+) -> Result<Duty, AllocError>
+    requires checked { IsChecked settings.now }
+    requires few { length others.now ≤ 7 }
+    requires sound { Each (λ l. IsFlight l.flight.id l.flight) (first.now ∷ others.now) }
+    requires connected { AllConnect settings.now first.now others.now }
+    ensures value { IfOk result (λ duty. duty ≡ duty_of settings.now first.now others.now) }
+    ensures range { IfOk result IsInRange }
+{
+    let mut legs = Vec::with_capacity(alloc, LEGS)?;
+    legs.push(first.leg())?;
+    for leg in others {
+        legs.push(leg.leg())?;
+    }
+    let report = report(settings, first);
+    let release = release(settings, first, others);
+    let fly = flight_time(first, others);
+    Ok(Duty {
+        key: Key::new(legs),
+        from: first.flight.from,
+        to: last_leg(first, others).flight.to,
+        report,
+        release,
+        fdp: flight_duty_period(settings, first, others),
+        fly,
+        pay: duty_pay(settings, release - report, fly),
+        price: price(first, others),
+    })
+}
+
+/// These legs, and then one more.
+pub(crate) fn followed_by(
+    alloc: Global,
+    legs: &[TimedLeg],
+    flight: &Flight,
+    deadhead: bool,
+) -> Result<Vec<TimedLeg>, AllocError>
+    ensures { IfOk result (λ longer. longer.items ≡ legs.now ++ timed deadhead flight.now ∷ []) }
+{
+    let mut longer = Vec::with_capacity(alloc, LEGS)?;
+    longer.extend_from_slice(legs)?;
+    longer.push(TimedLeg {
+        flight: *flight,
+        deadhead,
+    })?;
+    Ok(longer)
+}

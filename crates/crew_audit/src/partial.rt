@@ -1,0 +1,50 @@
+//! Partial pairings, and why they are not listed.
+
+use crew_duty::Walk;
+use crew_flights::Code;
+use crew_vector::Parts;
+use std::alloc::{AllocError, AllocFailed};
+
+/// A partial pairing of a base.
+#[derive(Debug, Drop)]
+pub struct Partial {
+    /// The base that it leaves.
+    pub base: Code,
+    /// The keys of its duties.
+    pub walk: Walk,
+    /// Its vector, less the prices of its flights and of its base.
+    pub vector: Parts,
+    /// Whether it comes back to its base.
+    pub pairing: bool,
+}
+
+/// Why partial pairings are not listed.
+#[derive(Clone, Copy, Debug, PartialEq, Eq)]
+pub enum AuditFault {
+    /// There are more than the limit.
+    OverLimit,
+    /// Memory ran out.
+    Memory,
+}
+
+impl From<AllocError> for AuditFault {
+    ghost use Rattle.std.specs.Prelude.{◌≡◌};
+    ghost use Rattle.crew_audit.specs.declared.partial.AuditFault.TheVariants.{Memory};
+
+    ghost from_gives = { λ _ fault. fault ≡ Memory };
+
+    fn from(_: AllocError) -> AuditFault {
+        AuditFault::Memory
+    }
+}
+
+impl<T: Drop> From<AllocFailed<T>> for AuditFault {
+    ghost use Rattle.std.specs.Prelude.{◌≡◌};
+    ghost use Rattle.crew_audit.specs.declared.partial.AuditFault.TheVariants.{Memory};
+
+    ghost from_gives = { λ _ fault. fault ≡ Memory };
+
+    fn from(_: AllocFailed<T>) -> AuditFault {
+        AuditFault::Memory
+    }
+}

@@ -1,0 +1,237 @@
+//! The search for partial pairings: depth first, leg by leg and duty by duty.
+
+ghost use Rattle.std.specs.Prelude.{◌≡◌, ◌+◌, ◌-◌, ◌<◌, ◌≤◌, ◌++◌, ◌∷◌, [], false, true, OnOk, Err, length, if◌then◌else◌};
+ghost use Rattle.std.specs.List.{flat_map};
+ghost use Rattle.crew_flights.specs.Timetable.{IsBasePrice};
+ghost use Rattle.crew_rules.specs.Settings.{IsChecked};
+ghost use Rattle.crew_duty.specs.Legality.{duty_of, last_of, may_follow};
+ghost use Rattle.crew_duty.specs.Listing.{below, from_flight, listing, timed};
+ghost use Rattle.crew_duty.specs.Members.{Each, Member};
+ghost use Rattle.crew_duty.specs.Pairings.{is_within_caps};
+ghost use Rattle.crew_duty.specs.Plans.{AreFlights, IsBeginning};
+ghost use Rattle.crew_audit.specs.Listing.{after, listed, may_join, with_next};
+ghost use Rattle.crew_audit.specs.Ranges.{IsInRange};
+
+use crate::chain::{self, keep_within_caps, may_leave, partial_from};
+use crate::facts::last_leg;
+use crate::legs::{self, LEGS, cannot_begin, duty_from, may_come_next};
+use crate::partial::{AuditFault, Partial};
+use crew_duty::{Duty, TimedLeg};
+use crew_flights::{Code, Flight};
+use crew_rules::Settings;
+use std::alloc::Global;
+
+// What the search works with: the flights by number, a base with its price, and the most partials
+// that are listed.
+#[derive(Clone, Copy, Drop)]
+pub(crate) struct Plan<'a> {
+    pub(crate) settings: &'a Settings,
+    pub(crate) flights: &'a [Flight],
+    pub(crate) base: Code,
+    pub(crate) base_price: i64,
+    pub(crate) limit: usize,
+}
+
+// Lists these duties.
+fn list_one(
+    alloc: Global,
+    found: &mut Vec<Partial>,
+    plan: &Plan<'_>,
+    duties: &[Duty],
+) -> Result<(), AuditFault>
+    requires checked { IsChecked plan.now.settings.now }
+    requires price { IsBasePrice plan.now.base_price }
+    requires few { length duties.now ≤ 13 }
+    requires ranges { Each IsInRange duties.now }
+    requires room { length found.old.items ≤ plan.now.limit }
+    ensures ok { OnOk result (found.new.items ≡ found.old.items ++ listed plan.now.settings.now plan.now.base plan.now.base_price duties.now ∷ []) }
+    ensures room { OnOk result (length found.new.items ≤ plan.now.limit) }
+    ensures over { result ≡ Err AuditFault.OverLimit → plan.now.limit < length found.old.items + 1 }
+{
+    if found.len() >= plan.limit {
+        return Err(AuditFault::OverLimit);
+    }
+    let partial = partial_from(alloc, plan.settings, plan.base, plan.base_price, duties)?;
+    found.push(partial)?;
+    Ok(())
+}
+
+// Lists the partials that go on from these duties.
+#[cycle(partials)]
+pub(crate) fn list_after(
+    alloc: Global,
+    found: &mut Vec<Partial>,
+    plan: &Plan<'_>,
+    before: &[Duty],
+) -> Result<(), AuditFault>
+    requires checked { IsChecked plan.now.settings.now }
+    requires flights { AreFlights plan.now.flights.now }
+    requires price { IsBasePrice plan.now.base_price }
+    requires few { length before.now ≤ plan.now.settings.now.max_duties }
+    requires ranges { Each IsInRange before.now }
+    requires room { length found.old.items ≤ plan.now.limit }
+    ensures ok { OnOk result (found.new.items ≡ found.old.items
+        ++ after (plan.now.settings.now.max_duties - length before.now) plan.now.settings.now plan.now.flights.now plan.now.base plan.now.base_price before.now) }
+    ensures room { OnOk result (length found.new.items ≤ plan.now.limit) }
+    ensures over { result ≡ Err AuditFault.OverLimit → plan.now.limit < length found.old.items
+        + length (after (plan.now.settings.now.max_duties - length before.now) plan.now.settings.now plan.now.flights.now plan.now.base plan.now.base_price before.now) }
+{
+    if before.len() >= plan.settings.max_duties as usize {
+        return Ok(());
+    }
+    for flight in plan.flights {
+        if may_leave(plan.settings, plan.base, before, flight) {
+            list_from(alloc, found, plan, before, flight)?;
+        }
+    }
+    Ok(())
+}
+
+// Lists those that go on with a duty that begins with this flight, flown and then deadheaded.
+#[cycle(partials)]
+fn list_from(
+    alloc: Global,
+    found: &mut Vec<Partial>,
+    plan: &Plan<'_>,
+    before: &[Duty],
+    flight: &Flight,
+) -> Result<(), AuditFault>
+    requires checked { IsChecked plan.now.settings.now }
+    requires flights { AreFlights plan.now.flights.now }
+    requires price { IsBasePrice plan.now.base_price }
+    requires few { length before.now < plan.now.settings.now.max_duties }
+    requires ranges { Each IsInRange before.now }
+    requires known { Member plan.now.flights.now flight.now }
+    requires joins { may_join plan.now.base plan.now.settings.now before.now (duty_of plan.now.settings.now (timed false flight.now) []) ≡ true }
+    requires room { length found.old.items ≤ plan.now.limit }
+    ensures ok { OnOk result (found.new.items ≡ found.old.items
+        ++ flat_map (with_next (plan.now.settings.now.max_duties - (length before.now + 1)) plan.now.settings.now plan.now.flights.now plan.now.base plan.now.base_price before.now)
+        (from_flight plan.now.settings.now plan.now.flights.now flight.now)) }
+    ensures room { OnOk result (length found.new.items ≤ plan.now.limit) }
+    ensures over { result ≡ Err AuditFault.OverLimit → plan.now.limit < length found.old.items
+        + length (flat_map (with_next (plan.now.settings.now.max_duties - (length before.now + 1)) plan.now.settings.now plan.now.flights.now plan.now.base plan.now.base_price before.now)
+        (from_flight plan.now.settings.now plan.now.flights.now flight.now)) }
+{
+    let flown = TimedLeg {
+        flight: *flight,
+        deadhead: false,
+    };
+    list_legs(alloc, found, plan, before, &flown, &[])?;
+    let ridden = TimedLeg {
+        flight: *flight,
+        deadhead: true,
+    };
+    list_legs(alloc, found, plan, before, &ridden, &[])
+}
+
+// Lists those that go on with a duty that begins with these legs.
+#[cycle(partials)]
+fn list_legs(
+    alloc: Global,
+    found: &mut Vec<Partial>,
+    plan: &Plan<'_>,
+    before: &[Duty],
+    first: &TimedLeg,
+    others: &[TimedLeg],
+) -> Result<(), AuditFault>
+    requires checked { IsChecked plan.now.settings.now }
+    requires flights { AreFlights plan.now.flights.now }
+    requires price { IsBasePrice plan.now.base_price }
+    requires few { length before.now < plan.now.settings.now.max_duties }
+    requires ranges { Each IsInRange before.now }
+    requires joins { may_join plan.now.base plan.now.settings.now before.now (duty_of plan.now.settings.now first.now others.now) ≡ true }
+    requires beginning { IsBeginning plan.now.settings.now plan.now.flights.now first.now others.now }
+    requires legs { length others.now ≤ 8 }
+    requires room { length found.old.items ≤ plan.now.limit }
+    ensures ok { OnOk result (found.new.items ≡ found.old.items
+        ++ flat_map (with_next (plan.now.settings.now.max_duties - (length before.now + 1)) plan.now.settings.now plan.now.flights.now plan.now.base plan.now.base_price before.now)
+        (listing (8 - length others.now) plan.now.settings.now plan.now.flights.now first.now others.now)) }
+    ensures room { OnOk result (length found.new.items ≤ plan.now.limit) }
+    ensures over { result ≡ Err AuditFault.OverLimit → plan.now.limit < length found.old.items
+        + length (flat_map (with_next (plan.now.settings.now.max_duties - (length before.now + 1)) plan.now.settings.now plan.now.flights.now plan.now.base plan.now.base_price before.now)
+        (listing (8 - length others.now) plan.now.settings.now plan.now.flights.now first.now others.now)) }
+{
+    if others.len() >= LEGS || cannot_begin(plan.settings, first, others) {
+        return Ok(());
+    }
+    let next = duty_from(alloc, plan.settings, first, others)?;
+    let longer = chain::followed_by(alloc, before, next)?;
+    if !keep_within_caps(plan.settings, &longer) {
+        return Ok(());
+    }
+    let last = last_leg(first, others);
+    list_own(alloc, found, plan, &longer, last.deadhead)?;
+    for flight in plan.flights {
+        if may_come_next(plan.settings, &last.flight, flight) {
+            list_below(alloc, found, plan, before, first, others, flight)?;
+        }
+    }
+    Ok(())
+}
+
+// Lists these duties, and then the partials that go on from them; nothing where their last leg is
+// a deadhead.
+#[cycle(partials)]
+fn list_own(
+    alloc: Global,
+    found: &mut Vec<Partial>,
+    plan: &Plan<'_>,
+    duties: &[Duty],
+    deadhead: bool,
+) -> Result<(), AuditFault>
+    requires checked { IsChecked plan.now.settings.now }
+    requires flights { AreFlights plan.now.flights.now }
+    requires price { IsBasePrice plan.now.base_price }
+    requires few { length duties.now ≤ plan.now.settings.now.max_duties }
+    requires ranges { Each IsInRange duties.now }
+    requires room { length found.old.items ≤ plan.now.limit }
+    ensures ok { OnOk result (found.new.items ≡ found.old.items ++ (if deadhead then [] else listed plan.now.settings.now plan.now.base plan.now.base_price duties.now
+        ∷ after (plan.now.settings.now.max_duties - length duties.now) plan.now.settings.now plan.now.flights.now plan.now.base plan.now.base_price duties.now)) }
+    ensures room { OnOk result (length found.new.items ≤ plan.now.limit) }
+    ensures over { result ≡ Err AuditFault.OverLimit → plan.now.limit < length found.old.items
+        + length (if deadhead then [] else listed plan.now.settings.now plan.now.base plan.now.base_price duties.now
+        ∷ after (plan.now.settings.now.max_duties - length duties.now) plan.now.settings.now plan.now.flights.now plan.now.base plan.now.base_price duties.now) }
+{
+    if deadhead {
+        return Ok(());
+    }
+    list_one(alloc, found, plan, duties)?;
+    list_after(alloc, found, plan, duties)
+}
+
+// Lists those that go on with a duty that begins with these legs and this flight, flown and then
+// deadheaded.
+#[cycle(partials)]
+fn list_below(
+    alloc: Global,
+    found: &mut Vec<Partial>,
+    plan: &Plan<'_>,
+    before: &[Duty],
+    first: &TimedLeg,
+    others: &[TimedLeg],
+    flight: &Flight,
+) -> Result<(), AuditFault>
+    requires checked { IsChecked plan.now.settings.now }
+    requires flights { AreFlights plan.now.flights.now }
+    requires price { IsBasePrice plan.now.base_price }
+    requires few { length before.now < plan.now.settings.now.max_duties }
+    requires ranges { Each IsInRange before.now }
+    requires joins { may_join plan.now.base plan.now.settings.now before.now (duty_of plan.now.settings.now first.now others.now) ≡ true }
+    requires beginning { IsBeginning plan.now.settings.now plan.now.flights.now first.now others.now }
+    requires legs { length others.now < 8 }
+    requires known { Member plan.now.flights.now flight.now }
+    requires follows { may_follow plan.now.settings.now (last_of first.now others.now).flight flight.now ≡ true }
+    requires room { length found.old.items ≤ plan.now.limit }
+    ensures ok { OnOk result (found.new.items ≡ found.old.items
+        ++ flat_map (with_next (plan.now.settings.now.max_duties - (length before.now + 1)) plan.now.settings.now plan.now.flights.now plan.now.base plan.now.base_price before.now)
+        (below (7 - length others.now) plan.now.settings.now plan.now.flights.now first.now others.now flight.now)) }
+    ensures room { OnOk result (length found.new.items ≤ plan.now.limit) }
+    ensures over { result ≡ Err AuditFault.OverLimit → plan.now.limit < length found.old.items
+        + length (flat_map (with_next (plan.now.settings.now.max_duties - (length before.now + 1)) plan.now.settings.now plan.now.flights.now plan.now.base plan.now.base_price before.now)
+        (below (7 - length others.now) plan.now.settings.now plan.now.flights.now first.now others.now flight.now)) }
+{
+    let flown = legs::followed_by(alloc, others, flight, false)?;
+    list_legs(alloc, found, plan, before, first, &flown)?;
+    let ridden = legs::followed_by(alloc, others, flight, true)?;
+    list_legs(alloc, found, plan, before, first, &ridden)
+}

@@ -1,0 +1,28 @@
+use Rattle.std.proofs.Common.{refl, inl, inr}
+use Rattle.std.proofs.lemmas.Result.{on_ok_weaker}
+use Rattle.crew_session.specs.Lines.{audit_line, refused_line}
+use Rattle.crew_session.proofs.audit.answer_audit.Goals as goal
+
+pub returns-in-Ok : goal.returns-in-Ok
+returns-in-Ok g c =
+    let listed = c.in-Ok.ensures.listed in
+    on_ok_weaker c.write_audit.result
+    (λ w. (
+      audit_line c.of.result,
+      w,
+      inl (record {
+        partials = c.in-Ok.partials.items;
+        tally = c.of.result;
+        all = rw (c.settings.ensures.value, c.data.ensures) at listed;
+        few = c.in-Ok.ensures.few;
+        counted = rw c.deref.ensures.value at c.of.ensures;
+        written = refl;
+      }),
+    ))
+    c.write_audit.ensures
+
+pub returns-in-Err-OverLimit : goal.returns-in-Err-OverLimit
+returns-in-Err-OverLimit g c =
+    on_ok_weaker c.write_refused.result
+    (λ w. (refused_line c.args.number 45, w, inr (record { more = rw (c.settings.ensures.value, c.data.ensures) at (c.in-Err-OverLimit.ensures.over (cc)); written = refl })))
+    c.write_refused.ensures

@@ -1,0 +1,30 @@
+//! The answer to an audit.
+
+ghost use Rattle.std.specs.Prelude.{◌≡◌, List, ℕ, OnOk};
+ghost use Rattle.std.specs.Io.KnownBytes.{Appends};
+ghost use Rattle.crew_session.specs.Audits.{Audits};
+
+use crate::fault::SessionFault;
+use crate::lines::{write_audit, write_refused};
+use crate::version::Version;
+use crew_audit::{AuditFault, Tally, enumerate};
+use std::alloc::Global;
+use std::io::Write;
+
+/// Lists the partial pairings of a version's data, and writes how many there are, or that there
+/// are more than `limit`.
+pub(crate) fn answer_audit<W: Write>(
+    alloc: Global,
+    number: u32,
+    limit: u32,
+    writer: &mut W,
+    version: &Version,
+) -> Result<(), SessionFault>
+    ensures { OnOk result ((text : List ℕ) × Appends (W.contents writer.old) (W.contents writer.new) text × Audits limit number version.now text) }
+{
+    match enumerate(alloc, version.settings(), version.data(), limit as usize) {
+        Ok(partials) => write_audit(alloc, writer, &Tally::of(&partials)),
+        Err(AuditFault::OverLimit) => write_refused(alloc, writer, number, 45),
+        Err(AuditFault::Memory) => Err(SessionFault::Memory),
+    }
+}
