@@ -1,4 +1,4 @@
-use Rattle.std.proofs.Common.{◌≡◌, ℕ, ◌++◌, ◌⊎◌, inl, inr, List, [], ◌∷◌, map, not, sym, ◌∙◌, ap, subst, ⊎_elim, take, arith}
+use Rattle.std.proofs.Common.{◌≡◌, ℕ, ◌++◌, inr, List, [], ◌∷◌, map, not, sym, ◌∙◌, ap, subst, ⊎_elim, take, arith}
 use Rattle.std.specs.List.{filter, list_any}
 use Rattle.std.proofs.lemmas.List.{take_all}
 use Rattle.crew_resource.specs.Labels.{Member}
