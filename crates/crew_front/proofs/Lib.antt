@@ -6,3 +6,4 @@ pub mod PoolLocal
 pub mod TailLemmas
 pub mod MergeLemmas
 pub mod BoardLemmas
+pub mod RankLemmas

@@ -1,19 +1,19 @@
 -- Labels that meet a pool, and those that join it.
-use Rattle.std.proofs.Common.{◌≡◌, ◌≢◌, ℕ, zero, suc, ◌+◌, ◌<◌, Bool, true, false, cond, not, List, [], ◌∷◌, ◌++◌, length, set, map, take, get_or, Option, Some, None, ◌⊎◌, inl, inr, refl, sym, ◌∙◌, ap, subst, ⊎_elim, append_assoc}
+use Rattle.std.proofs.Common.{◌≡◌, ℕ, zero, suc, ◌+◌, ◌<◌, Bool, true, false, cond, not, List, [], ◌∷◌, ◌++◌, length, set, map, take, get_or, Option, Some, None, ◌⊎◌, inl, inr, refl, sym, ◌∙◌, ap, subst, ⊎_elim, append_assoc}
 use Rattle.std.specs.Prelude.{slice_get, ◌||◌}
-use Rattle.std.specs.List.{All, filter, list_any, position}
+use Rattle.std.specs.List.{filter, list_any, position}
 use Rattle.std.proofs.lemmas.Bool.{cases_Bool, false≢true, not-true, not_from_false}
 use Rattle.std.proofs.lemmas.List.{take_more}
-use Rattle.std.proofs.lemmas.List.Folds.{list_any_none, list_any-from_Any}
+use Rattle.std.proofs.lemmas.List.Folds.{list_any_none}
 use Rattle.std.proofs.lemmas.List.Quantifiers.{position-Some}
-use Rattle.crew_resource.specs.Labels.{Member, IsLocal}
+use Rattle.crew_resource.specs.Labels.{Member}
 use Rattle.crew_resource.proofs.Order.{IsOrder}
 use Rattle.crew_resource.proofs.Members.{Member-append, Member-append_left, Member-append_right, Member-filter_in, Member-filter_out, list_any_true, list_any_false}
 use Rattle.crew_front.specs.Apart.{ApartFromAll, AreApart}
 use Rattle.crew_front.specs.Meets.{is_free, vectors_of}
 use Rattle.crew_front.specs.Tails.{IsPoolOf, lesser_tail, ranks_at_most, shown, tail_walk}
 use Rattle.crew_front.specs.declared.pool.Tail.{Tail}
-use Rattle.crew_front.proofs.EntryLemmas.{none_passes, map-slice_set}
+use Rattle.crew_front.proofs.EntryLemmas.{none_passes}
 use Rattle.crew_front.proofs.OfferLocal.{Member-at, Member-get_or}
 use Rattle.crew_front.proofs.PoolLocal.{beaten_list, joined_list, tied_list}
 use Rattle.crew_front.proofs.TailLemmas.{lesser_tail_facts, ranks_order}

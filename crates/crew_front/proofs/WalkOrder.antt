@@ -1,5 +1,5 @@
 -- The order of walks tells walks apart.
-use Rattle.std.proofs.Common.{◌≡◌, Bool, true, false, List, Ordering, refl, sym, ◌∙◌, ap}
+use Rattle.std.proofs.Common.{◌≡◌, Bool, true, false, List, Ordering, refl, ◌∙◌, ap}
 use Rattle.std.specs.Ordering.{bool_cmp, nat_cmp, ordering_then}
 use Rattle.std.specs.declared.cmp.Ordering.TheVariants.{Less, Equal, Greater}
 use Rattle.std.proofs.lemmas.Map.Lookups.{exact_unsigned}

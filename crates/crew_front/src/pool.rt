@@ -48,6 +48,7 @@ pub fn merge<R: Resource>(
     for label in list {
         meet(resource, pool, room, label, walks)?;
     }
+    pool.reserve(room.len())?;
     drop_reached(resource, pool, room);
     pool.append(room)?;
     Ok(())

@@ -1,9 +1,7 @@
-use Rattle.std.proofs.Common.{◌≡◌, ℕ, ◌++◌, List, [], ◌∷◌, map, true, false, sym, ◌∙◌, ap, subst, ⊎_elim}
-use Rattle.std.specs.List.{flat_map}
-use Rattle.crew_resource.specs.Events.{labelled}
+use Rattle.std.proofs.Common.{◌≡◌, ℕ, ◌++◌, List, map, false, sym, ◌∙◌, ap, subst, ⊎_elim}
 use Rattle.crew_resource.specs.Labels.{Member}
 use Rattle.crew_front.specs.Apart.{AreApart}
-use Rattle.crew_front.specs.Counted.{AreCounted, boarded_labels}
+use Rattle.crew_front.specs.Counted.{boarded_labels}
 use Rattle.crew_front.specs.Meets.{vectors_of}
 use Rattle.crew_front.specs.Tails.{IsPoolOf, shown}
 use Rattle.crew_front.specs.declared.pool.Tail.{Tail}

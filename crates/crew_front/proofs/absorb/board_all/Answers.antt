@@ -1,4 +1,4 @@
-use Rattle.std.proofs.Common.{◌≡◌, ◌++◌, List, sym, ◌∙◌, ap}
+use Rattle.std.proofs.Common.{◌++◌, List, sym, ◌∙◌, ap}
 use Rattle.crew_front.specs.Counted.{boarded_label}
 use Rattle.crew_front.specs.declared.pool.Tail.{Tail}
 use Rattle.crew_front.proofs.BoardLemmas.{boarded_more}

@@ -1,4 +1,4 @@
-use Rattle.std.proofs.Common.{◌≡◌, ◌++◌, sym, ◌∙◌, ap, append-nil}
+use Rattle.std.proofs.Common.{◌++◌, sym, ◌∙◌, ap, append-nil}
 use Rattle.crew_resource.specs.Events.{labelled}
 use Rattle.crew_front.specs.declared.pool.Tail.{Tail}
 use Rattle.crew_front.proofs.absorb.board_one.Goals as goal

@@ -1,4 +1,4 @@
-use Rattle.std.proofs.Common.{◌∙◌, ap, not, arith, List, ℕ}
+use Rattle.std.proofs.Common.{◌∙◌, ap, not, arith, List}
 use Rattle.std.specs.List.{filter, insert, position_or_len}
 use Rattle.std.specs.Ordering.{is_lt}
 use Rattle.std.proofs.lemmas.List.Sums.{prefix_len-le-length}

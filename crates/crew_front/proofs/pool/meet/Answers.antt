@@ -1,9 +1,9 @@
-use Rattle.std.proofs.Common.{◌≡◌, ℕ, ◌<◌, true, false, cond, not, List, [], ◌∷◌, ◌++◌, map, get_or, Some, None, ◌⊎◌, inl, inr, refl, ap, sym, ◌∙◌, subst, ⊎_elim, append-nil, arith}
+use Rattle.std.proofs.Common.{◌≡◌, ℕ, true, cond, not, List, [], ◌∷◌, ◌++◌, map, refl, ap, sym, ◌∙◌, subst, append-nil}
 use Rattle.std.specs.List.{position}
-use Rattle.std.specs.Prelude.{slice_get, slice_set}
+use Rattle.std.specs.Prelude.{slice_get}
 use Rattle.std.proofs.lemmas.List.Quantifiers.{position-Some}
 use Rattle.crew_resource.specs.Labels.{Member}
-use Rattle.crew_front.specs.Meets.{is_free, vectors_of}
+use Rattle.crew_front.specs.Meets.{vectors_of}
 use Rattle.crew_front.specs.Tails.{IsPoolOf, lesser_tail, shown}
 use Rattle.crew_front.specs.declared.pool.Tail.{Tail}
 use Rattle.crew_front.proofs.EntryLemmas.{map-slice_set, tied_with}

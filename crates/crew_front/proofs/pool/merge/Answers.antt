@@ -1,4 +1,4 @@
-use Rattle.std.proofs.Common.{◌≡◌, ℕ, ◌++◌, ◌⊎◌, inl, inr, List, [], ◌∷◌, map, not, sym, ◌∙◌, ap, subst, ⊎_elim, take, arith}
+use Rattle.std.proofs.Common.{◌≡◌, ℕ, ◌++◌, inr, List, [], ◌∷◌, map, not, sym, ◌∙◌, ap, subst, ⊎_elim, take, arith}
 use Rattle.std.specs.List.{filter, list_any}
 use Rattle.std.proofs.lemmas.List.{take_all}
 use Rattle.crew_resource.specs.Labels.{Member}
@@ -57,7 +57,7 @@ returns g c =
     let joins : c.loop-label.room.items ≡ filter free list = inv.2 ∙ ap (filter free) all in
     let now : c.append.new.self.items ≡ filter (λ e. not (list_any (λ l. below l.0 e.0) (filter free list))) xs ++ filter free list =
     c.in_ok-append.ensures.items
-    ∙ (ap (λ (r : List (g.row.R-Value.Denot × Tail)). r ++ c.loop-label.room.items) (c.drop_reached.ensures ∙ ap (λ (r : List (g.row.R-Value.Denot × Tail)). filter (λ e. not (list_any (λ l. below l.0 e.0) r)) xs) (c.deref.ensures.value ∙ joins))
+    ∙ (ap (λ (r : List (g.row.R-Value.Denot × Tail)). r ++ c.loop-label.room.items) (c.drop_reached.ensures ∙ (ap (filter (λ e. not (list_any (λ l. below l.0 e.0) c.deref.result.now))) c.in_ok-reserve.ensures.items ∙ ap (λ (r : List (g.row.R-Value.Denot × Tail)). filter (λ e. not (list_any (λ l. below l.0 e.0) r)) xs) (c.deref.ensures.value ∙ joins)))
     ∙ ap (λ (r : List (g.row.R-Value.Denot × Tail)). filter (λ e. not (list_any (λ l. below l.0 e.0) (filter free list))) xs ++ r) joins) in
     record {
       local = λ cs h.

@@ -1,4 +1,4 @@
-use Rattle.std.proofs.Common.{◌≡◌, ℕ, List, [], ◌∷◌, ◌++◌, length, sym, ◌∙◌, ap, subst, arith}
+use Rattle.std.proofs.Common.{◌≡◌, [], ◌∷◌, ◌++◌, length, sym, ◌∙◌, ap, subst, arith}
 use Rattle.crew_front.specs.Arena.{walk_at}
 use Rattle.crew_front.specs.ArenaLinks.{all_walks, AreLinked}
 use Rattle.crew_front.specs.declared.arena.Link.{Link}

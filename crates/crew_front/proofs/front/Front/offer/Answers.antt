@@ -1,4 +1,4 @@
-use Rattle.std.proofs.Common.{◌∙◌, ap, sym, not, List, ℕ, map, refl, get_or, subst}
+use Rattle.std.proofs.Common.{◌∙◌, ap, sym, not, List, map, refl, get_or, subst}
 use Rattle.std.specs.List.{filter, position}
 use Rattle.std.specs.Prelude.{slice_get, slice_set}
 use Rattle.std.specs.Ordering.{is_lt}
