@@ -13,6 +13,24 @@ IsSubmitFault entries LastVersion = ⊥
 IsSubmitFault entries (Gap place) = ⊥
 IsSubmitFault entries NoView = ⊥
 
+-- a settle is refused for the version's number where it is the greatest
+abbrev pub IsSettleFault : ℕ → EngineFault → Type 0
+IsSettleFault number LastVersion = number ≡ 18_446_744_073_709_551_615
+IsSettleFault number TooManyDuties = Unit {0}
+IsSettleFault number (Gap place) = Unit {0}
+IsSettleFault number NoView = Unit {0}
+IsSettleFault number Memory = Unit {0}
+IsSettleFault number SeatFull = ⊥
+
+-- a version can't be followed: too many duties, the greatest number, or want of memory
+abbrev pub IsAdvanceFault : ℕ → EngineFault → Type 0
+IsAdvanceFault number LastVersion = number ≡ 18_446_744_073_709_551_615
+IsAdvanceFault number TooManyDuties = Unit {0}
+IsAdvanceFault number Memory = Unit {0}
+IsAdvanceFault number (Gap place) = ⊥
+IsAdvanceFault number NoView = ⊥
+IsAdvanceFault number SeatFull = ⊥
+
 -- the later entries begin with the earlier ones
 abbrev pub BeginsWith : List Entry → List Entry → Type 0
 BeginsWith earlier later = (more : List Entry) × (later ≡ earlier ++ more)

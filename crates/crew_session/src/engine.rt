@@ -4,7 +4,7 @@ ghost use denote.Param.Send.{IsSync};
 ghost use Rattle.std.specs.Prelude.{◌≡◌, ◌<◌, ◌++◌, ◌∷◌, [], Err, List, IfErr, OnErr, OnOk, length};
 ghost use Rattle.crew_flights.specs.declared.entries.Entry.{Entry};
 ghost use Rattle.crew_duty.specs.Duties.{HasTooMany};
-ghost use Rattle.crew_session.specs.Engines.{BeginsWith, IsSubmitFault};
+ghost use Rattle.crew_session.specs.Engines.{BeginsWith, IsSettleFault, IsSubmitFault};
 ghost use Rattle.crew_session.specs.Versions.{Snapshot, entry_of, timetable_of};
 
 use crate::fault::EngineFault;
@@ -19,6 +19,9 @@ pub trait Engine {
 
     // The version that it keeps.
     ghost shown: { Self → Snapshot };
+
+    // What a settle that succeeds makes of the version before it and of the entries that were taken.
+    ghost settles: { Snapshot → List Entry → Snapshot → Type 0 };
 
     /// Takes an edit as its next entry. It is `SeatFull` exactly where 1,000,000 edits were
     /// taken, or else `Memory`; the edit then comes back, and the engine is unchanged.
@@ -36,10 +39,12 @@ pub trait Engine {
     fn settle<R: Threads + Sync>(&mut self, rt: &R) -> Result<(), EngineFault>
         requires { IsSync R.row }
         ensures entries { entries self.new ≡ entries self.old }
+        ensures made { OnOk result (settles (shown self.old) (entries self.old) (shown self.new)) }
         // The version's entries are the first of those taken, under the same settings.
         ensures ok { OnOk result (BeginsWith (shown self.new).entries (entries self.new)) }
         ensures settings { (shown self.new).settings ≡ (shown self.old).settings }
         ensures err { OnErr result (shown self.new ≡ shown self.old) }
+        ensures fault { IfErr result (IsSettleFault (shown self.old).number) }
         ensures many { result ≡ Err EngineFault.TooManyDuties → HasTooMany (shown self.old).settings (timetable_of (entries self.old)) };
 
     /// The version that it keeps.

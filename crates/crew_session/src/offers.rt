@@ -1,9 +1,10 @@
 //! The search for the best pairing of one duty.
 
-ghost use Rattle.std.specs.Prelude.{◌≡◌, ◌-ℤ◌, ◌≤ℤ◌, pos, negsuc, Err, IfOk};
+ghost use Rattle.std.specs.Prelude.{◌≡◌, ◌-ℤ◌, ◌≤ℤ◌, pos, negsuc, ℕ, Err, IfErr, IfOk};
 ghost use Rattle.crew_rules.specs.Settings.{IsChecked};
 ghost use Rattle.crew_duty.specs.Duties.{AreDuties, HasTooMany};
 ghost use Rattle.crew_session.specs.Bests.{IsBest, offer_cmp};
+ghost use Rattle.crew_session.specs.Engines.{IsAdvanceFault};
 ghost use Rattle.crew_session.specs.Offers.{IsBounded, IsOfferOf, least_of, lesser_of};
 
 use crate::best::Best;
@@ -126,6 +127,7 @@ pub(crate) fn find_best<R: Threads + Sync>(
     requires { IsChecked settings.now }
     ensures ok { IfOk result (IsBest settings.now timetable.now) }
     ensures many { result ≡ Err EngineFault.TooManyDuties → HasTooMany settings.now timetable.now }
+    ensures fault { (number : ℕ) → IfErr result (IsAdvanceFault number) }
 {
     match list_duties(rt, alloc, settings, timetable) {
         Ok(duties) => match best_of(alloc, settings, timetable, duties.as_slice()) {

@@ -42,11 +42,13 @@ impl Plain {
 const EDITS: usize = 1_000_000;
 
 impl Engine for Plain {
-    ghost use Rattle.crew_session.specs.Plains.{shown_by, taken_by};
+    ghost use Rattle.crew_session.specs.Plains.{IsWhole, shown_by, taken_by};
 
     ghost entries = { taken_by };
 
     ghost shown = { shown_by };
+
+    ghost settles = { IsWhole };
 
     fn submit(&mut self, edit: Edit) -> Result<(), (Edit, EngineFault)> {
         let number = self.version.count() + self.pending.len();

@@ -1,9 +1,10 @@
 //! Versions.
 
-ghost use Rattle.std.specs.Prelude.{◌≡◌, ◌+◌, ◌++◌, ◌≤◌, Err, List, IfOk, OnOk, OnErr, length, slice_get, vec_capacity, vec_len};
+ghost use Rattle.std.specs.Prelude.{◌≡◌, ◌+◌, ◌++◌, ◌≤◌, Err, List, IfOk, IfErr, OnOk, OnErr, length, slice_get, vec_capacity, vec_len};
 ghost use Rattle.std.specs.Option.{option_copied};
 ghost use Rattle.std.specs.FinMap as map;
 ghost use Rattle.crew_rules.specs.Settings.{IsChecked};
+ghost use Rattle.crew_session.specs.Engines.{IsAdvanceFault};
 ghost use Rattle.crew_session.specs.Versions.{FoldsOn};
 
 use crate::best::Best;
@@ -156,6 +157,7 @@ impl Version {
     ) -> Result<(), EngineFault>
         ensures ok { OnOk result (IsNext self.old entries.now self.new) }
         ensures err { OnErr result (self.new ≡ self.old) }
+        ensures fault { IfErr result (IsAdvanceFault self.old.number) }
         ensures many { result ≡ Err EngineFault.TooManyDuties → HasTooMany self.old.settings (Spec.timetable_of (self.old.entries ++ entries.now)) }
     {
         let Some(number) = self.number.checked_add(1) else {
