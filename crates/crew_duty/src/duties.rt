@@ -19,6 +19,9 @@ use std::alloc::{AllocError, Global};
 use std::marker::Model;
 use std::thread::Threads;
 
+// The fewest first flights that a thread of their own is started for.
+const PIECE: usize = 64;
+
 /// The legal duties of a timetable, by key.
 ///
 /// A contract sees their list.
@@ -97,6 +100,7 @@ fn are_too_many<R: Threads + Sync>(
 {
     let counts = (0..plan.flights.len())
         .into_par_iter()
+        .with_min_len(PIECE)
         .map(
             |place: usize| -> Result<usize, AllocError>
                 requires { IsPlan plan.now.settings.now plan.now.flights.now (rows plan.now.next.now) × (place < length plan.now.flights.now) }
@@ -119,6 +123,7 @@ fn list_all<R: Threads + Sync>(
 {
     let parts = (0..plan.flights.len())
         .into_par_iter()
+        .with_min_len(PIECE)
         .map(
             |place: usize| -> Result<Vec<Duty>, AllocError>
                 requires { IsPlan plan.now.settings.now plan.now.flights.now (rows plan.now.next.now) × (place < length plan.now.flights.now) }

@@ -1,14 +1,13 @@
 //! The search for legal duties: a tree for each first leg, with the next legs in order.
 
-ghost use Rattle.std.specs.Prelude.{◌≡◌, ◌+◌, ◌-◌, ◌<◌, ◌≤◌, min, ◌++◌, ◌∷◌, [], Some, OnOk, IfOk, OnErr, length, map, slice_get, vec_len, filter};
+ghost use Rattle.std.specs.Prelude.{◌≡◌, ◌+◌, ◌-◌, ◌<◌, ◌≤◌, min, ◌++◌, ◌∷◌, [], Some, OnOk, IfOk, length, slice_get, filter};
 ghost use Rattle.crew_flights.specs.declared.flight.Flight.{Flight};
 ghost use Rattle.crew_flights.specs.Timetable.{IsFlight};
 ghost use Rattle.crew_rules.specs.Settings.{IsChecked};
 ghost use Rattle.crew_rules.specs.declared.settings.Settings.{Settings};
 ghost use Rattle.crew_duty.specs.Legality.{AllConnect, duty_of, last_of, may_follow};
-ghost use Rattle.crew_duty.specs.Legality as Spec;
 ghost use Rattle.crew_duty.specs.Listing.{from_flight, is_hopeless, listing, own, timed};
-ghost use Rattle.crew_duty.specs.Members.{Each, Member};
+ghost use Rattle.crew_duty.specs.Members.{Each};
 ghost use Rattle.crew_duty.specs.Plans.{AreNext, IsBeginning, IsPlan, StandAt, rows};
 
 use crate::departures::Departures;
@@ -20,7 +19,7 @@ use crate::key::Key;
 use crate::leg::TimedLeg;
 use crew_flights::Flight;
 use crew_rules::{Settings, duty_pay, table_a, table_b};
-use std::alloc::{AllocError, AllocFailed, Global};
+use std::alloc::{AllocError, Global};
 
 /// The most legs of a duty.
 const LEGS: usize = 8;
@@ -44,17 +43,6 @@ impl From<AllocError> for DutyFault {
     ghost from_gives = { λ _ fault. fault ≡ Memory };
 
     fn from(_: AllocError) -> DutyFault {
-        DutyFault::Memory
-    }
-}
-
-impl<T: Drop> From<AllocFailed<T>> for DutyFault {
-    ghost use Rattle.std.specs.Prelude.{◌≡◌};
-    ghost use Rattle.crew_duty.specs.declared.search.DutyFault.TheVariants.{Memory};
-
-    ghost from_gives = { λ _ fault. fault ≡ Memory };
-
-    fn from(_: AllocFailed<T>) -> DutyFault {
         DutyFault::Memory
     }
 }

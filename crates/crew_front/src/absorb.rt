@@ -1,5 +1,5 @@
 //! Lists of labels that board a duty into a pool.
-ghost use Rattle.std.specs.Prelude.{◌≡◌, ◌<◌, ℕ, List, [], ◌∷◌, ◌++◌, map, OnOk, true, false};
+ghost use Rattle.std.specs.Prelude.{◌≡◌, ◌<◌, ℕ, List, [], ◌∷◌, ◌++◌, map, OnOk, OnErr, true, false};
 ghost use Rattle.std.specs.List.{flat_map};
 ghost use Rattle.crew_resource.specs.Events.{labelled};
 ghost use Rattle.crew_resource.specs.Labels.{Member};
@@ -14,6 +14,8 @@ use crew_resource::{Placed, Resource, Staged};
 use std::alloc::{AllocError, Global};
 
 /// Working space that is used again.
+///
+/// What it holds is cleared before it is used, so any space serves and no clause speaks of it.
 #[derive(Drop)]
 pub struct Room<V> {
     boarded: Vec<(V, Tail)>,
@@ -35,7 +37,8 @@ impl<V> Room<V> {
 /// If the pool's labels were what a list of candidates leaves, they are then what that list leaves with those that
 /// boarded after it: each with its vector at the duty's end, and its walk a duty longer. `duty` is the duty's rank.
 /// Walks are told by rank, so they compare as by key where the duties are ranked by key. Vectors count their duties,
-/// so walks of one vector are as long: what a longer walk's order rests on.
+/// so walks of one vector are as long: what a longer walk's order rests on. On want of memory no label has gone or
+/// joined, but lesser walks may already stand at ties.
 pub fn absorb_boarding<P: Placed, R: Staged<P>>(
     resource: &R,
     pool: &mut Vec<(R::Value, Tail)>,
@@ -56,6 +59,7 @@ pub fn absorb_boarding<P: Placed, R: Staged<P>>(
     ensures local { OnOk result ((candidates : List (R.Value × List ℕ)) → IsPoolOf R.below candidates (map (shown walks.now) pool.old.items) → IsPoolOf R.below (candidates ++ flat_map (λ e. labelled (R.boards resource.now e.0 item.now) (e.1 ++ duty ∷ [])) (map (shown walks.now) list.now)) (map (shown walks.now) pool.new.items)) }
     ensures apart { OnOk result (AreApart R.below (vectors_of pool.new.items)) }
     ensures counts { OnOk result (AreCounted (R.count_of resource.now) walks.now false pool.new.items) }
+    ensures err { OnErr result (vectors_of pool.new.items ≡ vectors_of pool.old.items) }
 {
     board_all(resource, &mut room.boarded, list, item, duty)?;
     merge(resource, pool, &mut room.free, &room.boarded, walks)?;

@@ -1,5 +1,5 @@
 //! Pools of labels.
-ghost use Rattle.std.specs.Prelude.{◌≡◌, ◌<◌, ℕ, List, [], ◌∷◌, ◌++◌, ◌⊎◌, map, not, length, vec_len, slice_get, slice_set, Some, OnOk};
+ghost use Rattle.std.specs.Prelude.{◌≡◌, ◌<◌, ℕ, List, [], ◌∷◌, ◌++◌, ◌⊎◌, map, not, length, vec_len, slice_get, slice_set, Some, OnOk, OnErr};
 ghost use Rattle.std.specs.List.{filter, list_any, position};
 ghost use Rattle.std.specs.Cmp.Lexicographic.{slice_cmp};
 ghost use Rattle.std.specs.Ordering.{nat_cmp};
@@ -28,7 +28,8 @@ pub struct Tail {
 /// Merges a list of labels into a pool.
 ///
 /// If the pool's labels were what a list of candidates leaves, they are then what that list leaves with these labels
-/// after it. `room` is working space.
+/// after it. `room` is working space. On want of memory no label has gone or joined, but lesser walks may already
+/// stand at ties.
 pub fn merge<R: Resource>(
     resource: &R,
     pool: &mut Vec<(R::Value, Tail)>,
@@ -43,6 +44,7 @@ pub fn merge<R: Resource>(
     ensures local { OnOk result ((candidates : List (R.Value × List ℕ)) → IsPoolOf R.below candidates (map (shown walks.now) pool.old.items) → IsPoolOf R.below (candidates ++ map (shown walks.now) list.now) (map (shown walks.now) pool.new.items)) }
     ensures apart { OnOk result (AreApart R.below (vectors_of pool.new.items)) }
     ensures from { OnOk result ((a : R.Value × Tail) → Member pool.new.items a → Member pool.old.items a ⊎ Member list.now a) }
+    ensures err { OnErr result (vectors_of pool.new.items ≡ vectors_of pool.old.items) }
 {
     room.clear();
     for label in list {

@@ -27,7 +27,7 @@ pub(crate) fn write_line<W: Write>(writer: &mut W, line: &[u8]) -> Result<(), Se
 }
 
 // Appends a number.
-fn put_number(line: &mut Vec<u8>, number: u32) -> Result<(), AllocError>
+fn put_number(line: &mut Vec<u8>, number: usize) -> Result<(), AllocError>
     ensures { OnOk result (line.new.items ≡ line.old.items ++ decimal number) }
 {
     match write!(line, "{number}") {
@@ -40,7 +40,7 @@ fn put_number(line: &mut Vec<u8>, number: u32) -> Result<(), AllocError>
 fn put_leg(line: &mut Vec<u8>, leg: Leg) -> Result<(), AllocError>
     ensures { OnOk result (line.new.items ≡ line.old.items ++ Spec.leg_text leg) }
 {
-    put_number(line, leg.flight.get())?;
+    put_number(line, leg.flight.get() as usize)?;
     if leg.deadhead {
         line.push(b'd')?;
     }
@@ -188,16 +188,6 @@ pub(crate) fn write_best<W: Write>(
     }
 }
 
-// Appends a count.
-fn put_count(line: &mut Vec<u8>, count: usize) -> Result<(), AllocError>
-    ensures { OnOk result (line.new.items ≡ line.old.items ++ decimal count) }
-{
-    match write!(line, "{count}") {
-        Ok(()) => Ok(()),
-        Err(_) => Err(AllocError),
-    }
-}
-
 // Appends the least cost of a pairing, if there is one.
 fn put_cost(line: &mut Vec<u8>, cost: Option<i64>) -> Result<(), AllocError>
     ensures { OnOk result (line.new.items ≡ line.old.items ++ Spec.cost_text cost) }
@@ -214,9 +204,9 @@ fn counts_line(alloc: Global, tally: &Tally) -> Result<Vec<u8>, AllocError>
 {
     let mut line = Vec::new(alloc);
     line.extend_from_slice(b"audit partials ")?;
-    put_count(&mut line, tally.partials)?;
+    put_number(&mut line, tally.partials)?;
     line.extend_from_slice(b" pairings ")?;
-    put_count(&mut line, tally.pairings)?;
+    put_number(&mut line, tally.pairings)?;
     line.extend_from_slice(b" cost ")?;
     put_cost(&mut line, tally.cost)?;
     line.push(b'\n')?;

@@ -2,12 +2,12 @@
 -- clean walk that has it. Labels, and the dominance among them, are those of Irnich and Desaulniers 2005, "Shortest path problems
 -- with resource constraints".
 -- `price` is the base's price, by which the vectors of its partials are less.
-use Rattle.std.specs.Prelude.{◌≡◌, ℕ, Bool, ℤ, List, [], ◌∷◌, ◌++◌, map}
-use Rattle.std.specs.Ordering.{int_cmp, is_le, ordering_then}
+use Rattle.std.specs.Prelude.{◌≡◌, ℕ, ℤ, List, [], ◌∷◌, ◌++◌, map}
+use Rattle.std.specs.Ordering.{int_cmp, ordering_then}
 use Rattle.std.specs.declared.cmp.Ordering.{Ordering}
 use Rattle.std.specs.declared.cmp.Ordering.TheVariants.{Less}
 use Rattle.crew_duty.specs.Duties.{flights_of}
-use Rattle.crew_duty.specs.Keys.{walk_cmp}
+pub use Rattle.crew_duty.specs.Keys.{walk_at_most}
 use Rattle.crew_duty.specs.Members.{Each}
 use Rattle.crew_duty.specs.Pairings.{IsPartial, last_duty}
 use Rattle.crew_duty.specs.declared.duty.Duty.{Duty}
@@ -25,10 +25,6 @@ vector_of s price duties = value_of_parts (parts_of s price duties)
 -- a walk: the keys of the duties in order
 abbrev pub walk_of : List Duty → List (List Leg)
 walk_of duties = map (λ d. d.key) duties
-
--- walks stand in order key by key, a proper beginning first
-abbrev pub walk_at_most : List (List Leg) → List (List Leg) → Bool
-walk_at_most a b = is_le (walk_cmp a b)
 
 -- one vector beats another: it is at most the other in each part, and isn't the other
 abbrev pub VectorBeats : Value → Value → Type 0

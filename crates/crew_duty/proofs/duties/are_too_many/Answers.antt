@@ -15,7 +15,7 @@ collect-requires-clause-ready g c κs q =
     let plan = c.args.plan.now in
     let ends = c.into_par_iter.ensures in
     let inside = nat_range-All (λ i. IsPlan plan.settings.now plan.flights.now (rows plan.next.now) × (i < length plan.flights.now)) 0 (length plan.flights.now) (λ i low high. (c.requires, high)) in
-    rw (c.map.ensures.base, c.map.ensures.f, ends.0, ends.1) (λ k d lt. (inside k d lt, λ y p. tt))
+    rw (c.map.ensures.base, c.map.ensures.f, c.with_min_len.ensures.base, ends.0, ends.1) (λ k d lt. (inside k d lt, λ y p. tt))
 
 pub returns : goal.returns
 returns g c =
@@ -25,7 +25,7 @@ returns g c =
     let ends = c.into_par_iter.ensures in
     let P = λ (i : ℕ) (n : ℕ). (flight : Flight) → slice_get flights i ≡ Some flight → n ≡ min (length (from_flight s flights flight)) 200_001 in
     let h = c.in_ok-collect.ensures in
-    let chain = rw (c.map.ensures.base, c.map.ensures.f) at h.1 in
+    let chain = rw (c.map.ensures.base, c.map.ensures.f, c.with_min_len.ensures.base) at h.1 in
     let whole : n - 0 ≡ n = omega arith in
     let places : chain.0 ≡ range_with_len 0 n = chain.1 ∙ (λ i. nat_range (ends.0 i) (ends.1 i)) ∙ ap (range_with_len 0) whole in
     let z = subst (λ (l : List ℕ). AllZip (λ i o. IfOk o (P i)) l h.0) places chain.2 in
