@@ -1,9 +1,3 @@
 pub mod WalkOrder
 pub mod EntryLemmas
 pub mod OfferLocal
-pub mod ArenaLemmas
-pub mod PoolLocal
-pub mod TailLemmas
-pub mod MergeLemmas
-pub mod BoardLemmas
-pub mod RankLemmas

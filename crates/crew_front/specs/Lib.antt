@@ -2,9 +2,3 @@ pub mod Walks
 pub mod Entries
 pub mod Offers
 pub mod Local
-pub mod Arena
-pub mod ArenaLinks
-pub mod Apart
-pub mod Tails
-pub mod Meets
-pub mod Counted

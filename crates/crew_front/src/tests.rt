@@ -1,9 +1,8 @@
-use crate::{Front, NO_DUTY, Offer, Tail, Walks, merge};
+use crate::{Front, Offer};
 use crew_duty::{Key, Leg, Walk};
 use crew_flights::FlightId;
 use crew_resource::{Amount, Both, Count, Resource, Sum};
 use std::alloc::{AllocError, Global};
-use std::cmp::Ordering;
 use std::test::Fail;
 
 /// Nothing, and free of cap: only the order of values counts here.
@@ -248,37 +247,5 @@ fn keeps_the_lesser_walk(rt: HostRuntime) -> Result<(), Fail> {
     assert!(rt; ways.next().is_none());
     let copied = front.copy(alloc)?;
     assert!(rt; copied.as_slice() == front.as_slice());
-    Ok(())
-}
-
-#[test]
-fn walks_share_their_beginnings(rt: HostRuntime) -> Result<(), Fail> {
-    let mut walks = Walks::new(rt.alloc());
-    let first = walks.add(0, 7)?;
-    let longer = walks.add(first, 3)?;
-    let other = walks.add(first, 4)?;
-    assert!(rt; (first, longer, other) == (1, 2, 3));
-    assert!(rt; walks.compare(longer, other) == Ordering::Less);
-    assert!(rt; walks.compare(other, longer) == Ordering::Greater);
-    assert!(rt; walks.compare(other, other) == Ordering::Equal);
-    Ok(())
-}
-
-#[test]
-fn merges_into_an_empty_pool(rt: HostRuntime) -> Result<(), Fail> {
-    let alloc = rt.alloc();
-    let walks = Walks::new(alloc);
-    let label = (
-        value_of(ROWS[0].value),
-        Tail {
-            walk: 0,
-            duty: NO_DUTY,
-        },
-    );
-    let mut pool = Vec::new(alloc);
-    let mut room = Vec::new(alloc);
-    merge(&resource(), &mut pool, &mut room, &[label], &walks)?;
-    assert!(rt; pool.len() == 1);
-    assert!(rt; pool[0].0.numbers == ROWS[0].value);
     Ok(())
 }

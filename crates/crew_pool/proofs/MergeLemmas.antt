@@ -1,0 +1,222 @@
+-- Labels that meet a pool, and those that join it.
+use Rattle.std.proofs.Common.{◌≡◌, ℕ, zero, suc, ◌+◌, ◌<◌, Bool, true, false, cond, not, List, [], ◌∷◌, ◌++◌, length, set, map, take, get_or, Option, Some, None, ◌⊎◌, inl, inr, refl, sym, ◌∙◌, ap, subst, ⊎_elim, append_assoc}
+use Rattle.std.specs.Prelude.{slice_get, ◌||◌}
+use Rattle.std.specs.List.{filter, list_any, position}
+use Rattle.std.proofs.lemmas.Bool.{cases_Bool, false≢true, not-true, not_from_false}
+use Rattle.std.proofs.lemmas.List.{take_more}
+use Rattle.std.proofs.lemmas.List.Folds.{list_any_none}
+use Rattle.std.proofs.lemmas.List.Quantifiers.{position-Some}
+use Rattle.crew_resource.specs.Labels.{Member}
+use Rattle.crew_resource.proofs.Order.{IsOrder}
+use Rattle.crew_resource.proofs.Members.{Member-append, Member-append_left, Member-append_right, Member-filter_in, Member-filter_out, list_any_true, list_any_false}
+use Rattle.crew_pool.specs.Apart.{ApartFromAll, AreApart}
+use Rattle.crew_pool.specs.Meets.{is_free, vectors_of}
+use Rattle.crew_pool.specs.Tails.{IsPoolOf, lesser_tail, ranks_at_most, shown, tail_walk}
+use Rattle.crew_pool.specs.declared.pool.Tail.{Tail}
+use Rattle.crew_front.proofs.EntryLemmas.{none_passes}
+use Rattle.crew_front.proofs.OfferLocal.{Member-at, Member-get_or}
+use Rattle.crew_pool.proofs.PoolLocal.{beaten_list, joined_list, tied_list}
+use Rattle.crew_pool.proofs.TailLemmas.{lesser_tail_facts, ranks_order}
+
+pub Member-map_in : {X Y : Type 0} (f : X → Y) (xs : List X) (x : X) → Member xs x → Member (map f xs) (f x)
+Member-map_in f [] x m = absurd m
+Member-map_in f (z ∷ zs) x (inl e) = inl (ap f e)
+Member-map_in f (z ∷ zs) x (inr m) = inr (Member-map_in f zs x m)
+
+pub Member-map_out : {X Y : Type 0} (f : X → Y) (xs : List X) (y : Y) → Member (map f xs) y → (x : X) × Member xs x × (f x ≡ y)
+Member-map_out f [] y m = absurd m
+Member-map_out f (z ∷ zs) y (inl e) = (z, inl refl, e)
+Member-map_out f (z ∷ zs) y (inr m) = let k = Member-map_out f zs y m in (k.0, inr k.1, k.2)
+
+pub some_is : {X : Type 0} (a b : X) (o : Option X) → o ≡ Some a → o ≡ Some b → a ≡ b
+some_is a b o p q = cc
+
+-- an item and what it is, after its tail was lowered
+pub same_label : {V : Type 0} (ws : List (List ℕ)) (tail : Tail) (a b : V × Tail) → a ≡ b → ◌≡◌ {A = V × Tail} (a.0, lesser_tail ws a.1 tail) (b.0, lesser_tail ws b.1 tail)
+same_label ws tail a b e = ap (λ x. (x.0, lesser_tail ws x.1 tail)) e
+
+map-map_first : {V : Type 0} (ws : List (List ℕ)) (xs : List (V × Tail)) → map (λ e. e.0) (map (shown ws) xs) ≡ vectors_of xs
+map-map_first ws [] = refl
+map-map_first ws (x ∷ xs) = ap (λ r. x.0 ∷ r) (map-map_first ws xs)
+
+map-set : {X Y : Type 0} (f : X → Y) (xs : List X) (i : ℕ) (x : X) → map f (set xs i x) ≡ set (map f xs) i (f x)
+map-set f [] i x = refl
+map-set f (z ∷ zs) zero x = refl
+map-set f (z ∷ zs) (suc i) x = ap (λ r. f z ∷ r) (map-set f zs i x)
+
+slice_get-map : {X Y : Type 0} (f : X → Y) (xs : List X) (i : ℕ) (x : X) → slice_get xs i ≡ Some x → slice_get (map f xs) i ≡ Some (f x)
+slice_get-map f [] i x e = absurd (let q : ⊥ = (cc) in q)
+slice_get-map f (z ∷ zs) zero x e = let q : z ≡ x = (cc) in ap (λ y. Some (f y)) q
+slice_get-map f (z ∷ zs) (suc i) x e = slice_get-map f zs i x e
+
+pub Member-set_out : {X : Type 0} (xs : List X) (i : ℕ) (y x : X) → Member (set xs i y) x → Member xs x ⊎ (x ≡ y)
+Member-set_out [] i y x m = absurd m
+Member-set_out (z ∷ zs) zero y x (inl e) = inr (sym e)
+Member-set_out (z ∷ zs) zero y x (inr m) = inl (inr m)
+Member-set_out (z ∷ zs) (suc i) y x (inl e) = inl (inl e)
+Member-set_out (z ∷ zs) (suc i) y x (inr m) = ⊎_elim (λ k. inl (inr k)) inr (Member-set_out zs i y x m)
+
+-- a label after one was lowered was there, or is the one that met it
+pub lowered_from : {V : Type 0} (xs : List (V × Tail)) (i : ℕ) (l : V × Tail) (was : Tail) (ws : List (List ℕ)) (a : V × Tail) → slice_get xs i ≡ Some (l.0, was)
+    → Member (set xs i (l.0, lesser_tail ws was l.1)) a → Member xs a ⊎ (a ≡ l)
+lowered_from xs i l was ws a g m =
+    ⊎_elim inl
+    (λ e. ⊎_elim
+    (λ f. inl (subst (Member xs) (sym (e ∙ ap (λ t. (l.0, t)) f)) (Member-at xs i (l.0, was) g)))
+    (λ f. inr (e ∙ ap (λ t. (l.0, t)) f))
+    (lesser_tail_facts ws was l.1).0)
+    (Member-set_out xs i (l.0, lesser_tail ws was l.1) a m)
+
+filter-append : {X : Type 0} (q : X → Bool) (xs ys : List X) → filter q (xs ++ ys) ≡ filter q xs ++ filter q ys
+filter-append q [] ys = refl
+filter-append q (x ∷ xs) ys =
+    elim (q x) as (λ b. cond b (x ∷ filter q (xs ++ ys)) (filter q (xs ++ ys)) ≡ cond b (x ∷ filter q xs) (filter q xs) ++ filter q ys)
+    [ true ↦ ap (λ r. x ∷ r) (filter-append q xs ys) | false ↦ filter-append q xs ys ]
+
+map-append : {X Y : Type 0} (f : X → Y) (xs ys : List X) → map f (xs ++ ys) ≡ map f xs ++ map f ys
+map-append f [] ys = refl
+map-append f (x ∷ xs) ys = ap (λ r. f x ∷ r) (map-append f xs ys)
+
+-- the passing ones of one more element
+pub filter-take_more : {X : Type 0} (q : X → Bool) (xs : List X) (i : ℕ) (x : X) → i < length xs → x ≡ get_or xs i x → filter q (take i xs) ++ filter q (x ∷ []) ≡ filter q (take (i + 1) xs)
+filter-take_more q xs i x h e =
+    sym (filter-append q (take i xs) (x ∷ [])) ∙ ap (filter q) (ap (λ z. take i xs ++ z ∷ []) e ∙ sym (take_more xs i x h))
+
+pub map_filter-take_more : {X Y : Type 0} (f : X → Y) (q : X → Bool) (cs : List Y) (xs : List X) (i : ℕ) (x : X) → i < length xs → x ≡ get_or xs i x
+    → (cs ++ map f (filter q (take i xs))) ++ map f (filter q (x ∷ [])) ≡ cs ++ map f (filter q (take (i + 1) xs))
+map_filter-take_more f q cs xs i x h e =
+    append_assoc cs (map f (filter q (take i xs))) (map f (filter q (x ∷ [])))
+    ∙ ap (λ r. cs ++ r) (sym (map-append f (filter q (take i xs)) (filter q (x ∷ []))) ∙ ap (map f) (filter-take_more q xs i x h e))
+
+module _ {V : Type 0} (below : V → V → Bool) where
+  ApartFromAll-filter : (q : V × Tail → Bool) (a : V) (xs : List (V × Tail)) → ApartFromAll below a (vectors_of xs) → ApartFromAll below a (vectors_of (filter q xs))
+  ApartFromAll-filter q a [] h = tt
+  ApartFromAll-filter q a (x ∷ xs) h =
+      let rest = ApartFromAll-filter q a xs h.1 in
+      elim (q x) as (λ b. ApartFromAll below a (vectors_of (cond b (x ∷ filter q xs) (filter q xs)))) [ true ↦ (h.0, rest) | false ↦ rest ]
+
+  AreApart-filter : (q : V × Tail → Bool) (xs : List (V × Tail)) → AreApart below (vectors_of xs) → AreApart below (vectors_of (filter q xs))
+  AreApart-filter q [] h = tt
+  AreApart-filter q (x ∷ xs) h =
+      let rest = AreApart-filter q xs h.1 in
+      let here = ApartFromAll-filter q x.0 xs h.0 in
+      elim (q x) as (λ b. AreApart below (vectors_of (cond b (x ∷ filter q xs) (filter q xs)))) [ true ↦ (here, rest) | false ↦ rest ]
+
+  ApartFromAll-append : (a : V) (xs ys : List (V × Tail)) → ApartFromAll below a (vectors_of xs) → ((y : V × Tail) → Member ys y → (below a y.0 ≡ false) × (below y.0 a ≡ false)) → ApartFromAll below a (vectors_of (xs ++ ys))
+  ApartFromAll-append a [] [] h out = tt
+  ApartFromAll-append a [] (y ∷ ys) h out = (out y (inl refl), ApartFromAll-append a [] ys tt (λ z m. out z (inr m)))
+  ApartFromAll-append a (x ∷ xs) ys h out = (h.0, ApartFromAll-append a xs ys h.1 out)
+
+  pub AreApart-append : (xs ys : List (V × Tail)) → AreApart below (vectors_of xs) → AreApart below (vectors_of ys) → ((x y : V × Tail) → Member xs x → Member ys y → (below x.0 y.0 ≡ false) × (below y.0 x.0 ≡ false)) → AreApart below (vectors_of (xs ++ ys))
+  AreApart-append [] ys h k out = k
+  AreApart-append (x ∷ xs) ys h k out = (ApartFromAll-append x.0 xs ys h.0 (λ y m. out x y (inl refl) m), AreApart-append xs ys h.1 k (λ a b m n. out a b (inr m) n))
+
+  -- the labels of a merged pool are apart
+  pub merged_apart : (before xs list : List (V × Tail)) → vectors_of xs ≡ vectors_of before → AreApart below (vectors_of before) → AreApart below (vectors_of list)
+      → AreApart below (vectors_of (filter (λ e. not (list_any (λ l. below l.0 e.0) (filter (is_free below (vectors_of before)) list))) xs ++ filter (is_free below (vectors_of before)) list))
+  merged_apart before xs list same h k =
+      let free = is_free below (vectors_of before) in
+      let joins = filter free list in
+      let stays = λ (e : V × Tail). not (list_any (λ l. below l.0 e.0) joins) in
+      AreApart-append (filter stays xs) joins (AreApart-filter stays xs (subst (AreApart below) (sym same) h)) (AreApart-filter free list k)
+      (λ x y m n.
+      let p = Member-filter_out stays xs x m in
+      let q = Member-filter_out free list y n in
+      let there : Member (vectors_of before) x.0 = subst (λ vs. Member vs x.0) same (Member-map_in (λ z. z.0) xs x p.0) in (
+        list_any_false (λ u. below u y.0) (vectors_of before) (not-true (list_any (λ u. below u y.0) (vectors_of before)) q.1) x.0 there,
+        list_any_false (λ l. below l.0 x.0) joins (not-true (list_any (λ l. below l.0 x.0) joins) p.1) y n,
+      ))
+
+  any_map : (v : V) (ys : List (V × Tail)) → list_any (λ u. below u v) (vectors_of ys) ≡ list_any (λ e. below e.0 v) ys
+  any_map v [] = refl
+  any_map v (y ∷ ys) = ap (λ r. below y.0 v || r) (any_map v ys)
+
+  -- no label is at most it
+  pub free_none : (xs : List (V × Tail)) (l : V × Tail) → position (λ e. below e.0 l.0) xs ≡ None → is_free below (vectors_of xs) l ≡ true
+  free_none xs l none =
+      let all = none_passes (λ e. below e.0 l.0) xs none in
+      ap not (any_map l.0 xs ∙ list_any_none (λ e. below e.0 l.0) xs all)
+
+  -- a label is at most it
+  pub free_some : (xs : List (V × Tail)) (l : V × Tail) (i : ℕ) (e : V × Tail) → position (λ e. below e.0 l.0) xs ≡ Some i → e ≡ get_or xs i e → is_free below (vectors_of xs) l ≡ false
+  free_some xs l i e p is =
+      let k = position-Some (λ e. below e.0 l.0) xs i e p in
+      let there : Member (vectors_of xs) e.0 = Member-map_in (λ x. x.0) xs e (Member-get_or xs i e k.0 (sym is)) in
+      let lower : below e.0 l.0 ≡ true = subst (λ (z : V × Tail). below z.0 l.0 ≡ true) (sym is) k.1 in
+      ⊎_elim {C = is_free below (vectors_of xs) l ≡ false} (λ t. ap not t) (λ f. absurd (false≢true (sym (list_any_false (λ u. below u l.0) (vectors_of xs) f e.0 there) ∙ lower))) (cases_Bool (list_any (λ u. below u l.0) (vectors_of xs)))
+
+  module _ (order : IsOrder below) (ws : List (List ℕ)) where
+    -- its vector is there: the lesser walk stays
+    pub tied_local : (xs : List (V × Tail)) (i : ℕ) (v : V) (tail was : Tail) (cs : List (V × List ℕ)) → AreApart below (vectors_of xs) → slice_get xs i ≡ Some (v, was)
+        → IsPoolOf below cs (map (shown ws) xs) → IsPoolOf below (cs ++ (v, tail_walk ws tail) ∷ []) (map (shown ws) (set xs i (v, lesser_tail ws was tail)))
+    tied_local xs i v tail was cs apart g h =
+        let now = lesser_tail ws was tail in
+        let facts = lesser_tail_facts ws was tail in
+        subst (λ es. IsPoolOf below (cs ++ (v, tail_walk ws tail) ∷ []) es) (sym (map-set (shown ws) xs i (v, now)))
+        (tied_list V (List ℕ) below ranks_at_most order ranks_order cs (map (shown ws) xs) i v (tail_walk ws was) (tail_walk ws tail) (tail_walk ws now)
+        (subst (AreApart below) (sym (map-map_first ws xs)) apart) h (slice_get-map (shown ws) xs i (v, was) g)
+        (⊎_elim (λ e. inl (ap (tail_walk ws) e)) (λ e. inr (ap (tail_walk ws) e)) facts.0) facts.1 facts.2)
+
+    -- a label beats it
+    pub beaten_local : (xs : List (V × Tail)) (l e : V × Tail) (cs : List (V × List ℕ)) → Member xs e → below e.0 l.0 ≡ true → below l.0 e.0 ≡ false
+        → IsPoolOf below cs (map (shown ws) xs) → IsPoolOf below (cs ++ shown ws l ∷ []) (map (shown ws) xs)
+    beaten_local xs l e cs m t f h =
+        beaten_list V (List ℕ) below ranks_at_most order ranks_order cs (map (shown ws) xs) l.0 (tail_walk ws l.1) (shown ws e) h (Member-map_in (shown ws) xs e m)
+        (t, λ q. false≢true (sym f ∙ (ap (below l.0) q ∙ order.reflexive l.0)))
+
+    -- the free ones join, and the labels that they are at most go
+    pub merged_local : (before xs list : List (V × Tail)) (cs : List (V × List ℕ)) → vectors_of xs ≡ vectors_of before → AreApart below (vectors_of list)
+        → IsPoolOf below (cs ++ map (shown ws) (filter (λ l. not (is_free below (vectors_of before) l)) list)) (map (shown ws) xs)
+        → IsPoolOf below (cs ++ map (shown ws) list) (map (shown ws) (filter (λ e. not (list_any (λ l. below l.0 e.0) (filter (is_free below (vectors_of before)) list))) xs ++ filter (is_free below (vectors_of before)) list))
+    merged_local before xs list cs same apart h =
+        let free = is_free below (vectors_of before) in
+        let met = filter (λ l. not (free l)) list in
+        let joins = filter free list in
+        let stays = λ (e : V × Tail). not (list_any (λ l. below l.0 e.0) joins) in
+        joined_list V (List ℕ) below ranks_at_most order ranks_order cs (map (shown ws) met) (map (shown ws) list) (map (shown ws) xs) (map (shown ws) joins) (map (shown ws) (filter stays xs ++ joins))
+        h
+        (subst (AreApart below) (sym (map-map_first ws joins)) (AreApart-filter free list apart))
+        (λ x s m n.
+        let p = Member-map_out (shown ws) xs x m in
+        let q = Member-map_out (shown ws) joins s n in
+        let k = Member-filter_out free list q.0 q.1 in
+        let there : Member (vectors_of before) p.0.0 = subst (λ vs. Member vs p.0.0) same (Member-map_in (λ z. z.0) xs p.0 p.1) in
+        let none = list_any_false (λ u. below u q.0.0) (vectors_of before) (not-true (list_any (λ u. below u q.0.0) (vectors_of before)) k.1) p.0.0 there in
+        subst (λ (z : V × List ℕ). below z.0 s.0 ≡ false) p.2 (subst (λ (z : V × List ℕ). below p.0.0 z.0 ≡ false) q.2 none))
+        (λ x m.
+        let p = Member-map_out (shown ws) list x m in
+        ⊎_elim {C = Member (map (shown ws) met) x ⊎ Member (map (shown ws) joins) x}
+        (λ t. inr (subst (Member (map (shown ws) joins)) p.2 (Member-map_in (shown ws) joins p.0 (Member-filter_in free list p.0 p.1 t))))
+        (λ f. inl (subst (Member (map (shown ws) met)) p.2 (Member-map_in (shown ws) met p.0 (Member-filter_in (λ l. not (free l)) list p.0 p.1 (not_from_false (free p.0) f)))))
+        (cases_Bool (free p.0)))
+        (λ x m.
+        let p = Member-map_out (shown ws) met x m in
+        subst (Member (map (shown ws) list)) p.2 (Member-map_in (shown ws) list p.0 (Member-filter_out (λ l. not (free l)) list p.0 p.1).0))
+        (λ x m.
+        let p = Member-map_out (shown ws) joins x m in
+        subst (Member (map (shown ws) list)) p.2 (Member-map_in (shown ws) list p.0 (Member-filter_out free list p.0 p.1).0))
+        (λ x m.
+        let p = Member-map_out (shown ws) (filter stays xs ++ joins) x m in
+        ⊎_elim
+        (λ l.
+        let k = Member-filter_out stays xs p.0 l in
+        inl (
+          subst (Member (map (shown ws) xs)) p.2 (Member-map_in (shown ws) xs p.0 k.0),
+          λ s n.
+              let q = Member-map_out (shown ws) joins s n in
+              let none = list_any_false (λ l. below l.0 p.0.0) joins (not-true (list_any (λ l. below l.0 p.0.0) joins) k.1) q.0 q.1 in
+              subst (λ (z : V × List ℕ). below s.0 z.0 ≡ false) p.2 (subst (λ (z : V × List ℕ). below z.0 p.0.0 ≡ false) q.2 none),
+        ))
+        (λ r. inr (subst (Member (map (shown ws) joins)) p.2 (Member-map_in (shown ws) joins p.0 r)))
+        (Member-append (filter stays xs) joins p.0 p.1))
+        (λ x m.
+        let p = Member-map_out (shown ws) xs x m in
+        ⊎_elim {C = ((s : V × List ℕ) × Member (map (shown ws) joins) s × (below s.0 x.0 ≡ true)) ⊎ Member (map (shown ws) (filter stays xs ++ joins)) x}
+        (λ t.
+        let k = list_any_true (λ l. below l.0 p.0.0) joins t in
+        inl (shown ws k.0, Member-map_in (shown ws) joins k.0 k.1, subst (λ (z : V × List ℕ). below k.0.0 z.0 ≡ true) p.2 k.2))
+        (λ f. inr (subst (Member (map (shown ws) (filter stays xs ++ joins))) p.2 (Member-map_in (shown ws) (filter stays xs ++ joins) p.0 (Member-append_left (filter stays xs) joins p.0 (Member-filter_in stays xs p.0 p.1 (not_from_false (list_any (λ l. below l.0 p.0.0) joins) f))))))
+        (cases_Bool (list_any (λ l. below l.0 p.0.0) joins)))
+        (λ x m.
+        let p = Member-map_out (shown ws) joins x m in
+        subst (Member (map (shown ws) (filter stays xs ++ joins))) p.2 (Member-map_in (shown ws) (filter stays xs ++ joins) p.0 (Member-append_right (filter stays xs) joins p.0 p.1)))

@@ -1,0 +1,6 @@
+pub mod Arena
+pub mod ArenaLinks
+pub mod Apart
+pub mod Tails
+pub mod Meets
+pub mod Counted

@@ -1,0 +1,95 @@
+//! Walks that share their beginnings.
+ghost use Rattle.std.specs.Prelude.{◌≡◌, ◌<◌, ℕ, List, [], ◌∷◌, ◌++◌, length, get_or, OnOk, OnErr, IfOk};
+ghost use Rattle.std.specs.Cmp.Lexicographic.{slice_cmp};
+ghost use Rattle.std.specs.Ordering.{nat_cmp};
+ghost use Rattle.crew_pool.specs.Arena.{walk_at};
+ghost use Rattle.crew_pool.specs.ArenaLinks.{all_walks, AreLinked};
+
+use std::alloc::{AllocError, Global};
+use std::cmp::Ordering;
+use std::marker::Model;
+
+// The most walks with a duty, so that a place is a u32.
+const MOST: usize = 0xffff_ffff;
+
+/// A walk's last duty, and the place of the walk before it.
+#[derive(Clone, Copy, Debug)]
+struct Link {
+    before: u32,
+    duty: u32,
+}
+
+/// Walks over duties by rank, each a duty longer than one that stands before it.
+///
+/// A contract sees the list of the walks, by place. The walk at place 0 has no duty.
+#[derive(Drop)]
+pub struct Walks {
+    links: Vec<Link>,
+}
+
+impl Model for Walks {
+    ghost Value = { List (List ℕ) };
+
+    ghost view = { λ w. all_walks w.links.items };
+
+    ghost invariant = { λ w. AreLinked 0 w.links.items };
+}
+
+impl Walks {
+    /// The walk of no duty alone.
+    pub fn new(alloc: Global) -> Self
+        ensures { result ≡ [] ∷ [] }
+    {
+        Walks {
+            links: Vec::new(alloc),
+        }
+    }
+
+    /// Adds the walk at a place with one duty more, and gives its place.
+    ///
+    /// On want of memory, or where there are 2^32 walks, nothing changes.
+    pub fn add(&mut self, before: u32, duty: u32) -> Result<u32, AllocError>
+        requires { before < length self.old }
+        ensures ok { IfOk result (λ place. place ≡ length self.old) }
+        ensures added { OnOk result (self.new ≡ self.old ++ (walk_at self.old before ++ duty ∷ []) ∷ []) }
+        ensures err { OnErr result (self.new ≡ self.old) }
+    {
+        let count = self.links.len();
+        if count >= MOST {
+            return Err(AllocError);
+        }
+        self.links.push(Link { before, duty })?;
+        Ok(count as u32 + 1)
+    }
+
+    /// Compares the walks of two places, duty by duty, by rank.
+    pub fn compare(&self, a: u32, b: u32) -> Ordering
+        requires a { a < length self.now }
+        requires b { b < length self.now }
+        requires same { length (walk_at self.now a) ≡ length (walk_at self.now b) }
+        ensures { result ≡ slice_cmp nat_cmp (walk_at self.now a) (walk_at self.now b) }
+    {
+        compare_links(&self.links, a, b)
+    }
+}
+
+// Compares two walks from their last duties back to where they meet.
+fn compare_links(links: &[Link], a: u32, b: u32) -> Ordering
+    requires linked { AreLinked 0 links.now }
+    requires a { a < length (all_walks links.now) }
+    requires b { b < length (all_walks links.now) }
+    requires same { length (walk_at (all_walks links.now) a) ≡ length (walk_at (all_walks links.now) b) }
+    ensures { result ≡ slice_cmp nat_cmp (walk_at (all_walks links.now) a) (walk_at (all_walks links.now) b) }
+{
+    let mut x = a;
+    let mut y = b;
+    let mut order = Ordering::Equal;
+    while x != y {
+        let p = links[x as usize - 1];
+        let q = links[y as usize - 1];
+        order = p.duty.cmp(&q.duty).then(order);
+        x = p.before;
+        y = q.before;
+    }
+    order
+}
