@@ -10,5 +10,6 @@ pub mod InOrder
 pub mod InPlace
 pub mod Legal
 pub mod Rising
+pub mod Running
 pub mod Slots
 pub mod Timetables

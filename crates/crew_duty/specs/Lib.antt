@@ -6,4 +6,5 @@ pub mod Listing
 pub mod Members
 pub mod Pairings
 pub mod Plans
+pub mod Running
 pub mod Slots

@@ -1,38 +1,11 @@
 //! The facts of a duty, from its legs.
 
-ghost use Rattle.std.specs.Prelude.{◌≡◌, ◌+◌, ◌*◌, ◌≤◌, ◌+ℤ◌, ◌-ℤ◌, ◌*ℤ◌, ◌≤ℤ◌, pos, length, ◌∷◌};
-ghost use Rattle.crew_flights.specs.Timetable.{IsFlight};
+ghost use Rattle.std.specs.Prelude.{◌≡◌, ◌+◌, ◌*◌, ◌-ℤ◌, ◌*ℤ◌, ◌≤ℤ◌, pos};
 ghost use Rattle.crew_rules.specs.Settings.{IsChecked};
 ghost use Rattle.crew_duty.specs.Legality as Spec;
-ghost use Rattle.crew_duty.specs.Legality.{total};
-ghost use Rattle.crew_duty.specs.Members.{Each};
 
 use crate::leg::TimedLeg;
 use crew_rules::Settings;
-
-// The minutes that the crew flies on a leg.
-fn minutes_flown(leg: &TimedLeg) -> i64
-    ensures value { result ≡ Spec.minutes_flown leg.now }
-    ensures bound { ((pos 0 -ℤ pos 60_000_000) ≤ℤ result) × (result ≤ℤ pos 60_000_000) }
-{
-    if leg.deadhead {
-        0
-    } else {
-        leg.flight.arr.get() - leg.flight.dep.get()
-    }
-}
-
-/// The minutes that the crew flies on these legs.
-pub(crate) fn flight_time(first: &TimedLeg, others: &[TimedLeg]) -> i64
-    requires { length others.now ≤ 8 }
-    ensures value { result ≡ Spec.flight_time first.now others.now }
-{
-    let mut minutes = minutes_flown(first);
-    for leg in others {
-        minutes += minutes_flown(leg);
-    }
-    minutes
-}
 
 /// The last leg.
 pub(crate) fn last_leg(first: &TimedLeg, others: &[TimedLeg]) -> TimedLeg
@@ -42,22 +15,6 @@ pub(crate) fn last_leg(first: &TimedLeg, others: &[TimedLeg]) -> TimedLeg
         Some(leg) => *leg,
         None => *first,
     }
-}
-
-/// How many of the legs the crew flies.
-pub(crate) fn segments(first: &TimedLeg, others: &[TimedLeg]) -> usize
-    ensures { result ≡ Spec.segments (first.now ∷ others.now) }
-{
-    let flown = others.iter().filter(|leg| !leg.deadhead).count();
-    if first.deadhead { flown } else { flown + 1 }
-}
-
-/// How many of the legs the crew rides as passengers.
-pub(crate) fn deadheads(first: &TimedLeg, others: &[TimedLeg]) -> usize
-    ensures { result ≡ Spec.deadheads (first.now ∷ others.now) }
-{
-    let ridden = others.iter().filter(|leg| leg.deadhead).count();
-    if first.deadhead { ridden + 1 } else { ridden }
 }
 
 /// When the crew reports.
@@ -84,26 +41,4 @@ pub(crate) fn release(settings: &Settings, first: &TimedLeg, others: &[TimedLeg]
     ensures bound { (pos 15_000_000 ≤ℤ result) × (result ≤ℤ pos 70_000_000) }
 {
     last_leg(first, others).flight.arr.get() + i64::from(settings.debrief)
-}
-
-// The price of a leg that the crew flies.
-fn price_flown(leg: &TimedLeg) -> i64
-    requires { IsFlight leg.now.flight.id leg.now.flight }
-    ensures value { result ≡ Spec.price_of leg.now }
-    ensures bound { ((pos 0 -ℤ pos 1_000_000_000) ≤ℤ result) × (result ≤ℤ pos 1_000_000_000) }
-{
-    if leg.deadhead { 0 } else { leg.flight.price }
-}
-
-/// The prices of the flights that the crew flies.
-pub(crate) fn price(first: &TimedLeg, others: &[TimedLeg]) -> i64
-    requires few { length others.now ≤ 7 }
-    requires sound { Each (λ l. IsFlight l.flight.id l.flight) (first.now ∷ others.now) }
-    ensures { result ≡ total Spec.price_of (first.now ∷ others.now) }
-{
-    let mut sum = price_flown(first);
-    for leg in others {
-        sum += price_flown(leg);
-    }
-    sum
 }

@@ -11,6 +11,7 @@ mod facts;
 mod key;
 mod leg;
 mod search;
+mod totals;
 
 pub use duties::{Duties, list_duties};
 pub use duty::Duty;

@@ -8,15 +8,15 @@ ghost use Rattle.crew_rules.specs.declared.settings.Settings.{Settings};
 ghost use Rattle.crew_duty.specs.Legality.{AllConnect, duty_of, last_of, may_follow};
 ghost use Rattle.crew_duty.specs.Listing.{from_flight, is_hopeless, listing, own, timed};
 ghost use Rattle.crew_duty.specs.Members.{Each};
+ghost use Rattle.crew_duty.specs.Running.{AreTotals};
 ghost use Rattle.crew_duty.specs.Plans.{AreNext, IsBeginning, IsPlan, StandAt, rows};
 
 use crate::departures::Departures;
 use crate::duty::Duty;
-use crate::facts::{
-    deadheads, flight_duty_period, flight_time, last_leg, price, release, report, segments,
-};
+use crate::facts::{flight_duty_period, last_leg, release, report};
 use crate::key::Key;
 use crate::leg::TimedLeg;
+use crate::totals::Totals;
 use crew_flights::Flight;
 use crew_rules::{Settings, duty_pay, table_a, table_b};
 use std::alloc::{AllocError, Global};
@@ -57,17 +57,18 @@ pub(crate) struct Plan<'a> {
 }
 
 // Whether no duty can begin with these legs.
-fn cannot_begin(settings: &Settings, first: &TimedLeg, others: &[TimedLeg]) -> bool
+fn cannot_begin(settings: &Settings, first: &TimedLeg, others: &[TimedLeg], totals: Totals) -> bool
     requires checked { IsChecked settings.now }
     requires few { length others.now ≤ 7 }
+    requires totals { AreTotals (first.now ∷ others.now) totals }
     ensures { result ≡ is_hopeless settings.now first.now others.now }
 {
-    if deadheads(first, others) > settings.deadheads as usize {
+    if totals.deadheads > settings.deadheads as usize {
         return true;
     }
     let clock = first.flight.report_clock;
-    let counted = segments(first, others).max(1) as u8;
-    flight_time(first, others) > i64::from(table_a(clock))
+    let counted = totals.segments.max(1) as u8;
+    totals.fly > i64::from(table_a(clock))
         || flight_duty_period(settings, first, others) > i64::from(table_b(clock, counted))
 }
 
@@ -95,9 +96,11 @@ fn duty_from(
     settings: &Settings,
     first: &TimedLeg,
     others: &[TimedLeg],
+    totals: Totals,
 ) -> Result<Duty, AllocError>
     requires checked { IsChecked settings.now }
     requires few { length others.now ≤ 7 }
+    requires totals { AreTotals (first.now ∷ others.now) totals }
     requires sound { Each (λ l. IsFlight l.flight.id l.flight) (first.now ∷ others.now) }
     requires connected { AllConnect settings.now first.now others.now }
     ensures { IfOk result (λ duty. duty ≡ duty_of settings.now first.now others.now) }
@@ -109,7 +112,6 @@ fn duty_from(
     }
     let report = report(settings, first);
     let release = release(settings, first, others);
-    let fly = flight_time(first, others);
     Ok(Duty {
         key: Key::new(legs),
         from: first.flight.from,
@@ -117,9 +119,9 @@ fn duty_from(
         report,
         release,
         fdp: flight_duty_period(settings, first, others),
-        fly,
-        pay: duty_pay(settings, release - report, fly),
-        price: price(first, others),
+        fly: totals.fly,
+        pay: duty_pay(settings, release - report, totals.fly),
+        price: totals.price,
     })
 }
 
@@ -130,15 +132,17 @@ fn list_own(
     settings: &Settings,
     first: &TimedLeg,
     others: &[TimedLeg],
+    totals: Totals,
 ) -> Result<(), AllocError>
     requires checked { IsChecked settings.now }
     requires few { length others.now ≤ 7 }
+    requires totals { AreTotals (first.now ∷ others.now) totals }
     requires sound { Each (λ l. IsFlight l.flight.id l.flight) (first.now ∷ others.now) }
     requires connected { AllConnect settings.now first.now others.now }
     ensures { OnOk result (found.new.items ≡ found.old.items ++ own settings.now first.now others.now) }
 {
     if !last_leg(first, others).deadhead {
-        found.push(duty_from(alloc, settings, first, others)?)?;
+        found.push(duty_from(alloc, settings, first, others, totals)?)?;
     }
     Ok(())
 }
@@ -182,28 +186,51 @@ fn list(
     first: &TimedLeg,
     others: &mut Vec<TimedLeg>,
     last: usize,
+    totals: Totals,
 ) -> Result<(), AllocError>
     requires plan { IsPlan plan.now.settings.now plan.now.flights.now (rows plan.now.next.now) }
     requires beginning { IsBeginning plan.now.settings.now plan.now.flights.now first.now others.old.items }
     requires few { length others.old.items ≤ 8 }
     requires last { slice_get plan.now.flights.now last ≡ Some (last_of first.now others.old.items).flight }
+    requires totals { AreTotals (first.now ∷ others.old.items) totals }
     ensures listed { OnOk result (found.new.items ≡ found.old.items
         ++ listing (8 - length others.old.items) plan.now.settings.now plan.now.flights.now first.now others.old.items) }
     ensures kept { OnOk result (others.new.items ≡ others.old.items) }
 {
-    if others.len() >= LEGS || cannot_begin(plan.settings, first, others) {
+    if others.len() >= LEGS || cannot_begin(plan.settings, first, others, totals) {
         return Ok(());
     }
-    list_own(alloc, found, plan.settings, first, others)?;
+    list_own(alloc, found, plan.settings, first, others, totals)?;
+    let can_ride = totals.deadheads < plan.settings.deadheads as usize;
     for place in places_of(plan, last) {
         let place = *place as usize;
         let flight = &plan.flights[place];
-        others.push(timed_leg(flight, false))?;
-        list(alloc, found, plan, first, others, place)?;
+        let flown = timed_leg(flight, false);
+        others.push(flown)?;
+        list(
+            alloc,
+            found,
+            plan,
+            first,
+            others,
+            place,
+            totals.after(&flown),
+        )?;
         others.pop();
-        others.push(timed_leg(flight, true))?;
-        list(alloc, found, plan, first, others, place)?;
-        others.pop();
+        if can_ride {
+            let ridden = timed_leg(flight, true);
+            others.push(ridden)?;
+            list(
+                alloc,
+                found,
+                plan,
+                first,
+                others,
+                place,
+                totals.after(&ridden),
+            )?;
+            others.pop();
+        }
     }
     Ok(())
 }
@@ -215,30 +242,40 @@ fn count(
     first: &TimedLeg,
     others: &mut Vec<TimedLeg>,
     last: usize,
+    totals: Totals,
     so_far: usize,
 ) -> Result<usize, AllocError>
     requires plan { IsPlan plan.now.settings.now plan.now.flights.now (rows plan.now.next.now) }
     requires beginning { IsBeginning plan.now.settings.now plan.now.flights.now first.now others.old.items }
     requires few { length others.old.items ≤ 8 }
     requires last { slice_get plan.now.flights.now last ≡ Some (last_of first.now others.old.items).flight }
+    requires totals { AreTotals (first.now ∷ others.old.items) totals }
     requires so_far { so_far ≤ 200_001 }
     ensures counted { IfOk result (λ n. n ≡ min (so_far
         + length (listing (8 - length others.old.items) plan.now.settings.now plan.now.flights.now first.now others.old.items)) 200_001) }
     ensures kept { OnOk result (others.new.items ≡ others.old.items) }
 {
-    if so_far > DUTIES || others.len() >= LEGS || cannot_begin(plan.settings, first, others) {
+    if so_far > DUTIES
+        || others.len() >= LEGS
+        || cannot_begin(plan.settings, first, others, totals)
+    {
         return Ok(so_far);
     }
     let mut counted = so_far + count_own(first, others);
+    let can_ride = totals.deadheads < plan.settings.deadheads as usize;
     for place in places_of(plan, last) {
         let place = *place as usize;
         let flight = &plan.flights[place];
-        others.push(timed_leg(flight, false))?;
-        counted = count(plan, first, others, place, counted)?;
+        let flown = timed_leg(flight, false);
+        others.push(flown)?;
+        counted = count(plan, first, others, place, totals.after(&flown), counted)?;
         others.pop();
-        others.push(timed_leg(flight, true))?;
-        counted = count(plan, first, others, place, counted)?;
-        others.pop();
+        if can_ride {
+            let ridden = timed_leg(flight, true);
+            others.push(ridden)?;
+            counted = count(plan, first, others, place, totals.after(&ridden), counted)?;
+            others.pop();
+        }
     }
     Ok(counted)
 }
@@ -258,7 +295,15 @@ fn list_first(
 {
     let first = timed_leg(&plan.flights[place], deadhead);
     let mut others = Vec::with_capacity(alloc, LEGS)?;
-    list(alloc, found, plan, &first, &mut others, place)
+    list(
+        alloc,
+        found,
+        plan,
+        &first,
+        &mut others,
+        place,
+        Totals::of(&first),
+    )
 }
 
 // Counts the duties that begin with the flight at a place, flown or deadheaded.
@@ -278,7 +323,14 @@ fn count_first(
 {
     let first = timed_leg(&plan.flights[place], deadhead);
     let mut others = Vec::with_capacity(alloc, LEGS)?;
-    count(plan, &first, &mut others, place, counted)
+    count(
+        plan,
+        &first,
+        &mut others,
+        place,
+        Totals::of(&first),
+        counted,
+    )
 }
 
 /// The duties that begin with the flight at a place.

@@ -1,5 +1,6 @@
 use Rattle.std.proofs.Common.{◌≡◌, ◌+◌, ◌-◌, ◌++◌, ◌∷◌, [], ◌∙◌, List, true, false, sym, ap, append_assoc, arith, append-nil, filter, get_or, length, length-append, refl, take, ◌<◌}
-use Rattle.std.specs.Prelude.{vec_len}
+use Rattle.std.specs.Prelude.{vec_len, Vec}
+use Rattle.std.specs.Global.{Global}
 use Rattle.std.specs.List.{flat_map}
 use Rattle.std.proofs.lemmas.List.{take_all}
 use Rattle.std.proofs.lemmas.Option.{get_or_from_slice_get, slice_get-get_or}
@@ -11,10 +12,11 @@ use Rattle.crew_duty.specs.Members.{Member}
 use Rattle.crew_duty.specs.declared.duty.Duty.{Duty}
 use Rattle.crew_duty.specs.declared.leg.TimedLeg.{TimedLeg}
 use Rattle.crew_duty.proofs.Places.{StandAt-at, StandAt-length}
+use Rattle.crew_duty.proofs.Running.{bounded, cannot-ride, sound-legs}
 use Rattle.crew_duty.proofs.Sums.{last_of-push}
 use Rattle.crew_duty.proofs.Tree.{Each-map, Each-member, IsBeginning-more, below-more, filter-member, listing-at, listing-closed, listing-none, pop-back, slice_get-within}
 use Rattle.crew_duty.proofs.search.+list.Goals as goal
-use Rattle.crew_duty.proofs.search.+list.Goals.{then-len-ge-LEGS-via-then-len-ge-LEGS, then-len-ge-LEGS-via-else-len-ge-LEGS+then-cannot_begin}
+use Rattle.crew_duty.proofs.search.+list.Goals.{then-can_ride+in_ok-push-2+in_ok-list-2, else-can_ride, then-len-ge-LEGS-via-then-len-ge-LEGS, then-len-ge-LEGS-via-else-len-ge-LEGS+then-cannot_begin}
 
 pub returns-then-len-ge-LEGS-clause-listed : goal.returns-then-len-ge-LEGS-clause-listed
 returns-then-len-ge-LEGS-clause-listed t c =
@@ -57,44 +59,97 @@ list-requires t c =
     let first = c.args.first.now in
     let others = c.args.others.now.items in
     let few : length others < 8 = omega (arith, c.if-len-ge-LEGS.false, c.len.ensures, c.args.others.now.ok.0) in
-    let hope = sym (c.cannot_begin.ensures ∙ ap (is_hopeless s first) c.deref.ensures.value) ∙ c.if-cannot_begin.false in
     let gs = filter (may_follow s (last_of first others).flight) flights in
     let items = c.places_of-place-items.result.now in
     let i = c.loop-place.place-index in
     let at = StandAt-at flights items gs i (get_or items i 0) (c.places_of-place-items.ensures (last_of first others).flight c.requires.last) (slice_get-get_or items i 0 c.loop-place-test.true) in
     let d = c.index-plan-place.result in
     let flight : get_or flights (get_or items i 0) d ≡ at.0 = get_or_from_slice_get flights (get_or items i 0) at.0 d at.2 in
-    let path : c.loop-place.others.items ≡ others = c.loop-place.invariant.1 in
-    let flown : c.push.new.self.items ≡ others ++ timed false at.0 ∷ [] = c.in_ok-push.ensures.items ∙ (λ j. path j ++ (c.timed_leg.ensures ∙ ap (timed false) flight) j ∷ []) in
     let passes = filter-member (may_follow s (last_of first others).flight) flights i at.0 at.1 in
+    let leg : c.timed_leg-flown.result ≡ timed false at.0 = c.timed_leg-flown.ensures ∙ ap (timed false) flight in
+    let path : c.loop-place.others.items ≡ others = c.loop-place.invariant.1 in
+    let flown : c.push.new.self.items ≡ others ++ timed false at.0 ∷ [] = c.in_ok-push.ensures.items ∙ (λ j. path j ++ leg j ∷ []) in
     let more = IsBeginning-more s flights first others false at.0 c.requires.beginning passes.0 passes.1 in
     let long : length c.push.new.self.items ≡ length others + 1 = ap length flown ∙ length-append others (timed false at.0 ∷ []) in
     let last : last_of first c.push.new.self.items ≡ timed false at.0 = rw flown (last_of-push first others (timed false at.0)) in
-    (omega arith, (c.requires.plan, (rw flown more, (omega arith, rw last at.2))))
+    let come = rw leg at (c.after.ensures (first ∷ others) c.requires.totals) in
+    (omega arith, (c.requires.plan, (rw flown more, (omega arith, (rw last at.2, rw flown come)))))
 
-pub list-requires-in-loop-place : goal.list-requires-in-loop-place
-list-requires-in-loop-place t c =
+pub list-requires-then-can_ride : goal.list-requires-then-can_ride
+list-requires-then-can_ride t c =
     let s = c.args.plan.now.settings.now in
     let flights = c.args.plan.now.flights.now in
     let first = c.args.first.now in
     let others = c.args.others.now.items in
     let few : length others < 8 = omega (arith, c.if-len-ge-LEGS.false, c.len.ensures, c.args.others.now.ok.0) in
-    let hope = sym (c.cannot_begin.ensures ∙ ap (is_hopeless s first) c.deref.ensures.value) ∙ c.if-cannot_begin.false in
     let gs = filter (may_follow s (last_of first others).flight) flights in
     let items = c.places_of-place-items.result.now in
     let i = c.loop-place.place-index in
     let at = StandAt-at flights items gs i (get_or items i 0) (c.places_of-place-items.ensures (last_of first others).flight c.requires.last) (slice_get-get_or items i 0 c.loop-place-test.true) in
     let d = c.index-plan-place.result in
     let flight : get_or flights (get_or items i 0) d ≡ at.0 = get_or_from_slice_get flights (get_or items i 0) at.0 d at.2 in
-    let path : c.loop-place.others.items ≡ others = c.loop-place.invariant.1 in
-    let flown : c.push.new.self.items ≡ others ++ timed false at.0 ∷ [] = c.in_ok-push.ensures.items ∙ (λ j. path j ++ (c.timed_leg.ensures ∙ ap (timed false) flight) j ∷ []) in
-    let back : c.pop.new.self.items ≡ others = pop-back others c.list.new.others.items c.pop.new.self.items (timed false at.0) (vec_len c.list.new.others) c.list.new.others.ok.0 (c.in_ok-list.ensures.kept ∙ flown) c.pop.ensures.rest in
-    let ridden : c.push-in-loop-place.new.self.items ≡ others ++ timed true at.0 ∷ [] = c.in_ok-push-2.ensures.items ∙ (λ j. back j ++ (c.timed_leg-in-loop-place.ensures ∙ ap (timed true) flight) j ∷ []) in
     let passes = filter-member (may_follow s (last_of first others).flight) flights i at.0 at.1 in
+    let leg : c.timed_leg-flown.result ≡ timed false at.0 = c.timed_leg-flown.ensures ∙ ap (timed false) flight in
+    let path : c.loop-place.others.items ≡ others = c.loop-place.invariant.1 in
+    let flown : c.push.new.self.items ≡ others ++ timed false at.0 ∷ [] = c.in_ok-push.ensures.items ∙ (λ j. path j ++ leg j ∷ []) in
+    let back : c.pop.new.self.items ≡ others = pop-back others c.list.new.others.items c.pop.new.self.items (timed false at.0) (vec_len c.list.new.others) c.list.new.others.ok.0 (c.in_ok-list.ensures.kept ∙ flown) c.pop.ensures.rest in
+    let leg-2 : c.timed_leg-ridden.result ≡ timed true at.0 = c.timed_leg-ridden.ensures ∙ ap (timed true) flight in
+    let ridden : c.push-then-can_ride.new.self.items ≡ others ++ timed true at.0 ∷ [] = c.in_ok-push-2.ensures.items ∙ (λ j. back j ++ leg-2 j ∷ []) in
     let more = IsBeginning-more s flights first others true at.0 c.requires.beginning passes.0 passes.1 in
-    let long : length c.push-in-loop-place.new.self.items ≡ length others + 1 = ap length ridden ∙ length-append others (timed true at.0 ∷ []) in
-    let last : last_of first c.push-in-loop-place.new.self.items ≡ timed true at.0 = rw ridden (last_of-push first others (timed true at.0)) in
-    (omega arith, (c.requires.plan, (rw ridden more, (omega arith, rw last at.2))))
+    let long : length c.push-then-can_ride.new.self.items ≡ length others + 1 = ap length ridden ∙ length-append others (timed true at.0 ∷ []) in
+    let last : last_of first c.push-then-can_ride.new.self.items ≡ timed true at.0 = rw ridden (last_of-push first others (timed true at.0)) in
+    let come = rw leg-2 at (c.after-then-can_ride.ensures (first ∷ others) c.requires.totals) in
+    (omega arith, (c.requires.plan, (rw ridden more, (omega arith, (rw last at.2, rw ridden come)))))
+
+pub after-requires-clause-sound : goal.after-requires-clause-sound
+after-requires-clause-sound t c =
+    let s = c.args.plan.now.settings.now in
+    let flights = c.args.plan.now.flights.now in
+    let first = c.args.first.now in
+    let others = c.args.others.now.items in
+    let gs = filter (may_follow s (last_of first others).flight) flights in
+    let items = c.places_of-place-items.result.now in
+    let i = c.loop-place.place-index in
+    let at = StandAt-at flights items gs i (get_or items i 0) (c.places_of-place-items.ensures (last_of first others).flight c.requires.last) (slice_get-get_or items i 0 c.loop-place-test.true) in
+    let d = c.index-plan-place.result in
+    let flight : get_or flights (get_or items i 0) d ≡ at.0 = get_or_from_slice_get flights (get_or items i 0) at.0 d at.2 in
+    let passes = filter-member (may_follow s (last_of first others).flight) flights i at.0 at.1 in
+    let leg : c.timed_leg-flown.result ≡ timed false at.0 = c.timed_leg-flown.ensures ∙ ap (timed false) flight in
+    rw leg (Each-member (λ (f : Flight). IsFlight f.id f) flights at.0 c.requires.plan.are_flights.each passes.1)
+
+pub after-requires-clause-bounded : goal.after-requires-clause-bounded
+after-requires-clause-bounded t c =
+    let s = c.args.plan.now.settings.now in
+    let flights = c.args.plan.now.flights.now in
+    let first = c.args.first.now in
+    let others = c.args.others.now.items in
+    let few : length others < 8 = omega (arith, c.if-len-ge-LEGS.false, c.len.ensures, c.args.others.now.ok.0) in
+    bounded (first ∷ others) c.args.totals c.requires.totals (omega arith) (sound-legs flights (first ∷ others) c.requires.plan.are_flights.each c.requires.beginning.known)
+
+pub after-requires-then-can_ride-clause-sound : goal.after-requires-then-can_ride-clause-sound
+after-requires-then-can_ride-clause-sound t c =
+    let s = c.args.plan.now.settings.now in
+    let flights = c.args.plan.now.flights.now in
+    let first = c.args.first.now in
+    let others = c.args.others.now.items in
+    let gs = filter (may_follow s (last_of first others).flight) flights in
+    let items = c.places_of-place-items.result.now in
+    let i = c.loop-place.place-index in
+    let at = StandAt-at flights items gs i (get_or items i 0) (c.places_of-place-items.ensures (last_of first others).flight c.requires.last) (slice_get-get_or items i 0 c.loop-place-test.true) in
+    let d = c.index-plan-place.result in
+    let flight : get_or flights (get_or items i 0) d ≡ at.0 = get_or_from_slice_get flights (get_or items i 0) at.0 d at.2 in
+    let passes = filter-member (may_follow s (last_of first others).flight) flights i at.0 at.1 in
+    let leg : c.timed_leg-ridden.result ≡ timed true at.0 = c.timed_leg-ridden.ensures ∙ ap (timed true) flight in
+    rw leg (Each-member (λ (f : Flight). IsFlight f.id f) flights at.0 c.requires.plan.are_flights.each passes.1)
+
+pub after-requires-then-can_ride-clause-bounded : goal.after-requires-then-can_ride-clause-bounded
+after-requires-then-can_ride-clause-bounded t c =
+    let s = c.args.plan.now.settings.now in
+    let flights = c.args.plan.now.flights.now in
+    let first = c.args.first.now in
+    let others = c.args.others.now.items in
+    let few : length others < 8 = omega (arith, c.if-len-ge-LEGS.false, c.len.ensures, c.args.others.now.ok.0) in
+    bounded (first ∷ others) c.args.totals c.requires.totals (omega arith) (sound-legs flights (first ∷ others) c.requires.plan.are_flights.each c.requires.beginning.known)
 
 pub loop-place-preserved : goal.loop-place-preserved
 loop-place-preserved t c =
@@ -108,16 +163,27 @@ loop-place-preserved t c =
     let at = StandAt-at flights items gs i (get_or items i 0) (c.places_of-place-items.ensures (last_of first others).flight c.requires.last) (slice_get-get_or items i 0 c.loop-place-test.true) in
     let d = c.index-plan-place.result in
     let flight : get_or flights (get_or items i 0) d ≡ at.0 = get_or_from_slice_get flights (get_or items i 0) at.0 d at.2 in
+    let leg : c.timed_leg-flown.result ≡ timed false at.0 = c.timed_leg-flown.ensures ∙ ap (timed false) flight in
     let path : c.loop-place.others.items ≡ others = c.loop-place.invariant.1 in
-    let flown : c.push.new.self.items ≡ others ++ timed false at.0 ∷ [] = c.in_ok-push.ensures.items ∙ (λ j. path j ++ (c.timed_leg.ensures ∙ ap (timed false) flight) j ∷ []) in
+    let flown : c.push.new.self.items ≡ others ++ timed false at.0 ∷ [] = c.in_ok-push.ensures.items ∙ (λ j. path j ++ leg j ∷ []) in
     let back : c.pop.new.self.items ≡ others = pop-back others c.list.new.others.items c.pop.new.self.items (timed false at.0) (vec_len c.list.new.others) c.list.new.others.ok.0 (c.in_ok-list.ensures.kept ∙ flown) c.pop.ensures.rest in
-    let ridden : c.push-in-loop-place.new.self.items ≡ others ++ timed true at.0 ∷ [] = c.in_ok-push-2.ensures.items ∙ (λ j. back j ++ (c.timed_leg-in-loop-place.ensures ∙ ap (timed true) flight) j ∷ []) in
     let start = c.args.found.now.items in
-    let before = c.loop-place.found.items in (
-      below-more s flights first others c.push.new.self.items c.push-in-loop-place.new.self.items gs i at.0 (start ++ own s first others) before c.list.new.found.items
-          c.list-in-loop-place.new.found.items at.1 flown ridden c.loop-place.invariant.0 c.in_ok-list.ensures.listed c.in_ok-list-2.ensures.listed,
-      pop-back others c.list-in-loop-place.new.others.items c.pop-in-loop-place.new.self.items (timed true at.0) (vec_len c.list-in-loop-place.new.others) c.list-in-loop-place.new.others.ok.0 (c.in_ok-list-2.ensures.kept ∙ ridden) c.pop-in-loop-place.ensures.rest,
-    )
+    let before = c.loop-place.found.items in
+    elim c.if-can_ride.branch [
+      | then-can_ride+in_ok-push-2+in_ok-list-2 w ↦
+          let leg-2 : w.timed_leg-ridden.result ≡ timed true at.0 = w.timed_leg-ridden.ensures ∙ ap (timed true) flight in
+          let ridden : w.push-then-can_ride.new.self.items ≡ others ++ timed true at.0 ∷ [] = w.in_ok-push-2.ensures.items ∙ (λ j. back j ++ leg-2 j ∷ []) in (
+            below-more s flights first others c.push.new.self.items w.push-then-can_ride.new.self.items gs i at.0 (start ++ own s first others) before c.list.new.found.items
+                c.if-can_ride.found.items at.1 flown ridden c.loop-place.invariant.0 c.in_ok-list.ensures.listed (ap (λ (v : Vec Duty Global). v.items) w.found-is ∙ w.in_ok-list-2.ensures.listed),
+            ap (λ (v : Vec TimedLeg Global). v.items) w.others-is ∙ pop-back others w.list-then-can_ride.new.others.items w.pop-then-can_ride.new.self.items (timed true at.0) (vec_len w.list-then-can_ride.new.others) w.list-then-can_ride.new.others.ok.0 (w.in_ok-list-2.ensures.kept ∙ ridden) w.pop-then-can_ride.ensures.rest,
+          )
+      | else-can_ride w ↦
+          let none = cannot-ride (8 - length (others ++ timed true at.0 ∷ [])) s flights first others at.0 (omega (arith, w.if-can_ride.false, c.requires.totals.deadheads)) in (
+            below-more s flights first others c.push.new.self.items (others ++ timed true at.0 ∷ []) gs i at.0 (start ++ own s first others) before c.list.new.found.items
+                c.if-can_ride.found.items at.1 flown refl c.loop-place.invariant.0 c.in_ok-list.ensures.listed (rw none (ap (λ (v : Vec Duty Global). v.items) w.found-is ∙ sym (append-nil c.list.new.found.items))),
+            ap (λ (v : Vec TimedLeg Global). v.items) w.others-is ∙ back,
+          )
+    ]
 
 pub loop-place-init : goal.loop-place-init
 loop-place-init t c =

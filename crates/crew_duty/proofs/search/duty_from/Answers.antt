@@ -19,8 +19,8 @@ pub duty_pay-requires-clause-flight : goal.duty_pay-requires-clause-flight
 duty_pay-requires-clause-flight c =
     let flown = flown-total (c.args.first.now ∷ c.args.others.now) c.requires.sound in
     record {
-      from = omega (arith, ints, flown, c.flight_time-fly.ensures.value);
-      to = omega (arith, ints, flown, c.flight_time-fly.ensures.value);
+      from = omega (arith, ints, flown, c.requires.totals.fly);
+      to = omega (arith, ints, flown, c.requires.totals.fly);
     }
 
 ap_two : {A B C : Type 0} {a b : A} {x y : B} (f : A → B → C) → a ≡ b → x ≡ y → f a x ≡ f b y
@@ -35,10 +35,10 @@ returns c =
     let report-is : to_z w64 (of_z w64 c.report-report.result) ≡ report s first = omega (arith, ints, c.report-report.ensures.value) in
     let release-is : to_z w64 (of_z w64 c.release-release.result) ≡ release s first others = omega (arith, ints, c.release-release.ensures.value) in
     let fdp-is : to_z w64 (of_z w64 c.flight_duty_period.result) ≡ flight_duty_period s first others = omega (arith, ints, c.flight_duty_period.ensures) in
-    let fly-is : to_z w64 (of_z w64 c.flight_time-fly.result) ≡ flight_time first others = omega (arith, ints, c.flight_time-fly.ensures) in
+    let fly-is : to_z w64 (of_z w64 c.args.totals.fly) ≡ flight_time first others = omega (arith, ints, c.requires.totals.fly) in
     let elapsed-is : to_z w64 (of_z w64 (to_z w64 (of_z w64 c.release-release.result) -ℤ to_z w64 (of_z w64 c.report-report.result))) ≡ release s first others -ℤ report s first =
     omega (arith, ints, release-is, report-is) in
     let pay-is : to_z w64 (of_z w64 c.duty_pay.result) ≡ duty_pay s (release s first others -ℤ report s first) (flight_time first others) = omega (arith, ints, c.duty_pay.ensures ∙ ap_two (λ (e f : ℤ). duty_pay s e f) elapsed-is fly-is) in
-    let price-is : to_z w64 (of_z w64 c.price.result) ≡ total price_of (first ∷ others) = omega (arith, ints, c.price.ensures) in
+    let price-is : to_z w64 (of_z w64 c.args.totals.price) ≡ total price_of (first ∷ others) = omega (arith, ints, c.requires.totals.price) in
     let to-is : c.last_leg.result.flight.to ≡ (last_of first others).flight.to = ap (λ (l : TimedLeg). l.flight.to) c.last_leg.ensures in
     λ i. record { key = key-is i; from = first.flight.from; to = to-is i; report = report-is i; release = release-is i; fdp = fdp-is i; fly = fly-is i; pay = pay-is i; price = price-is i }

@@ -1,0 +1,75 @@
+-- The sums of one leg more, and their bounds.
+use Rattle.std.proofs.Common.{not, ◌≡◌, ◌≤◌, ◌+◌, ◌*◌, ℕ, ℤ, pos, negsuc, ◌+ℤ◌, ◌-ℤ◌, ◌≤ℤ◌, List, [], ◌∷◌, ◌++◌, Bool, true, false, length, refl, arith, cond, if◌then◌else◌}
+use Rattle.std.specs.Prelude.{nat_lt, ◌||◌}
+use Rattle.std.specs.List.{count_by}
+use Rattle.std.proofs.lemmas.Bool.Decides.{nat_tests}
+use Rattle.std.proofs.lemmas.Int.{ints}
+use Rattle.std.proofs.lemmas.List.Sums.{count_by-le-length, sum_by-cons}
+use Rattle.crew_flights.specs.Timetable.{IsFlight}
+use Rattle.crew_flights.specs.declared.flight.Flight.{Flight}
+use Rattle.crew_rules.specs.declared.settings.Settings.{Settings}
+use Rattle.crew_duty.specs.Legality.{deadheads, minutes_flown, price_of, total}
+use Rattle.crew_duty.specs.Listing.{listing, timed}
+use Rattle.crew_duty.specs.Members.{Each, Member}
+use Rattle.crew_duty.specs.Running.{AreTotals, StayBounded}
+use Rattle.crew_duty.specs.declared.leg.TimedLeg.{TimedLeg}
+use Rattle.crew_duty.specs.declared.totals.Totals.{Totals}
+use Rattle.crew_duty.proofs.Times.{AllSound, flown-total}
+use Rattle.crew_duty.proofs.Tree.{Each-map, Each-member, listing-closed}
+
+-- a count over one element more
+count_by-push : {X : Type 0} (p : X → Bool) (xs : List X) (x : X) → count_by p (xs ++ x ∷ []) ≡ count_by p xs + cond (p x) 1 0
+count_by-push p [] x = omega (arith, sum_by-cons (λ y. cond (p y) 1 0) x [])
+count_by-push p (y ∷ xs) x =
+    omega (arith, sum_by-cons (λ z. cond (p z) 1 0) y (xs ++ x ∷ []), sum_by-cons (λ z. cond (p z) 1 0) y xs, count_by-push p xs x)
+
+pub counted : {X : Type 0} (p : X → Bool) (xs : List X) (x : X) → p x ≡ true → count_by p (xs ++ x ∷ []) ≡ count_by p xs + 1
+counted p xs x e = rw e at (count_by-push p xs x)
+
+pub not-counted : {X : Type 0} (p : X → Bool) (xs : List X) (x : X) → p x ≡ false → count_by p (xs ++ x ∷ []) ≡ count_by p xs
+not-counted p xs x e = omega (arith, rw e at (count_by-push p xs x))
+
+-- prices lie within a billion each
+priced-by : (b : Bool) (z : ℤ) → negsuc 999_999_999 ≤ℤ z → z ≤ℤ pos 1_000_000_000
+    → (negsuc 999_999_999 ≤ℤ (if b then pos 0 else z)) × ((if b then pos 0 else z) ≤ℤ pos 1_000_000_000)
+priced-by true z h k = (omega (arith, ints), omega (arith, ints))
+priced-by false z h k = (h, k)
+
+pub priced-total : (legs : List TimedLeg) → AllSound legs → ((pos 0 -ℤ pos (1_000_000_000 * length legs)) ≤ℤ total price_of legs) × (total price_of legs ≤ℤ pos (1_000_000_000 * length legs))
+priced-total [] sound = (omega (arith, ints), omega (arith, ints))
+priced-total (l ∷ legs) sound =
+    let one = priced-by l.deadhead l.flight.price (omega (arith, ints, sound.0.least_price)) sound.0.most_price in
+    (omega (arith, ints, one, priced-total legs sound.1), omega (arith, ints, one, priced-total legs sound.1))
+
+-- the sums of up to eight legs leave room for one more
+pub bounded : (legs : List TimedLeg) (totals : Totals) → AreTotals legs totals → length legs ≤ 8 → AllSound legs → StayBounded totals
+bounded legs totals are few sound =
+    let flown = flown-total legs sound in
+    let priced = priced-total legs sound in
+    record {
+      deadheads = omega (arith, are.deadheads, count_by-le-length (λ (l : TimedLeg). l.deadhead) legs);
+      segments = omega (arith, are.segments, count_by-le-length (λ (l : TimedLeg). not l.deadhead) legs);
+      least_fly = omega (arith, ints, are.fly, flown);
+      most_fly = omega (arith, ints, are.fly, flown, few);
+      least_price = omega (arith, ints, are.price, priced, few);
+      most_price = omega (arith, ints, are.price, priced, few);
+    }
+
+-- legs of the flights of a timetable are sound
+pub sound-legs : (flights : List Flight) (legs : List TimedLeg) → Each (λ (f : Flight). IsFlight f.id f) flights → Each (λ (l : TimedLeg). Member flights l.flight) legs → AllSound legs
+sound-legs flights legs each known =
+    Each-map (λ (l : TimedLeg). Member flights l.flight) (λ (l : TimedLeg). IsFlight l.flight.id l.flight) legs (λ l m. Each-member (λ (f : Flight). IsFlight f.id f) flights l.flight each m) known
+
+-- below a deadhead too many nothing is listed
+pub cannot-ride : (room : ℕ) (s : Settings) (flights : List Flight) (first : TimedLeg) (others : List TimedLeg) (g : Flight) → s.deadheads ≤ deadheads (first ∷ others)
+    → listing room s flights first (others ++ timed true g ∷ []) ≡ []
+cannot-ride room s flights first others g full =
+    let one : deadheads (first ∷ (others ++ timed true g ∷ [])) ≡ deadheads (first ∷ others) + 1 = counted (λ (l : TimedLeg). l.deadhead) (first ∷ others) (timed true g) refl in
+    listing-closed room s flights first (others ++ timed true g ∷ []) (first-true _ _ (passed one))
+  where
+    first-true : (a b : Bool) → a ≡ true → (a || b) ≡ true
+    first-true true b e = refl
+    first-true false b e = cc
+
+    passed : {n : ℕ} → n ≡ deadheads (first ∷ others) + 1 → nat_lt s.deadheads n ≡ true
+    passed e = grind (arith, nat_tests)

@@ -1,0 +1,5 @@
+use Rattle.std.proofs.Common.{[], refl, arith}
+use Rattle.crew_duty.proofs.totals.Totals.of.Goals as goal
+
+pub returns : goal.returns
+returns c = c.after.ensures [] (record { deadheads = refl; segments = refl; fly = refl; price = refl })
