@@ -174,7 +174,7 @@ fn walk_of(alloc: Global, duties: &[Duty]) -> Result<Walk, AllocError>
 {
     let mut keys = Vec::with_capacity(alloc, duties.len())?;
     for duty in duties {
-        keys.push(duty.key.copy(alloc)?)?;
+        keys.push(duty.key.copy())?;
     }
     Ok(Walk::new(keys))
 }
@@ -221,7 +221,7 @@ pub(crate) fn followed_by(
 {
     let mut longer = Vec::with_capacity(alloc, before.len() + 1)?;
     for duty in before {
-        longer.push(duty.copy(alloc)?)?;
+        longer.push(duty.copy())?;
     }
     longer.push(next)?;
     Ok(longer)

@@ -44,29 +44,23 @@ pub(crate) fn cannot_begin(settings: &Settings, first: &TimedLeg, others: &[Time
 }
 
 /// The facts of these legs, as those of a duty.
-pub(crate) fn duty_from(
-    alloc: Global,
-    settings: &Settings,
-    first: &TimedLeg,
-    others: &[TimedLeg],
-) -> Result<Duty, AllocError>
+pub(crate) fn duty_from(settings: &Settings, first: &TimedLeg, others: &[TimedLeg]) -> Duty
     requires checked { IsChecked settings.now }
     requires few { length others.now ≤ 7 }
     requires sound { Each (λ l. IsFlight l.flight.id l.flight) (first.now ∷ others.now) }
     requires connected { AllConnect settings.now first.now others.now }
-    ensures value { IfOk result (λ duty. duty ≡ duty_of settings.now first.now others.now) }
-    ensures range { IfOk result IsInRange }
+    ensures value { result ≡ duty_of settings.now first.now others.now }
+    ensures range { IsInRange result }
 {
-    let mut legs = Vec::with_capacity(alloc, LEGS)?;
-    legs.push(first.leg())?;
+    let mut key = Key::of(first.leg());
     for leg in others {
-        legs.push(leg.leg())?;
+        key.push(leg.leg());
     }
     let report = report(settings, first);
     let release = release(settings, first, others);
     let fly = flight_time(first, others);
-    Ok(Duty {
-        key: Key::new(legs),
+    Duty {
+        key,
         from: first.flight.from,
         to: last_leg(first, others).flight.to,
         report,
@@ -75,7 +69,7 @@ pub(crate) fn duty_from(
         fly,
         pay: duty_pay(settings, release - report, fly),
         price: price(first, others),
-    })
+    }
 }
 
 /// These legs, and then one more.

@@ -154,7 +154,7 @@ fn list_legs(
     if others.len() >= LEGS || cannot_begin(plan.settings, first, others) {
         return Ok(());
     }
-    let next = duty_from(alloc, plan.settings, first, others)?;
+    let next = duty_from(plan.settings, first, others);
     let longer = chain::followed_by(alloc, before, next)?;
     if !keep_within_caps(plan.settings, &longer) {
         return Ok(());

@@ -8,6 +8,7 @@ pub mod Falling
 pub mod InList
 pub mod InOrder
 pub mod InPlace
+pub mod Keys
 pub mod Legal
 pub mod Rising
 pub mod Running

@@ -1,10 +1,9 @@
 //! Duties.
 
-ghost use Rattle.std.specs.Prelude.{◌≡◌, IfOk};
+ghost use Rattle.std.specs.Prelude.{◌≡◌};
 
 use crate::key::Key;
 use crew_flights::Code;
-use std::alloc::{AllocError, Global};
 
 /// A duty with all its facts. Times are minutes since 1970-01-01T00:00 UTC, money is in points.
 #[derive(Debug, Drop)]
@@ -31,12 +30,12 @@ pub struct Duty {
 
 impl Duty {
     /// An equal duty.
-    pub fn copy(&self, alloc: Global) -> Result<Duty, AllocError>
-        ensures { IfOk result (λ duty. duty ≡ self.now) }
+    pub fn copy(&self) -> Duty
+        ensures { result ≡ self.now }
     {
-        Ok(Duty {
-            key: self.key.copy(alloc)?,
+        Duty {
+            key: self.key.copy(),
             ..*self
-        })
+        }
     }
 }

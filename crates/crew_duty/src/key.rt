@@ -1,6 +1,6 @@
 //! Keys of duties, and walks.
 
-ghost use Rattle.std.specs.Prelude.{◌≡◌, List, IfOk};
+ghost use Rattle.std.specs.Prelude.{◌≡◌, ◌≤◌, ◌++◌, ◌∷◌, [], List, IfOk, length, take};
 ghost use Rattle.std.proofs.Common.{refl};
 ghost use Rattle.std.specs.Ordering.{as_partial_cmp, eq_by_cmp};
 ghost use Rattle.std.specs.Cmp.{eq_by_cmp_equiv, partial_equiv_from_equiv, partial_order_from_total};
@@ -12,41 +12,63 @@ use std::alloc::{AllocError, Global};
 use std::cmp::Ordering;
 use std::marker::Model;
 
-/// The key of a duty: its legs in order.
+/// The most legs of a key.
+const LEGS: usize = 8;
+
+/// The key of a duty: its legs in order, one at least and eight at most.
 ///
 /// A contract sees the list of the legs. Keys compare leg by leg, a proper beginning first.
 #[derive(Debug, Drop)]
 pub struct Key {
-    legs: Vec<Leg>,
+    legs: [Leg; LEGS],
+    count: usize,
 }
 
 impl Model for Key {
     ghost Value = { List Leg };
 
-    ghost view = { λ key. key.legs.items };
+    ghost view = { λ key. take key.count key.legs };
+
+    ghost invariant = { λ key. (1 ≤ key.count) × (key.count ≤ 8) };
 }
 
 impl Key {
-    /// The key of these legs.
-    pub fn new(legs: Vec<Leg>) -> Self
-        ensures { result ≡ legs.items }
+    /// The key of one leg.
+    pub fn of(leg: Leg) -> Key
+        ensures { result ≡ leg ∷ [] }
     {
-        Key { legs }
+        Key {
+            legs: [leg; LEGS],
+            count: 1,
+        }
+    }
+
+    /// Appends a leg.
+    pub fn push(&mut self, leg: Leg)
+        requires { length self.old ≤ 7 }
+        ensures { self.new ≡ self.old ++ leg ∷ [] }
+    {
+        self.legs[self.count] = leg;
+        self.count += 1;
     }
 
     /// The legs.
     pub fn legs(&self) -> &[Leg]
         ensures { result.now ≡ self.now }
     {
-        &self.legs
+        &self.legs[..self.count]
     }
 
     /// An equal key.
-    pub fn copy(&self, alloc: Global) -> Result<Key, AllocError>
-        ensures { IfOk result (λ key. key ≡ self.now) }
+    pub fn copy(&self) -> Key
+        ensures { result ≡ self.now }
     {
-        let legs = self.legs.to_vec(alloc)?;
-        Ok(Key { legs })
+        let legs = &self.legs[..self.count];
+        let mut key = Key::of(legs[0]);
+        for leg in &legs[1..] {
+            key.push(*leg);
+        }
+        key
     }
 }
 
@@ -84,7 +106,7 @@ impl Ord for Key {
     ghost matches_eq = { λ a b. refl };
 
     fn cmp(&self, other: &Key) -> Ordering {
-        self.legs.cmp(&other.legs)
+        self.legs().cmp(other.legs())
     }
 }
 
@@ -121,9 +143,9 @@ impl Walk {
     pub fn copy(&self, alloc: Global) -> Result<Walk, AllocError>
         ensures { IfOk result (λ walk. walk ≡ self.now) }
     {
-        let mut keys = Vec::new(alloc);
+        let mut keys = Vec::with_capacity(alloc, self.keys.len())?;
         for key in &self.keys {
-            keys.push(key.copy(alloc)?)?;
+            keys.push(key.copy())?;
         }
         Ok(Walk { keys })
     }

@@ -91,29 +91,22 @@ pub(crate) fn next_places(
 }
 
 // The duty of these legs.
-fn duty_from(
-    alloc: Global,
-    settings: &Settings,
-    first: &TimedLeg,
-    others: &[TimedLeg],
-    totals: Totals,
-) -> Result<Duty, AllocError>
+fn duty_from(settings: &Settings, first: &TimedLeg, others: &[TimedLeg], totals: Totals) -> Duty
     requires checked { IsChecked settings.now }
     requires few { length others.now ≤ 7 }
     requires totals { AreTotals (first.now ∷ others.now) totals }
     requires sound { Each (λ l. IsFlight l.flight.id l.flight) (first.now ∷ others.now) }
     requires connected { AllConnect settings.now first.now others.now }
-    ensures { IfOk result (λ duty. duty ≡ duty_of settings.now first.now others.now) }
+    ensures { result ≡ duty_of settings.now first.now others.now }
 {
-    let mut legs = Vec::with_capacity(alloc, others.len() + 1)?;
-    legs.push(first.leg())?;
+    let mut key = Key::of(first.leg());
     for leg in others {
-        legs.push(leg.leg())?;
+        key.push(leg.leg());
     }
     let report = report(settings, first);
     let release = release(settings, first, others);
-    Ok(Duty {
-        key: Key::new(legs),
+    Duty {
+        key,
         from: first.flight.from,
         to: last_leg(first, others).flight.to,
         report,
@@ -122,12 +115,11 @@ fn duty_from(
         fly: totals.fly,
         pay: duty_pay(settings, release - report, totals.fly),
         price: totals.price,
-    })
+    }
 }
 
 // Lists the duty of these legs themselves, which a deadhead doesn't end.
 fn list_own(
-    alloc: Global,
     found: &mut Vec<Duty>,
     settings: &Settings,
     first: &TimedLeg,
@@ -142,7 +134,7 @@ fn list_own(
     ensures { OnOk result (found.new.items ≡ found.old.items ++ own settings.now first.now others.now) }
 {
     if !last_leg(first, others).deadhead {
-        found.push(duty_from(alloc, settings, first, others, totals)?)?;
+        found.push(duty_from(settings, first, others, totals))?;
     }
     Ok(())
 }
@@ -200,7 +192,7 @@ fn list(
     if others.len() >= LEGS || cannot_begin(plan.settings, first, others, totals) {
         return Ok(());
     }
-    list_own(alloc, found, plan.settings, first, others, totals)?;
+    list_own(found, plan.settings, first, others, totals)?;
     let can_ride = totals.deadheads < plan.settings.deadheads as usize;
     for place in places_of(plan, last) {
         let place = *place as usize;

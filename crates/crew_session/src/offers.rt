@@ -57,7 +57,7 @@ fn offer(
     }
     let pay = pairing_pay(settings, duty.pay, away, 1);
     let mut keys = Vec::new(alloc);
-    keys.push(duty.key.copy(alloc)?)?;
+    keys.push(duty.key.copy())?;
     Ok(Some(Best {
         base: duty.from,
         cost: cost_of(pay, duty.price, price),

@@ -3,4 +3,4 @@ use Rattle.crew_duty.specs.Legality.{leg_of}
 use Rattle.crew_audit.proofs.legs.duty_from.Given as goal
 
 abbrev pub invariant-loop-leg : goal.invariant-loop-leg
-invariant-loop-leg l = l.legs.items ≡ leg_of l.first ∷ map leg_of (take l.leg-index l.others)
+invariant-loop-leg l = l.key ≡ leg_of l.first ∷ map leg_of (take l.leg-index l.others)

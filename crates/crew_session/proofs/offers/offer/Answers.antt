@@ -41,7 +41,7 @@ returns c =
     let paid : c.pairing_pay-pay.result ≡ pairing_pay s d.pay (away_of d) 1 = grind (arith, to_z-of_z, c.pairing_pay-pay.ensures, away) in
     let cost : c.cost_of.result ≡ c.pairing_pay-pay.result -ℤ d.price -ℤ price = grind (arith, to_z-of_z, c.cost_of.ensures) in
     let walk : c.new.result ≡ d.key ∷ [] =
-    c.new.ensures ∙ c.in_ok-push.ensures.items ∙ ap (λ (ks : List (List Leg)). ks ++ c.in_ok-copy.field-0 ∷ []) c.new-keys.ensures.items ∙ ap (λ (k : List Leg). k ∷ []) c.in_ok-copy.ensures in
+    c.new.ensures ∙ c.in_ok-push.ensures.items ∙ ap (λ (ks : List (List Leg)). ks ++ c.copy.result ∷ []) c.new-keys.ensures.items ∙ ap (λ (k : List Leg). k ∷ []) c.copy.ensures in
     let cost_is : c.cost_of.result ≡ pairing_pay s d.pay (away_of d) 1 -ℤ d.price -ℤ price = cost ∙ ap (λ (p : ℤ). p -ℤ d.price -ℤ price) paid in
     let bare_cost : to_z w64 (of_z w64 c.cost_of.result) ≡ pairing_pay s d.pay (away_of d) 1 -ℤ d.price -ℤ price = grind (arith, to_z-of_z, cost_is) in
     let bare_pay : to_z w64 (of_z w64 c.pairing_pay-pay.result) ≡ pairing_pay s d.pay (away_of d) 1 = grind (arith, to_z-of_z, paid) in
