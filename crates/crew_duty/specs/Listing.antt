@@ -1,6 +1,6 @@
 -- The duties over some flights as a tree: below a beginning stand the duties that begin with it. In preorder, with the next legs in order, they stand by key.
 -- That this lists exactly the legal duties is a theorem (proofs/Complete.antt).
-use Rattle.std.specs.Prelude.{ℕ, zero, suc, pos, ◌||◌, nat_lt, int_lt, max, Bool, true, false, List, [], ◌∷◌, ◌++◌, filter, if◌then◌else◌}
+use Rattle.std.specs.Prelude.{◌≡◌, Ok, Result, ℕ, zero, suc, pos, ◌||◌, nat_lt, int_lt, max, Bool, true, false, List, [], ◌∷◌, ◌++◌, filter, take, drop, if◌then◌else◌}
 use Rattle.std.specs.List.{flat_map}
 use Rattle.crew_flights.specs.declared.flight.Flight.{Flight}
 use Rattle.crew_rules.specs.Tables.{table_a, table_b}
@@ -43,3 +43,11 @@ from_flight s flights first = listing 8 s flights (timed false first) [] ++ list
 -- all duties
 abbrev pub all_duties : Settings → List Flight → List Duty
 all_duties s flights = flat_map (from_flight s flights) flights
+
+-- the duties that begin with the flight at a place, and none where there is no flight
+abbrev pub from_place : Settings → List Flight → ℕ → List Duty
+from_place s flights place = flat_map (from_flight s flights) (take 1 (drop place flights))
+
+-- a list that was made before, and this of it
+abbrev pub IsOkAnd : {X E : Type 0} → Result X E → (X → Type 0) → Type 0
+IsOkAnd {X} r P = (x : X) × (r ≡ Ok x) × P x

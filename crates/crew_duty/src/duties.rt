@@ -1,12 +1,12 @@
 //! All legal duties of a timetable.
 
-ghost use Rattle.std.specs.Prelude.{◌≡◌, ◌≤◌, ◌<◌, ◌↔◌, [], List, Some, IsTrue, IfOk, length, min, slice_get, sum};
+ghost use Rattle.std.specs.Prelude.{◌≡◌, ◌++◌, ◌≤◌, ◌<◌, ◌↔◌, [], List, Some, IsTrue, IfOk, length, min, slice_get, sum};
 ghost use Rattle.std.specs.List.{flat_map};
 ghost use Rattle.crew_flights.specs.declared.flight.Flight.{Flight};
 ghost use Rattle.crew_flights.specs.Timetable.{IsSound};
 ghost use Rattle.crew_rules.specs.Settings.{IsChecked};
 ghost use Rattle.crew_duty.specs.Duties.{AreDuties, HasTooMany, flights_of};
-ghost use Rattle.crew_duty.specs.Listing.{all_duties, from_flight};
+ghost use Rattle.crew_duty.specs.Listing.{IsOkAnd, all_duties, from_flight, from_place};
 ghost use Rattle.crew_duty.specs.Plans.{IsPlan, rows};
 ghost use Rattle.crew_duty.specs.declared.duty.Duty.{Duty};
 
@@ -67,11 +67,14 @@ fn held_flights(alloc: Global, data: &Data) -> Result<Vec<Flight>, AllocError>
     data.flights().copied().collect(alloc)
 }
 
-// The lists one after another.
+// The lists one after another: the first takes in the others.
 fn join_parts(alloc: Global, parts: Vec<Vec<Duty>>) -> Result<Vec<Duty>, AllocError>
     ensures { IfOk result (λ found. found.items ≡ flat_map (λ part. part.items) parts.items) }
 {
-    let mut found = Vec::new(alloc);
+    let mut parts = parts.into_iter();
+    let Some(mut found) = parts.next() else {
+        return Ok(Vec::new(alloc));
+    };
     for mut part in parts {
         found.append(&mut part)?;
     }
@@ -124,12 +127,14 @@ fn list_all<R: Threads + Sync>(
     let parts = (0..plan.flights.len())
         .into_par_iter()
         .with_min_len(PIECE)
-        .map(
-            |place: usize| -> Result<Vec<Duty>, AllocError>
+        .fold(
+            || -> Result<Vec<Duty>, AllocError>
+                ensures { IfOk result (λ found. found.items ≡ []) }
+            { Ok(Vec::new(alloc)) },
+            |found: Result<Vec<Duty>, AllocError>, place: usize| -> Result<Vec<Duty>, AllocError>
                 requires { IsPlan plan.now.settings.now plan.now.flights.now (rows plan.now.next.now) × (place < length plan.now.flights.now) }
-                ensures { IfOk result (λ found. (flight : Flight) → slice_get plan.entry.now.flights.now place ≡ Some flight
-                    → found.items ≡ from_flight plan.entry.now.settings.now plan.entry.now.flights.now flight) }
-            { list_from(alloc, plan, place) },
+                ensures { IfOk result (λ longer. IsOkAnd found (λ before. longer.items ≡ before.items ++ from_place plan.entry.now.settings.now plan.entry.now.flights.now place)) }
+            { list_from(alloc, found, plan, place) },
         )
         .collect::<Result<Vec<Vec<Duty>>, AllocError>>(rt, alloc)??;
     join_parts(alloc, parts)

@@ -6,7 +6,7 @@ ghost use Rattle.crew_flights.specs.Timetable.{IsFlight};
 ghost use Rattle.crew_rules.specs.Settings.{IsChecked};
 ghost use Rattle.crew_rules.specs.declared.settings.Settings.{Settings};
 ghost use Rattle.crew_duty.specs.Legality.{AllConnect, duty_of, last_of, may_follow};
-ghost use Rattle.crew_duty.specs.Listing.{from_flight, is_hopeless, listing, own, timed};
+ghost use Rattle.crew_duty.specs.Listing.{IsOkAnd, from_flight, from_place, is_hopeless, listing, own, timed};
 ghost use Rattle.crew_duty.specs.Members.{Each};
 ghost use Rattle.crew_duty.specs.Running.{AreTotals};
 ghost use Rattle.crew_duty.specs.Plans.{AreNext, IsBeginning, IsPlan, StandAt, rows};
@@ -325,18 +325,18 @@ fn count_first(
     )
 }
 
-/// The duties that begin with the flight at a place.
+/// A list of duties with those after it that begin with the flight at a place.
 pub(crate) fn list_from(
     alloc: Global,
+    found: Result<Vec<Duty>, AllocError>,
     plan: &Plan<'_>,
     place: usize,
 ) -> Result<Vec<Duty>, AllocError>
     requires plan { IsPlan plan.now.settings.now plan.now.flights.now (rows plan.now.next.now) }
     requires place { place < length plan.now.flights.now }
-    ensures { IfOk result (λ found. (flight : Flight) → slice_get plan.now.flights.now place ≡ Some flight
-        → found.items ≡ from_flight plan.now.settings.now plan.now.flights.now flight) }
+    ensures { IfOk result (λ longer. IsOkAnd found (λ before. longer.items ≡ before.items ++ from_place plan.now.settings.now plan.now.flights.now place)) }
 {
-    let mut found = Vec::new(alloc);
+    let mut found = found?;
     list_first(alloc, &mut found, plan, place, false)?;
     list_first(alloc, &mut found, plan, place, true)?;
     Ok(found)

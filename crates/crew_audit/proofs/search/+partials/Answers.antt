@@ -128,8 +128,8 @@ list_legs-returns-then-others-ge-LEGS-clause-ok t c =
     ] in
     rw none (sym (append-nil c.args.found.now.items))
 
-pub list_legs-duty_from-requires-clause-sound : goal.list_legs-duty_from-requires-clause-sound
-list_legs-duty_from-requires-clause-sound t c = known-sound c.args.plan.now.flights.now (c.args.first.now ∷ c.args.others.now) c.requires.flights c.requires.beginning.known
+pub list_legs-duty_from-next-requires-clause-sound : goal.list_legs-duty_from-next-requires-clause-sound
+list_legs-duty_from-next-requires-clause-sound t c = known-sound c.args.plan.now.flights.now (c.args.first.now ∷ c.args.others.now) c.requires.flights c.requires.beginning.known
 
 pub list_legs-returns-then-not-keep_within_caps-clause-ok : goal.list_legs-returns-then-not-keep_within_caps-clause-ok
 list_legs-returns-then-not-keep_within_caps-clause-ok t c =
@@ -139,7 +139,7 @@ list_legs-returns-then-not-keep_within_caps-clause-ok t c =
     let others = c.args.others.now in
     let before = c.args.before.now in
     let longer : c.deref.result.now ≡ before ++ duty_of s first others ∷ [] =
-    c.deref.ensures.value ∙ c.in_ok-longer.ensures ∙ ap (λ (d : Duty). before ++ d ∷ []) c.in_ok-next.ensures.value in
+    c.deref.ensures.value ∙ c.in_ok-longer.ensures ∙ ap (λ (d : Duty). before ++ d ∷ []) c.duty_from-next.ensures.value in
     let caps : is_within_caps s (before ++ duty_of s first others ∷ []) ≡ false = ap (is_within_caps s) (sym longer) ∙ sym c.keep_within_caps.ensures ∙ c.if-not-keep_within_caps.true in
     let none = not-within (s.max_duties - (length before + 1)) (8 - length others) s flights c.args.plan.now.base c.args.plan.now.base_price before first others c.requires.flights c.requires.beginning
     (omega arith) caps in
@@ -156,9 +156,9 @@ list_legs-returns-in_err-list_own-clause-over t c =
     let price = c.args.plan.now.base_price in
     let room = s.max_duties - (length before + 1) in
     let longer : c.deref.result.now ≡ before ++ duty_of s first others ∷ [] =
-    c.deref.ensures.value ∙ c.in_ok-longer.ensures ∙ ap (λ (d : Duty). before ++ d ∷ []) c.in_ok-next.ensures.value in
+    c.deref.ensures.value ∙ c.in_ok-longer.ensures ∙ ap (λ (d : Duty). before ++ d ∷ []) c.duty_from-next.ensures.value in
     let longer-2 : c.deref-2.result.now ≡ before ++ duty_of s first others ∷ [] =
-    c.deref-2.ensures.value ∙ c.in_ok-longer.ensures ∙ ap (λ (d : Duty). before ++ d ∷ []) c.in_ok-next.ensures.value in
+    c.deref-2.ensures.value ∙ c.in_ok-longer.ensures ∙ ap (λ (d : Duty). before ++ d ∷ []) c.duty_from-next.ensures.value in
     let caps : is_within_caps s (before ++ duty_of s first others ∷ []) ≡ true = ap (is_within_caps s) (sym longer) ∙ sym c.keep_within_caps.ensures ∙ c.if-not-keep_within_caps.false in
     let opened = legs-open room s flights base price before first others c.if-others-ge-LEGS.false (sym c.cannot_begin.ensures ∙ c.if-cannot_begin.false) c.requires.joins caps in
     let own-is = own-listed room s flights base price before (duty_of s first others) c.deref-2.result.now c.last_leg-last.result (last_of first others) longer-2 c.last_leg-last.ensures in
@@ -190,9 +190,9 @@ list_legs-returns-in_err-list_below-clause-over t c =
     let g = c.flight-item.result in
     let at = item-at flights i g c.loop-flight-test.true c.flight-item.is in
     let longer : c.deref.result.now ≡ before ++ duty_of s first others ∷ [] =
-    c.deref.ensures.value ∙ c.in_ok-longer.ensures ∙ ap (λ (d : Duty). before ++ d ∷ []) c.in_ok-next.ensures.value in
+    c.deref.ensures.value ∙ c.in_ok-longer.ensures ∙ ap (λ (d : Duty). before ++ d ∷ []) c.duty_from-next.ensures.value in
     let longer-2 : c.deref-2.result.now ≡ before ++ duty_of s first others ∷ [] =
-    c.deref-2.ensures.value ∙ c.in_ok-longer.ensures ∙ ap (λ (d : Duty). before ++ d ∷ []) c.in_ok-next.ensures.value in
+    c.deref-2.ensures.value ∙ c.in_ok-longer.ensures ∙ ap (λ (d : Duty). before ++ d ∷ []) c.duty_from-next.ensures.value in
     let caps : is_within_caps s (before ++ duty_of s first others ∷ []) ≡ true = ap (is_within_caps s) (sym longer) ∙ sym c.keep_within_caps.ensures ∙ c.if-not-keep_within_caps.false in
     let opened = legs-open room s flights base price before first others c.if-others-ge-LEGS.false (sym c.cannot_begin.ensures ∙ c.if-cannot_begin.false) c.requires.joins caps in
     let own-is = own-listed room s flights base price before (duty_of s first others) c.deref-2.result.now c.last_leg-last.result (last_of first others) longer-2 c.last_leg-last.ensures in
@@ -247,9 +247,9 @@ list_legs-returns-clause-ok t c =
     let price = c.args.plan.now.base_price in
     let room = s.max_duties - (length before + 1) in
     let longer : c.deref.result.now ≡ before ++ duty_of s first others ∷ [] =
-    c.deref.ensures.value ∙ c.in_ok-longer.ensures ∙ ap (λ (d : Duty). before ++ d ∷ []) c.in_ok-next.ensures.value in
+    c.deref.ensures.value ∙ c.in_ok-longer.ensures ∙ ap (λ (d : Duty). before ++ d ∷ []) c.duty_from-next.ensures.value in
     let longer-2 : c.deref-2.result.now ≡ before ++ duty_of s first others ∷ [] =
-    c.deref-2.ensures.value ∙ c.in_ok-longer.ensures ∙ ap (λ (d : Duty). before ++ d ∷ []) c.in_ok-next.ensures.value in
+    c.deref-2.ensures.value ∙ c.in_ok-longer.ensures ∙ ap (λ (d : Duty). before ++ d ∷ []) c.duty_from-next.ensures.value in
     let caps : is_within_caps s (before ++ duty_of s first others ∷ []) ≡ true = ap (is_within_caps s) (sym longer) ∙ sym c.keep_within_caps.ensures ∙ c.if-not-keep_within_caps.false in
     let opened = legs-open room s flights base price before first others c.if-others-ge-LEGS.false (sym c.cannot_begin.ensures ∙ c.if-cannot_begin.false) c.requires.joins caps in
     let own-is = own-listed room s flights base price before (duty_of s first others) c.deref-2.result.now c.last_leg-last.result (last_of first others) longer-2 c.last_leg-last.ensures in
