@@ -1,6 +1,6 @@
 -- The time-space network of a base: labels wait from the events at which duties arrive to those at which duties leave, and board
 -- duties there. Networks of duties along time are described in Barnhart et al. 2003, "Airline crew scheduling".
-use Rattle.std.specs.Prelude.{ℕ, Bool, ◌&&◌, cond, int_le, ℤ, pos, ◌+ℤ◌, ◌-ℤ◌, neg_ℤ, List, [], ◌∷◌, ◌++◌, Option, Some, None}
+use Rattle.std.specs.Prelude.{◌≡◌, ℕ, Bool, ◌&&◌, cond, int_le, ℤ, pos, ◌+ℤ◌, ◌-ℤ◌, ◌<ℤ◌, neg_ℤ, List, [], ◌∷◌, ◌++◌, Option, Some, None}
 use Rattle.std.specs.Option.{option_map}
 use Rattle.std.specs.Ordering.{eq_by_cmp}
 use Rattle.crew_duty.specs.declared.duty.Duty.{Duty}
@@ -9,6 +9,7 @@ use Rattle.crew_duty.specs.declared.events.Departure.{Departure}
 use Rattle.crew_duty.specs.declared.leg.Leg.{Leg}
 use Rattle.crew_flights.specs.Codes.{code_cmp}
 use Rattle.crew_resource.specs.Events.{Network}
+use Rattle.crew_resource.specs.Labels.{Member}
 use Rattle.crew_rules.specs.declared.settings.Settings.{Settings}
 use Rattle.crew_vector.specs.Amounts.{arrival_of, departure_of, rig_wait}
 use Rattle.crew_vector.specs.Numbers.{named, numbers_of}
@@ -54,3 +55,7 @@ network_of s base price duties = record {
   wait = wait_vector s;
   board = board_vector s;
 }
+
+-- the entries at an arrival event of the duties that leave before a minute
+abbrev pub ArrivedBefore : Network Duty Parts (List (List Leg)) Departure Arrival → (Duty → List (Parts × List (List Leg))) → ℤ → Arrival → Parts → List (List Leg) → Type 0
+ArrivedBefore net fronts minute x v w = (d : Duty) × Member net.known d × (d.report <ℤ minute) × (net.arrives d ≡ x) × Member (fronts d) (v, w)

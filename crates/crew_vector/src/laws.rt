@@ -18,9 +18,9 @@ ghost use Rattle.crew_vector.specs.Along.{IsLine};
 ghost use Rattle.crew_vector.specs.Amounts.{departure_of};
 ghost use Rattle.crew_vector.specs.Bests.{AreFronts, IsBest, IsCleanPairing, IsHomeEntry, IsPairing, NoDearer, PricedPairing};
 ghost use Rattle.crew_vector.specs.Costs.{is_at_most, reduced_cost};
-ghost use Rattle.crew_vector.specs.Events.{board_vector, idle_vector, network_of, wait_vector};
+ghost use Rattle.crew_vector.specs.Events.{ArrivedBefore, board_vector, idle_vector, network_of, wait_vector};
 ghost use Rattle.crew_vector.specs.Fronts.{Clean, IsFrontAt, IsUndominated, RiseByVector, vector_of, walk_at_most};
-ghost use Rattle.crew_vector.specs.Locals.{AreFrontsBefore, Feed, IsLocalAt, grown, is_vector_within_caps};
+ghost use Rattle.crew_vector.specs.Locals.{AreFrontsBefore, Candidate, Feed, IsLocalAt, grown, is_vector_within_caps};
 ghost use Rattle.crew_vector.specs.Pairing.{pairing_vector};
 ghost use Rattle.crew_vector.specs.Parts.{cost_of, parts_of, stays_within_caps, value_of};
 ghost use Rattle.crew_vector.specs.declared.parts.Parts.{Parts};
@@ -94,6 +94,13 @@ pub fn steps_are_those_of_the_vector()
     ensures step { (s : Settings) (price : ℤ) (last next : Duty) (v : Parts) → ⟦<PairingVector as Resource>⟧.extends (pairing_vector s price) v last next ≡ cond (is_vector_within_caps s (grown s last next v)) (Some (grown s last next v)) None }
 {}
 
+/// Some of the candidates that lie under all of them leave the same entries: at a node, and at a departure event.
+pub fn covering_candidates_leave_the_same_entries()
+    ensures node { (s : Settings) (base : List ℕ) (price : ℤ) (d : Duty) (feed : Feed) (part entries : List (Parts × List (List Leg))) → Labels.IsCovering is_at_most walk_at_most (λ v w. Labels.Member part (v, w)) (Candidate s base price d feed) → Labels.IsLocal is_at_most walk_at_most (λ v w. Labels.Member part (v, w)) entries → IsLocalAt s base price d feed entries }
+    ensures back { (s : Settings) (base : List ℕ) (price : ℤ) (d : Duty) (feed : Feed) (part entries : List (Parts × List (List Leg))) → Labels.IsCovering is_at_most walk_at_most (λ v w. Labels.Member part (v, w)) (Candidate s base price d feed) → IsLocalAt s base price d feed entries → Labels.IsLocal is_at_most walk_at_most (λ v w. Labels.Member part (v, w)) entries }
+    ensures pool { (s : Settings) (base : List ℕ) (price : ℤ) (duties : List Duty) (arrivals : Arrival → List (Parts × List (List Leg))) (g : Departure) (part entries : List (Parts × List (List Leg))) → Labels.IsCovering is_at_most walk_at_most (λ v w. Labels.Member part (v, w)) (FromPools (network_of s base price duties) arrivals g) → Labels.IsLocal is_at_most walk_at_most (λ v w. Labels.Member part (v, w)) entries → Labels.IsLocal is_at_most walk_at_most (FromPools (network_of s base price duties) arrivals g) entries }
+{}
+
 /// Pools that are local at each event of a base's network show, at each duty, the duty's front.
 pub fn views_of_local_pools_are_fronts()
     ensures { (s : Settings) (t : Timetable) (base : List ℕ) (price : ℤ) (duties : List Duty) → IsChecked s → TimetableSpec.IsSound t → AreDuties s t duties
@@ -101,6 +108,16 @@ pub fn views_of_local_pools_are_fronts()
         → ((d : Duty) → IsDuty s (flights_of t) d → Labels.IsLocal is_at_most walk_at_most (FromPools (network_of s base price duties) arrivals (departure_of d)) (pools (departure_of d)))
         → ((x : Arrival) → Labels.IsLocal is_at_most walk_at_most (Arriving (network_of s base price duties) (λ d. view (network_of s base price duties) d (pools (departure_of d))) x) (arrivals x))
         → (d : Duty) → IsDuty s (flights_of t) d → IsFrontAt s t base price d (view (network_of s base price duties) d (pools (departure_of d))) }
+{}
+
+/// A sweep in order of time: where each departure event's pool is made from what has arrived of the duties that leave
+/// before it, the pools show, at each duty, the duty's front.
+pub fn sweeps_in_order_of_time_give_all_fronts()
+    ensures { (s : Settings) (t : Timetable) (base : List ℕ) (price : ℤ) (duties : List Duty) → IsChecked s → TimetableSpec.IsSound t → AreDuties s t duties
+        → (pools : Departure → List (Parts × List (List Leg))) (arrivals : Departure → Arrival → List (Parts × List (List Leg)))
+        → ((d : Duty) → IsDuty s (flights_of t) d → Labels.IsLocal is_at_most walk_at_most (FromPools (network_of s base price duties) (arrivals (departure_of d)) (departure_of d)) (pools (departure_of d)))
+        → ((d : Duty) (x : Arrival) → IsDuty s (flights_of t) d → Labels.IsLocal is_at_most walk_at_most (ArrivedBefore (network_of s base price duties) (λ e. view (network_of s base price duties) e (pools (departure_of e))) d.report x) (arrivals (departure_of d) x))
+        → (e : Duty) → IsDuty s (flights_of t) e → IsFrontAt s t base price e (view (network_of s base price duties) e (pools (departure_of e))) }
 {}
 
 /// Where fronts are right, the entry at home that is least by cost and walk is the best pairing, and there is none where

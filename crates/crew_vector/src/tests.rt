@@ -185,6 +185,8 @@ fn order(rt: HostRuntime) -> Result<(), Fail> {
     laws::best_is_the_least_entry_at_home();
     laws::local_entries_are_the_front();
     laws::steps_are_those_of_the_vector();
+    laws::covering_candidates_leave_the_same_entries();
     laws::views_of_local_pools_are_fronts();
+    laws::sweeps_in_order_of_time_give_all_fronts();
     Ok(())
 }
