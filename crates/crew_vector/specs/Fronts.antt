@@ -4,6 +4,8 @@
 -- `price` is the base's price, by which the vectors of its partials are less.
 use Rattle.std.specs.Prelude.{◌≡◌, ℕ, ℤ, List, [], ◌∷◌, ◌++◌, map}
 use Rattle.std.specs.declared.cmp.Ordering.TheVariants.{Less}
+use Rattle.std.specs.Ordering.{int_cmp, ordering_then}
+use Rattle.std.specs.declared.cmp.Ordering.{Ordering}
 use Rattle.crew_duty.specs.Duties.{flights_of}
 pub use Rattle.crew_duty.specs.Keys.{walk_at_most}
 use Rattle.crew_duty.specs.Members.{Each}
@@ -14,7 +16,6 @@ use Rattle.crew_flights.specs.Timetable.{Timetable}
 use Rattle.crew_resource.specs.Labels.{Beats, IsFront, Undominated}
 use Rattle.crew_rules.specs.declared.settings.Settings.{Settings}
 use Rattle.crew_vector.specs.Costs.{is_at_most}
-pub use Rattle.crew_vector.specs.Named.{vector_cmp}
 use Rattle.crew_vector.specs.Parts.{parts_of}
 use Rattle.crew_vector.specs.declared.parts.Parts.{Parts}
 
@@ -29,6 +30,14 @@ walk_of duties = map (λ d. d.key) duties
 -- one vector beats another: it is at most the other in each part, and isn't the other
 abbrev pub VectorBeats : Parts → Parts → Type 0
 VectorBeats = Beats is_at_most
+
+-- vectors are listed by their parts in order
+abbrev pub vector_cmp : Parts → Parts → Ordering
+vector_cmp a b =
+    ordering_then (int_cmp a.duty_pay b.duty_pay)
+    (ordering_then (int_cmp a.trip_rig b.trip_rig)
+    (ordering_then (int_cmp a.guarantee b.guarantee)
+    (ordering_then (int_cmp a.fdp b.fdp) (ordering_then (int_cmp a.fly b.fly) (ordering_then (int_cmp a.duties b.duties) (int_cmp a.away b.away))))))
 
 -- each entry stands before all later ones by its vector
 abbrev pub RiseByVector : List (Parts × List (List Leg)) → Type 0

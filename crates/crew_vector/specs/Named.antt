@@ -8,17 +8,10 @@ use Rattle.std.specs.declared.cmp.Ordering.TheVariants.{Less, Equal, Greater}
 use Rattle.crew_resource.specs.Resource.{OrderLaws, StepLaws}
 use Rattle.crew_resource.specs.Stages.{BoundLaws, ShiftLaws, StagedLaws}
 use Rattle.crew_vector.specs.Costs.{is_at_most}
+use Rattle.crew_vector.specs.Fronts.{vector_cmp}
 use Rattle.crew_vector.specs.Numbers.{Numbers, named, numbers_of}
 use Rattle.crew_vector.specs.SidesLaws.{sides_at_most, sides_cmp, sides_order}
 use Rattle.crew_vector.specs.declared.parts.Parts.{Parts}
-
--- vectors are listed by their parts in order
-abbrev pub vector_cmp : Parts → Parts → Ordering
-vector_cmp a b =
-    ordering_then (int_cmp a.duty_pay b.duty_pay)
-    (ordering_then (int_cmp a.trip_rig b.trip_rig)
-    (ordering_then (int_cmp a.guarantee b.guarantee)
-    (ordering_then (int_cmp a.fdp b.fdp) (ordering_then (int_cmp a.fly b.fly) (ordering_then (int_cmp a.duties b.duties) (int_cmp a.away b.away))))))
 
 then-assoc : (x y z : Ordering) → ordering_then x (ordering_then y z) ≡ ordering_then (ordering_then x y) z
 then-assoc Less y z = refl

@@ -18,7 +18,8 @@ use Rattle.crew_resource.specs.SumLaws.{no_grades}
 use Rattle.crew_resource.specs.SumStages.{capped_is, sum_arrived, sum_bounds, sum_ready}
 use Rattle.crew_vector.specs.Amounts.{CanFollow, arrival_of, away_first, away_laws, away_next, departure_of, fdp_first, fdp_laws, fdp_next, fly_first, fly_laws, fly_next, guarantee_first, guarantee_laws, guarantee_next, guarantee_own, pay_first, pay_laws, pay_next, pay_own, rig_first, rig_laws, rig_next, rig_own, rig_wait}
 use Rattle.crew_vector.specs.Costs.{is_at_most}
-use Rattle.crew_vector.specs.Named.{named_bounds, named_shifts, named_staged, named_steps, unnamed, vector_cmp}
+use Rattle.crew_vector.specs.Fronts.{vector_cmp}
+use Rattle.crew_vector.specs.Named.{named_bounds, named_shifts, named_staged, named_steps, unnamed}
 use Rattle.crew_vector.specs.Numbers.{Numbers, named, numbers_of}
 use Rattle.crew_vector.specs.Sides.{aboard, fits_in, idle, opened, stepped, summed, waited}
 use Rattle.crew_vector.specs.SidesLaws.{sides_at_most, sides_shifts, sides_staged, sides_steps}
