@@ -3,13 +3,12 @@ use Rattle.std.specs.Prelude.{◌≡◌, ℤ, ◌≤ℤ◌, true, List, Option, 
 use Rattle.std.specs.Int.{int_min}
 use Rattle.crew_duty.specs.Members.{Member}
 use Rattle.crew_vector.specs.Costs.{reduced_cost}
-use Rattle.crew_vector.specs.Parts.{value_of_parts}
 use Rattle.crew_audit.specs.declared.partial.Partial.{Partial}
 use Rattle.crew_audit.specs.declared.tally.Tally.{Tally}
 
 -- the cost of a partial: the greatest of the first three parts of its vector
 abbrev pub cost_in : Partial → ℤ
-cost_in p = reduced_cost (value_of_parts p.vector)
+cost_in p = reduced_cost p.vector
 
 -- the least cost of the pairings among these, and none where there is no pairing
 abbrev pub IsLeast : List Partial → Option ℤ → Type 0

@@ -1,12 +1,8 @@
 -- A part of the candidates that lies under all of them leaves the same entries.
 use Rattle.std.proofs.Common.{◌≡◌, Bool, true, List, sym, ◌∙◌, subst}
 use Rattle.crew_resource.specs.Labels.{Member, IsLocal}
+pub use Rattle.crew_resource.specs.Labels.{IsCovering}
 use Rattle.crew_resource.proofs.Order.{IsOrder}
-
--- each part is a candidate, and each candidate has a part that is at most it, at equal vectors with a walk that is at most its own
-pub record IsCovering {V W : Type 0} (le : V → V → Bool) (wle : W → W → Bool) (Part Candidate : V → W → Type 0) : Type 0 where
-  pub part : (v : V) (w : W) → Part v w → Candidate v w
-  pub under : (x : V) (y : W) → Candidate x y → (v : V) × (w : W) × Part v w × (le v x ≡ true) × (v ≡ x → wle w y ≡ true)
 
 module _ (V W : Type 0) (le : V → V → Bool) (wle : W → W → Bool) (order : IsOrder le) (walks : IsOrder wle) where
   module _ (Part Candidate : V → W → Type 0) (covering : IsCovering le wle Part Candidate) (entries : List (V × W)) where

@@ -15,7 +15,8 @@ use Rattle.crew_resource.proofs.Order.{IsOrder}
 use Rattle.crew_resource.proofs.Members.{Member-filter_in, Member-filter_out}
 use Rattle.crew_resource.proofs.ListOrder.{at_most, at_most_order, lists_exact, lists_grow}
 use Rattle.crew_resource.proofs.Instance.{one, opening, preds, rules}
-use Rattle.crew_resource.proofs.Sweep.{sweep}
+use Rattle.crew_resource.proofs.Pools.{pool_from_pools}
+use Rattle.crew_resource.proofs.Sweep.{views_right}
 use Rattle.crew_resource.proofs.Values.{below_order, same_length}
 
 -- what the laws of the stages say of waiting and boarding alone
@@ -121,19 +122,29 @@ module _ (V I X G K : Type 0) (cmp : V → V → Ordering) (below : V → V → 
     arc_out = λ e d a. let k = Member-filter_out (λ e. may_follow e d) known e a in (k.0, sym (follows e d) ∙ k.1);
   }
 
-  -- where the legal arcs rise
-  pub pooled_fronts : (rank : I → ℕ) → ((e d : I) → Member known e → may_follow e d ≡ true → rank e < rank d)
-      → (pools : G → List (V × List K)) (arrivals : X → List (V × List K))
-      → ((d : I) → Member known d → IsLocal below wle (FromPools Net arrivals (leaves d)) (pools (leaves d)))
-      → ((x : X) → IsLocal below wle (Arriving Net (λ d. view Net d (pools (leaves d))) x) (arrivals x))
+  -- where the legal arcs rise, and each pool is made from what stands at its arrivals when its departure comes
+  pub swept_fronts : (rank : I → ℕ) → ((e d : I) → Member known e → may_follow e d ≡ true → rank e < rank d)
+      → (pools : G → List (V × List K)) (arrivals : G → X → List (V × List K))
+      → ((d : I) → Member known d → IsLocal below wle (FromPools Net (arrivals (leaves d)) (leaves d)) (pools (leaves d)))
+      → ((d : I) (x : X) → Member known d → window x (leaves d) ≡ true → IsLocal below wle (Arriving Net (λ e. view Net e (pools (leaves e))) x) (arrivals (leaves d) x))
       → (d : I) → Member known d → IsFront below wle (At d) (Clean d) (view Net d (pools (leaves d)))
   unfolding One Opening Preds
-  pooled_fronts rank rises pools arrivals pool_local arrival_local d k =
-      (sweep I V (List K) G X Net One Opening extends (λ e d. Member (Preds d) e) stages below wle At Clean
+  swept_fronts rank rises pools arrivals pool_local arrival_local d k =
+      (views_right I V (List K) G X Net One Opening extends (λ e d. Member (Preds d) e) stages below wle At Clean
       (rules I V K key known may_start may_follow opens extends below value_of (below_order order) steps wle walk_order
       (same_length V I X G opens extends below value_of steps arrives leaves idle wait board staged count most counting) (lists_grow R total))
       rank (λ e d m. let a = Member-filter_out (λ e. may_follow e d) known e m in rises e d a.0 a.1)
       (λ v w. count v ≡ pos (length w)) network_counts
       (board_laws opens extends cmp below arrives leaves idle wait board order staged shifts) shifts.board_reflects pools
+      (λ d m. pool_from_pools I V (List K) G X Net below wle (below_order order) walk_order
       (wait_laws opens extends cmp below arrives leaves idle wait board staged shifts)
-      arrivals pool_local arrival_local d k).0
+      (λ e. view Net e (pools (leaves e))) (arrivals (leaves d)) (leaves d) (λ x w. arrival_local d x m w) (pools (leaves d)) (pool_local d m))
+      d k).0
+
+  -- and where the pools of arrivals are the whole ones
+  pub pooled_fronts : (rank : I → ℕ) → ((e d : I) → Member known e → may_follow e d ≡ true → rank e < rank d)
+      → (pools : G → List (V × List K)) (arrivals : X → List (V × List K))
+      → ((d : I) → Member known d → IsLocal below wle (FromPools Net arrivals (leaves d)) (pools (leaves d)))
+      → ((x : X) → IsLocal below wle (Arriving Net (λ d. view Net d (pools (leaves d))) x) (arrivals x))
+      → (d : I) → Member known d → IsFront below wle (At d) (Clean d) (view Net d (pools (leaves d)))
+  pooled_fronts rank rises pools arrivals pool_local arrival_local = swept_fronts rank rises pools (λ g. arrivals) pool_local (λ d x m w. arrival_local x)

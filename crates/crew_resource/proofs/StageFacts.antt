@@ -1,14 +1,8 @@
 -- What the laws of the stages say of a step.
-use Rattle.std.specs.Prelude.{◌≡◌, ℕ, Option, IfOk}
-use Rattle.std.specs.declared.result.Result.{Result}
-use Rattle.std.specs.declared.result.Result.TheVariants.{Ok, Err}
+use Rattle.std.specs.Prelude.{◌≡◌, ℕ, Option}
 use Rattle.std.proofs.Common.{sym, ◌∙◌}
 use Rattle.crew_resource.specs.Stages.{BoundLaws}
 use Rattle.crew_resource.specs.Uses.{KeepsBound}
-
-pub IfOk-weaker : {T E : Type 0} (r : Result T E) (P Q : T → Type 0) → ((x : T) → P x → Q x) → IfOk r P → IfOk r Q
-IfOk-weaker (Ok x) P Q f h = f x h
-IfOk-weaker (Err e) P Q f h = h
 
 -- a value within the bound that waits and boards is within the bound for one item more
 pub step_bound : {V I X G : Type 0} (is_sound : I → Type 0) (may_begin : G → Type 0) (may_follow : X → G → Type 0) (arrives : I → X) (leaves : I → G)

@@ -119,10 +119,8 @@ impl<P: Placed, A: Staged<P>, B: Staged<P>> Staged<P> for Both<A, B> {
     ghost bounds = { λ s. both_bounds _ _ _ _ _ _ _ _ _ _ _ _ _ _ _ _ _ _ _ _ _ _ _ _ _ _ _ (A.bounds s.first) (B.bounds s.second) };
 
     #[inline]
-    fn idle(&self, departure: &P::Departure) -> Result<(A::Value, B::Value), AllocError> {
-        let first = self.first.idle(departure)?;
-        let second = self.second.idle(departure)?;
-        Ok((first, second))
+    fn idle(&self, departure: &P::Departure) -> (A::Value, B::Value) {
+        (self.first.idle(departure), self.second.idle(departure))
     }
 
     #[inline]
@@ -131,24 +129,16 @@ impl<P: Placed, A: Staged<P>, B: Staged<P>> Staged<P> for Both<A, B> {
         value: &(A::Value, B::Value),
         arrival: &P::Arrival,
         departure: &P::Departure,
-    ) -> Result<(A::Value, B::Value), AllocError> {
-        let first = self.first.wait(&value.0, arrival, departure)?;
-        let second = self.second.wait(&value.1, arrival, departure)?;
-        Ok((first, second))
+    ) -> (A::Value, B::Value) {
+        let first = self.first.wait(&value.0, arrival, departure);
+        let second = self.second.wait(&value.1, arrival, departure);
+        (first, second)
     }
 
     #[inline]
-    fn board(
-        &self,
-        value: &(A::Value, B::Value),
-        item: &P,
-    ) -> Result<Option<(A::Value, B::Value)>, AllocError> {
-        let Some(first) = self.first.board(&value.0, item)? else {
-            return Ok(None);
-        };
-        let Some(second) = self.second.board(&value.1, item)? else {
-            return Ok(None);
-        };
-        Ok(Some((first, second)))
+    fn board(&self, value: &(A::Value, B::Value), item: &P) -> Option<(A::Value, B::Value)> {
+        let first = self.first.board(&value.0, item)?;
+        let second = self.second.board(&value.1, item)?;
+        Some((first, second))
     }
 }

@@ -125,23 +125,18 @@ impl<P: Placed> Staged<P> for Count<P> {
     ghost bounds = { λ s. count_bounds s.most P.is_sound P.may_begin P.may_follow P.arrives P.leaves };
 
     #[inline]
-    fn idle(&self, _departure: &P::Departure) -> Result<i64, AllocError> {
-        Ok(0)
+    fn idle(&self, _departure: &P::Departure) -> i64 {
+        0
     }
 
     #[inline]
-    fn wait(
-        &self,
-        value: &i64,
-        _arrival: &P::Arrival,
-        _departure: &P::Departure,
-    ) -> Result<i64, AllocError> {
-        self.copy(value)
+    fn wait(&self, value: &i64, _arrival: &P::Arrival, _departure: &P::Departure) -> i64 {
+        *value
     }
 
     #[inline]
-    fn board(&self, value: &i64, _item: &P) -> Result<Option<i64>, AllocError> {
+    fn board(&self, value: &i64, _item: &P) -> Option<i64> {
         let aboard = *value + 1;
-        Ok(within(Some(i64::from(self.most)), aboard))
+        within(Some(i64::from(self.most)), aboard)
     }
 }

@@ -1,9 +1,8 @@
 //! Steps in two stages, between events.
-ghost use Rattle.std.specs.Prelude.{◌≡◌, ℕ, ℤ, Option, Some, IfOk};
+ghost use Rattle.std.specs.Prelude.{◌≡◌, ℕ, ℤ, Option, Some};
 ghost use Rattle.crew_resource.specs.Stages.{StagedLaws, ShiftLaws, CountingLaws, BoundLaws};
 
 use crate::Resource;
-use std::alloc::AllocError;
 
 /// An item that leaves at one event and arrives at another.
 pub trait Placed {
@@ -38,7 +37,7 @@ pub trait Placed {
 /// An implementation proves the laws: `staged` (the stages make the step, and keep the order), `shifting` (where
 /// `is_shift` holds, they make no two values one, reflect the order, and keep the listing), `counting` (where there
 /// is a `most`, a value tells the number of its items, and none has more) and `bounds` (the stages keep a bound by
-/// the number of items, under which every call may be made).
+/// the number of items, under which every call may be made). No stage takes memory.
 pub trait Staged<P: Placed>: Resource<Item = P> {
     /// The value of no item, at a departure.
     ghost idle_of: { Self → P.Departure → Self.Value };
@@ -74,9 +73,9 @@ pub trait Staged<P: Placed>: Resource<Item = P> {
     ghost can_board: { Self → Self.Value → P → Type 0 };
 
     /// The value of no item, at a departure.
-    fn idle(&self, departure: &P::Departure) -> Result<Self::Value, AllocError>
+    fn idle(&self, departure: &P::Departure) -> Self::Value
         requires { can_idle self.now departure.now }
-        ensures { IfOk result (λ value. value ≡ idle_of self.now departure.now) };
+        ensures { result ≡ idle_of self.now departure.now };
 
     /// The value of a list as of a departure, of its value at the arrival.
     fn wait(
@@ -84,14 +83,14 @@ pub trait Staged<P: Placed>: Resource<Item = P> {
         value: &Self::Value,
         arrival: &P::Arrival,
         departure: &P::Departure,
-    ) -> Result<Self::Value, AllocError>
+    ) -> Self::Value
         requires { can_wait self.now value.now arrival.now departure.now }
-        ensures { IfOk result (λ later. later ≡ waited self.now value.now arrival.now departure.now) };
+        ensures { result ≡ waited self.now value.now arrival.now departure.now };
 
     /// The value of a list with `item` after it, of its value as of the item's departure; none where it has no value.
-    fn board(&self, value: &Self::Value, item: &P) -> Result<Option<Self::Value>, AllocError>
+    fn board(&self, value: &Self::Value, item: &P) -> Option<Self::Value>
         requires { can_board self.now value.now item.now }
-        ensures { IfOk result (λ longer. longer ≡ boards self.now value.now item.now) };
+        ensures { result ≡ boards self.now value.now item.now };
 
     ghost staged: { (r : Self) → StagedLaws (Self.opens r) (Self.extends r) Self.below P.arrives P.leaves (idle_of r) (waited r) (boards r) };
 

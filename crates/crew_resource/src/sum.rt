@@ -176,23 +176,18 @@ impl<P: Placed, A: StagedAmount<P>> Staged<P> for Sum<A> {
     ghost bounds = { λ s. sum_bounds P.is_sound P.may_begin P.may_follow P.arrives P.leaves (A.first_of s.amount) (A.next_of s.amount) (A.can_first s.amount) (A.can_next s.amount) (A.cap_of s.amount) (A.idle_amount s.amount) (A.wait_amount s.amount) (A.own_amount s.amount) (A.share s.amount) (A.amounts s.amount) };
 
     #[inline]
-    fn idle(&self, departure: &P::Departure) -> Result<i64, AllocError> {
-        Ok(self.amount.idle(departure))
+    fn idle(&self, departure: &P::Departure) -> i64 {
+        self.amount.idle(departure)
     }
 
     #[inline]
-    fn wait(
-        &self,
-        value: &i64,
-        arrival: &P::Arrival,
-        departure: &P::Departure,
-    ) -> Result<i64, AllocError> {
-        Ok(*value + self.amount.wait(arrival, departure))
+    fn wait(&self, value: &i64, arrival: &P::Arrival, departure: &P::Departure) -> i64 {
+        *value + self.amount.wait(arrival, departure)
     }
 
     #[inline]
-    fn board(&self, value: &i64, item: &P) -> Result<Option<i64>, AllocError> {
+    fn board(&self, value: &i64, item: &P) -> Option<i64> {
         let aboard = *value + self.amount.own(item);
-        Ok(within(self.amount.cap(), aboard))
+        within(self.amount.cap(), aboard)
     }
 }

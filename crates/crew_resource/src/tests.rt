@@ -216,12 +216,12 @@ fn steps(rt: HostRuntime) {
 #[test]
 fn stages(rt: HostRuntime) {
     let trip = trips();
-    assert!(rt; trip.idle(&100) == Ok((0, (0, 0))));
-    assert!(rt; trip.wait(&(5, (1, 60)), &160, &200) == Ok((5, (1, 100))));
-    assert!(rt; trip.board(&(5, (1, 100)), &BACK) == Ok(Some((12, (2, 130)))));
-    assert!(rt; trip.board(&(5, (1, 101)), &BACK) == Ok(None));
-    assert!(rt; trip.board(&(5, (2, 100)), &BACK) == Ok(None));
-    assert!(rt; start_staged(&trip, &OUT) == Ok(Some((5, (1, 60)))));
+    assert!(rt; trip.idle(&100) == (0, (0, 0)));
+    assert!(rt; trip.wait(&(5, (1, 60)), &160, &200) == (5, (1, 100)));
+    assert!(rt; trip.board(&(5, (1, 100)), &BACK) == Some((12, (2, 130))));
+    assert!(rt; trip.board(&(5, (1, 101)), &BACK) == None);
+    assert!(rt; trip.board(&(5, (2, 100)), &BACK) == None);
+    assert!(rt; start_staged(&trip, &OUT) == Some((5, (1, 60))));
 }
 
 #[test]
@@ -246,10 +246,10 @@ fn values(rt: HostRuntime) {
 #[test]
 fn steps_by_stages(rt: HostRuntime) {
     let trip = trips();
-    let Ok(Some(first)) = start_staged(&trip, &OUT) else {
+    let Some(first) = start_staged(&trip, &OUT) else {
         assert!(rt; false, "no value");
         return;
     };
-    assert!(rt; extend_staged(&trip, &first, &OUT, &BACK) == Ok(Some((12, (2, 130)))));
-    assert!(rt; extend_staged(&trip, &first, &OUT, &LATE) == Ok(None));
+    assert!(rt; extend_staged(&trip, &first, &OUT, &BACK) == Some((12, (2, 130))));
+    assert!(rt; extend_staged(&trip, &first, &OUT, &LATE) == None);
 }

@@ -35,17 +35,14 @@ pub fn extend_ordered<R: Resource>(
 
 /// The value of the list of one item, by its stages.
 #[inline]
-pub fn start_staged<P: Placed, R: Staged<P>>(
-    resource: &R,
-    item: &P,
-) -> Result<Option<R::Value>, AllocError>
+pub fn start_staged<P: Placed, R: Staged<P>>(resource: &R, item: &P) -> Option<R::Value>
     requires sound { P.is_sound item.now }
     requires begins { P.may_begin (P.leaves item.now) }
     requires fits { R.fits resource.now 1 }
-    ensures value { IfOk result (λ value. value ≡ R.opens resource.now item.now) }
-    ensures bound { IfOk result (λ value. (z : R.Value) → value ≡ Some z → R.arrived resource.now 1 z) }
+    ensures value { result ≡ R.opens resource.now item.now }
+    ensures bound { (z : R.Value) → result ≡ Some z → R.arrived resource.now 1 z }
 {
-    let empty = resource.idle(&item.departure())?;
+    let empty = resource.idle(&item.departure());
     resource.board(&empty, item)
 }
 
@@ -56,13 +53,13 @@ pub fn extend_staged<P: Placed, R: Staged<P>>(
     value: &R::Value,
     last: &P,
     next: &P,
-) -> Result<Option<R::Value>, AllocError>
+) -> Option<R::Value>
     requires sound { P.is_sound next.now }
     requires follows { P.may_follow (P.arrives last.now) (P.leaves next.now) }
     requires room { HasRoom (R.fits resource.now) (R.arrived resource.now) value.now }
-    ensures value { IfOk result (λ longer. longer ≡ R.extends resource.now value.now last.now next.now) }
-    ensures bound { IfOk result (KeepsBound (R.arrived resource.now) value.now) }
+    ensures value { result ≡ R.extends resource.now value.now last.now next.now }
+    ensures bound { KeepsBound (R.arrived resource.now) value.now result }
 {
-    let waited = resource.wait(value, &last.arrival(), &next.departure())?;
+    let waited = resource.wait(value, &last.arrival(), &next.departure());
     resource.board(&waited, next)
 }

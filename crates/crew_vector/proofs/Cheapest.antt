@@ -13,7 +13,8 @@ use Rattle.crew_rules.specs.declared.settings.Settings.{Settings}
 use Rattle.crew_vector.specs.Bests.{AreFronts, IsBest, IsCleanPairing, IsHomeEntry, IsPairing, NoDearer, PricedPairing}
 use Rattle.crew_vector.specs.Costs.{cost_respects, reduced_cost}
 use Rattle.crew_vector.specs.Fronts.{At, vector_of, walk_at_most, walk_of}
-use Rattle.crew_vector.specs.Parts.{Value, cost_of, pay_of}
+use Rattle.crew_vector.specs.Parts.{cost_of, pay_of}
+use Rattle.crew_vector.specs.declared.parts.Parts.{Parts}
 use Rattle.crew_vector.proofs.Fitting.{cost-is}
 use Rattle.crew_vector.proofs.Cuts.{append-nothing}
 use Rattle.crew_vector.proofs.Nodes.{each-below, each-clean}
@@ -54,7 +55,7 @@ best-least s t best p checked sound is h =
     ⊎_elim (λ lt. omega (arith, ints, lt, less)) (λ eq. let e = eq.0 in omega (arith, ints, e, less)) (is.1 q.0 q.1)
 
 -- an entry at home is a clean pairing
-pub entry-pairing : (s : Settings) (t : Timetable) (front : List ℕ → Duty → List (Value × List (List Leg))) → AreFronts s t front → (base : List ℕ) (v : Value) (w : List (List Leg)) → IsHomeEntry s t front base v w
+pub entry-pairing : (s : Settings) (t : Timetable) (front : List ℕ → Duty → List (Parts × List (List Leg))) → AreFronts s t front → (base : List ℕ) (v : Parts) (w : List (List Leg)) → IsHomeEntry s t front base v w
     → (p : PricedPairing) × IsCleanPairing s t p × (p.base ≡ base) × (p.walk ≡ w) × (p.cost ≡ reduced_cost v)
 entry-pairing s t front right base v w h =
     let clean = (right base h.price h.duty h.based h.legal).clean v w h.held in
@@ -78,8 +79,8 @@ entry-pairing s t front right base v w h =
     )
 
 -- a clean pairing's vector is an entry at home, with a walk that is at most the pairing's
-pairing-entry : (s : Settings) (t : Timetable) (front : List ℕ → Duty → List (Value × List (List Leg))) → IsChecked s → IsSound t → AreFronts s t front → (p : PricedPairing) → IsCleanPairing s t p
-    → (v : Value) × (w : List (List Leg)) × IsHomeEntry s t front p.base v w × (reduced_cost v ≡ p.cost) × (walk_at_most w p.walk ≡ true)
+pairing-entry : (s : Settings) (t : Timetable) (front : List ℕ → Duty → List (Parts × List (List Leg))) → IsChecked s → IsSound t → AreFronts s t front → (p : PricedPairing) → IsCleanPairing s t p
+    → (v : Parts) × (w : List (List Leg)) × IsHomeEntry s t front p.base v w × (reduced_cost v ≡ p.cost) × (walk_at_most w p.walk ≡ true)
 pairing-entry s t front checked sound right p c =
     let is = c.pairing in
     let last = last_duty is.first is.others in
@@ -94,8 +95,8 @@ pairing-entry s t front checked sound right p c =
       f.least vector e.0 p.walk e.1 (record { at = record { first = is.first; others = is.others; partial = is.partial; ends = refl; vector = refl; walk = is.walk }; stays = c.stays }),
     )
 
-pub least-entry : (s : Settings) (t : Timetable) (front : List ℕ → Duty → List (Value × List (List Leg))) (best : PricedPairing) → IsChecked s → IsSound t → AreFronts s t front → IsCleanPairing s t best
-    → ((base : List ℕ) (v : Value) (w : List (List Leg)) → IsHomeEntry s t front base v w → NoDearer best.cost best.walk (reduced_cost v) w) → IsBest s t (Some best)
+pub least-entry : (s : Settings) (t : Timetable) (front : List ℕ → Duty → List (Parts × List (List Leg))) (best : PricedPairing) → IsChecked s → IsSound t → AreFronts s t front → IsCleanPairing s t best
+    → ((base : List ℕ) (v : Parts) (w : List (List Leg)) → IsHomeEntry s t front base v w → NoDearer best.cost best.walk (reduced_cost v) w) → IsBest s t (Some best)
 least-entry s t front best checked sound right clean least = (clean, each)
   where
     each : (p : PricedPairing) → IsCleanPairing s t p → NoDearer best.cost best.walk p.cost p.walk
@@ -104,8 +105,8 @@ least-entry s t front best checked sound right clean least = (clean, each)
         let n : NoDearer best.cost best.walk p.cost e.1 = subst (λ z. NoDearer best.cost best.walk z e.1) e.3 (least p.base e.0 e.1 e.2) in
         ⊎_elim inl (λ q. inr (q.0, walk-order.transitive best.walk e.1 p.walk q.1 e.4)) n
 
-pub no-entry : (s : Settings) (t : Timetable) (front : List ℕ → Duty → List (Value × List (List Leg))) → IsChecked s → IsSound t → AreFronts s t front
-    → ((base : List ℕ) (v : Value) (w : List (List Leg)) → IsHomeEntry s t front base v w → ⊥) → IsBest s t None
+pub no-entry : (s : Settings) (t : Timetable) (front : List ℕ → Duty → List (Parts × List (List Leg))) → IsChecked s → IsSound t → AreFronts s t front
+    → ((base : List ℕ) (v : Parts) (w : List (List Leg)) → IsHomeEntry s t front base v w → ⊥) → IsBest s t None
 no-entry s t front checked sound right none = λ p h.
     let q = clean-below s t p checked sound h in
     let e = pairing-entry s t front checked sound right q.0 q.1 in

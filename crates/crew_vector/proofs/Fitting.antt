@@ -21,7 +21,10 @@ use Rattle.crew_vector.specs.Along.{GoesOn, IsLine}
 use Rattle.crew_vector.specs.Amounts.{arrival_of, departure_of, fdp_first, fdp_next, fly_first, fly_next, away_first, away_next}
 use Rattle.crew_vector.specs.Costs.{reduced_cost}
 use Rattle.crew_duty.specs.Pairings.{is_within_caps, minutes_away}
-use Rattle.crew_vector.specs.Parts.{Value, prices, cost_of, parts_of, stays_within_caps, value_of_parts, value_of}
+use Rattle.crew_vector.specs.Parts.{prices, cost_of, parts_of, stays_within_caps, value_of}
+use Rattle.crew_vector.specs.declared.parts.Parts.{Parts}
+use Rattle.crew_vector.specs.Pairing.{pairing_vector}
+use Rattle.crew_vector.specs.Sides.{fits_in}
 use Rattle.crew_vector.specs.Terms.{IsBasePrice}
 use Rattle.crew_vector.proofs.Valued.{caps-together, same-all, sum-total, sum-count, sum-away}
 
@@ -33,12 +36,7 @@ price-size : (b : ℤ) → IsBasePrice b → unsigned_abs b ≤ 1_000_000_000
 price-size (pos n) h = omega (arith, ints, h.most)
 price-size (negsuc n) h = omega (arith, ints, h.least)
 
-abbrev pub Fits : Settings → ℤ → ℕ → Type 0
-Fits s b n =
-    (sum_fits (unsigned_abs b + 8_000_020_000) n × (sum_fits (s.trip_rig * 10_000 + unsigned_abs b + 8_000_000_000) n × sum_fits (s.guarantee + unsigned_abs b + 8_000_000_000) n))
-    × ((sum_fits 840 n × sum_fits 540 n) × (sum_fits 1 n × sum_fits 8_280 n))
-
-pub all-fit : (s : Settings) (b : ℤ) → IsChecked s → IsBasePrice b → (n : ℕ) → n ≤ 100_000 → Fits s b n
+pub all-fit : (s : Settings) (b : ℤ) → IsChecked s → IsBasePrice b → (n : ℕ) → n ≤ 100_000 → fits_in (pairing_vector s b) n
 all-fit s b checked price n h =
     let size = price-size b price in
     let rig = checked.trip_rig in
@@ -51,7 +49,7 @@ all-fit s b checked price n h =
 greatest-less : (a b c q : ℤ) → int_max (int_max (a -ℤ q) (b -ℤ q)) (c -ℤ q) ≡ int_max (int_max a b) c -ℤ q
 greatest-less a b c q = grind (arith, ints)
 
-pub cost-is : (s : Settings) (b : ℤ) (ds : List Duty) → reduced_cost (value_of_parts (parts_of s b ds)) ≡ cost_of s b ds
+pub cost-is : (s : Settings) (b : ℤ) (ds : List Duty) → reduced_cost (parts_of s b ds) ≡ cost_of s b ds
 cost-is s b ds = greatest-less (total (λ d. d.pay) ds) (pos s.trip_rig *ℤ minutes_away ds) (pos s.guarantee *ℤ pos (length ds)) (prices b ds)
 
 -- the whole list is the last of its beginnings
@@ -60,10 +58,10 @@ whole-passes p x [] e = (and_parts _ _ e).0
 whole-passes p x (y ∷ ys) e = whole-passes (λ b. p (x ∷ b)) y ys (sym (list_all-map p (λ b. x ∷ b) (beginnings (y ∷ ys))) ∙ (and_parts _ _ e).1)
 
 -- a value is the vector of a list within the caps
-pub value-out : (s : Settings) (b : ℤ) (ds : List Duty) (v : Value) → value_of s b ds ≡ Some v → (is_within_caps s ds ≡ true) × (value_of_parts (parts_of s b ds) ≡ v)
+pub value-out : (s : Settings) (b : ℤ) (ds : List Duty) (v : Parts) → value_of s b ds ≡ Some v → (is_within_caps s ds ≡ true) × (parts_of s b ds ≡ v)
 value-out s b [] v e = absurd (let q : ⊥ = (cc) in q)
 value-out s b (x ∷ ys) v e =
-    let k = cond_some (stays_within_caps s (x ∷ ys)) (value_of_parts (parts_of s b (x ∷ ys))) v e in
+    let k = cond_some (stays_within_caps s (x ∷ ys)) (parts_of s b (x ∷ ys)) v e in
     (whole-passes (is_within_caps s) x ys k.0, k.1)
 
 pub few : (s : Settings) (ds : List Duty) → is_within_caps s ds ≡ true → length ds ≤ s.max_duties
@@ -110,13 +108,13 @@ caps-of-whole s x ys h =
     (capped-whole (λ _. pos 1) (λ _ _. pos 1) (λ ds. pos (length ds)) s.max_duties sum-count x ys (count-never x ys))
     (capped-whole away_first away_next minutes_away s.away_cap sum-away x ys (away-never x ys h.1))
 
-abbrev pub grade : Value → ℕ
-grade v = max (max 0 (max 0 0)) (max (max 0 0) (max (count_grade v.1.1.0) 0))
+abbrev pub grade : Parts → ℕ
+grade v = max (max 0 (max 0 0)) (max (max 0 0) (max (count_grade v.duties) 0))
 
-pub grade-counts : (s : Settings) (b : ℤ) (ds : List Duty) (v : Value) → IsChecked s → value_of s b ds ≡ Some v → grade v ≡ length ds
+pub grade-counts : (s : Settings) (b : ℤ) (ds : List Duty) (v : Parts) → IsChecked s → value_of s b ds ≡ Some v → grade v ≡ length ds
 grade-counts s b ds v checked e =
     let out = value-out s b ds v e in
     let most = few s ds out.0 in
     let cap = checked.max_duties_most in
-    let count : grade (value_of_parts (parts_of s b ds)) ≡ length ds = omega (arith, most, cap) in
+    let count : grade (parts_of s b ds) ≡ length ds = omega (arith, most, cap) in
     ap grade (sym out.1) ∙ count

@@ -1,5 +1,6 @@
 -- The resource's step is a vector with one more duty, within the caps.
 use Rattle.std.proofs.Common.{◌≡◌, Bool, true, ◌&&◌, cond, [], ◌∷◌, Some, None, ℤ, pos, ◌+ℤ◌, ◌-ℤ◌, int_le, refl, sym, ◌∙◌, ap, arith}
+use Rattle.std.specs.Option.{option_map}
 use Rattle.std.proofs.lemmas.Int.{ints}
 use Rattle.std.proofs.lemmas.Option.{cond_some}
 use Rattle.crew_duty.specs.Pairings.{is_within_caps}
@@ -9,19 +10,20 @@ use Rattle.crew_rules.specs.declared.settings.Settings.{Settings}
 use Rattle.crew_vector.specs.Amounts.{pay_next, rig_next, guarantee_next, fdp_next, fly_next, away_next}
 use Rattle.crew_vector.specs.Fronts.{vector_of}
 use Rattle.crew_vector.specs.Locals.{grown, is_vector_within_caps}
-use Rattle.crew_vector.specs.Parts.{Value}
+use Rattle.crew_vector.specs.Numbers.{Numbers, named}
+use Rattle.crew_vector.specs.declared.parts.Parts.{Parts}
 use Rattle.crew_vector.proofs.Steps.{extends, opens, steps}
-use Rattle.crew_vector.proofs.Valued.{both-capped, both-free, shuffle, stretch}
+use Rattle.crew_vector.proofs.Valued.{both-capped, both-free, named-cond, shuffle, stretch}
 
-same-value : (a b c f y n w a' b' c' f' y' n' w' : ℤ) → a ≡ a' → b ≡ b' → c ≡ c' → f ≡ f' → y ≡ y' → n ≡ n' → w ≡ w' → ◌≡◌ {A = Value} ((a, (b, c)), ((f, y), (n, w))) ((a', (b', c')), ((f', y'), (n', w')))
-same-value a b c f y n w a' b' c' f' y' n' w' p q r i j k l =
-    ap (λ z. let v : Value = ((z, (b, c)), ((f, y), (n, w))) in v) p
-    ∙ (ap (λ z. let v : Value = ((a', (z, c)), ((f, y), (n, w))) in v) q
-    ∙ (ap (λ z. let v : Value = ((a', (b', z)), ((f, y), (n, w))) in v) r
-    ∙ (ap (λ z. let v : Value = ((a', (b', c')), ((z, y), (n, w))) in v) i
-    ∙ (ap (λ z. let v : Value = ((a', (b', c')), ((f', z), (n, w))) in v) j
-    ∙ (ap (λ z. let v : Value = ((a', (b', c')), ((f', y'), (z, w))) in v) k
-    ∙ ap (λ z. let v : Value = ((a', (b', c')), ((f', y'), (n', z))) in v) l)))))
+same-parts : (a b c f y n w a' b' c' f' y' n' w' : ℤ) → a ≡ a' → b ≡ b' → c ≡ c' → f ≡ f' → y ≡ y' → n ≡ n' → w ≡ w' → named ((a, (b, c)), ((f, y), (n, w))) ≡ named ((a', (b', c')), ((f', y'), (n', w')))
+same-parts a b c f y n w a' b' c' f' y' n' w' p q r i j k l =
+    ap (λ z. named ((z, (b, c)), ((f, y), (n, w)))) p
+    ∙ (ap (λ z. named ((a', (z, c)), ((f, y), (n, w)))) q
+    ∙ (ap (λ z. named ((a', (b', z)), ((f, y), (n, w)))) r
+    ∙ (ap (λ z. named ((a', (b', c')), ((z, y), (n, w)))) i
+    ∙ (ap (λ z. named ((a', (b', c')), ((f', z), (n, w)))) j
+    ∙ (ap (λ z. named ((a', (b', c')), ((f', y'), (z, w)))) k
+    ∙ ap (λ z. named ((a', (b', c')), ((f', y'), (n', z)))) l)))))
 
 plain : (a b : ℤ) → a +ℤ (pos 0 +ℤ b) ≡ a +ℤ b
 plain a b = omega (arith, ints)
@@ -29,22 +31,22 @@ plain a b = omega (arith, ints)
 joined-away : (a x y z : ℤ) → a +ℤ ((y -ℤ x) +ℤ (z -ℤ y)) ≡ a +ℤ (z -ℤ x)
 joined-away a x y z = omega (arith, ints)
 
-abbrev stepped : Settings → Duty → Duty → Value → Value
-stepped s e d u = (
-  (u.0.0 +ℤ pay_next e d, (u.0.1.0 +ℤ rig_next s.trip_rig e d, u.0.1.1 +ℤ guarantee_next s.guarantee e d)),
-  ((u.1.0.0 +ℤ fdp_next e d, u.1.0.1 +ℤ fly_next e d), (u.1.1.0 +ℤ pos 1, u.1.1.1 +ℤ away_next e d)),
+abbrev raised : Settings → Duty → Duty → Parts → Numbers
+raised s e d u = (
+  (u.duty_pay +ℤ pay_next e d, (u.trip_rig +ℤ rig_next s.trip_rig e d, u.guarantee +ℤ guarantee_next s.guarantee e d)),
+  ((u.fdp +ℤ fdp_next e d, u.fly +ℤ fly_next e d), (u.duties +ℤ pos 1, u.away +ℤ away_next e d)),
 )
 
-stepped-grown : (s : Settings) (e d : Duty) (u : Value) → stepped s e d u ≡ grown s e d u
-stepped-grown s e d u =
-    same-value _ _ _ _ _ _ _ _ _ _ _ _ _ _
-    (plain u.0.0 (d.pay -ℤ d.price))
-    (ap (λ z. u.0.1.0 +ℤ z) (stretch (pos s.trip_rig) e.release d.report d.release d.price))
-    (plain u.0.1.1 (pos s.guarantee -ℤ d.price))
-    (plain u.1.0.0 d.fdp)
-    (plain u.1.0.1 d.fly)
+raised-grown : (s : Settings) (e d : Duty) (u : Parts) → named (raised s e d u) ≡ grown s e d u
+raised-grown s e d u =
+    same-parts _ _ _ _ _ _ _ _ _ _ _ _ _ _
+    (plain u.duty_pay (d.pay -ℤ d.price))
+    (ap (λ z. u.trip_rig +ℤ z) (stretch (pos s.trip_rig) e.release d.report d.release d.price))
+    (plain u.guarantee (pos s.guarantee -ℤ d.price))
+    (plain u.fdp d.fdp)
+    (plain u.fly d.fly)
     refl
-    (joined-away u.1.1.1 e.release d.report d.release)
+    (joined-away u.away e.release d.report d.release)
 
 four-capped : (p q r k : Bool) (m : ℤ × (ℤ × ℤ)) (f y n w : ℤ)
     → both (Some m) (both (both (cond p (Some f) None) (cond q (Some y) None)) (both (cond r (Some n) None) (cond k (Some w) None))) ≡ cond (p && (q && (r && k))) (Some (m, ((f, y), (n, w)))) None
@@ -55,16 +57,17 @@ four-capped p q r k m f y n w =
     ∙ (both-free ((p && q) && (r && k)) m ((f, y), (n, w))
     ∙ ap (λ b. cond b (Some (m, ((f, y), (n, w)))) None) (shuffle p q r k))))
 
-pub step-is : (s : Settings) (e d : Duty) (u : Value) → extends s u e d ≡ cond (is_vector_within_caps s (grown s e d u)) (Some (grown s e d u)) None
+pub step-is : (s : Settings) (e d : Duty) (u : Parts) → extends s u e d ≡ cond (is_vector_within_caps s (grown s e d u)) (Some (grown s e d u)) None
 step-is s e d u =
-    let v = stepped s e d u in
-    four-capped (int_le v.1.0.0 (pos s.fdp_cap)) (int_le v.1.0.1 (pos s.fly_cap)) (int_le v.1.1.0 (pos s.max_duties)) (int_le v.1.1.1 (pos s.away_cap)) v.0 v.1.0.0 v.1.0.1 v.1.1.0 v.1.1.1
-    ∙ ap (λ z. cond (is_vector_within_caps s z) (Some z) None) (stepped-grown s e d u)
+    let v = raised s e d u in
+    ap (option_map named)
+    (four-capped (int_le v.1.0.0 (pos s.fdp_cap)) (int_le v.1.0.1 (pos s.fly_cap)) (int_le v.1.1.0 (pos s.max_duties)) (int_le v.1.1.1 (pos s.away_cap)) v.0 v.1.0.0 v.1.0.1 v.1.1.0 v.1.1.1)
+    ∙ (named-cond (is_vector_within_caps s (named v)) v ∙ ap (λ z. cond (is_vector_within_caps s z) (Some z) None) (raised-grown s e d u))
 
-pub step-in : (s : Settings) (e d : Duty) (u v : Value) → is_vector_within_caps s (grown s e d u) ≡ true → v ≡ grown s e d u → extends s u e d ≡ Some v
+pub step-in : (s : Settings) (e d : Duty) (u v : Parts) → is_vector_within_caps s (grown s e d u) ≡ true → v ≡ grown s e d u → extends s u e d ≡ Some v
 step-in s e d u v within is = step-is s e d u ∙ (ap (λ b. cond b (Some (grown s e d u)) None) within ∙ ap Some (sym is))
 
-pub step-out : (s : Settings) (e d : Duty) (u v : Value) → extends s u e d ≡ Some v → (is_vector_within_caps s (grown s e d u) ≡ true) × (v ≡ grown s e d u)
+pub step-out : (s : Settings) (e d : Duty) (u v : Parts) → extends s u e d ≡ Some v → (is_vector_within_caps s (grown s e d u) ≡ true) × (v ≡ grown s e d u)
 step-out s e d u v x =
     let k = cond_some (is_vector_within_caps s (grown s e d u)) (grown s e d u) v (sym (step-is s e d u) ∙ x) in
     (k.0, sym k.1)
@@ -76,10 +79,10 @@ pub start-is : (s : Settings) (price : ℤ) (d : Duty) → opens s price d ≡ c
 start-is s price d =
     sym ((steps s price).opening d) ∙ ap (λ b. cond b (Some (vector_of s price (d ∷ []))) None) (and-true (is_within_caps s (d ∷ [])))
 
-pub start-in : (s : Settings) (price : ℤ) (d : Duty) (v : Value) → is_within_caps s (d ∷ []) ≡ true → v ≡ vector_of s price (d ∷ []) → opens s price d ≡ Some v
+pub start-in : (s : Settings) (price : ℤ) (d : Duty) (v : Parts) → is_within_caps s (d ∷ []) ≡ true → v ≡ vector_of s price (d ∷ []) → opens s price d ≡ Some v
 start-in s price d v within is = start-is s price d ∙ (ap (λ b. cond b (Some (vector_of s price (d ∷ []))) None) within ∙ ap Some (sym is))
 
-pub start-out : (s : Settings) (price : ℤ) (d : Duty) (v : Value) → opens s price d ≡ Some v → (is_within_caps s (d ∷ []) ≡ true) × (v ≡ vector_of s price (d ∷ []))
+pub start-out : (s : Settings) (price : ℤ) (d : Duty) (v : Parts) → opens s price d ≡ Some v → (is_within_caps s (d ∷ []) ≡ true) × (v ≡ vector_of s price (d ∷ []))
 start-out s price d v x =
     let k = cond_some (is_within_caps s (d ∷ [])) (vector_of s price (d ∷ [])) v (sym (start-is s price d) ∙ x) in
     (k.0, sym k.1)

@@ -17,7 +17,8 @@ use Rattle.crew_rules.specs.Settings.{IsChecked}
 use Rattle.crew_rules.specs.declared.settings.Settings.{Settings}
 use Rattle.crew_vector.specs.Costs.{is_at_most}
 use Rattle.crew_vector.specs.Fronts.{At, Clean, IsUndominated, walk_at_most}
-use Rattle.crew_vector.specs.Parts.{Value, value_of}
+use Rattle.crew_vector.specs.Parts.{value_of}
+use Rattle.crew_vector.specs.declared.parts.Parts.{Parts}
 use Rattle.crew_vector.proofs.Orders.{walk-either, walk-order}
 use Rattle.crew_vector.proofs.Paths.{CleanPath, Path, at-legal, clean-from, follows, key_of, known, known-legal, legal-in-range, legal-known, may_start, to-path, undominated-from, undominated-to}
 use Rattle.crew_vector.proofs.Steps.{extends, opens, same-length, steps, vector-order}
@@ -46,26 +47,26 @@ module _ (s : Settings) (t : Timetable) (base : List ℕ) (price : ℤ) (checked
   abbrev pub Known : List Duty
   Known = known s t base price checked sound
 
-  abbrev pub PathAt : Duty → Value → List (List Leg) → Type 0
+  abbrev pub PathAt : Duty → Parts → List (List Leg) → Type 0
   PathAt = Path s t base price checked sound
 
-  abbrev pub CleanAt : Duty → Value → List (List Leg) → Type 0
+  abbrev pub CleanAt : Duty → Parts → List (List Leg) → Type 0
   CleanAt = CleanPath s t base price checked sound
 
   abbrev pub One : Duty → List (List Leg)
-  One = one Duty Value (List Leg) (key_of s t base price checked sound) Known (may_start s t base price checked sound) (may_stand_after s) (opens s price) (extends s) is_at_most (value_of s price) vector-order (steps s price) walk_at_most walk-order
+  One = one Duty Parts (List Leg) (key_of s t base price checked sound) Known (may_start s t base price checked sound) (may_stand_after s) (opens s price) (extends s) is_at_most (value_of s price) vector-order (steps s price) walk_at_most walk-order
 
   abbrev pub More : List (List Leg) → Duty → List (List Leg)
-  More = more Duty Value (List Leg) (key_of s t base price checked sound) Known (may_start s t base price checked sound) (may_stand_after s) (opens s price) (extends s) is_at_most (value_of s price) vector-order (steps s price) walk_at_most walk-order
+  More = more Duty Parts (List Leg) (key_of s t base price checked sound) Known (may_start s t base price checked sound) (may_stand_after s) (opens s price) (extends s) is_at_most (value_of s price) vector-order (steps s price) walk_at_most walk-order
 
-  abbrev pub Opening : Duty → Option Value
-  Opening = opening Duty Value (List Leg) (key_of s t base price checked sound) Known (may_start s t base price checked sound) (may_stand_after s) (opens s price) (extends s) is_at_most (value_of s price) vector-order (steps s price) walk_at_most walk-order
+  abbrev pub Opening : Duty → Option Parts
+  Opening = opening Duty Parts (List Leg) (key_of s t base price checked sound) Known (may_start s t base price checked sound) (may_stand_after s) (opens s price) (extends s) is_at_most (value_of s price) vector-order (steps s price) walk_at_most walk-order
 
   abbrev pub Preds : Duty → List Duty
-  Preds = preds Duty Value (List Leg) (key_of s t base price checked sound) Known (may_start s t base price checked sound) (may_stand_after s) (opens s price) (extends s) is_at_most (value_of s price) vector-order (steps s price) walk_at_most walk-order
+  Preds = preds Duty Parts (List Leg) (key_of s t base price checked sound) Known (may_start s t base price checked sound) (may_stand_after s) (opens s price) (extends s) is_at_most (value_of s price) vector-order (steps s price) walk_at_most walk-order
 
-  pub node-rules : Rules Duty Value (List (List Leg)) One More Opening (extends s) (λ e d. Member (Preds d) e) is_at_most walk_at_most PathAt CleanAt
-  node-rules = rules Duty Value (List Leg) (key_of s t base price checked sound) Known (may_start s t base price checked sound) (may_stand_after s) (opens s price) (extends s) is_at_most (value_of s price) vector-order (steps s price) walk_at_most walk-order
+  pub node-rules : Rules Duty Parts (List (List Leg)) One More Opening (extends s) (λ e d. Member (Preds d) e) is_at_most walk_at_most PathAt CleanAt
+  node-rules = rules Duty Parts (List Leg) (key_of s t base price checked sound) Known (may_start s t base price checked sound) (may_stand_after s) (opens s price) (extends s) is_at_most (value_of s price) vector-order (steps s price) walk_at_most walk-order
       (same-length s price) (lists_grow key_cmp key_total)
 
   -- arcs go forward in time
@@ -83,15 +84,15 @@ module _ (s : Settings) (t : Timetable) (base : List ℕ) (price : ℤ) (checked
       rises-as-number (e.report +ℤ pos (reach Known)) (d.report +ℤ pos (reach Known)) (within-reach Known e k.0) (omega (arith, ints, elapsed, gap))
 
   -- each undominated vector has a clean partial
-  pub each-clean : (d : Duty) (v : Value) → IsUndominated s t base price d v → (w : List (List Leg)) × Clean s t base price d v w
+  pub each-clean : (d : Duty) (v : Parts) → IsUndominated s t base price d v → (w : List (List Leg)) × Clean s t base price d v w
   each-clean d v u =
       let k = legal-known s t base price checked sound d (at-legal s t base price checked sound d v u.walk u.has) in
-      let c = clean_of_undominated Duty Value (List (List Leg)) One More Opening (extends s) Preds is_at_most walk_at_most PathAt CleanAt node-rules rank arcs-rise walk-either d v (undominated-to s t base price checked sound d k v u) in
+      let c = clean_of_undominated Duty Parts (List (List Leg)) One More Opening (extends s) Preds is_at_most walk_at_most PathAt CleanAt node-rules rank arcs-rise walk-either d v (undominated-to s t base price checked sound d k v u) in
       (c.0, clean-from s t base price checked sound d k v c.0 c.1)
 
   -- under each partial lies an undominated vector
-  pub each-below : (d : Duty) (x : Value) (y : List (List Leg)) → At s t base price d x y → (v : Value) × IsUndominated s t base price d v × (is_at_most v x ≡ true)
+  pub each-below : (d : Duty) (x : Parts) (y : List (List Leg)) → At s t base price d x y → (v : Parts) × IsUndominated s t base price d v × (is_at_most v x ≡ true)
   each-below d x y a =
       let k = legal-known s t base price checked sound d (at-legal s t base price checked sound d x y a) in
-      let u = undominated_below Duty Value (List (List Leg)) One More Opening (extends s) Preds is_at_most walk_at_most PathAt CleanAt node-rules rank arcs-rise walk-either d x y (to-path s t base price checked sound d x y a) in
+      let u = undominated_below Duty Parts (List (List Leg)) One More Opening (extends s) Preds is_at_most walk_at_most PathAt CleanAt node-rules rank arcs-rise walk-either d x y (to-path s t base price checked sound d x y a) in
       (u.0, undominated-from s t base price checked sound d k u.0 u.1, u.2)

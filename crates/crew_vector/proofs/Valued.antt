@@ -1,6 +1,7 @@
 -- The value that the parts side by side give to a list is its vector, and none exactly where a beginning passes a cap.
 use Rattle.std.proofs.Common.{◌≡◌, ℕ, suc, Bool, true, false, ◌&&◌, cond, List, [], ◌∷◌, length, Option, Some, None, ℤ, pos, ◌+ℤ◌, ◌-ℤ◌, ◌*ℤ◌, int_le, refl, ◌∙◌, ap, arith}
 use Rattle.std.specs.List.{list_all}
+use Rattle.std.specs.Option.{option_map}
 use Rattle.std.proofs.Math.IntN.{*ℤ-zero}
 use Rattle.std.proofs.lemmas.Int.{ints}
 use Rattle.crew_duty.specs.Legality.{total}
@@ -11,7 +12,10 @@ use Rattle.crew_resource.proofs.SignedProducts.{joined}
 use Rattle.crew_rules.specs.declared.settings.Settings.{Settings}
 use Rattle.crew_vector.specs.Amounts.{pay_first, pay_next, rig_first, rig_next, guarantee_first, guarantee_next, fdp_first, fdp_next, fly_first, fly_next, away_first, away_next}
 use Rattle.crew_duty.specs.Pairings.{is_within_caps, last_duty, minutes_away}
-use Rattle.crew_vector.specs.Parts.{Value, parts_of, value_of_parts, value_of}
+use Rattle.crew_vector.specs.Numbers.{Numbers, named, numbers_of}
+use Rattle.crew_vector.specs.Pairing.{pairing_vector}
+use Rattle.crew_vector.specs.Parts.{parts_of, value_of}
+use Rattle.crew_vector.specs.Sides.{summed}
 
 -- each part's sum along a list is its sum over the whole list
 rises-total : (f : Duty → ℤ) (x : Duty) (ys : List Duty) → rises (λ _ d. pos 0 +ℤ f d) x ys ≡ total f ys
@@ -116,14 +120,9 @@ all-and p q (x ∷ xs) = regroup (p x) (list_all p xs) (q x) (list_all q xs) ∙
 both-is : {A B : Type 0} (a c : Option A) (b d : Option B) → a ≡ c → b ≡ d → both a b ≡ both c d
 both-is a c b d e f = ap (λ z. both z b) e ∙ ap (both c) f
 
--- the parts side by side
-abbrev pub composed : Settings → ℤ → List Duty → Option Value
-composed s b ds =
-    both
-    (both (capped_sum (pay_first b) pay_next None ds) (both (capped_sum (rig_first s.trip_rig b) (rig_next s.trip_rig) None ds) (capped_sum (guarantee_first s.guarantee b) (guarantee_next s.guarantee) None ds)))
-    (both
-    (both (capped_sum fdp_first fdp_next (Some (pos s.fdp_cap)) ds) (capped_sum fly_first fly_next (Some (pos s.fly_cap)) ds))
-    (both (capped_sum (λ _. pos 1) (λ _ _. pos 1) (Some (pos s.max_duties)) ds) (capped_sum away_first away_next (Some (pos s.away_cap)) ds)))
+pub named-cond : (q : Bool) (n : Numbers) → option_map named (cond q (Some n) None) ≡ cond q (Some (named n)) None
+named-cond true n = refl
+named-cond false n = refl
 
 pub caps-together : (s : Settings) (bs : List (List Duty))
     → ((list_all (λ ds. int_le (total (λ d. d.fdp) ds) (pos s.fdp_cap)) bs && list_all (λ ds. int_le (total (λ d. d.fly) ds) (pos s.fly_cap)) bs)
@@ -139,7 +138,7 @@ caps-together s bs =
     ∙ (ap (λ q. list_all f bs && q) (all-and y (λ ds. n ds && a ds) bs)
     ∙ all-and f (λ ds. y ds && (n ds && a ds)) bs))
 
-pub composed-value : (s : Settings) (b : ℤ) (ds : List Duty) → composed s b ds ≡ value_of s b ds
+pub composed-value : (s : Settings) (b : ℤ) (ds : List Duty) → option_map named (summed (pairing_vector s b) ds) ≡ value_of s b ds
 composed-value s b [] = refl
 composed-value s b (x ∷ ys) =
     let p = parts_of s b (x ∷ ys) in
@@ -159,6 +158,5 @@ composed-value s b (x ∷ ys) =
     both-is _ _ _ _ (capped (λ _. pos 1) (λ _ _. pos 1) (λ ds. pos (length ds)) s.max_duties sum-count x ys) (capped away_first away_next minutes_away s.away_cap sum-away x ys)
     ∙ both-capped count away p.duties p.away in
     let limits = both-is _ _ _ _ minutes spans ∙ both-capped (fdp && fly) (count && away) (p.fdp, p.fly) (p.duties, p.away) in
-    both-is _ _ _ _ money limits
-    ∙ (both-free ((fdp && fly) && (count && away)) (p.duty_pay, (p.trip_rig, p.guarantee)) ((p.fdp, p.fly), (p.duties, p.away))
-    ∙ ap (λ q. cond q (Some (value_of_parts p)) None) (caps-together s bs))
+    ap (option_map named) (both-is _ _ _ _ money limits ∙ both-free ((fdp && fly) && (count && away)) (p.duty_pay, (p.trip_rig, p.guarantee)) ((p.fdp, p.fly), (p.duties, p.away)))
+    ∙ (named-cond ((fdp && fly) && (count && away)) (numbers_of p) ∙ ap (λ q. cond q (Some p) None) (caps-together s bs))

@@ -9,7 +9,8 @@ use Rattle.crew_flights.specs.Timetable.{Timetable}
 use Rattle.crew_resource.specs.Labels.{Member}
 use Rattle.crew_rules.specs.declared.settings.Settings.{Settings}
 use Rattle.crew_vector.specs.Fronts.{IsFrontAt, StaysUndominated, walk_at_most, walk_of}
-use Rattle.crew_vector.specs.Parts.{Value, cost_of, pay_of}
+use Rattle.crew_vector.specs.Parts.{cost_of, pay_of}
+use Rattle.crew_vector.specs.declared.parts.Parts.{Parts}
 
 -- a pairing by its walk, with its reduced cost, pay and minutes away
 pub record PricedPairing : Type 0 where
@@ -46,12 +47,12 @@ IsBest s t None = (p : PricedPairing) → IsPairing s t p → ⊥
 IsBest s t (Some best) = IsCleanPairing s t best × ((p : PricedPairing) → IsCleanPairing s t p → NoDearer best.cost best.walk p.cost p.walk)
 
 -- the front of each base and legal duty
-abbrev pub AreFronts : Settings → Timetable → (List ℕ → Duty → List (Value × List (List Leg))) → Type 0
+abbrev pub AreFronts : Settings → Timetable → (List ℕ → Duty → List (Parts × List (List Leg))) → Type 0
 AreFronts s t front =
     (base : List ℕ) (price : ℤ) (d : Duty) → map.get t.bases base ≡ Some price → IsDuty s (flights_of t) d → IsFrontAt s t base price d (front base d)
 
 -- an entry of a node that arrives at its base
-pub record IsHomeEntry (s : Settings) (t : Timetable) (front : List ℕ → Duty → List (Value × List (List Leg))) (base : List ℕ) (v : Value) (w : List (List Leg)) : Type 0 where
+pub record IsHomeEntry (s : Settings) (t : Timetable) (front : List ℕ → Duty → List (Parts × List (List Leg))) (base : List ℕ) (v : Parts) (w : List (List Leg)) : Type 0 where
   pub price : ℤ
   pub based : map.get t.bases base ≡ Some price
   pub duty : Duty
@@ -60,6 +61,6 @@ pub record IsHomeEntry (s : Settings) (t : Timetable) (front : List ℕ → Duty
   pub held : Member (front base duty) (v, w)
 
 -- from scratch: the front of each base and legal duty, and the best pairing
-pub record IsScratch (s : Settings) (t : Timetable) (front : List ℕ → Duty → List (Value × List (List Leg))) (best : Option PricedPairing) : Type 0 where
+pub record IsScratch (s : Settings) (t : Timetable) (front : List ℕ → Duty → List (Parts × List (List Leg))) (best : Option PricedPairing) : Type 0 where
   pub fronts : AreFronts s t front
   pub best_is : IsBest s t best

@@ -3,9 +3,9 @@
 -- with resource constraints".
 -- `price` is the base's price, by which the vectors of its partials are less.
 use Rattle.std.specs.Prelude.{◌≡◌, ℕ, ℤ, List, [], ◌∷◌, ◌++◌, map}
+use Rattle.std.specs.declared.cmp.Ordering.TheVariants.{Less}
 use Rattle.std.specs.Ordering.{int_cmp, ordering_then}
 use Rattle.std.specs.declared.cmp.Ordering.{Ordering}
-use Rattle.std.specs.declared.cmp.Ordering.TheVariants.{Less}
 use Rattle.crew_duty.specs.Duties.{flights_of}
 pub use Rattle.crew_duty.specs.Keys.{walk_at_most}
 use Rattle.crew_duty.specs.Members.{Each}
@@ -16,33 +16,36 @@ use Rattle.crew_flights.specs.Timetable.{Timetable}
 use Rattle.crew_resource.specs.Labels.{Beats, IsFront, Undominated}
 use Rattle.crew_rules.specs.declared.settings.Settings.{Settings}
 use Rattle.crew_vector.specs.Costs.{is_at_most}
-use Rattle.crew_vector.specs.Parts.{Value, parts_of, value_of_parts}
+use Rattle.crew_vector.specs.Parts.{parts_of}
+use Rattle.crew_vector.specs.declared.parts.Parts.{Parts}
 
 -- the vector of a list of duties
-abbrev pub vector_of : Settings → ℤ → List Duty → Value
-vector_of s price duties = value_of_parts (parts_of s price duties)
+abbrev pub vector_of : Settings → ℤ → List Duty → Parts
+vector_of = parts_of
 
 -- a walk: the keys of the duties in order
 abbrev pub walk_of : List Duty → List (List Leg)
 walk_of duties = map (λ d. d.key) duties
 
 -- one vector beats another: it is at most the other in each part, and isn't the other
-abbrev pub VectorBeats : Value → Value → Type 0
+abbrev pub VectorBeats : Parts → Parts → Type 0
 VectorBeats = Beats is_at_most
 
 -- vectors are listed by their parts in order
-abbrev pub vector_cmp : Value → Value → Ordering
+abbrev pub vector_cmp : Parts → Parts → Ordering
 vector_cmp a b =
-    ordering_then (ordering_then (int_cmp a.0.0 b.0.0) (ordering_then (int_cmp a.0.1.0 b.0.1.0) (int_cmp a.0.1.1 b.0.1.1)))
-    (ordering_then (ordering_then (int_cmp a.1.0.0 b.1.0.0) (int_cmp a.1.0.1 b.1.0.1)) (ordering_then (int_cmp a.1.1.0 b.1.1.0) (int_cmp a.1.1.1 b.1.1.1)))
+    ordering_then (int_cmp a.duty_pay b.duty_pay)
+    (ordering_then (int_cmp a.trip_rig b.trip_rig)
+    (ordering_then (int_cmp a.guarantee b.guarantee)
+    (ordering_then (int_cmp a.fdp b.fdp) (ordering_then (int_cmp a.fly b.fly) (ordering_then (int_cmp a.duties b.duties) (int_cmp a.away b.away))))))
 
 -- each entry stands before all later ones by its vector
-abbrev pub RiseByVector : List (Value × List (List Leg)) → Type 0
+abbrev pub RiseByVector : List (Parts × List (List Leg)) → Type 0
 RiseByVector [] = Unit {0}
 RiseByVector (entry ∷ entries) = Each (λ later. vector_cmp entry.0 later.0 ≡ Less) entries × RiseByVector entries
 
 -- a partial of the base whose last duty is d, by its vector and its walk
-pub record At (s : Settings) (t : Timetable) (base : List ℕ) (price : ℤ) (d : Duty) (v : Value) (w : List (List Leg)) : Type 0 where
+pub record At (s : Settings) (t : Timetable) (base : List ℕ) (price : ℤ) (d : Duty) (v : Parts) (w : List (List Leg)) : Type 0 where
   pub first : Duty
   pub others : List Duty
   pub partial : IsPartial s (flights_of t) base first others
@@ -51,7 +54,7 @@ pub record At (s : Settings) (t : Timetable) (base : List ℕ) (price : ℤ) (d 
   pub walk : w ≡ walk_of (first ∷ others)
 
 -- a partial of the node has the vector, and no partial of the node has one that beats it
-abbrev pub IsUndominated : Settings → Timetable → List ℕ → ℤ → Duty → Value → Type 0
+abbrev pub IsUndominated : Settings → Timetable → List ℕ → ℤ → Duty → Parts → Type 0
 IsUndominated s t base price d = Undominated is_at_most (At s t base price d)
 
 -- each beginning, the whole list included, has a vector that is undominated at its own node
@@ -60,10 +63,10 @@ StaysUndominated s t base price first others =
     (taken left : List Duty) → taken ++ left ≡ others → IsUndominated s t base price (last_duty first taken) (vector_of s price (first ∷ taken))
 
 -- a clean partial
-pub record Clean (s : Settings) (t : Timetable) (base : List ℕ) (price : ℤ) (d : Duty) (v : Value) (w : List (List Leg)) : Type 0 where
+pub record Clean (s : Settings) (t : Timetable) (base : List ℕ) (price : ℤ) (d : Duty) (v : Parts) (w : List (List Leg)) : Type 0 where
   pub at : At s t base price d v w
   pub stays : StaysUndominated s t base price at.first at.others
 
 -- exactly the undominated vectors of the node, each with the least clean walk that has it
-abbrev pub IsFrontAt : Settings → Timetable → List ℕ → ℤ → Duty → List (Value × List (List Leg)) → Type 0
+abbrev pub IsFrontAt : Settings → Timetable → List ℕ → ℤ → Duty → List (Parts × List (List Leg)) → Type 0
 IsFrontAt s t base price d = IsFront is_at_most walk_at_most (At s t base price d) (Clean s t base price d)

@@ -5,6 +5,11 @@ pub mod Costs
 pub mod Events
 pub mod Fronts
 pub mod Locals
+pub mod Named
+pub mod Numbers
 pub mod Pairing
 pub mod Parts
+pub mod Sides
+pub mod SidesLaws
 pub mod Terms
+pub mod VectorLaws

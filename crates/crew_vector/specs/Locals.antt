@@ -9,38 +9,40 @@ use Rattle.crew_resource.specs.Labels.{IsLocal, Member}
 use Rattle.crew_rules.specs.declared.settings.Settings.{Settings}
 use Rattle.crew_vector.specs.Costs.{is_at_most}
 use Rattle.crew_vector.specs.Fronts.{IsFrontAt, vector_of, walk_at_most}
-use Rattle.crew_vector.specs.Parts.{Value}
+use Rattle.crew_vector.specs.declared.parts.Parts.{Parts}
 
 -- a vector with one more duty: each part grows by what the duty adds
-abbrev pub grown : Settings → Duty → Duty → Value → Value
-grown s last next v = (
-  (
-    v.0.0 +ℤ (next.pay -ℤ next.price),
-    (v.0.1.0 +ℤ (pos s.trip_rig *ℤ (next.release -ℤ last.release) -ℤ next.price), v.0.1.1 +ℤ (pos s.guarantee -ℤ next.price)),
-  ),
-  ((v.1.0.0 +ℤ next.fdp, v.1.0.1 +ℤ next.fly), (v.1.1.0 +ℤ pos 1, v.1.1.1 +ℤ (next.release -ℤ last.release))),
-)
+abbrev pub grown : Settings → Duty → Duty → Parts → Parts
+grown s last next v = record {
+  duty_pay = v.duty_pay +ℤ (next.pay -ℤ next.price);
+  trip_rig = v.trip_rig +ℤ (pos s.trip_rig *ℤ (next.release -ℤ last.release) -ℤ next.price);
+  guarantee = v.guarantee +ℤ (pos s.guarantee -ℤ next.price);
+  fdp = v.fdp +ℤ next.fdp;
+  fly = v.fly +ℤ next.fly;
+  duties = v.duties +ℤ pos 1;
+  away = v.away +ℤ (next.release -ℤ last.release);
+}
 
 -- the caps, by the parts of a vector
-abbrev pub is_vector_within_caps : Settings → Value → Bool
+abbrev pub is_vector_within_caps : Settings → Parts → Bool
 is_vector_within_caps s v =
-    int_le v.1.0.0 (pos s.fdp_cap) && (int_le v.1.0.1 (pos s.fly_cap) && (int_le v.1.1.0 (pos s.max_duties) && int_le v.1.1.1 (pos s.away_cap)))
+    int_le v.fdp (pos s.fdp_cap) && (int_le v.fly (pos s.fly_cap) && (int_le v.duties (pos s.max_duties) && int_le v.away (pos s.away_cap)))
 
 -- duties, each with entries
 abbrev pub Feed : Type 0
-Feed = List (Duty × List (Value × List (List Leg)))
+Feed = List (Duty × List (Parts × List (List Leg)))
 
 -- within the caps: the duty alone, where it leaves the base, and each entry of the feed with the duty after it
-abbrev pub Candidate : Settings → List ℕ → ℤ → Duty → Feed → Value → List (List Leg) → Type 0
+abbrev pub Candidate : Settings → List ℕ → ℤ → Duty → Feed → Parts → List (List Leg) → Type 0
 Candidate s base price d feed v w =
     ((d.from ≡ base) × (is_within_caps s (d ∷ []) ≡ true) × (v ≡ vector_of s price (d ∷ [])) × (w ≡ d.key ∷ []))
-    ⊎ ((e : Duty) × (es : List (Value × List (List Leg))) × (u : Value) × (y : List (List Leg)) × Member feed (e, es) × Member es (u, y) × (is_vector_within_caps s (grown s e d u) ≡ true) × (v ≡ grown s e d u) × (w ≡ y ++ d.key ∷ []))
+    ⊎ ((e : Duty) × (es : List (Parts × List (List Leg))) × (u : Parts) × (y : List (List Leg)) × Member feed (e, es) × Member es (u, y) × (is_vector_within_caps s (grown s e d u) ≡ true) × (v ≡ grown s e d u) × (w ≡ y ++ d.key ∷ []))
 
 -- the candidates that none beats, each vector with the least walk
-abbrev pub IsLocalAt : Settings → List ℕ → ℤ → Duty → Feed → List (Value × List (List Leg)) → Type 0
+abbrev pub IsLocalAt : Settings → List ℕ → ℤ → Duty → Feed → List (Parts × List (List Leg)) → Type 0
 IsLocalAt s base price d feed = IsLocal is_at_most walk_at_most (Candidate s base price d feed)
 
 -- exactly the legal duties after which d may stand, each with its front
 pub record AreFrontsBefore (s : Settings) (t : Timetable) (base : List ℕ) (price : ℤ) (d : Duty) (feed : Feed) : Type 0 where
-  pub right : (e : Duty) (es : List (Value × List (List Leg))) → Member feed (e, es) → IsDuty s (flights_of t) e × (may_stand_after s e d ≡ true) × IsFrontAt s t base price e es
-  pub every : (e : Duty) → IsDuty s (flights_of t) e → may_stand_after s e d ≡ true → (es : List (Value × List (List Leg))) × Member feed (e, es)
+  pub right : (e : Duty) (es : List (Parts × List (List Leg))) → Member feed (e, es) → IsDuty s (flights_of t) e × (may_stand_after s e d ≡ true) × IsFrontAt s t base price e es
+  pub every : (e : Duty) → IsDuty s (flights_of t) e → may_stand_after s e d ≡ true → (es : List (Parts × List (List Leg))) × Member feed (e, es)

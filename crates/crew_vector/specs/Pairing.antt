@@ -1,4 +1,4 @@
--- The resource of a base's pairings under some settings: its parts side by side.
+-- The resource of a base's pairings under some settings, and its parts side by side.
 use Rattle.std.specs.Prelude.{ℤ}
 use Rattle.crew_duty.specs.declared.duty.Duty.{Duty}
 use Rattle.crew_resource.specs.declared.both.Both.{Both}
@@ -11,31 +11,39 @@ use Rattle.crew_vector.specs.declared.amounts.Guarantee.{Guarantee}
 use Rattle.crew_vector.specs.declared.amounts.DutyMinutes.{DutyMinutes}
 use Rattle.crew_vector.specs.declared.amounts.FlightMinutes.{FlightMinutes}
 use Rattle.crew_vector.specs.declared.amounts.MinutesAway.{MinutesAway}
-use Rattle.crew_vector.specs.declared.vector.Vector.{Vector}
-
-abbrev pub PairingVector : Type 0
-PairingVector =
-    Vector (Both (Both (Sum DutyPay) (Both (Sum TripRig) (Sum Guarantee))) (Both (Both (Sum DutyMinutes) (Sum FlightMinutes)) (Both (Count Duty) (Sum MinutesAway))))
+use Rattle.crew_vector.specs.declared.vector.PairingVector.{PairingVector}
 
 abbrev pub pairing_vector : Settings → ℤ → PairingVector
 pairing_vector s base_price = record {
-  parts = record {
+  base_price = base_price;
+  trip_rig = s.trip_rig;
+  guarantee = s.guarantee;
+  fdp_cap = s.fdp_cap;
+  fly_cap = s.fly_cap;
+  max_duties = s.max_duties;
+  away_cap = s.away_cap;
+}
+
+abbrev pub Sides : Type 0
+Sides = Both (Both (Sum DutyPay) (Both (Sum TripRig) (Sum Guarantee))) (Both (Both (Sum DutyMinutes) (Sum FlightMinutes)) (Both (Count Duty) (Sum MinutesAway)))
+
+abbrev pub sides_of : PairingVector → Sides
+sides_of r = record {
+  first = record {
+    first = record { amount = record { base_price = r.base_price } };
+    second = record {
+      first = record { amount = record { rate = r.trip_rig; base_price = r.base_price } };
+      second = record { amount = record { points = r.guarantee; base_price = r.base_price } };
+    };
+  };
+  second = record {
     first = record {
-      first = record { amount = record { base_price = base_price } };
-      second = record {
-        first = record { amount = record { rate = s.trip_rig; base_price = base_price } };
-        second = record { amount = record { points = s.guarantee; base_price = base_price } };
-      };
+      first = record { amount = record { cap = r.fdp_cap } };
+      second = record { amount = record { cap = r.fly_cap } };
     };
     second = record {
-      first = record {
-        first = record { amount = record { cap = s.fdp_cap } };
-        second = record { amount = record { cap = s.fly_cap } };
-      };
-      second = record {
-        first = record { most = s.max_duties; items = record {} };
-        second = record { amount = record { cap = s.away_cap } };
-      };
+      first = record { most = r.max_duties; items = record {} };
+      second = record { amount = record { cap = r.away_cap } };
     };
   };
 }

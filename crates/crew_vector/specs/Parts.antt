@@ -38,25 +38,7 @@ parts_of s base_price duties = record {
 abbrev pub stays_within_caps : Settings → List Duty → Bool
 stays_within_caps s duties = list_all (is_within_caps s) (beginnings duties)
 
--- a value: the parts in order, those of money and those of time in pairs
-abbrev pub Value : Type 0
-Value = (ℤ × (ℤ × ℤ)) × ((ℤ × ℤ) × (ℤ × ℤ))
-
-abbrev pub value_of_parts : Parts → Value
-value_of_parts p = ((p.duty_pay, (p.trip_rig, p.guarantee)), ((p.fdp, p.fly), (p.duties, p.away)))
-
-abbrev pub parts_of_value : Value → Parts
-parts_of_value v = record {
-  duty_pay = v.0.0;
-  trip_rig = v.0.1.0;
-  guarantee = v.0.1.1;
-  fdp = v.1.0.0;
-  fly = v.1.0.1;
-  duties = v.1.1.0;
-  away = v.1.1.1;
-}
-
 -- the value of a list: its vector, and none where the list is empty or a beginning of it passes a cap
-abbrev pub value_of : Settings → ℤ → List Duty → Option Value
+abbrev pub value_of : Settings → ℤ → List Duty → Option Parts
 value_of s base_price [] = None
-value_of s base_price (first ∷ others) = cond (stays_within_caps s (first ∷ others)) (Some (value_of_parts (parts_of s base_price (first ∷ others)))) None
+value_of s base_price (first ∷ others) = cond (stays_within_caps s (first ∷ others)) (Some (parts_of s base_price (first ∷ others))) None

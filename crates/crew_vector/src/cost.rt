@@ -1,7 +1,7 @@
-//! What a value costs.
+//! What a vector costs.
 ghost use Rattle.crew_vector.specs.Costs.{reduced_cost, cost_respects};
 
-use crate::parts::Value;
+use crate::parts::Parts;
 use crate::vector::PairingVector;
 use crew_resource::Cost;
 
@@ -15,8 +15,7 @@ impl Cost<PairingVector> for ReducedCost {
     ghost respects = { λ _. cost_respects };
 
     #[inline]
-    fn cost(&self, value: &Value) -> i64 {
-        let ((duty_pay, (trip_rig, guarantee)), _) = *value;
-        duty_pay.max(trip_rig).max(guarantee)
+    fn cost(&self, vector: &Parts) -> i64 {
+        vector.duty_pay.max(vector.trip_rig).max(vector.guarantee)
     }
 }

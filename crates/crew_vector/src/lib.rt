@@ -2,7 +2,7 @@
 //! list: three ways to pay the pairing, each less the prices of its flights and of its base, and four totals, three of
 //! minutes and the number of duties, under the caps of the settings. `PairingVector` is the resource that keeps them
 //! duty by duty, in steps and in stages; the value of each list is its vector by definition, and none exactly where a
-//! beginning of the list passes a cap. `value_of_list` works one out, `Parts` names the parts of a value, and
+//! beginning of the list passes a cap. `value_of_list` works one out, `Parts` is the vector part by part, and
 //! `ReducedCost` is a pairing's pay less prices. Every sum fits: `laws` has it that legal duties keep the bounds that this
 //! rests on, that a cap on a whole list is a cap on each beginning, and what costs and grades say. `specs/` also has what
 //! the fronts of a timetable's nodes and its best pairing are, and `laws` what holds of them.
@@ -16,9 +16,9 @@ mod value;
 mod vector;
 
 pub use cost::ReducedCost;
-pub use parts::{Parts, Value};
+pub use parts::Parts;
 pub use value::value_of_list;
-pub use vector::{PairingVector, Vector};
+pub use vector::PairingVector;
 
 #[cfg(test)]
 mod tests;

@@ -1,9 +1,9 @@
-//! The parts of a value by name.
+//! The vector of a list of duties.
 ghost use Rattle.std.specs.Prelude.{◌≡◌};
-ghost use Rattle.crew_vector.specs.Parts.{parts_of_value};
+ghost use Rattle.crew_vector.specs.Numbers.{named, numbers_of};
 
-/// The vector of a list of duties. Money is in points, times are minutes.
-#[derive(Clone, Copy, Debug, PartialEq, Eq)]
+/// The vector of a list of duties. Money is in points, times are minutes. Vectors are listed by their parts in order.
+#[derive(Clone, Copy, Debug, PartialEq, Eq, PartialOrd, Ord)]
 pub struct Parts {
     /// 1: the sum of the duties' pays, less prices.
     pub duty_pay: i64,
@@ -21,16 +21,16 @@ pub struct Parts {
     pub away: i64,
 }
 
-/// A vector as the resource keeps it: its parts in order. `Parts::of` names them.
-pub type Value = ((i64, (i64, i64)), ((i64, i64), (i64, i64)));
+/// The parts in pairs, as resources side by side keep them.
+pub(crate) type Numbers = ((i64, (i64, i64)), ((i64, i64), (i64, i64)));
 
 impl Parts {
-    /// The parts of a value.
+    /// The parts by name.
     #[inline]
-    pub fn of(value: &Value) -> Parts
-        ensures { result ≡ parts_of_value value.now }
+    pub(crate) fn of(numbers: Numbers) -> Parts
+        ensures { result ≡ named numbers }
     {
-        let ((duty_pay, (trip_rig, guarantee)), ((fdp, fly), (duties, away))) = *value;
+        let ((duty_pay, (trip_rig, guarantee)), ((fdp, fly), (duties, away))) = numbers;
         Parts {
             duty_pay,
             trip_rig,
@@ -40,5 +40,16 @@ impl Parts {
             duties,
             away,
         }
+    }
+
+    /// The parts in pairs.
+    #[inline]
+    pub(crate) fn numbers(&self) -> Numbers
+        ensures { result ≡ numbers_of self.now }
+    {
+        (
+            (self.duty_pay, (self.trip_rig, self.guarantee)),
+            ((self.fdp, self.fly), (self.duties, self.away)),
+        )
     }
 }

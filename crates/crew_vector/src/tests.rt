@@ -1,4 +1,4 @@
-use crate::{PairingVector, Parts, ReducedCost, Value, laws, value_of_list};
+use crate::{PairingVector, Parts, ReducedCost, laws, value_of_list};
 use crew_duty::{Departure, Duty, Key};
 use crew_flights::Code;
 use crew_resource::{Cost, Resource, Staged};
@@ -8,6 +8,20 @@ use std::test::Fail;
 
 fn airport(letters: [u8; 3]) -> Result<Code, Fail> {
     Ok(Code::new(letters).ok_or("letters")?)
+}
+
+// A vector, in the order of its parts.
+fn parts(numbers: [i64; 7]) -> Parts {
+    let [duty_pay, trip_rig, guarantee, fdp, fly, duties, away] = numbers;
+    Parts {
+        duty_pay,
+        trip_rig,
+        guarantee,
+        fdp,
+        fly,
+        duties,
+        away,
+    }
 }
 
 #[test]
@@ -23,21 +37,8 @@ fn vector_of_a_short_duty(rt: HostRuntime) -> Result<(), Fail> {
         pay: 2_520,
         price: 3_000,
     };
-    let value = value_of_list(&Settings::standard(), 0, &[duty])?.ok_or("no value")?;
-    assert!(rt; value == ((-480, (-2_360, 1_200)), ((130, 70), (1, 160))));
-    let parts = Parts::of(&value);
-    assert!(rt;
-        parts
-            == Parts {
-                duty_pay: -480,
-                trip_rig: -2_360,
-                guarantee: 1_200,
-                fdp: 130,
-                fly: 70,
-                duties: 1,
-                away: 160
-            }
-    );
+    let value = value_of_list(&Settings::standard(), 0, &[duty]).ok_or("no value")?;
+    assert!(rt; value == parts([-480, -2_360, 1_200, 130, 70, 1, 160]));
     assert!(rt; ReducedCost.cost(&value) == 1_200);
     Ok(())
 }
@@ -55,13 +56,13 @@ fn vector_of_a_long_duty(rt: HostRuntime) -> Result<(), Fail> {
         pay: 7_000,
         price: 0,
     };
-    let value = value_of_list(&Settings::standard(), 0, &[duty])?.ok_or("no value")?;
-    assert!(rt; value == ((7_000, (2_360, 4_200)), ((560, 500), (1, 590))));
+    let value = value_of_list(&Settings::standard(), 0, &[duty]).ok_or("no value")?;
+    assert!(rt; value == parts([7_000, 2_360, 4_200, 560, 500, 1, 590]));
     Ok(())
 }
 
 // Out at 2025-07-01T14:00 and on at 2025-07-02T12:00.
-fn two_duties(alloc: Global, settings: &Settings) -> Result<Option<Value>, Fail> {
+fn two_duties(alloc: Global, settings: &Settings) -> Result<Option<Parts>, Fail> {
     settings.check()?;
     let (home, away, on) = (airport(*b"JFK")?, airport(*b"BOS")?, airport(*b"ORD")?);
     let first = Duty {
@@ -86,14 +87,14 @@ fn two_duties(alloc: Global, settings: &Settings) -> Result<Option<Value>, Fail>
         pay: 2_520,
         price: 0,
     };
-    Ok(value_of_list(settings, 0, &[first, second])?)
+    Ok(value_of_list(settings, 0, &[first, second]))
 }
 
 #[test]
 fn vector_of_two_duties(rt: HostRuntime) -> Result<(), Fail> {
     let standard = Settings::standard();
     let value = two_duties(rt.alloc(), &standard)?.ok_or("no value")?;
-    assert!(rt; value == ((5_040, (5_880, 8_400)), ((250, 130), (2, 1_470))));
+    assert!(rt; value == parts([5_040, 5_880, 8_400, 250, 130, 2, 1_470]));
     let reached = Settings {
         fdp_cap: 250,
         fly_cap: 130,
@@ -152,17 +153,19 @@ fn stages(rt: HostRuntime) -> Result<(), Fail> {
         airport: airport(*b"JFK")?,
         report: 29_189_580,
     };
-    let empty = vector.idle(&departure)?;
-    assert!(rt; empty == ((-1_000, (-1_000, -1_000)), ((0, 0), (0, 0))));
+    let empty = vector.idle(&departure);
+    assert!(rt; empty == parts([-1_000, -1_000, -1_000, 0, 0, 0, 0]));
     Ok(())
 }
 
 #[test]
 fn order(rt: HostRuntime) -> Result<(), Fail> {
     let vector = PairingVector::new(&Settings::standard(), 0);
-    let early = ((5_040, (6_360, 8_400)), ((240, 120), (2, 1_590)));
-    let late = ((5_040, (5_880, 8_400)), ((250, 130), (2, 1_470)));
-    let longer = ((5_040, (5_880, 8_400)), ((250, 130), (2, 1_471)));
+    let early = parts([5_040, 6_360, 8_400, 240, 120, 2, 1_590]);
+    let late = parts([5_040, 5_880, 8_400, 250, 130, 2, 1_470]);
+    let longer = parts([5_040, 5_880, 8_400, 250, 130, 2, 1_471]);
+    assert!(rt; early > late);
+    assert!(rt; late < longer);
     assert!(rt; !vector.at_most(&early, &late));
     assert!(rt; !vector.at_most(&late, &early));
     assert!(rt; vector.at_most(&late, &longer));
@@ -182,6 +185,8 @@ fn order(rt: HostRuntime) -> Result<(), Fail> {
     laws::best_is_the_least_entry_at_home();
     laws::local_entries_are_the_front();
     laws::steps_are_those_of_the_vector();
+    laws::covering_candidates_leave_the_same_entries();
     laws::views_of_local_pools_are_fronts();
+    laws::sweeps_in_order_of_time_give_all_fronts();
     Ok(())
 }

@@ -1,207 +1,42 @@
-//! The vector as one resource.
-ghost use Rattle.std.specs.Prelude.{◌≡◌, ◌≤◌, ℕ, List, pos};
+//! The vector of a pairing as a resource.
+ghost use Rattle.std.specs.Prelude.{◌≡◌, ◌≤◌, ℕ, List, Some, pos};
+ghost use Rattle.std.specs.Option.{option_map};
 ghost use Rattle.crew_duty.specs.declared.duty.Duty.{Duty};
 ghost use Rattle.crew_rules.specs.Settings.{IsChecked};
-ghost use Rattle.crew_vector.specs.Pairing.{pairing_vector};
+ghost use Rattle.crew_vector.specs.Costs.{is_at_most};
+ghost use Rattle.crew_vector.specs.Named.{named_order};
+ghost use Rattle.crew_vector.specs.Numbers.{named, numbers_of};
+ghost use Rattle.crew_vector.specs.Pairing.{pairing_vector, sides_of};
 ghost use Rattle.crew_vector.specs.Parts.{value_of};
 ghost use Rattle.crew_vector.specs.Terms.{IsBasePrice};
+ghost use Rattle.crew_vector.specs.VectorLaws.{vector_bounds, vector_counting, vector_grading, vector_shifts, vector_staged, vector_steps};
 
 use crate::amounts::{DutyMinutes, DutyPay, FlightMinutes, Guarantee, MinutesAway, TripRig};
-use crew_duty::Duty;
-use crew_resource::{Both, Count, Placed, Resource, Staged, Sum};
+use crate::parts::Parts;
+use crew_duty::{Arrival, Departure, Duty};
+use crew_resource::{Both, Count, Resource, Staged, Sum};
 use crew_rules::Settings;
 use std::alloc::AllocError;
 
-/// A resource under a name of its own, with the laws of its parts.
-#[derive(Clone, Copy, Drop)]
-pub struct Vector<R> {
-    pub parts: R,
-}
-
-impl<R: Resource> Resource for Vector<R> {
-    type Value = R::Value;
-
-    type Item = R::Item;
-
-    ghost opens = { λ s. R.opens s.parts };
-
-    ghost extends = { λ s. R.extends s.parts };
-
-    ghost below = { R.below };
-
-    ghost value_of = { λ s. R.value_of s.parts };
-
-    ghost grade_of = { R.grade_of };
-
-    ghost can_start = { λ s. R.can_start s.parts };
-
-    ghost can_extend = { λ s. R.can_extend s.parts };
-
-    ghost order = { R.order };
-
-    ghost steps = { λ s. R.steps s.parts };
-
-    ghost grading = { R.grading };
-
-    #[inline]
-    fn start(&self, item: &R::Item) -> Result<Option<R::Value>, AllocError> {
-        self.parts.start(item)
-    }
-
-    #[inline]
-    fn extend(
-        &self,
-        value: &R::Value,
-        last: &R::Item,
-        next: &R::Item,
-    ) -> Result<Option<R::Value>, AllocError> {
-        self.parts.extend(value, last, next)
-    }
-
-    #[inline]
-    fn at_most(&self, a: &R::Value, b: &R::Value) -> bool {
-        self.parts.at_most(a, b)
-    }
-
-    #[inline]
-    fn copy(&self, value: &R::Value) -> Result<R::Value, AllocError> {
-        self.parts.copy(value)
-    }
-
-    #[inline]
-    fn grade(&self, value: &R::Value) -> u32 {
-        self.parts.grade(value)
-    }
-}
-
-impl<P: Placed, R: Staged<P>> Staged<P> for Vector<R> {
-    ghost idle_of = { λ s. R.idle_of s.parts };
-
-    ghost waited = { λ s. R.waited s.parts };
-
-    ghost boards = { λ s. R.boards s.parts };
-
-    ghost is_shift = { λ s. R.is_shift s.parts };
-
-    ghost most = { λ s. R.most s.parts };
-
-    ghost count_of = { λ s. R.count_of s.parts };
-
-    ghost fits = { λ s. R.fits s.parts };
-
-    ghost ready = { λ s. R.ready s.parts };
-
-    ghost arrived = { λ s. R.arrived s.parts };
-
-    ghost can_idle = { λ s. R.can_idle s.parts };
-
-    ghost can_wait = { λ s. R.can_wait s.parts };
-
-    ghost can_board = { λ s. R.can_board s.parts };
-
-    ghost staged = { λ s. R.staged s.parts };
-
-    ghost shifting = { λ s. R.shifting s.parts };
-
-    ghost counting = { λ s. R.counting s.parts };
-
-    ghost bounds = { λ s. R.bounds s.parts };
-
-    #[inline]
-    fn idle(&self, departure: &P::Departure) -> Result<R::Value, AllocError> {
-        self.parts.idle(departure)
-    }
-
-    #[inline]
-    fn wait(
-        &self,
-        value: &R::Value,
-        arrival: &P::Arrival,
-        departure: &P::Departure,
-    ) -> Result<R::Value, AllocError> {
-        self.parts.wait(value, arrival, departure)
-    }
-
-    #[inline]
-    fn board(&self, value: &R::Value, item: &P) -> Result<Option<R::Value>, AllocError> {
-        self.parts.board(value, item)
-    }
-}
-
 /// What a pairing is paid three ways, each less prices.
-pub type Money = Both<Sum<DutyPay>, Both<Sum<TripRig>, Sum<Guarantee>>>;
+type Money = Both<Sum<DutyPay>, Both<Sum<TripRig>, Sum<Guarantee>>>;
 
 /// What the caps are on.
-pub type Limits = Both<
-    Both<Sum<DutyMinutes>, Sum<FlightMinutes>>,
-    Both<Count<Duty>, Sum<MinutesAway>>,
->;
+type Limits = Both<Both<Sum<DutyMinutes>, Sum<FlightMinutes>>, Both<Count<Duty>, Sum<MinutesAway>>>;
 
-/// The seven parts side by side, over duties.
-pub type PairingVector = Vector<Both<Money, Limits>>;
+/// The seven parts side by side.
+type Sides = Both<Money, Limits>;
 
-fn money(settings: &Settings, base_price: i32) -> Money
-    ensures { result ≡ (pairing_vector settings.now base_price).parts.first }
-{
-    Both {
-        first: Sum {
-            amount: DutyPay { base_price },
-        },
-        second: Both {
-            first: Sum {
-                amount: TripRig {
-                    rate: settings.trip_rig,
-                    base_price,
-                },
-            },
-            second: Sum {
-                amount: Guarantee {
-                    points: settings.guarantee,
-                    base_price,
-                },
-            },
-        },
-    }
-}
-
-fn limits(settings: &Settings) -> Limits
-    ensures { result ≡ (pairing_vector settings.now (pos 0)).parts.second }
-{
-    Both {
-        first: Both {
-            first: Sum {
-                amount: DutyMinutes {
-                    cap: settings.fdp_cap,
-                },
-            },
-            second: Sum {
-                amount: FlightMinutes {
-                    cap: settings.fly_cap,
-                },
-            },
-        },
-        second: Both {
-            first: Count::new(settings.max_duties),
-            second: Sum {
-                amount: MinutesAway {
-                    cap: settings.away_cap,
-                },
-            },
-        },
-    }
-}
-
-fn pairing(settings: &Settings, base_price: i64) -> PairingVector
-    requires { IsBasePrice base_price }
-    ensures { result ≡ pairing_vector settings.now base_price }
-{
-    let base_price = base_price as i32;
-    Vector {
-        parts: Both {
-            first: money(settings, base_price),
-            second: limits(settings),
-        },
-    }
+/// The resource of a base's pairings: seven parts over duties.
+#[derive(Clone, Copy, Debug)]
+pub struct PairingVector {
+    base_price: i32,
+    trip_rig: u32,
+    guarantee: u32,
+    fdp_cap: u32,
+    fly_cap: u32,
+    max_duties: u32,
+    away_cap: u32,
 }
 
 impl PairingVector {
@@ -215,6 +50,180 @@ impl PairingVector {
         ensures most { ⟦<PairingVector as Staged<Duty>>⟧.most result ≡ Some settings.now.max_duties }
         ensures fits { (n : ℕ) → n ≤ 100_000 → ⟦<PairingVector as Staged<Duty>>⟧.fits result n }
     {
-        pairing(settings, base_price)
+        PairingVector {
+            base_price: base_price as i32,
+            trip_rig: settings.trip_rig,
+            guarantee: settings.guarantee,
+            fdp_cap: settings.fdp_cap,
+            fly_cap: settings.fly_cap,
+            max_duties: settings.max_duties,
+            away_cap: settings.away_cap,
+        }
+    }
+
+    #[inline]
+    fn money(&self) -> Money
+        ensures { result ≡ (sides_of self.now).first }
+    {
+        let base_price = self.base_price;
+        Both {
+            first: Sum {
+                amount: DutyPay { base_price },
+            },
+            second: Both {
+                first: Sum {
+                    amount: TripRig {
+                        rate: self.trip_rig,
+                        base_price,
+                    },
+                },
+                second: Sum {
+                    amount: Guarantee {
+                        points: self.guarantee,
+                        base_price,
+                    },
+                },
+            },
+        }
+    }
+
+    #[inline]
+    fn limits(&self) -> Limits
+        ensures { result ≡ (sides_of self.now).second }
+    {
+        Both {
+            first: Both {
+                first: Sum {
+                    amount: DutyMinutes { cap: self.fdp_cap },
+                },
+                second: Sum {
+                    amount: FlightMinutes { cap: self.fly_cap },
+                },
+            },
+            second: Both {
+                first: Count::new(self.max_duties),
+                second: Sum {
+                    amount: MinutesAway { cap: self.away_cap },
+                },
+            },
+        }
+    }
+
+    /// The parts side by side.
+    #[inline]
+    fn sides(&self) -> Sides
+        ensures { result ≡ sides_of self.now }
+    {
+        Both {
+            first: self.money(),
+            second: self.limits(),
+        }
+    }
+}
+
+impl Resource for PairingVector {
+    type Value = Parts;
+
+    type Item = Duty;
+
+    ghost opens = { λ s d. option_map named (⟦<Sides as Resource>⟧.opens (sides_of s) d) };
+
+    ghost extends = { λ s v last next. option_map named (⟦<Sides as Resource>⟧.extends (sides_of s) (numbers_of v) last next) };
+
+    ghost below = { is_at_most };
+
+    ghost value_of = { λ s duties. option_map named (⟦<Sides as Resource>⟧.value_of (sides_of s) duties) };
+
+    ghost grade_of = { λ v. ⟦<Sides as Resource>⟧.grade_of (numbers_of v) };
+
+    ghost can_start = { λ s. ⟦<Sides as Resource>⟧.can_start (sides_of s) };
+
+    ghost can_extend = { λ s v. ⟦<Sides as Resource>⟧.can_extend (sides_of s) (numbers_of v) };
+
+    ghost order = { named_order };
+
+    ghost steps = { vector_steps };
+
+    ghost grading = { vector_grading };
+
+    #[inline]
+    fn start(&self, duty: &Duty) -> Result<Option<Parts>, AllocError> {
+        Ok(self.sides().start(duty)?.map(Parts::of))
+    }
+
+    #[inline]
+    fn extend(&self, value: &Parts, last: &Duty, next: &Duty) -> Result<Option<Parts>, AllocError> {
+        Ok(
+            self.sides()
+                .extend(&value.numbers(), last, next)?
+                .map(Parts::of),
+        )
+    }
+
+    #[inline]
+    fn at_most(&self, a: &Parts, b: &Parts) -> bool {
+        let money = (a.duty_pay <= b.duty_pay)
+            & ((a.trip_rig <= b.trip_rig) & (a.guarantee <= b.guarantee));
+        let minutes = (a.fdp <= b.fdp) & (a.fly <= b.fly);
+        money & (minutes & ((a.duties <= b.duties) & (a.away <= b.away)))
+    }
+
+    #[inline]
+    fn copy(&self, value: &Parts) -> Result<Parts, AllocError> {
+        Ok(*value)
+    }
+
+    #[inline]
+    fn grade(&self, value: &Parts) -> u32 {
+        self.sides().grade(&value.numbers())
+    }
+}
+
+impl Staged<Duty> for PairingVector {
+    ghost idle_of = { λ s g. named (⟦<Sides as Staged<Duty>>⟧.idle_of (sides_of s) g) };
+
+    ghost waited = { λ s v x g. named (⟦<Sides as Staged<Duty>>⟧.waited (sides_of s) (numbers_of v) x g) };
+
+    ghost boards = { λ s v d. option_map named (⟦<Sides as Staged<Duty>>⟧.boards (sides_of s) (numbers_of v) d) };
+
+    ghost is_shift = { λ _. Unit {0} };
+
+    ghost most = { λ s. Some s.max_duties };
+
+    ghost count_of = { λ _ v. v.duties };
+
+    ghost fits = { λ s. ⟦<Sides as Staged<Duty>>⟧.fits (sides_of s) };
+
+    ghost ready = { λ s n v. ⟦<Sides as Staged<Duty>>⟧.ready (sides_of s) n (numbers_of v) };
+
+    ghost arrived = { λ s n v. ⟦<Sides as Staged<Duty>>⟧.arrived (sides_of s) n (numbers_of v) };
+
+    ghost can_idle = { λ s. ⟦<Sides as Staged<Duty>>⟧.can_idle (sides_of s) };
+
+    ghost can_wait = { λ s v. ⟦<Sides as Staged<Duty>>⟧.can_wait (sides_of s) (numbers_of v) };
+
+    ghost can_board = { λ s v. ⟦<Sides as Staged<Duty>>⟧.can_board (sides_of s) (numbers_of v) };
+
+    ghost staged = { vector_staged };
+
+    ghost shifting = { λ s _. vector_shifts s };
+
+    ghost counting = { vector_counting };
+
+    ghost bounds = { vector_bounds };
+
+    #[inline]
+    fn idle(&self, departure: &Departure) -> Parts {
+        Parts::of(self.sides().idle(departure))
+    }
+
+    #[inline]
+    fn wait(&self, value: &Parts, arrival: &Arrival, departure: &Departure) -> Parts {
+        Parts::of(self.sides().wait(&value.numbers(), arrival, departure))
+    }
+
+    #[inline]
+    fn board(&self, value: &Parts, duty: &Duty) -> Option<Parts> {
+        self.sides().board(&value.numbers(), duty).map(Parts::of)
     }
 }

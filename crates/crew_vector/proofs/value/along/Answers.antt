@@ -10,7 +10,7 @@ pub returns-in_default : goal.returns-in_default
 returns-in_default g c =
     let r = c.args.resource.now in
     let steps = g.met.R.Resource.steps r in
-    sym (none-goes-on g.row.R-Value.Denot g.row.P.Denot (g.R.Resource.opens r) (g.R.Resource.extends r) g.R.Resource.below (g.R.Resource.value_of r) steps [] c.args.first.now c.args.others.now (steps.opening c.args.first.now ∙ (sym c.in_ok-value.ensures.value ∙ c.in_default.is)))
+    sym (none-goes-on g.row.R-Value.Denot g.row.P.Denot (g.R.Resource.opens r) (g.R.Resource.extends r) g.R.Resource.below (g.R.Resource.value_of r) steps [] c.args.first.now c.args.others.now (steps.opening c.args.first.now ∙ (sym c.start_staged.ensures.value ∙ c.in_default.is)))
 
 pub loop-next-init : goal.loop-next-init
 loop-next-init g c =
@@ -19,7 +19,7 @@ loop-next-init g c =
     let v = c.in-Some.value in
     let steps = g.met.R.Resource.steps r in
     let staged = g.met.R.Staged.staged r in
-    let opened = sym c.in_ok-value.ensures.value ∙ c.in-Some.is in
+    let opened = sym c.start_staged.ensures.value ∙ c.in-Some.is in
     let boarded = sym (staged.opening first) ∙ opened in
     let most = c.requires.most in
     let counting = g.met.R.Staged.counting r most.0 most.1 in
@@ -30,7 +30,7 @@ loop-next-init g c =
     record {
       value = sym (goes-on g.row.R-Value.Denot g.row.P.Denot (g.R.Resource.opens r) (g.R.Resource.extends r) g.R.Resource.below (g.R.Resource.value_of r) steps [] first v c.args.others.now (steps.opening first ∙ opened));
       goes_on = c.requires.goes_on;
-      room = (most.0, 1, most.1, omega (arith, ints, one, none), omega (arith, ints, one, none, end), most.2, c.in_ok-value.ensures.bound v c.in-Some.is);
+      room = (most.0, 1, most.1, omega (arith, ints, one, none), omega (arith, ints, one, none, end), most.2, c.start_staged.ensures.bound v c.in-Some.is);
     }
 
 pub loop-next-preserved : goal.loop-next-preserved
@@ -40,11 +40,11 @@ loop-next-preserved g c =
     let v = c.loop-next.value in
     let last = c.loop-next.last.now in
     let next = c.next-item.result in
-    let z = c.in-Some-2.longer in
+    let z = c.in-Some-extend_staged.longer in
     let rest = drop (c.loop-next.next-index + 1) others in
     let split : drop c.loop-next.next-index others ≡ next ∷ rest =
     drop-cons others c.loop-next.next-index next c.loop-next-test.true ∙ (ap (λ d. d ∷ drop (suc c.loop-next.next-index) others) (sym c.next-item.is) ∙ ap (λ k. next ∷ drop k others) (sym (add-one c.loop-next.next-index))) in
-    let longer = sym c.in_ok-longer.ensures.value ∙ c.in-Some-2.is in
+    let longer = sym c.extend_staged.ensures.value ∙ c.in-Some-extend_staged.is in
     let staged = g.met.R.Staged.staged r in
     let waited = g.R.Staged.waited r v (g.P.Placed.arrives last) (g.P.Placed.leaves next) in
     let boarded = sym (staged.extension v last next) ∙ longer in
@@ -59,5 +59,5 @@ loop-next-preserved g c =
           sym (ap (option_and_then (λ u. extended (g.R.Resource.extends r) u next rest)) longer)
           ∙ (sym (ap (extended (g.R.Resource.extends r) v last) split) ∙ c.loop-next.invariant.value);
       goes_on = (subst (GoesOn g.P.Placed.is_sound g.P.Placed.may_follow g.P.Placed.arrives g.P.Placed.leaves last) split c.loop-next.invariant.goes_on).2;
-      room = (room.0, suc room.1, room.2, omega (arith, ints, one, none, so_far), omega (arith, ints, one, none, so_far, end), room.5, c.in_ok-longer.ensures.bound room.1 z room.6 c.in-Some-2.is);
+      room = (room.0, suc room.1, room.2, omega (arith, ints, one, none, so_far), omega (arith, ints, one, none, so_far, end), room.5, c.extend_staged.ensures.bound room.1 z room.6 c.in-Some-extend_staged.is);
     }

@@ -1,13 +1,16 @@
-use Rattle.std.proofs.Common.{◌∙◌, ap, w64}
-use Rattle.std.proofs.lemmas.Int.{to_z-of_z}
+use Rattle.std.proofs.Common.{◌∙◌, ap, arith, of_z, to_z, w32, w64}
+use Rattle.std.specs.Prelude.{FitsSigned}
+use Rattle.std.proofs.lemmas.Int.{ints, to_z-of_z}
 use Rattle.crew_vector.specs.Pairing.{pairing_vector}
-use Rattle.crew_vector.proofs.Composed.{fits-of-made, value-of-made}
+use Rattle.crew_vector.proofs.Composed.{value-of-made}
 use Rattle.crew_vector.proofs.vector.PairingVector.new.Goals as goal
 
 pub returns-clause-values : goal.returns-clause-values
 returns-clause-values c =
-    value-of-made c.args.settings.now c.args.base_price c.pairing.result (c.pairing.ensures ∙ ap (pairing_vector c.args.settings.now) (to_z-of_z w64 c.args.base_price c.ranges.base_price))
-
-pub returns-clause-fits : goal.returns-clause-fits
-returns-clause-fits c =
-    fits-of-made c.args.settings.now c.args.base_price c.pairing.result (c.pairing.ensures ∙ ap (pairing_vector c.args.settings.now) (to_z-of_z w64 c.args.base_price c.ranges.base_price)) c.requires.checked c.requires.price
+    let s = c.args.settings.now in
+    let b = c.args.base_price in
+    let least = c.requires.price.least in
+    let most = c.requires.price.most in
+    let fits : FitsSigned w32 b = grind (arith, ints) in
+    value-of-made s b (pairing_vector s (to_z w32 (of_z w32 (to_z w64 (of_z w64 b)))))
+    (ap (λ z. pairing_vector s (to_z w32 (of_z w32 z))) (to_z-of_z w64 b c.ranges.base_price) ∙ ap (pairing_vector s) (to_z-of_z w32 b fits))

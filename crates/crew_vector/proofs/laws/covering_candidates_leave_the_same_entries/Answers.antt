@@ -1,0 +1,25 @@
+use Rattle.crew_resource.proofs.Covering.{local_of_all, local_of_part}
+use Rattle.crew_resource.specs.Events.{FromPools}
+use Rattle.crew_resource.specs.Labels.{Member}
+use Rattle.crew_duty.specs.declared.leg.Leg.{Leg}
+use Rattle.std.proofs.Common.{List}
+use Rattle.crew_vector.specs.Costs.{is_at_most}
+use Rattle.crew_vector.specs.Events.{network_of}
+use Rattle.crew_vector.specs.Fronts.{walk_at_most}
+use Rattle.crew_vector.specs.Locals.{Candidate}
+use Rattle.crew_vector.specs.declared.parts.Parts.{Parts}
+use Rattle.crew_vector.proofs.Orders.{walk-order}
+use Rattle.crew_vector.proofs.Steps.{vector-order}
+use Rattle.crew_vector.proofs.laws.covering_candidates_leave_the_same_entries.Goals as goal
+
+pub returns-clause-node : goal.returns-clause-node
+returns-clause-node c = λ s base price d feed part entries covering local.
+    local_of_all Parts (List (List Leg)) is_at_most walk_at_most vector-order walk-order (λ v w. Member part (v, w)) (Candidate s base price d feed) covering entries local
+
+pub returns-clause-back : goal.returns-clause-back
+returns-clause-back c = λ s base price d feed part entries covering local.
+    local_of_part Parts (List (List Leg)) is_at_most walk_at_most vector-order walk-order (λ v w. Member part (v, w)) (Candidate s base price d feed) covering entries local
+
+pub returns-clause-pool : goal.returns-clause-pool
+returns-clause-pool c = λ s base price duties arrivals g part entries covering local.
+    local_of_all Parts (List (List Leg)) is_at_most walk_at_most vector-order walk-order (λ v w. Member part (v, w)) (FromPools (network_of s base price duties) arrivals g) covering entries local
