@@ -1,22 +1,37 @@
 -- Lists that rise with no element at most another.
-use Rattle.std.proofs.Common.{◌≡◌, ◌≢◌, ℕ, zero, suc, ◌+◌, ◌≤◌, Bool, true, false, cond, not, List, [], ◌∷◌, ◌++◌, length, take, drop, set, map, get_or, Some, None, inl, inr, refl, sym, ◌∙◌, ap, subst, ⊎_elim, arith, Ordering}
+use Rattle.std.proofs.Common.{◌≡◌, ◌≢◌, ℕ, zero, suc, ◌+◌, ◌≤◌, ◌<◌, Bool, true, false, cond, not, List, [], ◌∷◌, ◌++◌, length, take, drop, set, map, get_or, Some, None, inl, inr, refl, sym, ◌∙◌, ap, subst, ⊎_elim, arith, Ordering}
 use Rattle.std.specs.Prelude.{slice_get, unwrap_or}
 use Rattle.std.specs.List.{filter, insert, position, position_or_len, prefix_len, All, Any, AllByRecursion}
 use Rattle.std.proofs.lemmas.List.Quantifiers.{position-Some}
 use Rattle.std.proofs.lemmas.Option.{slice_get-get_or}
-use Rattle.std.specs.Ordering.{is_lt}
+use Rattle.std.specs.Ordering.{is_eq, is_lt}
 use Rattle.std.specs.Cmp.{IsTotalOrder}
 use Rattle.std.specs.declared.cmp.Ordering.TheVariants.{Less, Equal, Greater}
 use Rattle.std.proofs.lemmas.Bool.{cases_Bool, false≢true, not-true}
 use Rattle.std.proofs.lemmas.List.Sums.{prefix_len-le-length, fails_before_first}
 use Rattle.std.proofs.lemmas.Bool.Decides.{nat_tests}
+use Rattle.std.proofs.lemmas.Cmp.{tied_itself}
 use Rattle.std.proofs.Math.Numerals.{one-add}
-use Rattle.std.specs.Prelude.{}
 use Rattle.std.proofs.lemmas.List.Elements.{recursion_from_All}
 use Rattle.crew_resource.specs.Labels.{Member}
 use Rattle.crew_resource.proofs.Members.{Member-filter_out}
 use Rattle.crew_resource.specs.Resource.{OrderLaws}
 use Rattle.crew_front.specs.Entries.{Parted, PartedFromAll, IsApart, placed}
+
+pub Member-get : {X : Type 0} (xs : List X) (k : ℕ) (d : X) → k < length xs → Member xs (get_or xs k d)
+Member-get [] k d h = absurd (omega arith)
+Member-get (x ∷ xs) zero d h = inl refl
+Member-get (x ∷ xs) (suc k) d h = inr (Member-get xs k d (omega arith))
+
+pub Member-map_in : {X Y : Type 0} (f : X → Y) (xs : List X) (x : X) → Member xs x → Member (map f xs) (f x)
+Member-map_in f [] x m = absurd m
+Member-map_in f (z ∷ xs) x (inl e) = inl (ap f e)
+Member-map_in f (z ∷ xs) x (inr m) = inr (Member-map_in f xs x m)
+
+pub Member-map_out : {X Y : Type 0} (f : X → Y) (xs : List X) (y : Y) → Member (map f xs) y → (x : X) × Member xs x × (f x ≡ y)
+Member-map_out f [] y m = absurd m
+Member-map_out f (z ∷ xs) y (inl e) = (z, inl refl, e)
+Member-map_out f (z ∷ xs) y (inr m) = let k = Member-map_out f xs y m in (k.0, inr k.1, k.2)
 
 -- an insert at the first place that passes
 pub insert-first : {X : Type 0} (p : X → Bool) (x : X) (xs : List X) → insert xs (position_or_len p xs) x ≡ placed p x xs
@@ -39,6 +54,20 @@ member_recursion P (y ∷ ys) x h (inr m) = member_recursion P ys x h.1 m
 
 pub Member-All : {X : Type 0} (P : X → Type 0) (xs : List X) (x : X) → All P xs → Member xs x → P x
 Member-All P xs x h m = member_recursion P xs x (recursion_from_All P xs h) m
+
+-- a fact of each member is one of all
+pub All-from_members : {X : Type 0} (P : X → Type 0) (xs : List X) → ((x : X) → Member xs x → P x) → All P xs
+All-from_members P xs h k d l = h (get_or xs k d) (Member-get xs k d l)
+
+pub Member-Any : {X : Type 0} (P : X → Type 0) (xs : List X) (x : X) → Member xs x → P x → Any P xs
+Member-Any P [] x m p = absurd m
+Member-Any P (y ∷ ys) x (inl e) p = (0, x, omega arith, e, p)
+Member-Any P (y ∷ ys) x (inr m) p = let k = Member-Any P ys x m p in (suc k.0, k.1, omega (arith, k.2), k.3, k.4)
+
+equal_from_test : (o : Ordering) → is_eq o ≡ true → o ≡ Equal
+equal_from_test Less e = absurd (false≢true e)
+equal_from_test Equal e = refl
+equal_from_test Greater e = absurd (false≢true e)
 
 -- what the elements of a filter are parted from
 pub PartedFromAll-filter : {X V : Type 0} (cmp : V → V → Ordering) (below : V → V → Bool) (f : X → V) (p : X → Bool) (a : V) (xs : List X) → PartedFromAll cmp below a (map f xs) → PartedFromAll cmp below a (map f (filter p xs))
@@ -100,6 +129,11 @@ module _ {X V : Type 0} (cmp : V → V → Ordering) (below : V → V → Bool) 
       ))
       (cases_Bool (is_lt (cmp (f v) (f x))))
 
+pub within_some : {X : Type 0} (xs : List X) (i : ℕ) (x : X) → slice_get xs i ≡ Some x → i < length xs
+within_some [] i x g = absurd (let q : ⊥ = (cc) in q)
+within_some (y ∷ ys) zero x g = omega arith
+within_some (y ∷ ys) (suc i) x g = let k = within_some ys i x g in omega (arith, k)
+
 -- an entry's walk may change
 pub map-slice_set : {X V : Type 0} (f : X → V) (xs : List X) (i : ℕ) (x y : X) → slice_get xs i ≡ Some x → f y ≡ f x → map f (set xs i y) ≡ map f xs
 map-slice_set f [] i x y g e = refl
@@ -108,18 +142,40 @@ map-slice_set f (z ∷ xs) (suc i) x y g e = ap (λ r. f z ∷ r) (map-slice_set
 
 -- an offer's three cases, over plain lists
 module _ {V W : Type 0} (cmp : V → V → Ordering) (below : V → V → Bool) (total : IsTotalOrder cmp) (laws : OrderLaws cmp below) (old : List (V × W)) (v : V) where
-  pub joined_apart : (w : W) → position (λ e. below e.0 v) old ≡ None → IsApart cmp below (map (λ e. e.0) old) → IsApart cmp below (map (λ e. e.0) (placed (λ e. is_lt (cmp v e.0)) (v, w) (filter (λ e. not (below v e.0)) old)))
+  pub joined_apart : (w : W) → All (λ e. below e.0 v ≡ false) old → IsApart cmp below (map (λ e. e.0) old) → IsApart cmp below (map (λ e. e.0) (placed (λ e. is_lt (cmp v e.0)) (v, w) (filter (λ e. not (below v e.0)) old)))
   joined_apart w none h =
       IsApart-placed {X = V × W} cmp below (λ e. e.0) total laws (v, w) (filter (λ e. not (below v e.0)) old)
       (λ y m.
       let k = Member-filter_out (λ e. not (below v e.0)) old y m in
-      (Member-All (λ e. below e.0 v ≡ false) old y (none_passes (λ e. below e.0 v) old none) k.0, not-true (below v y.0) k.1))
+      (Member-All (λ e. below e.0 v ≡ false) old y none k.0, not-true (below v y.0) k.1))
       (IsApart-filter cmp below (λ e. e.0) (λ e. not (below v e.0)) old h)
 
-  pub beaten_by : (i : ℕ) (e : V × W) → position (λ e. below e.0 v) old ≡ Some i → e ≡ get_or old i e → below v e.0 ≡ false → Any (λ e. (below e.0 v ≡ true) × (e.0 ≢ v)) old
-  beaten_by i e p is f =
-      let k = position-Some (λ e. below e.0 v) old i e p in
-      (i, e, k.0, sym is, (subst (λ (z : V × W). below z.0 v ≡ true) (sym is) k.1, λ q. false≢true (sym f ∙ (ap (below v) q ∙ laws.reflexive v))))
+  -- a vector that is there, and at most this one, beats it where this one is not at most it
+  pub beaten_by : (u : V) → Member (map (λ e. e.0) old) u → below u v ≡ true → below v u ≡ false → Any (λ e. (below e.0 v ≡ true) × (e.0 ≢ v)) old
+  beaten_by u m t f =
+      let k = Member-map_out (λ (e : V × W). e.0) old u m in
+      Member-Any (λ e. (below e.0 v ≡ true) × (e.0 ≢ v)) old k.0 k.1 (
+        subst (λ z. below z v ≡ true) (sym k.2) t,
+        λ q. false≢true (sym f ∙ (ap (below v) (sym k.2 ∙ q) ∙ laws.reflexive v)),
+      )
+
+  -- the place of a vector that is there
+  pub place_there : (xs : List (V × W)) → Member (map (λ e. e.0) xs) v → (was : W) × (slice_get xs (position_or_len (λ e. is_eq (cmp v e.0)) xs) ≡ Some (v, was))
+  place_there [] m = absurd m
+  place_there (x ∷ xs) m =
+      let p = λ (e : V × W). is_eq (cmp v e.0) in
+      ⊎_elim {C = (was : W) × (slice_get (x ∷ xs) (position_or_len p (x ∷ xs)) ≡ Some (v, was))}
+      (λ t.
+      let same : v ≡ x.0 = laws.exact v x.0 (equal_from_test (cmp v x.0) t) in (
+        x.1,
+        ap (λ b. slice_get (x ∷ xs) (cond (not b) (1 + position_or_len p xs) 0)) t ∙ ap (λ z. Some (z, x.1)) (sym same),
+      ))
+      (λ f.
+      let rest = place_there xs (⊎_elim {C = Member (map (λ e. e.0) xs) v} (λ e. absurd (false≢true (sym f ∙ (ap (λ z. is_eq (cmp v z)) e ∙ ap is_eq (tied_itself total v))))) (λ k. k) m) in (
+        rest.0,
+        ap (λ b. slice_get (x ∷ xs) (cond (not b) (1 + position_or_len p xs) 0)) f ∙ rw one-add rest.1,
+      ))
+      (cases_Bool (p x))
 
   pub tied_with : (i : ℕ) (e : V × W) → position (λ e. below e.0 v) old ≡ Some i → e ≡ get_or old i e → below v e.0 ≡ true → slice_get old i ≡ Some (v, e.1)
   tied_with i e p is t =

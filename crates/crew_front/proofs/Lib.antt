@@ -1,3 +1,4 @@
 pub mod WalkOrder
 pub mod EntryLemmas
 pub mod OfferLocal
+mod GradeLemmas

@@ -1,4 +1,5 @@
 pub mod Walks
 pub mod Entries
+pub mod Grades
 pub mod Offers
 pub mod Local

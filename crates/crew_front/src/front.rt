@@ -1,14 +1,16 @@
 //! A front.
-ghost use Rattle.std.specs.Prelude.{◌≡◌, ◌↔◌, [], List, ℕ, length, map, not, slice_get, IsTrue, IfOk, OnErr, ◌≤◌, vec_len, vec_capacity, OnOk, slice_set, ◌<◌, ◌++◌, ◌∷◌, MatchOption, None, Some};
+ghost use Rattle.std.specs.Prelude.{◌≡◌, ◌↔◌, [], List, ℕ, length, map, not, slice_get, IsTrue, IfOk, OnErr, ◌≤◌, vec_len, vec_capacity, OnOk, slice_set, ◌<◌, ◌++◌, ◌∷◌, MatchOption, None, Some, false};
 ghost use Rattle.std.specs.List.{position, position_or_len, filter, Any};
-ghost use Rattle.std.specs.Ordering.{is_lt};
+ghost use Rattle.std.specs.Ordering.{is_eq, is_lt};
 ghost use Rattle.std.specs.Slice.Iter.{iter_rest};
 ghost use Rattle.crew_duty.specs.declared.leg.Leg.{Leg};
-ghost use Rattle.crew_resource.specs.Labels.{Beats};
+ghost use Rattle.crew_resource.specs.Labels.{Beats, Member};
 ghost use Rattle.crew_front.specs.Entries.{IsApart, placed};
+ghost use Rattle.crew_front.specs.Grades.{Admitted, HoldSame};
 ghost use Rattle.crew_front.specs.Walks.{lesser};
 ghost use Rattle.crew_front.specs.Local.{IsLocalOf};
 
+use crate::buckets::Buckets;
 use crew_duty::Walk;
 use crew_resource::Resource;
 use std::alloc::{AllocError, Global};
@@ -29,10 +31,14 @@ pub enum Offer {
 /// The vectors that no other beats, in order of vector, each with its least walk.
 ///
 /// A contract sees the list of the vectors with their walks.
+///
+/// Callers read the entries in order of vector, so they stand in one list. An offer searches the vectors alone, in a
+/// bucket for each grade, and goes through the entries only where it changes them.
 #[derive(Drop)]
 pub struct Front<R: Resource + Drop> {
     resource: R,
     entries: Vec<(R::Value, Walk)>,
+    buckets: Buckets<R>,
 }
 
 impl<R: Resource + Drop> Model for Front<R> {
@@ -40,7 +46,7 @@ impl<R: Resource + Drop> Model for Front<R> {
 
     ghost view = { λ f. f.entries.items };
 
-    ghost invariant = { λ f. IsApart R.Value.cmp R.below (map (λ e. e.0) f.entries.items) };
+    ghost invariant = { λ f. IsApart R.Value.cmp R.below (map (λ e. e.0) f.entries.items) × HoldSame (map (λ e. e.0) f.entries.items) f.buckets };
 }
 
 impl<R: Resource + Drop> Front<R> {
@@ -53,7 +59,25 @@ impl<R: Resource + Drop> Front<R> {
         Front {
             resource,
             entries: Vec::new(alloc),
+            buckets: Buckets::new(alloc),
         }
+    }
+
+    /// The front that has these entries, as a pool's view lists them: rising by vector, and none at most another.
+    pub fn of_rising(
+        alloc: Global,
+        resource: R,
+        entries: Vec<(R::Value, Walk)>,
+    ) -> Result<Self, AllocError>
+        requires { IsApart R.Value.cmp R.below (map (λ e. e.0) entries.items) }
+        ensures { IfOk result (λ front. front ≡ entries.items) }
+    {
+        let buckets = bucketed(alloc, &resource, &entries)?;
+        Ok(Front {
+            resource,
+            entries,
+            buckets,
+        })
     }
 
     /// How many entries there are.
@@ -104,13 +128,20 @@ impl<R: Resource + Drop> Front<R> {
         ensures local { OnOk result ((candidates : List (R.Value × List (List Leg))) → IsLocalOf R.below candidates self.old → IsLocalOf R.below (candidates ++ (value, walk) ∷ []) self.new) }
         ensures err { OnErr result (self.new ≡ self.old) }
     {
-        let Some(place) = first_at_most(&self.resource, &self.entries, &value) else {
-            join(&self.resource, &mut self.entries, value, walk)?;
+        let Some(found) = self.buckets.find_at_most(&self.resource, &value) else {
+            join(
+                &self.resource,
+                &mut self.entries,
+                &mut self.buckets,
+                value,
+                walk,
+            )?;
             return Ok(Offer::Kept);
         };
-        if !self.resource.at_most(&value, &self.entries[place].0) {
+        if !self.resource.at_most(&value, found) {
             return Ok(Offer::Beaten);
         }
+        let place = place_of::<R>(&self.entries, &value);
         lower(&mut self.entries, place, walk);
         Ok(Offer::Tied)
     }
@@ -127,11 +158,24 @@ impl<R: Resource + Copy + Drop> Front<R> {
             let walk = entry.1.copy(alloc)?;
             entries.push((value, walk))?;
         }
-        Ok(Front {
-            resource: self.resource,
-            entries,
-        })
+        Front::of_rising(alloc, self.resource, entries)
     }
+}
+
+// The vectors of entries, in buckets.
+fn bucketed<R: Resource + Drop>(
+    alloc: Global,
+    resource: &R,
+    entries: &[(R::Value, Walk)],
+) -> Result<Buckets<R>, AllocError>
+    ensures { IfOk result (λ buckets. HoldSame (map (λ e. e.0) entries.now) buckets) }
+{
+    let mut buckets = Buckets::new(alloc);
+    for entry in entries {
+        let value = resource.copy(&entry.0)?;
+        buckets.put(resource, value)?;
+    }
+    Ok(buckets)
 }
 
 // Puts the lesser of its walk and this one into an entry.
@@ -146,42 +190,59 @@ fn lower<V: Drop>(entries: &mut Vec<(V, Walk)>, place: usize, walk: Walk)
 }
 
 // Puts a vector in its place, and lets go of those that it is at most.
-fn join<R: Resource>(
+fn join<R: Resource + Drop>(
     resource: &R,
     entries: &mut Vec<(R::Value, Walk)>,
+    buckets: &mut Buckets<R>,
     value: R::Value,
     walk: Walk,
 ) -> Result<(), AllocError>
+    requires same { HoldSame (map (λ e. e.0) entries.old.items) buckets.old }
     ensures ok { OnOk result (entries.new.items ≡ placed (λ e. is_lt (R.Value.cmp value e.0)) (value, walk) (filter (λ e. not (R.below value e.0)) entries.old.items)) }
-    ensures err { OnErr result (entries.new.items ≡ entries.old.items) }
+    ensures buckets { OnOk result (Admitted R.below value buckets.old buckets.new) }
+    ensures err { OnErr result ((entries.new.items ≡ entries.old.items) × (buckets.new ≡ buckets.old)) }
 {
     entries.reserve(1)?;
-    drop_beaten(resource, entries, &value);
+    let twin = resource.copy(&value)?;
+    let any = buckets.admit(resource, twin)?;
+    drop_beaten(resource, entries, &value, any);
     let gap = gap_for::<R>(entries, &value);
     entries.insert(gap, (value, walk))?;
     Ok(())
 }
 
-// Where the first entry is that is at most the vector.
-fn first_at_most<R: Resource>(
+// Lets go of the entries that the vector is at most, if there are any: none has a lesser grade.
+fn drop_beaten<R: Resource>(
     resource: &R,
-    entries: &[(R::Value, Walk)],
+    entries: &mut Vec<(R::Value, Walk)>,
     value: &R::Value,
-) -> Option<usize>
-    ensures { result ≡ position (λ e. R.below e.0 value.now) entries.now }
-{
-    entries
-        .iter()
-        .position(|entry| resource.at_most(&entry.0, value))
-}
-
-// Lets go of the entries that the vector is at most.
-fn drop_beaten<R: Resource>(resource: &R, entries: &mut Vec<(R::Value, Walk)>, value: &R::Value)
+    any: bool,
+)
+    requires { any ≡ false → (e : R.Value × List (List Leg)) → Member entries.old.items e → R.below value.now e.0 ≡ false }
     ensures kept { entries.new.items ≡ filter (λ e. not (R.below value.now e.0)) entries.old.items }
     ensures fewer { vec_len entries.new ≤ vec_len entries.old }
     ensures capacity { vec_capacity entries.new ≡ vec_capacity entries.old }
 {
-    entries.retain(|entry| !resource.at_most(value, &entry.0));
+    if !any {
+        return;
+    }
+    let grade = resource.grade(value);
+    entries.retain(|entry| resource.grade(&entry.0) < grade || !resource.at_most(value, &entry.0));
+}
+
+// The place of the entry that has the vector.
+fn place_of<R: Resource>(entries: &[(R::Value, Walk)], value: &R::Value) -> usize
+    requires { Member (map (λ e. e.0) entries.now) value.now }
+    ensures { (was : List (List Leg)) × (slice_get entries.now result ≡ Some (value.now, was)) }
+{
+    first_equal::<R>(entries, value).unwrap_or(entries.len())
+}
+
+// The place of the first entry that has the vector.
+fn first_equal<R: Resource>(entries: &[(R::Value, Walk)], value: &R::Value) -> Option<usize>
+    ensures { result ≡ position (λ e. is_eq (R.Value.cmp value.now e.0)) entries.now }
+{
+    entries.iter().position(|entry| value.cmp(&entry.0).is_eq())
 }
 
 // The place of the first entry that is listed after the vector, or the end.

@@ -4,6 +4,7 @@
 //! then the lesser walk stays.
 #![tactic(auto)]
 
+mod buckets;
 mod front;
 
 pub use front::{Front, Offer};

@@ -249,3 +249,51 @@ fn keeps_the_lesser_walk(rt: HostRuntime) -> Result<(), Fail> {
     assert!(rt; copied.as_slice() == front.as_slice());
     Ok(())
 }
+
+// Values of one to three duties, in rising cost.
+const GRADED: [(i64, i64); 5] = [(50, 3), (40, 1), (45, 2), (30, 3), (30, 2)];
+
+// A value of a cost and a number of duties.
+fn graded(cost: i64, duties: i64) -> Value {
+    value_of(((cost, (0, 0)), ((0, 0), (duties, 0))))
+}
+
+#[test]
+fn searches_the_grades_that_count(rt: HostRuntime) -> Result<(), Fail> {
+    let alloc = rt.alloc();
+    let mut front = Front::new(alloc, resource());
+    let answers = [
+        (Offer::Kept, 1),
+        (Offer::Kept, 1),
+        (Offer::Beaten, 1),
+        (Offer::Kept, 2),
+        (Offer::Kept, 2),
+    ];
+    for ((cost, duties), (answer, len)) in GRADED.iter().zip(answers.iter()) {
+        let given = front.offer(graded(*cost, *duties), walk(alloc, 1, 2)?)?;
+        assert!(rt; given == *answer);
+        assert!(rt; front.len() == *len);
+    }
+    let mut ways = front.iter();
+    assert!(rt; ways.next().is_some_and(|entry| entry.0 == graded(30, 2)));
+    assert!(rt; ways.next().is_some_and(|entry| entry.0 == graded(40, 1)));
+    assert!(rt; ways.next().is_none());
+    Ok(())
+}
+
+#[test]
+fn copied_it_goes_on(rt: HostRuntime) -> Result<(), Fail> {
+    let alloc = rt.alloc();
+    let mut front = Front::new(alloc, resource());
+    for (cost, duties) in GRADED.iter() {
+        front.offer(graded(*cost, *duties), walk(alloc, 1, 2)?)?;
+    }
+    let mut copied = front.copy(alloc)?;
+    assert!(rt; copied.len() == 2);
+    assert!(rt; copied.offer(graded(41, 3), walk(alloc, 1, 1)?)? == Offer::Beaten);
+    assert!(rt; copied.offer(graded(40, 1), walk(alloc, 1, 1)?)? == Offer::Tied);
+    assert!(rt; copied.offer(graded(29, 1), walk(alloc, 1, 4)?)? == Offer::Kept);
+    assert!(rt; copied.len() == 1);
+    assert!(rt; front.len() == 2);
+    Ok(())
+}

@@ -1,11 +1,20 @@
-use Rattle.std.proofs.Common.{◌∙◌, ap, not, arith, List}
+use Rattle.std.proofs.Common.{◌∙◌, ap, not, arith, List, ◌≡◌, false, subst}
 use Rattle.std.specs.List.{filter, insert, position_or_len}
 use Rattle.std.specs.Ordering.{is_lt}
 use Rattle.std.proofs.lemmas.List.Sums.{prefix_len-le-length}
-use Rattle.crew_front.proofs.EntryLemmas.{insert-first}
+use Rattle.crew_resource.specs.Labels.{Member}
+use Rattle.crew_front.proofs.EntryLemmas.{insert-first, Member-map_in}
 use Rattle.crew_duty.specs.declared.leg.Leg.{Leg}
 use Rattle.crew_front.specs.Entries.{placed}
 use Rattle.crew_front.proofs.front.join.Goals as goal
+
+pub drop_beaten-requires : goal.drop_beaten-requires
+drop_beaten-requires g c f e m =
+    let Entry = g.row.R-Value.Denot × List (List Leg) in
+    let old = c.args.entries.now.items in
+    let there = c.requires.same.forth e.0 (Member-map_in (λ (e : Entry). e.0) old e (subst (λ (es : List Entry). Member es e) c.in_ok-reserve.ensures.items m)) in
+    let none = c.in_ok-any.ensures.none f e.0 there in
+    subst (λ v. g.R.Resource.below v e.0 ≡ false) c.in_ok-twin.ensures none
 
 pub insert-requires : goal.insert-requires
 insert-requires g c =
