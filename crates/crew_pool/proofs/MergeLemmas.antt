@@ -12,7 +12,7 @@ use Rattle.crew_resource.proofs.Members.{Member-append, Member-append_left, Memb
 use Rattle.crew_pool.specs.Apart.{ApartFromAll, AreApart}
 use Rattle.crew_pool.specs.Meets.{is_free, vectors_of}
 use Rattle.crew_pool.specs.Tails.{IsPoolOf, lesser_tail, ranks_at_most, shown, tail_walk}
-use Rattle.crew_pool.specs.declared.pool.Tail.{Tail}
+use Rattle.crew_pool.specs.declared.tail.Tail.{Tail}
 use Rattle.crew_front.proofs.EntryLemmas.{none_passes}
 use Rattle.crew_front.proofs.OfferLocal.{Member-at, Member-get_or}
 use Rattle.crew_pool.proofs.PoolLocal.{beaten_list, joined_list, tied_list}

@@ -1,4 +1,4 @@
-use crate::{NO_DUTY, Tail, Walks, merge};
+use crate::{NO_DUTY, Pool, Room, Tail, Walks};
 use crew_resource::{Amount, Both, Count, Resource, Sum};
 use std::alloc::AllocError;
 use std::cmp::Ordering;
@@ -164,17 +164,17 @@ fn walks_share_their_beginnings(rt: HostRuntime) -> Result<(), Fail> {
 fn merges_into_an_empty_pool(rt: HostRuntime) -> Result<(), Fail> {
     let alloc = rt.alloc();
     let walks = Walks::new(alloc);
-    let label = (
-        Value { numbers: SEVEN },
-        Tail {
-            walk: 0,
-            duty: NO_DUTY,
-        },
-    );
-    let mut pool = Vec::new(alloc);
-    let mut room = Vec::new(alloc);
-    merge(&resource(), &mut pool, &mut room, &[label], &walks)?;
+    let mut labels = Vec::new(alloc);
+    let tail = Tail {
+        walk: 0,
+        duty: NO_DUTY,
+    };
+    labels.push((Value { numbers: SEVEN }, tail))?;
+    let list = Pool::<Seven>::from_apart(labels);
+    let mut pool = Pool::new(alloc);
+    let mut room = Room::new(alloc);
+    pool.merge(&resource(), &mut room, &list, &walks)?;
     assert!(rt; pool.len() == 1);
-    assert!(rt; pool[0].0.numbers == SEVEN);
+    assert!(rt; pool.as_slice()[0].0.numbers == SEVEN);
     Ok(())
 }
