@@ -11,7 +11,7 @@ use std::cmp::Ordering;
 pub const NO_DUTY: u32 = u32::MAX;
 
 /// The walk of a label: the place of a walk, and the rank of the duty after it, or `NO_DUTY`.
-#[derive(Clone, Copy, Debug)]
+#[derive(Clone, Copy, Debug, PartialEq, Eq, PartialOrd, Ord)]
 pub struct Tail {
     /// The place of a walk.
     pub walk: u32,

@@ -1,8 +1,10 @@
 //! Views of pools.
 ghost use Rattle.std.specs.Prelude.{◌≡◌, ◌<◌, ◌↔◌, ℕ, List, [], ◌∷◌, ◌++◌, length, map, IsTrue, IfOk};
 ghost use Rattle.std.specs.List.{flat_map};
+ghost use Rattle.std.specs.List.Sorted.{IsPermutation};
 ghost use Rattle.crew_resource.specs.Events.{labelled};
 ghost use Rattle.crew_resource.specs.Labels.{Member};
+ghost use Rattle.crew_front.specs.Entries.{IsApart};
 ghost use Rattle.crew_pool.specs.Apart.{AreApart};
 ghost use Rattle.crew_pool.specs.Counted.{boarded_label, boarded_labels, AreWhole};
 ghost use Rattle.crew_pool.specs.Meets.{vectors_of};
@@ -13,6 +15,7 @@ use crate::entries::Entries;
 use crate::pool::Pool;
 use crate::tail::Tail;
 use crew_resource::{Placed, Resource, Staged};
+use std::alloc::{AllocError, Global};
 use std::marker::Model;
 
 /// The labels of a departure's pool that board a duty, after it: each with its vector at the duty's end, and its walk a
@@ -73,6 +76,19 @@ impl<'a, P: Placed, R: Staged<P>> View<'a, P, R> {
         ensures apart { AreApart R.below (vectors_of self.now) }
     {
         Entries::new(self.resource, self.labels.iter(), self.item, self.duty)
+    }
+
+    /// The entries in order of vector.
+    pub fn list(&self, alloc: Global) -> Result<Vec<(R::Value, Tail)>, AllocError>
+        ensures same { IfOk result (λ list. IsPermutation self.now list.items) }
+        ensures rises { IfOk result (λ list. IsApart R.Value.cmp R.below (vectors_of list.items)) }
+    {
+        let mut list = Vec::new(alloc);
+        for entry in self.iter() {
+            list.push(entry)?;
+        }
+        list.sort_unstable();
+        Ok(list)
     }
 }
 
