@@ -1,6 +1,7 @@
 //! Lists of labels that board a duty into a pool.
 ghost use Rattle.std.specs.Prelude.{◌≡◌, ◌<◌, ℕ, List, [], ◌∷◌, ◌++◌, map, OnOk, OnErr, true, false};
 ghost use Rattle.std.specs.List.{flat_map};
+ghost use Rattle.std.specs.List.Sorted.{IsPermutation};
 ghost use Rattle.crew_resource.specs.Events.{labelled};
 ghost use Rattle.crew_resource.specs.Labels.{Member};
 ghost use Rattle.crew_pool.specs.Counted.{AreCounted, boarded_label, boarded_labels};
@@ -38,7 +39,7 @@ pub fn absorb_boarding<P: Placed, R: Staged<P>>(
     requires list_counts { AreCounted (R.count_of resource.now) walks.now true list.now }
     ensures local { OnOk result ((candidates : List (R.Value × List ℕ)) → IsPoolOf R.below candidates (map (shown walks.now) pool.old) → IsPoolOf R.below (candidates ++ flat_map (λ e. labelled (R.boards resource.now e.0 item.now) (e.1 ++ duty ∷ [])) (map (shown walks.now) list.now)) (map (shown walks.now) pool.new)) }
     ensures counts { OnOk result (AreCounted (R.count_of resource.now) walks.now false pool.new) }
-    ensures err { OnErr result (vectors_of pool.new ≡ vectors_of pool.old) }
+    ensures err { OnErr result (IsPermutation (vectors_of pool.old) (vectors_of pool.new)) }
 {
     board_all(resource, &mut room.boarded, list.as_slice(), item, duty)?;
     pool.merge_list(resource, &mut room.free, &room.boarded, walks)?;

@@ -1,5 +1,6 @@
 //! Pools.
 ghost use Rattle.std.specs.Prelude.{◌≡◌, ◌↔◌, ℕ, List, [], ◌∷◌, ◌++◌, ◌⊎◌, length, map, IsTrue, IfOk, OnOk, OnErr};
+ghost use Rattle.std.specs.List.Sorted.{IsPermutation};
 ghost use Rattle.std.specs.Slice.Iter.{iter_rest};
 ghost use Rattle.crew_resource.specs.Labels.{Member};
 ghost use Rattle.crew_pool.specs.Apart.{AreApart};
@@ -114,7 +115,7 @@ impl<R: Resource> Pool<R> {
         requires within { AreAlikeWhereSame walks.now list.now list.now }
         ensures local { OnOk result ((candidates : List (R.Value × List ℕ)) → IsPoolOf R.below candidates (map (shown walks.now) self.old) → IsPoolOf R.below (candidates ++ map (shown walks.now) list.now) (map (shown walks.now) self.new)) }
         ensures from { (a : R.Value × Tail) → Member self.new a → Member self.old a ⊎ Member list.now a }
-        ensures err { OnErr result (vectors_of self.new ≡ vectors_of self.old) }
+        ensures err { OnErr result (IsPermutation (vectors_of self.old) (vectors_of self.new)) }
     {
         self.merge_list(resource, &mut room.free, list.as_slice(), walks)?;
         Ok(())
@@ -133,7 +134,7 @@ impl<R: Resource> Pool<R> {
         requires within { AreAlikeWhereSame walks.now list.now list.now }
         ensures local { OnOk result ((candidates : List (R.Value × List ℕ)) → IsPoolOf R.below candidates (map (shown walks.now) self.old) → IsPoolOf R.below (candidates ++ map (shown walks.now) list.now) (map (shown walks.now) self.new)) }
         ensures from { (a : R.Value × Tail) → Member self.new a → Member self.old a ⊎ Member list.now a }
-        ensures err { OnErr result (vectors_of self.new ≡ vectors_of self.old) }
+        ensures err { OnErr result (IsPermutation (vectors_of self.old) (vectors_of self.new)) }
     {
         merge_labels(resource, &mut self.labels, room, list, walks)?;
         Ok(())

@@ -14,8 +14,8 @@ compare_tails-requires g c =
     let within : c.args.place < length c.args.labels.now.items = omega (arith, c.requires.place, c.args.labels.now.ok.0) in
     c.requires.alike item.0 item.1 (slice_get-get_or c.args.labels.now.items c.args.place item within ∙ ap Some (sym c.index_mut-label.ensures.value))
 
-pub returns-then-is_lt : goal.returns-then-is_lt
-returns-then-is_lt g c v was e =
+pub returns-then-is_lt-clause-lowered : goal.returns-then-is_lt-clause-lowered
+returns-then-is_lt-clause-lowered g c v was e =
     let item = c.index_mut-label.result.now in
     let ws = c.args.walks.now in
     let within : c.args.place < length c.args.labels.now.items = omega (arith, c.requires.place, c.args.labels.now.ok.0) in
@@ -24,8 +24,8 @@ returns-then-is_lt g c v was e =
     let lesser : lesser_tail ws item.1 c.args.tail ≡ c.args.tail = cond-true (is_lt (slice_cmp nat_cmp (tail_walk ws c.args.tail) (tail_walk ws item.1))) c.args.tail item.1 t in
     ap (slice_set c.args.labels.now.items c.args.place) (ap (λ x. (item.0, x)) (sym lesser) ∙ same_label ws c.args.tail item (v, was) (some_is item (v, was) (slice_get c.args.labels.now.items c.args.place) here e))
 
-pub returns-else-is_lt : goal.returns-else-is_lt
-returns-else-is_lt g c v was e =
+pub returns-else-is_lt-clause-lowered : goal.returns-else-is_lt-clause-lowered
+returns-else-is_lt-clause-lowered g c v was e =
     let item = c.index_mut-label.result.now in
     let ws = c.args.walks.now in
     let within : c.args.place < length c.args.labels.now.items = omega (arith, c.requires.place, c.args.labels.now.ok.0) in

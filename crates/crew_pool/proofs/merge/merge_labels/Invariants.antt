@@ -1,5 +1,6 @@
 use Rattle.std.proofs.Common.{◌≡◌, ℕ, ◌++◌, ◌⊎◌, List, map, not, take}
 use Rattle.std.specs.List.{filter}
+use Rattle.std.specs.List.Sorted.{IsPermutation}
 use Rattle.crew_resource.specs.Labels.{Member}
 use Rattle.crew_pool.specs.Meets.{is_free, vectors_of}
 use Rattle.crew_pool.specs.Tails.{IsPoolOf, shown}
@@ -11,7 +12,7 @@ abbrev pub invariant-loop-label : goal.invariant-loop-label
 invariant-loop-label g l =
     let free = is_free g.R.Resource.below (vectors_of l.fn.labels.items) in
     let sofar = take l.label-index l.list in
-    (vectors_of l.labels.items ≡ vectors_of l.fn.labels.items)
+    IsPermutation (vectors_of l.fn.labels.items) (vectors_of l.labels.items)
     × ((a : g.row.R-Value.Denot × Tail) → Member l.labels.items a → Member l.fn.labels.items a ⊎ Member l.list a)
     × (l.room.items ≡ filter free sofar)
     × ((candidates : List (g.row.R-Value.Denot × List ℕ)) → IsPoolOf g.R.Resource.below candidates (map (shown l.walks) l.fn.labels.items)
