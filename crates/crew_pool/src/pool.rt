@@ -48,7 +48,7 @@ impl<R: Resource> Pool<R> {
         requires { AreApart R.below (vectors_of labels.items) }
         ensures { result ≡ labels.items }
     {
-        Pool { labels }
+        Self { labels }
     }
 
     /// How many labels there are.
