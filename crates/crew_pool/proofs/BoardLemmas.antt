@@ -1,6 +1,6 @@
 -- Labels that board a duty.
-use Rattle.std.proofs.Common.{◌≡◌, ℕ, ◌+◌, ◌<◌, Bool, true, false, List, [], ◌∷◌, ◌++◌, length, map, take, get_or, Option, Some, None, inl, inr, refl, sym, ◌∙◌, ap, subst, ⊎_elim, arith, ℤ, pos, ◌+ℤ◌, append-nil}
-use Rattle.std.specs.Prelude.{nat_eq}
+use Rattle.std.proofs.Common.{◌≡◌, ℕ, ◌+◌, ◌<◌, ◌≤◌, Bool, true, false, List, [], ◌∷◌, ◌++◌, length, map, take, get_or, cond, Option, Some, None, inl, inr, refl, sym, ◌∙◌, ap, subst, ⊎_elim, arith, ℤ, pos, ◌+ℤ◌, append-nil}
+use Rattle.std.specs.Prelude.{nat_eq, is_some}
 use Rattle.std.specs.List.{flat_map}
 use Rattle.std.proofs.lemmas.Bool.{cases_Bool, false≢true}
 use Rattle.std.proofs.lemmas.List.{length-append, take_more, flat_map_more}
@@ -10,10 +10,10 @@ use Rattle.crew_resource.specs.Labels.{Member}
 use Rattle.crew_resource.proofs.Members.{Member-flat_map_out}
 use Rattle.crew_pool.specs.Apart.{ApartFromAll, AreApart}
 use Rattle.crew_pool.specs.Arena.{walk_at}
-use Rattle.crew_pool.specs.Counted.{AreCounted, IsCounted, boarded_label, boarded_labels}
+use Rattle.crew_pool.specs.Counted.{AreCounted, AreWhole, IsCounted, boarded_label, boarded_labels}
 use Rattle.crew_pool.specs.Meets.{vectors_of}
 use Rattle.crew_pool.specs.Tails.{AreAlike, duty_of, shown, tail_walk}
-use Rattle.crew_pool.specs.declared.pool.Tail.{Tail}
+use Rattle.crew_pool.specs.declared.tail.Tail.{Tail}
 use Rattle.crew_pool.proofs.MergeLemmas.{AreApart-append}
 use Rattle.crew_pool.proofs.TailLemmas.{duty_none, duty_some}
 
@@ -102,14 +102,14 @@ one_shown walks None t w e ls = refl
 one_shown walks (Some v) t w e ls = ap (λ z. (v, z) ∷ map (shown walks) ls) e
 
 -- what is shown of the labels that boarded
-pub shown_boarded : {V : Type 0} (count : V → ℤ) (walks : List (List ℕ)) (board : V → Option V) (duty : ℕ) → nat_eq duty 4294967295 ≡ false
-    → (labels : List (V × Tail)) → AreCounted count walks true labels
+pub shown_boarded : {V : Type 0} (walks : List (List ℕ)) (board : V → Option V) (duty : ℕ) → nat_eq duty 4294967295 ≡ false
+    → (labels : List (V × Tail)) → AreWhole labels
     → map (shown walks) (boarded_labels board duty labels) ≡ flat_map (λ (e : V × List ℕ). labelled (board e.0) (e.1 ++ duty ∷ [])) (map (shown walks) labels)
-shown_boarded count walks board duty n [] h = refl
-shown_boarded count walks board duty n (l ∷ ls) h =
+shown_boarded walks board duty n [] h = refl
+shown_boarded walks board duty n (l ∷ ls) h =
     let t : Tail = record { walk = l.1.walk; duty = duty } in
-    let walk = longer_walk walks l.1 t duty (h l (inl refl)).stands n refl in
-    let rest = shown_boarded count walks board duty n ls (λ x m. h x (inr m)) in
+    let walk = longer_walk walks l.1 t duty (h l (inl refl)) n refl in
+    let rest = shown_boarded walks board duty n ls (λ x m. h x (inr m)) in
     one_shown walks (board l.0) t (tail_walk walks l.1 ++ duty ∷ []) walk (boarded_labels board duty ls) ∙ ap (λ r. labelled (board l.0) (tail_walk walks l.1 ++ duty ∷ []) ++ r) rest
 
 -- a rank is a duty
@@ -122,3 +122,32 @@ pub boarded_more : {V : Type 0} (board : V → Option V) (duty : ℕ) (xs : List
     → boarded_labels board duty (take i xs) ++ boarded_label board duty x ≡ boarded_labels board duty (take (i + 1) xs)
 boarded_more board duty xs i x h e =
     flat_map_more (boarded_label board duty) [] (take i xs) x ∙ ap (flat_map (boarded_label board duty)) (ap (λ z. take i xs ++ z ∷ []) e ∙ sym (take_more xs i x h))
+
+labelled_count : {V W : Type 0} (o : Option V) (w : W) → length (labelled o w) ≡ cond (is_some o) 1 0
+labelled_count None w = refl
+labelled_count (Some v) w = refl
+
+-- a label that boards counts as one, and one that does not as none
+pub boarded_count : {V : Type 0} (board : V → Option V) (duty : ℕ) (l : V × Tail) → length (boarded_label board duty l) ≡ cond (is_some (board l.0)) 1 0
+boarded_count board duty l = let t : Tail = record { walk = l.1.walk; duty = duty } in labelled_count (board l.0) t
+
+-- the number of what boards of one label more
+pub boarded_count_more : {V : Type 0} (board : V → Option V) (duty : ℕ) (xs : List (V × Tail)) (i : ℕ) (x : V × Tail) → i < length xs → x ≡ get_or xs i x
+    → length (boarded_labels board duty (take (i + 1) xs)) ≡ length (boarded_labels board duty (take i xs)) + cond (is_some (board x.0)) 1 0
+boarded_count_more board duty xs i x h e =
+    ap length (sym (boarded_more board duty xs i x h e))
+    ∙ (length-append (boarded_labels board duty (take i xs)) (boarded_label board duty x)
+    ∙ ap (λ n. length (boarded_labels board duty (take i xs)) + n) (boarded_count board duty x))
+
+-- counts go on by one, or stay
+pub counted_one : (next count before after add : ℕ) → next ≡ count + 1 → count ≡ before → after ≡ before + add → add ≡ 1 → next ≡ after
+counted_one next count before after add p q r s = omega arith
+
+pub counted_none : (next count before after add : ℕ) → next ≡ count → count ≡ before → after ≡ before + add → add ≡ 0 → next ≡ after
+counted_none next count before after add p q r s = omega arith
+
+pub at_most_one : (next count i : ℕ) → next ≡ count + 1 → count ≤ i → next ≤ i + 1
+at_most_one next count i p q = omega arith
+
+pub at_most_none : (next count i : ℕ) → next ≡ count → count ≤ i → next ≤ i + 1
+at_most_none next count i p q = omega arith

@@ -4,3 +4,5 @@ pub mod TailLemmas
 pub mod MergeLemmas
 pub mod BoardLemmas
 pub mod RankLemmas
+pub mod Permuted
+pub mod Listed

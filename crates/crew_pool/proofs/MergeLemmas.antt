@@ -1,20 +1,24 @@
 -- Labels that meet a pool, and those that join it.
 use Rattle.std.proofs.Common.{◌≡◌, ℕ, zero, suc, ◌+◌, ◌<◌, Bool, true, false, cond, not, List, [], ◌∷◌, ◌++◌, length, set, map, take, get_or, Option, Some, None, ◌⊎◌, inl, inr, refl, sym, ◌∙◌, ap, subst, ⊎_elim, append_assoc}
-use Rattle.std.specs.Prelude.{slice_get, ◌||◌}
+use Rattle.std.specs.Prelude.{slice_get, ◌||◌, Result, Ok, Err, OnErr}
 use Rattle.std.specs.List.{filter, list_any, position}
+use Rattle.std.specs.List.Sorted.{IsPermutation}
 use Rattle.std.proofs.lemmas.Bool.{cases_Bool, false≢true, not-true, not_from_false}
 use Rattle.std.proofs.lemmas.List.{take_more}
 use Rattle.std.proofs.lemmas.List.Folds.{list_any_none}
 use Rattle.std.proofs.lemmas.List.Quantifiers.{position-Some}
+use Rattle.std.proofs.lemmas.List.Sorted.{IsPermutation-sym, list_any-IsPermutation}
+use Rattle.std.proofs.lemmas.Option.{slice_get-get_or}
 use Rattle.crew_resource.specs.Labels.{Member}
 use Rattle.crew_resource.proofs.Order.{IsOrder}
 use Rattle.crew_resource.proofs.Members.{Member-append, Member-append_left, Member-append_right, Member-filter_in, Member-filter_out, list_any_true, list_any_false}
 use Rattle.crew_pool.specs.Apart.{ApartFromAll, AreApart}
 use Rattle.crew_pool.specs.Meets.{is_free, vectors_of}
 use Rattle.crew_pool.specs.Tails.{IsPoolOf, lesser_tail, ranks_at_most, shown, tail_walk}
-use Rattle.crew_pool.specs.declared.pool.Tail.{Tail}
+use Rattle.crew_pool.specs.declared.tail.Tail.{Tail}
 use Rattle.crew_front.proofs.EntryLemmas.{none_passes}
-use Rattle.crew_front.proofs.OfferLocal.{Member-at, Member-get_or}
+use Rattle.crew_front.proofs.OfferLocal.{Member-at}
+use Rattle.crew_pool.proofs.Permuted.{Member-permuted}
 use Rattle.crew_pool.proofs.PoolLocal.{beaten_list, joined_list, tied_list}
 use Rattle.crew_pool.proofs.TailLemmas.{lesser_tail_facts, ranks_order}
 
@@ -112,20 +116,24 @@ module _ {V : Type 0} (below : V → V → Bool) where
   AreApart-append (x ∷ xs) ys h k out = (ApartFromAll-append x.0 xs ys h.0 (λ y m. out x y (inl refl) m), AreApart-append xs ys h.1 k (λ a b m n. out a b (inr m) n))
 
   -- the labels of a merged pool are apart
-  pub merged_apart : (before xs list : List (V × Tail)) → vectors_of xs ≡ vectors_of before → AreApart below (vectors_of before) → AreApart below (vectors_of list)
+  pub merged_apart : (before xs list : List (V × Tail)) → IsPermutation (vectors_of before) (vectors_of xs) → AreApart below (vectors_of xs) → AreApart below (vectors_of list)
       → AreApart below (vectors_of (filter (λ e. not (list_any (λ l. below l.0 e.0) (filter (is_free below (vectors_of before)) list))) xs ++ filter (is_free below (vectors_of before)) list))
   merged_apart before xs list same h k =
       let free = is_free below (vectors_of before) in
       let joins = filter free list in
       let stays = λ (e : V × Tail). not (list_any (λ l. below l.0 e.0) joins) in
-      AreApart-append (filter stays xs) joins (AreApart-filter stays xs (subst (AreApart below) (sym same) h)) (AreApart-filter free list k)
+      AreApart-append (filter stays xs) joins (AreApart-filter stays xs h) (AreApart-filter free list k)
       (λ x y m n.
       let p = Member-filter_out stays xs x m in
       let q = Member-filter_out free list y n in
-      let there : Member (vectors_of before) x.0 = subst (λ vs. Member vs x.0) same (Member-map_in (λ z. z.0) xs x p.0) in (
+      let there : Member (vectors_of before) x.0 = Member-permuted (vectors_of xs) (vectors_of before) (IsPermutation-sym (vectors_of before) (vectors_of xs) same) x.0 (Member-map_in (λ z. z.0) xs x p.0) in (
         list_any_false (λ u. below u y.0) (vectors_of before) (not-true (list_any (λ u. below u y.0) (vectors_of before)) q.1) x.0 there,
         list_any_false (λ l. below l.0 x.0) joins (not-true (list_any (λ l. below l.0 x.0) joins) p.1) y n,
       ))
+
+  -- the same labels stay free in any order
+  pub is_free-permuted : (us vs : List V) (l : V × Tail) → IsPermutation us vs → is_free below us l ≡ is_free below vs l
+  is_free-permuted us vs l p = ap not (list_any-IsPermutation (λ u. below u l.0) us vs p)
 
   any_map : (v : V) (ys : List (V × Tail)) → list_any (λ u. below u v) (vectors_of ys) ≡ list_any (λ e. below e.0 v) ys
   any_map v [] = refl
@@ -138,12 +146,18 @@ module _ {V : Type 0} (below : V → V → Bool) where
       ap not (any_map l.0 xs ∙ list_any_none (λ e. below e.0 l.0) xs all)
 
   -- a label is at most it
-  pub free_some : (xs : List (V × Tail)) (l : V × Tail) (i : ℕ) (e : V × Tail) → position (λ e. below e.0 l.0) xs ≡ Some i → e ≡ get_or xs i e → is_free below (vectors_of xs) l ≡ false
-  free_some xs l i e p is =
-      let k = position-Some (λ e. below e.0 l.0) xs i e p in
-      let there : Member (vectors_of xs) e.0 = Member-map_in (λ x. x.0) xs e (Member-get_or xs i e k.0 (sym is)) in
-      let lower : below e.0 l.0 ≡ true = subst (λ (z : V × Tail). below z.0 l.0 ≡ true) (sym is) k.1 in
-      ⊎_elim {C = is_free below (vectors_of xs) l ≡ false} (λ t. ap not t) (λ f. absurd (false≢true (sym (list_any_false (λ u. below u l.0) (vectors_of xs) f e.0 there) ∙ lower))) (cases_Bool (list_any (λ u. below u l.0) (vectors_of xs)))
+  pub free_some : (xs : List (V × Tail)) (l : V × Tail) (i : ℕ) → position (λ e. below e.0 l.0) xs ≡ Some i → is_free below (vectors_of xs) l ≡ false
+  free_some xs l i p =
+      let k = position-Some (λ e. below e.0 l.0) xs i l p in
+      let e = get_or xs i l in
+      let there : Member (vectors_of xs) e.0 = Member-map_in (λ x. x.0) xs e (Member-at xs i e (slice_get-get_or xs i l k.0)) in
+      ⊎_elim {C = is_free below (vectors_of xs) l ≡ false} (λ t. ap not t) (λ f. absurd (false≢true (sym (list_any_false (λ u. below u l.0) (vectors_of xs) f e.0 there) ∙ k.1))) (cases_Bool (list_any (λ u. below u l.0) (vectors_of xs)))
+
+  -- the label at the place that was found is at most it
+  pub found_lower : (xs : List (V × Tail)) (l : V × Tail) (i : ℕ) → position (λ e. below e.0 l.0) xs ≡ Some i → (held : V × Tail) → slice_get xs i ≡ Some held → below held.0 l.0 ≡ true
+  found_lower xs l i p held g =
+      let k = position-Some (λ e. below e.0 l.0) xs i l p in
+      subst (λ (z : V × Tail). below z.0 l.0 ≡ true) (some_is (get_or xs i l) held (slice_get xs i) (slice_get-get_or xs i l k.0) g) k.1
 
   module _ (order : IsOrder below) (ws : List (List ℕ)) where
     -- its vector is there: the lesser walk stays
@@ -165,7 +179,7 @@ module _ {V : Type 0} (below : V → V → Bool) where
         (t, λ q. false≢true (sym f ∙ (ap (below l.0) q ∙ order.reflexive l.0)))
 
     -- the free ones join, and the labels that they are at most go
-    pub merged_local : (before xs list : List (V × Tail)) (cs : List (V × List ℕ)) → vectors_of xs ≡ vectors_of before → AreApart below (vectors_of list)
+    pub merged_local : (before xs list : List (V × Tail)) (cs : List (V × List ℕ)) → IsPermutation (vectors_of before) (vectors_of xs) → AreApart below (vectors_of list)
         → IsPoolOf below (cs ++ map (shown ws) (filter (λ l. not (is_free below (vectors_of before) l)) list)) (map (shown ws) xs)
         → IsPoolOf below (cs ++ map (shown ws) list) (map (shown ws) (filter (λ e. not (list_any (λ l. below l.0 e.0) (filter (is_free below (vectors_of before)) list))) xs ++ filter (is_free below (vectors_of before)) list))
     merged_local before xs list cs same apart h =
@@ -180,7 +194,7 @@ module _ {V : Type 0} (below : V → V → Bool) where
         let p = Member-map_out (shown ws) xs x m in
         let q = Member-map_out (shown ws) joins s n in
         let k = Member-filter_out free list q.0 q.1 in
-        let there : Member (vectors_of before) p.0.0 = subst (λ vs. Member vs p.0.0) same (Member-map_in (λ z. z.0) xs p.0 p.1) in
+        let there : Member (vectors_of before) p.0.0 = Member-permuted (vectors_of xs) (vectors_of before) (IsPermutation-sym (vectors_of before) (vectors_of xs) same) p.0.0 (Member-map_in (λ z. z.0) xs p.0 p.1) in
         let none = list_any_false (λ u. below u q.0.0) (vectors_of before) (not-true (list_any (λ u. below u q.0.0) (vectors_of before)) k.1) p.0.0 there in
         subst (λ (z : V × List ℕ). below z.0 s.0 ≡ false) p.2 (subst (λ (z : V × List ℕ). below p.0.0 z.0 ≡ false) q.2 none))
         (λ x m.
@@ -220,3 +234,12 @@ module _ {V : Type 0} (below : V → V → Bool) where
         (λ x m.
         let p = Member-map_out (shown ws) joins x m in
         subst (Member (map (shown ws) (filter stays xs ++ joins))) p.2 (Member-map_in (shown ws) (filter stays xs ++ joins) p.0 (Member-append_right (filter stays xs) joins p.0 p.1)))
+
+-- of two vectors of which each is at most the other the held label has the newcomer's
+pub tied_at : {V : Type 0} (below : V → V → Bool) → IsOrder below → (xs : List (V × Tail)) (i : ℕ) (v : V) (e : V × Tail) → slice_get xs i ≡ Some e → below e.0 v ≡ true → below v e.0 ≡ true → slice_get xs i ≡ Some (v, e.1)
+tied_at below order xs i v e g p q = g ∙ ap (λ z. Some (z, e.1)) (order.antisymmetric e.0 v p q)
+
+-- what holds anyway holds where there is an error
+pub on_err : {T E P : Type 0} (r : Result T E) → P → OnErr r P
+on_err (Ok x) p = tt
+on_err (Err e) p = p

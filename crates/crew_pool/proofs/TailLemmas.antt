@@ -12,7 +12,7 @@ use Rattle.crew_resource.proofs.ListOrder.{at_most_order, lists_exact}
 use Rattle.crew_resource.proofs.Order.{IsOrder}
 use Rattle.crew_pool.specs.Arena.{walk_at}
 use Rattle.crew_pool.specs.Tails.{duty_of, tail_walk, ranks_at_most, lesser_tail, AreAlike}
-use Rattle.crew_pool.specs.declared.pool.Tail.{Tail}
+use Rattle.crew_pool.specs.declared.tail.Tail.{Tail}
 
 then_again : (a b c : Ordering) → ordering_then (ordering_then a b) c ≡ ordering_then a (ordering_then b c)
 then_again Less b c = refl

@@ -1,10 +1,10 @@
 -- Labels whose vectors tell how many duties their walks have.
-use Rattle.std.specs.Prelude.{◌≡◌, ℕ, ◌<◌, Bool, List, length, nat_eq, Option, ℤ, pos}
+use Rattle.std.specs.Prelude.{◌≡◌, ℕ, ◌<◌, Bool, List, length, nat_eq, true, Option, ℤ, pos}
 use Rattle.std.specs.List.{flat_map}
 use Rattle.crew_resource.specs.Events.{labelled}
 use Rattle.crew_resource.specs.Labels.{Member}
 use Rattle.crew_pool.specs.Tails.{tail_walk}
-use Rattle.crew_pool.specs.declared.pool.Tail.{Tail}
+use Rattle.crew_pool.specs.declared.tail.Tail.{Tail}
 
 -- the label's walk is there, stands whole or has a duty after it, and has as many duties as its vector counts
 pub record IsCounted {V : Type 0} (count : V → ℤ) (walks : List (List ℕ)) (whole : Bool) (l : V × Tail) : Type 0 where
@@ -14,6 +14,10 @@ pub record IsCounted {V : Type 0} (count : V → ℤ) (walks : List (List ℕ)) 
 
 abbrev pub AreCounted : {V : Type 0} → (V → ℤ) → List (List ℕ) → Bool → List (V × Tail) → Type 0
 AreCounted {V} count walks whole labels = (l : V × Tail) → Member labels l → IsCounted count walks whole l
+
+-- the labels stand whole: no duty comes after a label's walk
+abbrev pub AreWhole : {V : Type 0} → List (V × Tail) → Type 0
+AreWhole {V} labels = (l : V × Tail) → Member labels l → nat_eq l.1.duty 4294967295 ≡ true
 
 -- a label after boarding a duty, if it boards
 abbrev pub boarded_label : {V : Type 0} → (V → Option V) → ℕ → V × Tail → List (V × Tail)

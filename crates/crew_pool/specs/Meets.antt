@@ -1,7 +1,7 @@
 -- Which labels of a list a pool leaves free.
 use Rattle.std.specs.Prelude.{Bool, List, not, map}
 use Rattle.std.specs.List.{list_any}
-use Rattle.crew_pool.specs.declared.pool.Tail.{Tail}
+use Rattle.crew_pool.specs.declared.tail.Tail.{Tail}
 
 -- no vector of the pool is at most the label's
 abbrev pub is_free : {V : Type 0} → (V → V → Bool) → List V → V × Tail → Bool

@@ -4,7 +4,7 @@ use Rattle.std.specs.Cmp.Lexicographic.{slice_cmp}
 use Rattle.std.specs.Ordering.{is_le, is_lt, nat_cmp}
 use Rattle.crew_resource.specs.Labels.{Member, IsLocal}
 use Rattle.crew_pool.specs.Arena.{walk_at}
-use Rattle.crew_pool.specs.declared.pool.Tail.{Tail}
+use Rattle.crew_pool.specs.declared.tail.Tail.{Tail}
 
 -- the walk of no duty, or of one
 abbrev pub duty_of : ℕ → List ℕ

@@ -1,36 +1,19 @@
 //! Lists of labels that board a duty into a pool.
 ghost use Rattle.std.specs.Prelude.{◌≡◌, ◌<◌, ℕ, List, [], ◌∷◌, ◌++◌, map, OnOk, OnErr, true, false};
 ghost use Rattle.std.specs.List.{flat_map};
+ghost use Rattle.std.specs.List.Sorted.{IsPermutation};
 ghost use Rattle.crew_resource.specs.Events.{labelled};
 ghost use Rattle.crew_resource.specs.Labels.{Member};
-ghost use Rattle.crew_pool.specs.Apart.{AreApart};
 ghost use Rattle.crew_pool.specs.Counted.{AreCounted, boarded_label, boarded_labels};
 ghost use Rattle.crew_pool.specs.Meets.{vectors_of};
 ghost use Rattle.crew_pool.specs.Tails.{IsPoolOf, shown};
 
 use crate::arena::Walks;
-use crate::pool::{Tail, merge};
+use crate::pool::Pool;
+use crate::room::Room;
+use crate::tail::Tail;
 use crew_resource::{Placed, Resource, Staged};
-use std::alloc::{AllocError, Global};
-
-/// Working space that is used again.
-///
-/// What it holds is cleared before it is used, so any space serves and no clause speaks of it.
-#[derive(Drop)]
-pub struct Room<V> {
-    boarded: Vec<(V, Tail)>,
-    free: Vec<(V, Tail)>,
-}
-
-impl<V> Room<V> {
-    /// No space yet.
-    pub fn new(alloc: Global) -> Self {
-        Room {
-            boarded: Vec::new(alloc),
-            free: Vec::new(alloc),
-        }
-    }
-}
+use std::alloc::AllocError;
 
 /// Boards a duty with each label of a list that can, and merges them into a pool.
 ///
@@ -41,9 +24,9 @@ impl<V> Room<V> {
 /// joined, but lesser walks may already stand at ties.
 pub fn absorb_boarding<P: Placed, R: Staged<P>>(
     resource: &R,
-    pool: &mut Vec<(R::Value, Tail)>,
+    pool: &mut Pool<R>,
     room: &mut Room<R::Value>,
-    list: &[(R::Value, Tail)],
+    list: &Pool<R>,
     item: &P,
     duty: u32,
     walks: &Walks,
@@ -52,17 +35,14 @@ pub fn absorb_boarding<P: Placed, R: Staged<P>>(
     requires counting { (most : ℕ) × (R.most resource.now ≡ Some most) }
     requires duty { duty < 4_294_967_295 }
     requires can { (l : R.Value × Tail) → Member list.now l → R.can_board resource.now l.0 item.now }
-    requires pool { AreApart R.below (vectors_of pool.old.items) }
-    requires list { AreApart R.below (vectors_of list.now) }
-    requires pool_counts { AreCounted (R.count_of resource.now) walks.now false pool.old.items }
+    requires pool_counts { AreCounted (R.count_of resource.now) walks.now false pool.old }
     requires list_counts { AreCounted (R.count_of resource.now) walks.now true list.now }
-    ensures local { OnOk result ((candidates : List (R.Value × List ℕ)) → IsPoolOf R.below candidates (map (shown walks.now) pool.old.items) → IsPoolOf R.below (candidates ++ flat_map (λ e. labelled (R.boards resource.now e.0 item.now) (e.1 ++ duty ∷ [])) (map (shown walks.now) list.now)) (map (shown walks.now) pool.new.items)) }
-    ensures apart { OnOk result (AreApart R.below (vectors_of pool.new.items)) }
-    ensures counts { OnOk result (AreCounted (R.count_of resource.now) walks.now false pool.new.items) }
-    ensures err { OnErr result (vectors_of pool.new.items ≡ vectors_of pool.old.items) }
+    ensures local { OnOk result ((candidates : List (R.Value × List ℕ)) → IsPoolOf R.below candidates (map (shown walks.now) pool.old) → IsPoolOf R.below (candidates ++ flat_map (λ e. labelled (R.boards resource.now e.0 item.now) (e.1 ++ duty ∷ [])) (map (shown walks.now) list.now)) (map (shown walks.now) pool.new)) }
+    ensures counts { OnOk result (AreCounted (R.count_of resource.now) walks.now false pool.new) }
+    ensures err { OnErr result (IsPermutation (vectors_of pool.old) (vectors_of pool.new)) }
 {
-    board_all(resource, &mut room.boarded, list, item, duty)?;
-    merge(resource, pool, &mut room.free, &room.boarded, walks)?;
+    board_all(resource, &mut room.boarded, list.as_slice(), item, duty)?;
+    pool.merge_list(resource, &mut room.free, &room.boarded, walks)?;
     Ok(())
 }
 
@@ -95,7 +75,7 @@ fn board_one<P: Placed, R: Staged<P>>(
     requires { R.can_board resource.now label.now.0 item.now }
     ensures { OnOk result (boarded.new.items ≡ boarded.old.items ++ boarded_label (λ v. R.boards resource.now v item.now) duty label.now) }
 {
-    let Some(value) = resource.board(&label.0, item)? else {
+    let Some(value) = resource.board(&label.0, item) else {
         return Ok(());
     };
     let walk = label.1.walk;

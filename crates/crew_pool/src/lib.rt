@@ -1,15 +1,24 @@
-//! Pools: the working lists of labels at one event. `merge` and `absorb_boarding` take a whole list of labels, of which
-//! none is at most another, and leave what all candidates so far leave. The walks of labels share their beginnings in
-//! `Walks`, and are compared only at equal vectors.
+//! Pools: the labels of one event, of which none is at most another. `Pool::merge` and `absorb_boarding` take a whole pool
+//! at once, and leave what all candidates so far leave. A `View` shows what of a departure's pool boards a duty, with no
+//! memory. The walks of labels share their beginnings in `Walks`, and are compared only at equal vectors.
 #![tactic(auto)]
 
 mod absorb;
 mod arena;
+mod entries;
+mod merge;
 mod pool;
+mod room;
+mod tail;
+mod view;
 
-pub use absorb::{Room, absorb_boarding};
+pub use absorb::absorb_boarding;
 pub use arena::Walks;
-pub use pool::{NO_DUTY, Tail, merge};
+pub use entries::Entries;
+pub use pool::Pool;
+pub use room::Room;
+pub use tail::{NO_DUTY, Tail};
+pub use view::View;
 
 #[cfg(test)]
 mod tests;

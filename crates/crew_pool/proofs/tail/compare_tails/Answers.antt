@@ -3,7 +3,7 @@ use Rattle.std.specs.Ordering.{nat_cmp, ordering_then}
 use Rattle.std.specs.Cmp.Lexicographic.{slice_cmp}
 use Rattle.crew_pool.specs.Arena.{walk_at}
 use Rattle.crew_pool.proofs.TailLemmas.{tails_cmp}
-use Rattle.crew_pool.proofs.pool.compare_tails.Goals as goal
+use Rattle.crew_pool.proofs.tail.compare_tails.Goals as goal
 
 pub returns : goal.returns
 returns c =
