@@ -150,12 +150,10 @@ fn resource() -> Seven {
 fn walk(alloc: Global, first: u32, second: u32) -> Result<Walk, Fail> {
     let mut keys = Vec::new(alloc);
     for number in [first, second] {
-        let mut legs = Vec::new(alloc);
-        legs.push(Leg {
+        keys.push(Key::of(Leg {
             flight: FlightId::new(number).ok_or("number")?,
             deadhead: false,
-        })?;
-        keys.push(Key::new(legs))?;
+        }))?;
     }
     Ok(Walk::new(keys))
 }

@@ -1,13 +1,20 @@
 use crate::{PairingVector, Parts, ReducedCost, laws, value_of_list};
-use crew_duty::{Departure, Duty, Key};
-use crew_flights::Code;
+use crew_duty::{Departure, Duty, Key, Leg};
+use crew_flights::{Code, FlightId};
 use crew_resource::{Cost, Resource, Staged};
 use crew_rules::Settings;
-use std::alloc::Global;
 use std::test::Fail;
 
 fn airport(letters: [u8; 3]) -> Result<Code, Fail> {
     Ok(Code::new(letters).ok_or("letters")?)
+}
+
+// The key of a duty of one flight: which one doesn't count here.
+fn key() -> Result<Key, Fail> {
+    Ok(Key::of(Leg {
+        flight: FlightId::new(1).ok_or("id")?,
+        deadhead: false,
+    }))
 }
 
 // A vector, in the order of its parts.
@@ -27,7 +34,7 @@ fn parts(numbers: [i64; 7]) -> Parts {
 #[test]
 fn vector_of_a_short_duty(rt: HostRuntime) -> Result<(), Fail> {
     let duty = Duty {
-        key: Key::new(Vec::new(rt.alloc())),
+        key: key()?,
         from: airport(*b"JFK")?,
         to: airport(*b"BOS")?,
         report: 29_189_460,
@@ -46,7 +53,7 @@ fn vector_of_a_short_duty(rt: HostRuntime) -> Result<(), Fail> {
 #[test]
 fn vector_of_a_long_duty(rt: HostRuntime) -> Result<(), Fail> {
     let duty = Duty {
-        key: Key::new(Vec::new(rt.alloc())),
+        key: key()?,
         from: airport(*b"JFK")?,
         to: airport(*b"BOS")?,
         report: 29_189_340,
@@ -62,11 +69,11 @@ fn vector_of_a_long_duty(rt: HostRuntime) -> Result<(), Fail> {
 }
 
 // Out at 2025-07-01T14:00 and on at 2025-07-02T12:00.
-fn two_duties(alloc: Global, settings: &Settings) -> Result<Option<Parts>, Fail> {
+fn two_duties(settings: &Settings) -> Result<Option<Parts>, Fail> {
     settings.check()?;
     let (home, away, on) = (airport(*b"JFK")?, airport(*b"BOS")?, airport(*b"ORD")?);
     let first = Duty {
-        key: Key::new(Vec::new(alloc)),
+        key: key()?,
         from: home,
         to: away,
         report: 29_189_580,
@@ -77,7 +84,7 @@ fn two_duties(alloc: Global, settings: &Settings) -> Result<Option<Parts>, Fail>
         price: 0,
     };
     let second = Duty {
-        key: Key::new(Vec::new(alloc)),
+        key: key()?,
         from: away,
         to: on,
         report: 29_190_900,
@@ -93,7 +100,7 @@ fn two_duties(alloc: Global, settings: &Settings) -> Result<Option<Parts>, Fail>
 #[test]
 fn vector_of_two_duties(rt: HostRuntime) -> Result<(), Fail> {
     let standard = Settings::standard();
-    let value = two_duties(rt.alloc(), &standard)?.ok_or("no value")?;
+    let value = two_duties(&standard)?.ok_or("no value")?;
     assert!(rt; value == parts([5_040, 5_880, 8_400, 250, 130, 2, 1_470]));
     let reached = Settings {
         fdp_cap: 250,
@@ -102,45 +109,33 @@ fn vector_of_two_duties(rt: HostRuntime) -> Result<(), Fail> {
         away_cap: 1_470,
         ..standard
     };
-    assert!(rt; two_duties(rt.alloc(), &reached)?.is_some());
+    assert!(rt; two_duties(&reached)?.is_some());
     assert!(rt;
-        two_duties(
-            rt.alloc(),
-            &Settings {
-                fdp_cap: 249,
-                ..standard
-            }
-        )?
+        two_duties(&Settings {
+            fdp_cap: 249,
+            ..standard
+        })?
         .is_none()
     );
     assert!(rt;
-        two_duties(
-            rt.alloc(),
-            &Settings {
-                fly_cap: 129,
-                ..standard
-            }
-        )?
+        two_duties(&Settings {
+            fly_cap: 129,
+            ..standard
+        })?
         .is_none()
     );
     assert!(rt;
-        two_duties(
-            rt.alloc(),
-            &Settings {
-                max_duties: 1,
-                ..standard
-            }
-        )?
+        two_duties(&Settings {
+            max_duties: 1,
+            ..standard
+        })?
         .is_none()
     );
     assert!(rt;
-        two_duties(
-            rt.alloc(),
-            &Settings {
-                away_cap: 1_469,
-                ..standard
-            }
-        )?
+        two_duties(&Settings {
+            away_cap: 1_469,
+            ..standard
+        })?
         .is_none()
     );
     Ok(())

@@ -39,19 +39,17 @@ fn offer_of(line: &str) -> (Value, [u32; 2]) {
     (value, flights)
 }
 
-// The walk of one duty over two flights; a number that no flight has is left out.
+// The walk of two duties, each of one flight; a number that no flight has is left out.
 fn walk_of(alloc: Global, flights: &[u32; 2]) -> Result<Walk, AllocError> {
-    let mut legs = Vec::with_capacity(alloc, 2)?;
+    let mut keys = Vec::with_capacity(alloc, 2)?;
     for number in flights.iter() {
         if let Some(flight) = FlightId::new(*number) {
-            legs.push(Leg {
+            keys.push(Key::of(Leg {
                 flight,
                 deadhead: false,
-            })?;
+            }))?;
         }
     }
-    let mut keys = Vec::with_capacity(alloc, 1)?;
-    keys.push(Key::new(legs))?;
     Ok(Walk::new(keys))
 }
 
