@@ -1,6 +1,6 @@
 -- The order of the walks of tails.
 use Rattle.std.proofs.Common.{◌≡◌, ℕ, true, false, List, [], ◌∷◌, ◌++◌, ◌⊎◌, inl, inr, length, refl, sym, ◌∙◌, ap, subst, arith, ⊎_elim, Ordering}
-use Rattle.std.specs.Prelude.{nat_eq}
+use Rattle.std.specs.Prelude.{nat_eq, reverse}
 use Rattle.std.specs.Cmp.Lexicographic.{slice_cmp}
 use Rattle.std.specs.Ordering.{is_le, is_lt, nat_cmp, ordering_then, ordering_reverse}
 use Rattle.std.specs.declared.cmp.Ordering.TheVariants.{Less, Equal, Greater}
@@ -84,3 +84,11 @@ lesser_tail_facts walks a b =
     (λ f. let is : lesser_tail walks a b ≡ a = cond-false (is_lt (R wb wa)) b a f in
     (inl is, subst (λ z. ranks_at_most (tail_walk walks z) wa ≡ true) (sym is) (ranks_order.reflexive wa), subst (λ z. ranks_at_most (tail_walk walks z) wb ≡ true) (sym is) (less_is (R wb wa) (R wa wb) ((lists_total nat_cmp_total).antisymm wa wb) f)))
     (cases_Bool (is_lt (R wb wa)))
+
+-- a duty alone, or none, is the same turned round
+pub reverse-duty : (d : ℕ) → reverse (duty_of d) ≡ duty_of d
+reverse-duty d =
+    ⊎_elim {C = reverse (duty_of d) ≡ duty_of d}
+    (λ t. ap reverse (duty_none d t) ∙ sym (duty_none d t))
+    (λ f. ap reverse (duty_some d f) ∙ sym (duty_some d f))
+    (cases_Bool (nat_eq d 4294967295))

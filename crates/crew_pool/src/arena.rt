@@ -4,7 +4,9 @@ ghost use Rattle.std.specs.Cmp.Lexicographic.{slice_cmp};
 ghost use Rattle.std.specs.Ordering.{nat_cmp};
 ghost use Rattle.crew_pool.specs.Arena.{walk_at};
 ghost use Rattle.crew_pool.specs.ArenaLinks.{all_walks, AreLinked};
+ghost use Rattle.crew_pool.specs.Tails.{duty_of, tail_walk};
 
+use crate::tail::{NO_DUTY, Tail};
 use std::alloc::{AllocError, Global};
 use std::cmp::Ordering;
 use std::marker::Model;
@@ -71,6 +73,14 @@ impl Walks {
     {
         compare_links(&self.links, a, b)
     }
+
+    /// The walk of a tail, by rank, from its first duty on.
+    pub fn ranks(&self, alloc: Global, tail: Tail) -> Result<Vec<u32>, AllocError>
+        requires { tail.walk < length self.now }
+        ensures { IfOk result (λ ranks. ranks.items ≡ tail_walk self.now tail) }
+    {
+        ranks_of(alloc, &self.links, tail)
+    }
 }
 
 // Compares two walks from their last duties back to where they meet.
@@ -92,4 +102,32 @@ fn compare_links(links: &[Link], a: u32, b: u32) -> Ordering
         y = q.before;
     }
     order
+}
+
+// The walk of a tail: from its last duty back, and then turned round.
+fn ranks_of(alloc: Global, links: &[Link], tail: Tail) -> Result<Vec<u32>, AllocError>
+    requires linked { AreLinked 0 links.now }
+    requires walk { tail.walk < length (all_walks links.now) }
+    ensures { IfOk result (λ ranks. ranks.items ≡ tail_walk (all_walks links.now) tail) }
+{
+    let mut ranks = last_of(alloc, tail.duty)?;
+    let mut place = tail.walk;
+    while place != 0 {
+        let link = links[place as usize - 1];
+        ranks.push(link.duty)?;
+        place = link.before;
+    }
+    ranks.reverse();
+    Ok(ranks)
+}
+
+// The duty after a walk, if there is one.
+fn last_of(alloc: Global, duty: u32) -> Result<Vec<u32>, AllocError>
+    ensures { IfOk result (λ ranks. ranks.items ≡ duty_of duty) }
+{
+    let mut ranks = Vec::new(alloc);
+    if duty != NO_DUTY {
+        ranks.push(duty)?;
+    }
+    Ok(ranks)
 }

@@ -163,6 +163,12 @@ fn walks_share_their_beginnings(rt: HostRuntime) -> Result<(), Fail> {
     assert!(rt; walks.compare(longer, other) == Ordering::Less);
     assert!(rt; walks.compare(other, longer) == Ordering::Greater);
     assert!(rt; walks.compare(other, other) == Ordering::Equal);
+    let tail = Tail {
+        walk: other,
+        duty: 5,
+    };
+    let ranks = walks.ranks(rt.alloc(), tail)?;
+    assert!(rt; ranks.as_slice() == [7, 4, 5].as_slice());
     Ok(())
 }
 

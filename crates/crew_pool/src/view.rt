@@ -6,7 +6,7 @@ ghost use Rattle.crew_resource.specs.Events.{labelled};
 ghost use Rattle.crew_resource.specs.Labels.{Member};
 ghost use Rattle.crew_front.specs.Entries.{IsApart};
 ghost use Rattle.crew_pool.specs.Apart.{AreApart};
-ghost use Rattle.crew_pool.specs.Counted.{boarded_label, boarded_labels, AreWhole};
+ghost use Rattle.crew_pool.specs.Counted.{boarded_labels, AreWhole};
 ghost use Rattle.crew_pool.specs.Meets.{vectors_of};
 ghost use Rattle.crew_pool.specs.Tails.{shown};
 ghost use Rattle.crew_pool.specs.declared.tail.Tail.{Tail};

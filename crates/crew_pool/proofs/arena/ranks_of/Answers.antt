@@ -1,0 +1,42 @@
+use Rattle.std.proofs.Common.{◌-◌, List, ℕ, [], ◌∷◌, ◌++◌, get_or, arith, sym, ◌∙◌, ap}
+use Rattle.std.specs.Prelude.{reverse}
+use Rattle.std.proofs.lemmas.List.{reverse-append}
+use Rattle.crew_pool.specs.Arena.{walk_at}
+use Rattle.crew_pool.specs.ArenaLinks.{all_walks}
+use Rattle.crew_pool.specs.declared.arena.Link.{Link}
+use Rattle.crew_pool.proofs.ArenaLemmas.{first_walk, length-all_walks, one_more, walk_of_link}
+use Rattle.crew_pool.proofs.TailLemmas.{reverse-duty}
+use Rattle.crew_pool.proofs.arena.ranks_of.Goals as goal
+
+pub loop-place-init : goal.loop-place-init
+loop-place-init c =
+    (c.requires.walk, ap (λ (xs : List ℕ). walk_at (all_walks c.args.links.now) c.args.tail.walk ++ xs) (sym (reverse-duty c.args.tail.duty) ∙ ap reverse (sym c.in_ok-ranks.ensures)))
+
+pub bounds-links-place : goal.bounds-links-place
+bounds-links-place c =
+    let i = c.loop-place.invariant in
+    let n = length-all_walks c.args.links.now in
+    omega (arith, i.0)
+
+pub loop-place-smaller : goal.loop-place-smaller
+loop-place-smaller c =
+    let d : Link = record { before = 0; duty = 0 } in
+    (walk_of_link c.args.links.now c.loop-place.place d c.requires.linked (omega arith) c.loop-place.invariant.0).0
+
+pub loop-place-preserved : goal.loop-place-preserved
+loop-place-preserved c =
+    let i = c.loop-place.invariant in
+    let d : Link = record { before = 0; duty = 0 } in
+    let ls = c.args.links.now in
+    let ws = all_walks ls in
+    let k = walk_of_link ls c.loop-place.place d c.requires.linked (omega arith) i.0 in
+    let p = get_or ls (c.loop-place.place - 1) d in (
+      omega (arith, k.0, i.0),
+      one_more (walk_at ws c.loop-place.place) (walk_at ws p.before) (reverse c.loop-place.ranks.items) _ p.duty i.1 k.1
+          ∙ ap (λ (xs : List ℕ). walk_at ws p.before ++ xs) (sym (ap reverse c.in_ok-push.ensures.items ∙ reverse-append c.loop-place.ranks.items (p.duty ∷ []))),
+    )
+
+pub returns : goal.returns
+returns c =
+    let i = c.loop-place.invariant in
+    c.reverse.ensures.items ∙ sym (i.1 ∙ ap (λ (xs : List ℕ). xs ++ reverse c.loop-place.ranks.items) (ap (walk_at (all_walks c.args.links.now)) c.loop-place-test.false ∙ first_walk c.args.links.now))
