@@ -1,1 +1,2 @@
 pub mod Sevens
+pub mod Marked

@@ -1,19 +1,27 @@
-//! Offers vectors with their walks to a front, for `bench/fronts`.
+//! Offers vectors with their walks to a front, or merges lists of them into a pool, for `bench/fronts`.
 //!
-//! Each line of the input has the seven numbers of a vector and the numbers of two flights. The first word after the
-//! program's name says how often all of them are offered to a new front. It prints how many entries the last front has,
-//! and the sum of their first numbers.
+//! Each line of the input has the seven numbers of a vector and the numbers of two flights. The words after the
+//! program's name are `offer` or `absorb`, and how often that is done with all of them; so again for further words.
+//! `offer` offers them to a new front. `absorb` cuts them into lists of 32, makes each list a pool of its own, and each
+//! time merges these into a new pool. It prints how many entries the last front or pool has, and the sum of their first
+//! numbers.
 #![tactic(auto)]
 
+mod marked;
 mod seven;
 
 use crew_duty::{Key, Leg, Walk};
 use crew_flights::FlightId;
 use crew_front::Front;
+use crew_pool::{Room, Walks};
+use marked::Marked;
 use seven::{Seven, Value};
 use std::alloc::{AllocError, Global};
 use std::env;
 use std::io::{self, BufRead, BufReader};
+
+// How many labels a list has.
+const LIST: usize = 32;
 
 // The vector and the flights of a line; what is left out is 0.
 fn offer_of(line: &str) -> (Value, [u32; 2]) {
@@ -66,21 +74,86 @@ fn offer_all(alloc: Global, offers: &[(Value, Walk)]) -> Result<(usize, i64), Al
     Ok((front.len(), sum))
 }
 
+// Merges lists of labels into a new pool, one by one.
+fn absorb_all(alloc: Global, lists: &[Marked]) -> Result<Marked, AllocError> {
+    let walks = Walks::new(alloc);
+    let mut room = Room::new(alloc);
+    let mut pool = Marked::new(alloc);
+    for list in lists {
+        pool.merge(&mut room, list, &walks)?;
+    }
+    Ok(pool)
+}
+
+// The vectors as lists of labels: the duty of each is the number of its line.
+fn lists_of(alloc: Global, offers: &[(Value, Walk)]) -> Result<Vec<Marked>, AllocError> {
+    let mut singles = Vec::new(alloc);
+    for (number, (value, _)) in offers.iter().enumerate() {
+        singles.push(Marked::one(alloc, *value, number)?)?;
+    }
+    let mut lists = Vec::new(alloc);
+    for some in singles.chunks(LIST) {
+        lists.push(absorb_all(alloc, some)?)?;
+    }
+    Ok(lists)
+}
+
+// How many labels a pool has, and the sum of their first numbers.
+fn told(pool: &Marked) -> (usize, i64) {
+    let labels = pool.labels();
+    let mut sum = 0i64;
+    for (value, _) in labels {
+        sum = sum.wrapping_add(value.a);
+    }
+    (labels.len(), sum)
+}
+
+// Offers all so many times.
+fn offer_rounds(
+    alloc: Global,
+    offers: &[(Value, Walk)],
+    rounds: u32,
+) -> Result<(usize, i64), AllocError> {
+    let mut last = (0, 0);
+    for _ in 0..rounds {
+        last = offer_all(alloc, offers)?;
+    }
+    Ok(last)
+}
+
+// Merges all so many times.
+fn absorb_rounds(
+    alloc: Global,
+    offers: &[(Value, Walk)],
+    rounds: u32,
+) -> Result<(usize, i64), AllocError> {
+    let lists = lists_of(alloc, offers)?;
+    let mut last = (0, 0);
+    for _ in 0..rounds {
+        last = told(&absorb_all(alloc, &lists)?);
+    }
+    Ok(last)
+}
+
 fn main(rt: HostRuntime) -> io::Result<()> {
     let alloc = rt.alloc();
-    let mut rounds = 0;
-    for word in env::args(&rt)? {
-        rounds = word.parse::<u32>().unwrap_or(0);
-    }
     let mut offers = Vec::new(alloc);
     for line in BufReader::new(alloc, rt.reader())?.lines(alloc) {
         let (value, flights) = offer_of(line?.as_str());
         offers.push((value, walk_of(alloc, &flights)?))?;
     }
-    let mut last = (0, 0);
-    for _ in 0..rounds {
-        last = offer_all(alloc, &offers)?;
+    let mut absorbs = false;
+    for word in env::args(&rt)? {
+        let Ok(rounds) = word.parse::<u32>() else {
+            absorbs = word.as_str() == "absorb";
+            continue;
+        };
+        let last = if absorbs {
+            absorb_rounds(alloc, &offers, rounds)?
+        } else {
+            offer_rounds(alloc, &offers, rounds)?
+        };
+        println!(rt; "{} {}", last.0, last.1)?;
     }
-    println!(rt; "{} {}", last.0, last.1)?;
     Ok(())
 }
