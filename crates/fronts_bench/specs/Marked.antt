@@ -2,11 +2,6 @@
 use Rattle.std.specs.Prelude.{◌≡◌, List, false, nat_eq}
 use Rattle.crew_resource.specs.Labels.{Member}
 use Rattle.crew_pool.specs.declared.tail.Tail.{Tail}
-use Rattle.fronts_bench.specs.declared.seven.Value.{Value}
-
--- labels of seven numbers
-abbrev pub SevenLabels : Type 0
-SevenLabels = List (Value × Tail)
 
 -- no walk before a duty
 pub record IsMarked (t : Tail) : Type 0 where

@@ -8,14 +8,14 @@
 #![tactic(auto)]
 
 mod marked;
-mod seven;
 
 use crew_duty::{Key, Leg, Walk};
 use crew_flights::FlightId;
 use crew_front::Front;
 use crew_pool::{Room, Walks};
+use crew_rules::Settings;
+use crew_vector::{PairingVector, Parts};
 use marked::Marked;
-use seven::{Seven, Value};
 use std::alloc::{AllocError, Global};
 use std::env;
 use std::io::{self, BufRead, BufReader};
@@ -24,7 +24,7 @@ use std::io::{self, BufRead, BufReader};
 const LIST: usize = 32;
 
 // The vector and the flights of a line; what is left out is 0.
-fn offer_of(line: &str) -> (Value, [u32; 2]) {
+fn offer_of(line: &str) -> (Parts, [u32; 2]) {
     let mut numbers = [0i64; 7];
     let mut flights = [0u32; 2];
     for (place, word) in line.split_whitespace().enumerate() {
@@ -34,15 +34,15 @@ fn offer_of(line: &str) -> (Value, [u32; 2]) {
             *flight = word.parse::<u32>().unwrap_or(0);
         }
     }
-    let [a, b, c, d, e, duties, f] = numbers;
-    let value = Value {
-        a,
-        b,
-        c,
-        d,
-        e,
+    let [duty_pay, trip_rig, guarantee, fdp, fly, duties, away] = numbers;
+    let value = Parts {
+        duty_pay,
+        trip_rig,
+        guarantee,
+        fdp,
+        fly,
         duties,
-        f,
+        away,
     };
     (value, flights)
 }
@@ -61,32 +61,38 @@ fn walk_of(alloc: Global, flights: &[u32; 2]) -> Result<Walk, AllocError> {
     Ok(Walk::new(keys))
 }
 
+// The resource that has the order of the vectors.
+fn vector() -> PairingVector {
+    PairingVector::new(&Settings::standard(), 0)
+}
+
 // Offers all to a new front, and gives how many entries it has and the sum of their first numbers.
-fn offer_all(alloc: Global, offers: &[(Value, Walk)]) -> Result<(usize, i64), AllocError> {
-    let mut front = Front::new(alloc, Seven);
+fn offer_all(alloc: Global, offers: &[(Parts, Walk)]) -> Result<(usize, i64), AllocError> {
+    let mut front = Front::new(alloc, vector());
     for (value, walk) in offers {
         front.offer(*value, walk.copy(alloc)?)?;
     }
     let mut sum = 0i64;
     for (value, _) in front.iter() {
-        sum = sum.wrapping_add(value.a);
+        sum = sum.wrapping_add(value.duty_pay);
     }
     Ok((front.len(), sum))
 }
 
 // Merges lists of labels into a new pool, one by one.
 fn absorb_all(alloc: Global, lists: &[Marked]) -> Result<Marked, AllocError> {
+    let vector = vector();
     let walks = Walks::new(alloc);
     let mut room = Room::new(alloc);
     let mut pool = Marked::new(alloc);
     for list in lists {
-        pool.merge(&mut room, list, &walks)?;
+        pool.merge(&vector, &mut room, list, &walks)?;
     }
     Ok(pool)
 }
 
 // The vectors as lists of labels: the duty of each is the number of its line.
-fn lists_of(alloc: Global, offers: &[(Value, Walk)]) -> Result<Vec<Marked>, AllocError> {
+fn lists_of(alloc: Global, offers: &[(Parts, Walk)]) -> Result<Vec<Marked>, AllocError> {
     let mut singles = Vec::new(alloc);
     for (number, (value, _)) in offers.iter().enumerate() {
         singles.push(Marked::one(alloc, *value, number)?)?;
@@ -103,7 +109,7 @@ fn told(pool: &Marked) -> (usize, i64) {
     let labels = pool.labels();
     let mut sum = 0i64;
     for (value, _) in labels {
-        sum = sum.wrapping_add(value.a);
+        sum = sum.wrapping_add(value.duty_pay);
     }
     (labels.len(), sum)
 }
@@ -111,7 +117,7 @@ fn told(pool: &Marked) -> (usize, i64) {
 // Offers all so many times.
 fn offer_rounds(
     alloc: Global,
-    offers: &[(Value, Walk)],
+    offers: &[(Parts, Walk)],
     rounds: u32,
 ) -> Result<(usize, i64), AllocError> {
     let mut last = (0, 0);
@@ -124,7 +130,7 @@ fn offer_rounds(
 // Merges all so many times.
 fn absorb_rounds(
     alloc: Global,
-    offers: &[(Value, Walk)],
+    offers: &[(Parts, Walk)],
     rounds: u32,
 ) -> Result<(usize, i64), AllocError> {
     let lists = lists_of(alloc, offers)?;

@@ -1,20 +1,22 @@
 //! Pools of labels with one duty each.
-ghost use Rattle.std.specs.Prelude.{◌≡◌, [], ◌∷◌};
-ghost use Rattle.fronts_bench.specs.Marked.{AreMarked, IsMarked, SevenLabels};
+ghost use Rattle.std.specs.Prelude.{◌≡◌, List, [], ◌∷◌};
+ghost use Rattle.crew_pool.specs.declared.tail.Tail.{Tail};
+ghost use Rattle.crew_vector.specs.declared.parts.Parts.{Parts};
+ghost use Rattle.fronts_bench.specs.Marked.{AreMarked, IsMarked};
 
-use crate::seven::{Seven, Value};
 use crew_pool::{NO_DUTY, Pool, Room, Tail, Walks};
+use crew_vector::{PairingVector, Parts};
 use std::alloc::{AllocError, Global};
 use std::marker::Model;
 
 /// A pool in which the walk of each label is one duty.
 #[derive(Drop)]
 pub struct Marked {
-    pool: Pool<Seven>,
+    pool: Pool<PairingVector>,
 }
 
 impl Model for Marked {
-    ghost Value = { SevenLabels };
+    ghost Value = { List (Parts × Tail) };
 
     ghost view = { λ m. m.pool };
 
@@ -41,7 +43,7 @@ impl Marked {
     }
 
     /// One label, with the duty of this number.
-    pub fn one(alloc: Global, value: Value, number: usize) -> Result<Self, AllocError> {
+    pub fn one(alloc: Global, value: Parts, number: usize) -> Result<Self, AllocError> {
         let mut labels = Vec::with_capacity(alloc, 1)?;
         labels.push((value, tail_of(number)))?;
         Ok(Marked {
@@ -50,20 +52,21 @@ impl Marked {
     }
 
     /// The labels.
-    pub fn labels(&self) -> &[(Value, Tail)] {
+    pub fn labels(&self) -> &[(Parts, Tail)] {
         self.pool.as_slice()
     }
 
     /// Merges another pool into this one.
     pub fn merge(
         &mut self,
-        room: &mut Room<Value>,
+        vector: &PairingVector,
+        room: &mut Room<Parts>,
         list: &Marked,
         walks: &Walks,
     ) -> Result<(), AllocError>
         requires { walks.now ≡ [] ∷ [] }
     {
-        self.pool.merge(&Seven, room, &list.pool, walks)?;
+        self.pool.merge(vector, room, &list.pool, walks)?;
         Ok(())
     }
 }
