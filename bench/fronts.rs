@@ -18,12 +18,9 @@ struct Value {
 
 impl Value {
     fn at_most(&self, other: &Value) -> bool {
-        (self.a <= other.a)
-            & ((self.b <= other.b)
-                & ((self.c <= other.c)
-                    & ((self.d <= other.d)
-                        & ((self.e <= other.e)
-                            & ((self.duties <= other.duties) & (self.f <= other.f))))))
+        let money = (self.a <= other.a) & ((self.b <= other.b) & (self.c <= other.c));
+        let minutes = (self.d <= other.d) & (self.e <= other.e);
+        money & (minutes & ((self.duties <= other.duties) & (self.f <= other.f)))
     }
 
     fn grade(&self) -> u32 {
