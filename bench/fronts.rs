@@ -1,4 +1,5 @@
-// The front of `crates/crew_front` in plain Rust, for `bench/fronts`: `rustc -O`, words and output as `crates/fronts_bench`.
+// The front of `crates/crew_front` and the pool of `crates/crew_pool` in plain Rust, for `bench/fronts`: `rustc -O`, words
+// and output as `crates/fronts_bench`.
 //
 // With the word `draw` it gives in place of that the lines of the input whose vectors no other line beats, each vector once.
 use std::cmp::Ordering;
@@ -17,12 +18,9 @@ struct Value {
 
 impl Value {
     fn at_most(&self, other: &Value) -> bool {
-        (self.a <= other.a)
-            & ((self.b <= other.b)
-                & ((self.c <= other.c)
-                    & ((self.d <= other.d)
-                        & ((self.e <= other.e)
-                            & ((self.duties <= other.duties) & (self.f <= other.f))))))
+        let money = (self.a <= other.a) & ((self.b <= other.b) & (self.c <= other.c));
+        let minutes = (self.d <= other.d) & (self.e <= other.e);
+        money & (minutes & ((self.duties <= other.duties) & (self.f <= other.f)))
     }
 
     fn grade(&self) -> u32 {
@@ -83,6 +81,90 @@ impl Front {
     }
 }
 
+const NO_DUTY: u32 = u32::MAX;
+const SETTLED: usize = 4;
+const LIST: usize = 32;
+
+#[derive(Clone, Copy)]
+struct Tail {
+    walk: u32,
+    duty: u32,
+}
+
+#[derive(Clone, Copy)]
+struct Link {
+    before: u32,
+    duty: u32,
+}
+
+#[derive(Default)]
+struct Walks {
+    links: Vec<Link>,
+}
+
+impl Walks {
+    fn compare(&self, a: u32, b: u32) -> Ordering {
+        let (mut x, mut y) = (a, b);
+        let mut order = Ordering::Equal;
+        while x != y {
+            let p = self.links[x as usize - 1];
+            let q = self.links[y as usize - 1];
+            order = p.duty.cmp(&q.duty).then(order);
+            x = p.before;
+            y = q.before;
+        }
+        order
+    }
+}
+
+#[derive(Default)]
+struct Room {
+    free: Vec<(Value, Tail)>,
+}
+
+#[derive(Default)]
+struct Pool {
+    labels: Vec<(Value, Tail)>,
+}
+
+impl Pool {
+    fn one(value: Value, number: usize) -> Self {
+        let duty = if number < NO_DUTY as usize { number as u32 } else { 0 };
+        Pool { labels: vec![(value, Tail { walk: 0, duty })] }
+    }
+
+    fn meet(&mut self, room: &mut Room, label: &(Value, Tail), walks: &Walks) {
+        let Some(place) = self.labels.iter().position(|held| held.0.at_most(&label.0)) else {
+            room.free.push(*label);
+            return;
+        };
+        let held = &mut self.labels[place];
+        if label.0.at_most(&held.0) {
+            let (tail, was) = (label.1, held.1);
+            if walks.compare(tail.walk, was.walk).then(tail.duty.cmp(&was.duty)).is_lt() {
+                held.1 = tail;
+            }
+        }
+        if place >= SETTLED {
+            self.labels.swap(place, place / 2);
+        }
+    }
+
+    fn merge(&mut self, room: &mut Room, list: &Pool, walks: &Walks) {
+        room.free.clear();
+        for label in &list.labels {
+            self.meet(room, label, walks);
+        }
+        self.labels.reserve(room.free.len());
+        self.labels.retain(|held| !room.free.iter().any(|label| label.0.at_most(&held.0)));
+        self.labels.append(&mut room.free);
+    }
+
+    fn told(&self) -> (usize, i64) {
+        (self.labels.len(), self.labels.iter().fold(0i64, |sum, label| sum.wrapping_add(label.0.a)))
+    }
+}
+
 fn offer_of(line: &str) -> (Value, Walk) {
     let n: Vec<i64> = line.split_whitespace().map(|word| word.parse().unwrap_or(0)).collect();
     let legs = n[7..9].iter().map(|flight| Leg { flight: *flight as u32, deadhead: false }).collect();
@@ -98,7 +180,24 @@ fn offer_all(offers: &[(Value, Walk)]) -> (usize, i64) {
     (front.entries.len(), front.entries.iter().fold(0i64, |sum, entry| sum.wrapping_add(entry.0.a)))
 }
 
+#[inline(never)]
+fn absorb_all(lists: &[Pool]) -> Pool {
+    let walks = Walks::default();
+    let mut room = Room::default();
+    let mut pool = Pool::default();
+    for list in lists {
+        pool.merge(&mut room, list, &walks);
+    }
+    pool
+}
+
+fn lists_of(offers: &[(Value, Walk)]) -> Vec<Pool> {
+    let singles: Vec<Pool> = offers.iter().enumerate().map(|(number, (value, _))| Pool::one(*value, number)).collect();
+    singles.chunks(LIST).map(absorb_all).collect()
+}
+
 fn main() {
+    let absorbs = std::env::args().any(|word| word == "absorb");
     let word = std::env::args().last().unwrap_or_default();
     let lines: Vec<String> = BufReader::new(std::io::stdin()).lines().map_while(Result::ok).collect();
     let offers: Vec<(Value, Walk)> = lines.iter().map(|line| offer_of(line)).collect();
@@ -116,9 +215,17 @@ fn main() {
         }
         return;
     }
+    let rounds: u32 = word.parse().unwrap_or(0);
     let mut last = (0, 0);
-    for _ in 0..word.parse().unwrap_or(0) {
-        last = offer_all(&offers);
+    if absorbs {
+        let lists = lists_of(&offers);
+        for _ in 0..rounds {
+            last = absorb_all(&lists).told();
+        }
+    } else {
+        for _ in 0..rounds {
+            last = offer_all(&offers);
+        }
     }
     println!("{} {}", last.0, last.1);
 }

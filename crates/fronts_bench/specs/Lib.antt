@@ -1,1 +1,1 @@
-pub mod Sevens
+pub mod Marked

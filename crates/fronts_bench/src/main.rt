@@ -1,22 +1,30 @@
-//! Offers vectors with their walks to a front, for `bench/fronts`.
+//! Offers vectors with their walks to a front, or merges lists of them into a pool, for `bench/fronts`.
 //!
-//! Each line of the input has the seven numbers of a vector and the numbers of two flights. The first word after the
-//! program's name says how often all of them are offered to a new front. It prints how many entries the last front has,
-//! and the sum of their first numbers.
+//! Each line of the input has the seven numbers of a vector and the numbers of two flights. The words after the
+//! program's name are `offer` or `absorb`, and how often that is done with all of them; so again for further words.
+//! `offer` offers them to a new front. `absorb` cuts them into lists of 32, makes each list a pool of its own, and each
+//! time merges these into a new pool. It prints how many entries the last front or pool has, and the sum of their first
+//! numbers.
 #![tactic(auto)]
 
-mod seven;
+mod marked;
 
 use crew_duty::{Key, Leg, Walk};
 use crew_flights::FlightId;
 use crew_front::Front;
-use seven::{Seven, Value};
+use crew_pool::{Room, Walks};
+use crew_rules::Settings;
+use crew_vector::{PairingVector, Parts};
+use marked::Marked;
 use std::alloc::{AllocError, Global};
 use std::env;
 use std::io::{self, BufRead, BufReader};
 
+// How many labels a list has.
+const LIST: usize = 32;
+
 // The vector and the flights of a line; what is left out is 0.
-fn offer_of(line: &str) -> (Value, [u32; 2]) {
+fn offer_of(line: &str) -> (Parts, [u32; 2]) {
     let mut numbers = [0i64; 7];
     let mut flights = [0u32; 2];
     for (place, word) in line.split_whitespace().enumerate() {
@@ -26,15 +34,15 @@ fn offer_of(line: &str) -> (Value, [u32; 2]) {
             *flight = word.parse::<u32>().unwrap_or(0);
         }
     }
-    let [a, b, c, d, e, duties, f] = numbers;
-    let value = Value {
-        a,
-        b,
-        c,
-        d,
-        e,
+    let [duty_pay, trip_rig, guarantee, fdp, fly, duties, away] = numbers;
+    let value = Parts {
+        duty_pay,
+        trip_rig,
+        guarantee,
+        fdp,
+        fly,
         duties,
-        f,
+        away,
     };
     (value, flights)
 }
@@ -53,34 +61,105 @@ fn walk_of(alloc: Global, flights: &[u32; 2]) -> Result<Walk, AllocError> {
     Ok(Walk::new(keys))
 }
 
+// The resource that has the order of the vectors.
+fn vector() -> PairingVector {
+    PairingVector::new(&Settings::standard(), 0)
+}
+
 // Offers all to a new front, and gives how many entries it has and the sum of their first numbers.
-fn offer_all(alloc: Global, offers: &[(Value, Walk)]) -> Result<(usize, i64), AllocError> {
-    let mut front = Front::new(alloc, Seven);
+fn offer_all(alloc: Global, offers: &[(Parts, Walk)]) -> Result<(usize, i64), AllocError> {
+    let mut front = Front::new(alloc, vector());
     for (value, walk) in offers {
         front.offer(*value, walk.copy(alloc)?)?;
     }
     let mut sum = 0i64;
     for (value, _) in front.iter() {
-        sum = sum.wrapping_add(value.a);
+        sum = sum.wrapping_add(value.duty_pay);
     }
     Ok((front.len(), sum))
 }
 
+// Merges lists of labels into a new pool, one by one.
+fn absorb_all(alloc: Global, lists: &[Marked]) -> Result<Marked, AllocError> {
+    let vector = vector();
+    let walks = Walks::new(alloc);
+    let mut room = Room::new(alloc);
+    let mut pool = Marked::new(alloc);
+    for list in lists {
+        pool.merge(&vector, &mut room, list, &walks)?;
+    }
+    Ok(pool)
+}
+
+// The vectors as lists of labels: the duty of each is the number of its line.
+fn lists_of(alloc: Global, offers: &[(Parts, Walk)]) -> Result<Vec<Marked>, AllocError> {
+    let mut singles = Vec::new(alloc);
+    for (number, (value, _)) in offers.iter().enumerate() {
+        singles.push(Marked::one(alloc, *value, number)?)?;
+    }
+    let mut lists = Vec::new(alloc);
+    for some in singles.chunks(LIST) {
+        lists.push(absorb_all(alloc, some)?)?;
+    }
+    Ok(lists)
+}
+
+// How many labels a pool has, and the sum of their first numbers.
+fn told(pool: &Marked) -> (usize, i64) {
+    let labels = pool.labels();
+    let mut sum = 0i64;
+    for (value, _) in labels {
+        sum = sum.wrapping_add(value.duty_pay);
+    }
+    (labels.len(), sum)
+}
+
+// Offers all so many times.
+fn offer_rounds(
+    alloc: Global,
+    offers: &[(Parts, Walk)],
+    rounds: u32,
+) -> Result<(usize, i64), AllocError> {
+    let mut last = (0, 0);
+    for _ in 0..rounds {
+        last = offer_all(alloc, offers)?;
+    }
+    Ok(last)
+}
+
+// Merges all so many times.
+fn absorb_rounds(
+    alloc: Global,
+    offers: &[(Parts, Walk)],
+    rounds: u32,
+) -> Result<(usize, i64), AllocError> {
+    let lists = lists_of(alloc, offers)?;
+    let mut last = (0, 0);
+    for _ in 0..rounds {
+        last = told(&absorb_all(alloc, &lists)?);
+    }
+    Ok(last)
+}
+
 fn main(rt: HostRuntime) -> io::Result<()> {
     let alloc = rt.alloc();
-    let mut rounds = 0;
-    for word in env::args(&rt)? {
-        rounds = word.parse::<u32>().unwrap_or(0);
-    }
     let mut offers = Vec::new(alloc);
     for line in BufReader::new(alloc, rt.reader())?.lines(alloc) {
         let (value, flights) = offer_of(line?.as_str());
         offers.push((value, walk_of(alloc, &flights)?))?;
     }
-    let mut last = (0, 0);
-    for _ in 0..rounds {
-        last = offer_all(alloc, &offers)?;
+    let mut absorbs = false;
+    for word in env::args(&rt)? {
+        let Ok(rounds) = word.parse::<u32>() else {
+            absorbs = word.as_str() == "absorb";
+            continue;
+        };
+        let last = if absorbs {
+            absorb_rounds(alloc, &offers, rounds)?
+        } else {
+            offer_rounds(alloc, &offers, rounds)?
+        };
+        println!(rt; "{} {}", last.0, last.1)?;
     }
-    println!(rt; "{} {}", last.0, last.1)?;
     Ok(())
 }

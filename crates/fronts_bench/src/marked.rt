@@ -1,0 +1,72 @@
+//! Pools of labels with one duty each.
+ghost use Rattle.std.specs.Prelude.{◌≡◌, List, [], ◌∷◌};
+ghost use Rattle.crew_pool.specs.declared.tail.Tail.{Tail};
+ghost use Rattle.crew_vector.specs.declared.parts.Parts.{Parts};
+ghost use Rattle.fronts_bench.specs.Marked.{AreMarked, IsMarked};
+
+use crew_pool::{NO_DUTY, Pool, Room, Tail, Walks};
+use crew_vector::{PairingVector, Parts};
+use std::alloc::{AllocError, Global};
+use std::marker::Model;
+
+/// A pool in which the walk of each label is one duty.
+#[derive(Drop)]
+pub struct Marked {
+    pool: Pool<PairingVector>,
+}
+
+impl Model for Marked {
+    ghost Value = { List (Parts × Tail) };
+
+    ghost view = { λ m. m.pool };
+
+    ghost invariant = { λ m. AreMarked m.pool };
+}
+
+// The walk of one duty.
+fn tail_of(number: usize) -> Tail
+    ensures { IsMarked result }
+{
+    let duty = u32::try_from(number).unwrap_or(0);
+    if duty == NO_DUTY {
+        return Tail { walk: 0, duty: 0 };
+    }
+    Tail { walk: 0, duty }
+}
+
+impl Marked {
+    /// No labels.
+    pub fn new(alloc: Global) -> Self {
+        Marked {
+            pool: Pool::new(alloc),
+        }
+    }
+
+    /// One label, with the duty of this number.
+    pub fn one(alloc: Global, value: Parts, number: usize) -> Result<Self, AllocError> {
+        let mut labels = Vec::with_capacity(alloc, 1)?;
+        labels.push((value, tail_of(number)))?;
+        Ok(Marked {
+            pool: Pool::from_apart(labels),
+        })
+    }
+
+    /// The labels.
+    pub fn labels(&self) -> &[(Parts, Tail)] {
+        self.pool.as_slice()
+    }
+
+    /// Merges another pool into this one.
+    pub fn merge(
+        &mut self,
+        vector: &PairingVector,
+        room: &mut Room<Parts>,
+        list: &Marked,
+        walks: &Walks,
+    ) -> Result<(), AllocError>
+        requires { walks.now ≡ [] ∷ [] }
+    {
+        self.pool.merge(vector, room, &list.pool, walks)?;
+        Ok(())
+    }
+}
