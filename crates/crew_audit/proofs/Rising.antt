@@ -14,7 +14,7 @@ use Rattle.crew_duty.specs.Listing.{all_duties}
 use Rattle.crew_duty.specs.Members.{Each, Member}
 use Rattle.crew_duty.specs.Plans.{Rises}
 use Rattle.crew_duty.specs.declared.duty.Duty.{Duty}
-use Rattle.crew_duty.specs.declared.leg.Leg.{Leg}
+use Rattle.crew_duty.specs.Legs.{Leg}
 use Rattle.crew_duty.proofs.InList.{Each-join, flat_map-Member}
 use Rattle.crew_duty.proofs.InOrder.{all-rise}
 use Rattle.crew_duty.proofs.Tree.{Each-member}

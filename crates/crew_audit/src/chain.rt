@@ -29,7 +29,7 @@ fn rest_before(settings: &Settings, last: &Duty, flight: &Flight) -> i64
     requires range { IsInRange last.now }
     ensures { result ≡ Spec.rest last.now (duty_of settings.now (timed false flight.now) []) }
 {
-    flight.dep.get() - i64::from(settings.lead) - last.release
+    flight.dep.get() - i64::from(settings.lead) - i64::from(last.release)
 }
 
 // Whether a duty that begins with this flight may stand just after this duty.
@@ -86,9 +86,9 @@ fn add_up(duties: &[Duty]) -> Sums
     };
     for duty in duties {
         sums = Sums {
-            fdp: sums.fdp + duty.fdp,
-            fly: sums.fly + duty.fly,
-            pay: sums.pay + duty.pay,
+            fdp: sums.fdp + i64::from(duty.fdp),
+            fly: sums.fly + i64::from(duty.fly),
+            pay: sums.pay + i64::from(duty.pay),
             price: sums.price + duty.price,
         };
     }
@@ -102,7 +102,7 @@ fn minutes_away(duties: &[Duty]) -> i64
     ensures bound { ((pos 0 -ℤ pos 60_000_000) ≤ℤ result) × (result ≤ℤ pos 60_000_000) }
 {
     match (duties.first(), duties.last()) {
-        (Some(first), Some(last)) => last.release - first.report,
+        (Some(first), Some(last)) => i64::from(last.release) - i64::from(first.report),
         _ => 0,
     }
 }

@@ -63,11 +63,11 @@ pub(crate) fn duty_from(settings: &Settings, first: &TimedLeg, others: &[TimedLe
         key,
         from: first.flight.from,
         to: last_leg(first, others).flight.to,
-        report,
-        release,
-        fdp: flight_duty_period(settings, first, others),
-        fly,
-        pay: duty_pay(settings, release - report, fly),
+        report: report as i32,
+        release: release as i32,
+        fdp: flight_duty_period(settings, first, others) as i32,
+        fly: fly as i32,
+        pay: duty_pay(settings, release - report, fly) as i32,
         price: price(first, others),
     }
 }

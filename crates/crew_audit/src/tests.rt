@@ -56,8 +56,8 @@ fn partial_text(alloc: Global, partial: &Partial) -> Result<String, Fail> {
         let mut between = ' ';
         for leg in key.legs() {
             text.push(between)?;
-            text.push_str(format!(in alloc; "{}", leg.flight.get())?.as_str())?;
-            if leg.deadhead {
+            text.push_str(format!(in alloc; "{}", leg.flight().get())?.as_str())?;
+            if leg.is_deadhead() {
                 text.push('d')?;
             }
             between = '-';

@@ -14,7 +14,7 @@ use Rattle.crew_duty.specs.Legality.{duty_of, last_of, leg_of, may_follow}
 use Rattle.crew_duty.specs.Listing.{all_duties, is_hopeless, listing, timed}
 use Rattle.crew_duty.specs.Members.{Each}
 use Rattle.crew_duty.specs.Plans.{AreFlights, Rises}
-use Rattle.crew_duty.specs.declared.leg.Leg.{Leg}
+use Rattle.crew_duty.specs.Legs.{Leg}
 use Rattle.crew_duty.specs.declared.leg.TimedLeg.{TimedLeg}
 use Rattle.crew_duty.specs.declared.duty.Duty.{Duty}
 use Rattle.crew_duty.proofs.Complete.{all-every, all-sound}

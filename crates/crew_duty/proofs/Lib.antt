@@ -1,4 +1,5 @@
 pub mod Sums
+pub mod Paid
 pub mod Parts
 pub mod Places
 pub mod Times

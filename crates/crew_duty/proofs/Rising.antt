@@ -6,7 +6,7 @@ use Rattle.std.proofs.lemmas.Cmp.{tied_itself}
 use Rattle.crew_duty.specs.Duties.{RiseByKey}
 use Rattle.crew_duty.specs.Keys.{key_cmp, leg_cmp, leg_total}
 use Rattle.crew_duty.specs.Members.{Each}
-use Rattle.crew_duty.specs.declared.leg.Leg.{Leg}
+use Rattle.crew_duty.specs.Legs.{Leg}
 use Rattle.crew_duty.specs.declared.duty.Duty.{Duty}
 use Rattle.crew_duty.proofs.InList.{Each-join}
 use Rattle.crew_duty.proofs.Tree.{Each-map}

@@ -4,7 +4,7 @@ use Rattle.std.specs.declared.cmp.Ordering.{Ordering}
 use Rattle.std.specs.Ordering.{bool_cmp, is_le, nat_cmp, then_cmp}
 use Rattle.std.specs.Cmp.{IsTotalOrder, bool_cmp_total, nat_cmp_total, on_total, then_total}
 use Rattle.std.specs.Cmp.Lexicographic.{lists_total, slice_cmp}
-use Rattle.crew_duty.specs.declared.leg.Leg.{Leg}
+use Rattle.crew_duty.specs.Legs.{Leg}
 
 -- legs by the number of their flight, flown before deadheaded
 abbrev pub leg_cmp : Leg → Leg → Ordering

@@ -8,7 +8,7 @@ use Rattle.crew_rules.specs.Pay.{duty_pay}
 use Rattle.crew_rules.specs.Tables.{table_a, table_b}
 use Rattle.crew_rules.specs.declared.settings.Settings.{Settings}
 use Rattle.crew_duty.specs.Members.{Each, Member}
-use Rattle.crew_duty.specs.declared.leg.Leg.{Leg}
+use Rattle.crew_duty.specs.Legs.{Leg}
 use Rattle.crew_duty.specs.declared.leg.TimedLeg.{TimedLeg}
 use Rattle.crew_duty.specs.declared.duty.Duty.{Duty}
 

@@ -2,6 +2,7 @@ pub mod Duties
 pub mod Events
 pub mod Keys
 pub mod Legality
+pub mod Legs
 pub mod Listing
 pub mod Members
 pub mod Pairings

@@ -15,15 +15,15 @@ pub struct Duty {
     /// Where its last leg arrives.
     pub to: Code,
     /// When the crew reports.
-    pub report: i64,
+    pub report: i32,
     /// When the crew is released.
-    pub release: i64,
+    pub release: i32,
     /// The minutes of its flight duty period, from report to the last arrival.
-    pub fdp: i64,
+    pub fdp: i32,
     /// Its flight minutes, those of the legs that the crew flies.
-    pub fly: i64,
+    pub fly: i32,
     /// Its pay.
-    pub pay: i64,
+    pub pay: i32,
     /// The prices of the flights that the crew flies.
     pub price: i64,
 }

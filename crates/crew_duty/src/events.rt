@@ -41,7 +41,7 @@ impl Placed for Duty {
     fn arrival(&self) -> Arrival {
         Arrival {
             airport: self.to,
-            release: self.release,
+            release: i64::from(self.release),
         }
     }
 
@@ -49,7 +49,7 @@ impl Placed for Duty {
     fn departure(&self) -> Departure {
         Departure {
             airport: self.from,
-            report: self.report,
+            report: i64::from(self.report),
         }
     }
 }

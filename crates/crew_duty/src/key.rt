@@ -4,7 +4,7 @@ ghost use Rattle.std.specs.Prelude.{◌≡◌, ◌≤◌, ◌++◌, ◌∷◌, [
 ghost use Rattle.std.proofs.Common.{refl};
 ghost use Rattle.std.specs.Ordering.{as_partial_cmp, eq_by_cmp};
 ghost use Rattle.std.specs.Cmp.{eq_by_cmp_equiv, partial_equiv_from_equiv, partial_order_from_total};
-ghost use Rattle.crew_duty.specs.declared.leg.Leg.{Leg};
+ghost use Rattle.crew_duty.specs.Legs.{Leg};
 ghost use Rattle.crew_duty.specs.Keys.{key_cmp, key_total, walk_cmp, walk_total};
 
 use crate::leg::Leg;
@@ -21,7 +21,7 @@ const LEGS: usize = 8;
 #[derive(Debug, Drop)]
 pub struct Key {
     legs: [Leg; LEGS],
-    count: usize,
+    count: u8,
 }
 
 impl Model for Key {
@@ -48,7 +48,7 @@ impl Key {
         requires { length self.old ≤ 7 }
         ensures { self.new ≡ self.old ++ leg ∷ [] }
     {
-        self.legs[self.count] = leg;
+        self.legs[self.count as usize] = leg;
         self.count += 1;
     }
 
@@ -56,14 +56,14 @@ impl Key {
     pub fn legs(&self) -> &[Leg]
         ensures { result.now ≡ self.now }
     {
-        &self.legs[..self.count]
+        &self.legs[..self.count as usize]
     }
 
     /// An equal key.
     pub fn copy(&self) -> Key
         ensures { result ≡ self.now }
     {
-        let legs = &self.legs[..self.count];
+        let legs = &self.legs[..self.count as usize];
         let mut key = Key::of(legs[0]);
         for leg in &legs[1..] {
             key.push(*leg);

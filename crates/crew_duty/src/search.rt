@@ -109,11 +109,11 @@ fn duty_from(settings: &Settings, first: &TimedLeg, others: &[TimedLeg], totals:
         key,
         from: first.flight.from,
         to: last_leg(first, others).flight.to,
-        report,
-        release,
-        fdp: flight_duty_period(settings, first, others),
-        fly: totals.fly,
-        pay: duty_pay(settings, release - report, totals.fly),
+        report: report as i32,
+        release: release as i32,
+        fdp: flight_duty_period(settings, first, others) as i32,
+        fly: totals.fly as i32,
+        pay: duty_pay(settings, release - report, totals.fly) as i32,
         price: totals.price,
     }
 }

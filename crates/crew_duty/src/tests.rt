@@ -222,7 +222,7 @@ fn facts_of_a_duty(rt: HostRuntime) -> Result<(), Fail> {
         (255, 75, 2520, 2000),
     ];
     for (duty, fact) in duties.as_slice().iter().zip(&facts) {
-        assert_eq!(rt; duty.report, report);
+        assert_eq!(rt; i64::from(duty.report), report);
         assert_eq!(rt; (duty.fdp, duty.fly, duty.pay, duty.price), *fact);
     }
     assert!(rt; !duties.is_empty());

@@ -12,7 +12,7 @@ use Rattle.crew_resource.proofs.Offers.{More, IsLocal-beaten, IsLocal-kept, IsLo
 use Rattle.crew_resource.specs.Resource.{OrderLaws}
 use Rattle.crew_front.specs.Entries.{PartedFromAll, IsApart, placed}
 use Rattle.crew_duty.specs.Keys.{walk_cmp, walk_total}
-use Rattle.crew_duty.specs.declared.leg.Leg.{Leg}
+use Rattle.crew_duty.specs.Legs.{Leg}
 use Rattle.crew_front.specs.Walks.{walk_at_most, lesser}
 use Rattle.crew_front.proofs.WalkOrder.{walk_order}
 use Rattle.crew_front.specs.Offers.{Offered}

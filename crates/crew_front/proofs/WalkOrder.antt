@@ -4,7 +4,7 @@ use Rattle.std.specs.Ordering.{bool_cmp, nat_cmp, ordering_then}
 use Rattle.std.specs.declared.cmp.Ordering.TheVariants.{Less, Equal, Greater}
 use Rattle.std.proofs.lemmas.Map.Lookups.{exact_unsigned}
 use Rattle.crew_duty.specs.Keys.{leg_cmp, key_cmp, walk_cmp, walk_total}
-use Rattle.crew_duty.specs.declared.leg.Leg.{Leg}
+use Rattle.crew_duty.specs.Legs.{Leg}
 use Rattle.crew_resource.proofs.ListOrder.{at_most_order, lists_exact}
 use Rattle.crew_resource.proofs.Order.{IsOrder}
 use Rattle.crew_front.specs.Walks.{walk_at_most}

@@ -1,7 +1,7 @@
 -- The entries that a list of candidates leaves.
 use Rattle.std.specs.Prelude.{Bool, List}
 use Rattle.crew_resource.specs.Labels.{Member, IsLocal}
-use Rattle.crew_duty.specs.declared.leg.Leg.{Leg}
+use Rattle.crew_duty.specs.Legs.{Leg}
 use Rattle.crew_front.specs.Walks.{walk_at_most}
 
 -- the entries are the undominated ones of the candidates, each vector with its least walk

@@ -3,7 +3,7 @@ use Rattle.std.specs.Prelude.{◌≡◌, ◌≢◌, ℕ, Bool, true, false, not,
 use Rattle.std.specs.List.{All, Any, filter}
 use Rattle.std.specs.Ordering.{is_lt}
 use Rattle.std.specs.declared.cmp.Ordering.{Ordering}
-use Rattle.crew_duty.specs.declared.leg.Leg.{Leg}
+use Rattle.crew_duty.specs.Legs.{Leg}
 use Rattle.crew_front.specs.declared.front.Offer.{Offer}
 use Rattle.crew_front.specs.declared.front.Offer.TheVariants.{Kept, Beaten, Tied}
 use Rattle.crew_front.specs.Walks.{lesser}

@@ -3,7 +3,7 @@ ghost use Rattle.std.specs.Prelude.{◌≡◌, ◌↔◌, [], List, ℕ, length,
 ghost use Rattle.std.specs.List.{position, position_or_len, filter, Any};
 ghost use Rattle.std.specs.Ordering.{is_eq, is_lt};
 ghost use Rattle.std.specs.Slice.Iter.{iter_rest};
-ghost use Rattle.crew_duty.specs.declared.leg.Leg.{Leg};
+ghost use Rattle.crew_duty.specs.Legs.{Leg};
 ghost use Rattle.crew_resource.specs.Labels.{Beats, Member};
 ghost use Rattle.crew_front.specs.Entries.{IsApart, placed};
 ghost use Rattle.crew_front.specs.Grades.{Admitted, HoldSame};

@@ -150,10 +150,7 @@ fn resource() -> Seven {
 fn walk(alloc: Global, first: u32, second: u32) -> Result<Walk, Fail> {
     let mut keys = Vec::new(alloc);
     for number in [first, second] {
-        keys.push(Key::of(Leg {
-            flight: FlightId::new(number).ok_or("number")?,
-            deadhead: false,
-        }))?;
+        keys.push(Key::of(Leg::new(FlightId::new(number).ok_or("number")?, false)))?;
     }
     Ok(Walk::new(keys))
 }

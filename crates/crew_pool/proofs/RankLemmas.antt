@@ -4,7 +4,7 @@ use Rattle.std.specs.Cmp.Lexicographic.{slice_cmp}
 use Rattle.std.specs.Ordering.{is_le, nat_cmp, ordering_then}
 use Rattle.crew_duty.specs.Keys.{key_cmp, walk_cmp}
 use Rattle.crew_duty.specs.Members.{Each}
-use Rattle.crew_duty.specs.declared.leg.Leg.{Leg}
+use Rattle.crew_duty.specs.Legs.{Leg}
 use Rattle.crew_resource.specs.Labels.{Member}
 use Rattle.crew_front.specs.Local.{IsLocalOf}
 use Rattle.crew_pool.specs.Tails.{IsPoolOf}

@@ -40,8 +40,8 @@ fn put_number(line: &mut Vec<u8>, number: usize) -> Result<(), AllocError>
 fn put_leg(line: &mut Vec<u8>, leg: Leg) -> Result<(), AllocError>
     ensures { OnOk result (line.new.items ≡ line.old.items ++ Spec.leg_text leg) }
 {
-    put_number(line, leg.flight.get() as usize)?;
-    if leg.deadhead {
+    put_number(line, leg.flight().get() as usize)?;
+    if leg.is_deadhead() {
         line.push(b'd')?;
     }
     Ok(())

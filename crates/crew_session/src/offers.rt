@@ -37,25 +37,23 @@ fn offer(
     requires bounded { IsBounded duty.now }
     ensures { IfOk result (IsOfferOf settings.now timetable.now duty.now) }
 {
-    let Some(price) = timetable.base_price(duty.from) else {
-        return Ok(None);
-    };
-    let Some(away) = duty.release.checked_sub(duty.report) else {
-        return Ok(None);
-    };
     if duty.to != duty.from {
         return Ok(None);
     }
-    if duty.fdp > i64::from(settings.fdp_cap) {
+    let Some(price) = timetable.base_price(duty.from) else {
+        return Ok(None);
+    };
+    let away = i64::from(duty.release) - i64::from(duty.report);
+    if i64::from(duty.fdp) > i64::from(settings.fdp_cap) {
         return Ok(None);
     }
-    if duty.fly > i64::from(settings.fly_cap) {
+    if i64::from(duty.fly) > i64::from(settings.fly_cap) {
         return Ok(None);
     }
     if away > i64::from(settings.away_cap) {
         return Ok(None);
     }
-    let pay = pairing_pay(settings, duty.pay, away, 1);
+    let pay = pairing_pay(settings, i64::from(duty.pay), away, 1);
     let mut keys = Vec::new(alloc);
     keys.push(duty.key.copy())?;
     Ok(Some(Best {

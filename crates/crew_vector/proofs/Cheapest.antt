@@ -5,7 +5,7 @@ use Rattle.std.specs.Ordering.{eq_by_cmp}
 use Rattle.std.proofs.lemmas.Int.{ints}
 use Rattle.crew_duty.specs.Pairings.{is_pairing, last_duty, minutes_away}
 use Rattle.crew_duty.specs.declared.duty.Duty.{Duty}
-use Rattle.crew_duty.specs.declared.leg.Leg.{Leg}
+use Rattle.crew_duty.specs.Legs.{Leg}
 use Rattle.crew_flights.specs.Codes.{code_cmp}
 use Rattle.crew_flights.specs.Timetable.{IsSound, Timetable}
 use Rattle.crew_rules.specs.Settings.{IsChecked}

@@ -3,7 +3,7 @@ use Rattle.std.proofs.Common.{◌≡◌, ℕ, Bool, true, false, cond, List, inl
 use Rattle.crew_duty.specs.Duties.{flights_of}
 use Rattle.crew_duty.specs.Pairings.{IsDuty, may_stand_after}
 use Rattle.crew_duty.specs.declared.duty.Duty.{Duty}
-use Rattle.crew_duty.specs.declared.leg.Leg.{Leg}
+use Rattle.crew_duty.specs.Legs.{Leg}
 use Rattle.crew_flights.specs.Timetable.{IsSound, Timetable}
 use Rattle.crew_resource.specs.Labels.{IsLocal, Member}
 use Rattle.crew_resource.proofs.Local.{local_from_front}

@@ -5,7 +5,7 @@ use Rattle.std.proofs.lemmas.Int.{ints}
 use Rattle.crew_duty.specs.Keys.{key_cmp, key_total}
 use Rattle.crew_duty.specs.Pairings.{may_stand_after}
 use Rattle.crew_duty.specs.declared.duty.Duty.{Duty}
-use Rattle.crew_duty.specs.declared.leg.Leg.{Leg}
+use Rattle.crew_duty.specs.Legs.{Leg}
 use Rattle.crew_flights.specs.Timetable.{IsSound, Timetable}
 use Rattle.crew_resource.specs.Labels.{Member}
 use Rattle.crew_resource.proofs.Instance.{more, one, opening, preds, rules}

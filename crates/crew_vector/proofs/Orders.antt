@@ -5,7 +5,7 @@ use Rattle.std.specs.Ordering.{bool_cmp, eq_by_cmp, is_eq, nat_cmp}
 use Rattle.std.specs.declared.cmp.Ordering.TheVariants.{Less, Equal, Greater}
 use Rattle.std.proofs.lemmas.Cmp.{eq_by_cmp_equiv}
 use Rattle.crew_duty.specs.Keys.{key_cmp, leg_cmp, walk_cmp, walk_total}
-use Rattle.crew_duty.specs.declared.leg.Leg.{Leg}
+use Rattle.crew_duty.specs.Legs.{Leg}
 use Rattle.crew_flights.specs.Codes.{code_cmp, code_cmp_total}
 use Rattle.crew_resource.proofs.ListOrder.{at_most_order, at_most_total, lists_exact}
 use Rattle.crew_resource.proofs.Order.{IsOrder}

@@ -13,7 +13,7 @@ use Rattle.crew_duty.specs.Listing.{all_duties}
 use Rattle.crew_duty.specs.Members.{Each}
 use Rattle.crew_duty.specs.Pairings.{AllRested, IsDuty, IsPartial, last_duty, may_stand_after}
 use Rattle.crew_duty.specs.declared.duty.Duty.{Duty}
-use Rattle.crew_duty.specs.declared.leg.Leg.{Leg}
+use Rattle.crew_duty.specs.Legs.{Leg}
 use Rattle.crew_flights.specs.Codes.{code_cmp}
 use Rattle.crew_flights.specs.Timetable.{IsSound, Timetable}
 use Rattle.crew_resource.specs.Labels.{IsFront, Member, Undominated}

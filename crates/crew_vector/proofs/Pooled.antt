@@ -12,7 +12,7 @@ use Rattle.crew_duty.specs.Pairings.{IsDuty, may_stand_after}
 use Rattle.crew_duty.specs.declared.duty.Duty.{Duty}
 use Rattle.crew_duty.specs.declared.events.Arrival.{Arrival}
 use Rattle.crew_duty.specs.declared.events.Departure.{Departure}
-use Rattle.crew_duty.specs.declared.leg.Leg.{Leg}
+use Rattle.crew_duty.specs.Legs.{Leg}
 use Rattle.crew_flights.specs.Codes.{code_cmp}
 use Rattle.crew_flights.specs.Timetable.{IsSound, Timetable}
 use Rattle.crew_resource.specs.Events.{Arriving, FromPools, view}

@@ -4,7 +4,7 @@ use Rattle.std.specs.FinMap as map
 use Rattle.crew_duty.specs.Duties.{flights_of}
 use Rattle.crew_duty.specs.Pairings.{IsDuty, IsPartial, is_pairing, minutes_away}
 use Rattle.crew_duty.specs.declared.duty.Duty.{Duty}
-use Rattle.crew_duty.specs.declared.leg.Leg.{Leg}
+use Rattle.crew_duty.specs.Legs.{Leg}
 use Rattle.crew_flights.specs.Timetable.{Timetable}
 use Rattle.crew_resource.specs.Labels.{Member}
 use Rattle.crew_rules.specs.declared.settings.Settings.{Settings}

@@ -11,7 +11,7 @@ pub use Rattle.crew_duty.specs.Keys.{walk_at_most}
 use Rattle.crew_duty.specs.Members.{Each}
 use Rattle.crew_duty.specs.Pairings.{IsPartial, last_duty}
 use Rattle.crew_duty.specs.declared.duty.Duty.{Duty}
-use Rattle.crew_duty.specs.declared.leg.Leg.{Leg}
+use Rattle.crew_duty.specs.Legs.{Leg}
 use Rattle.crew_flights.specs.Timetable.{Timetable}
 use Rattle.crew_resource.specs.Labels.{Beats, IsFront, Undominated}
 use Rattle.crew_rules.specs.declared.settings.Settings.{Settings}

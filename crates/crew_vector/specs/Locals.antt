@@ -3,7 +3,7 @@ use Rattle.std.specs.Prelude.{◌≡◌, ◌⊎◌, ℕ, Bool, true, ◌&&◌, i
 use Rattle.crew_duty.specs.Duties.{flights_of}
 use Rattle.crew_duty.specs.Pairings.{IsDuty, is_within_caps, may_stand_after}
 use Rattle.crew_duty.specs.declared.duty.Duty.{Duty}
-use Rattle.crew_duty.specs.declared.leg.Leg.{Leg}
+use Rattle.crew_duty.specs.Legs.{Leg}
 use Rattle.crew_flights.specs.Timetable.{Timetable}
 use Rattle.crew_resource.specs.Labels.{IsLocal, Member}
 use Rattle.crew_rules.specs.declared.settings.Settings.{Settings}

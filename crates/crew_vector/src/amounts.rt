@@ -48,7 +48,7 @@ fn elapsed_less_price(rate: u32, duty: &Duty) -> i64
     ensures least { negsuc 8_000_000_000 ≤ℤ result }
     ensures most { result ≤ℤ pos 43_000_000_000_000 }
 {
-    let points = rated(rate, duty.report, duty.release);
+    let points = rated(rate, i64::from(duty.report), i64::from(duty.release));
     points - duty.price
 }
 
@@ -60,7 +60,7 @@ fn rest(rate: u32, last: &Duty, duty: &Duty) -> i64
     ensures least { pos 0 ≤ℤ result }
     ensures most { result ≤ℤ pos 42_949_672_960_000 }
 {
-    rated(rate, last.release, duty.report)
+    rated(rate, i64::from(last.release), i64::from(duty.report))
 }
 
 /// The duties' pays, less prices.
@@ -84,12 +84,12 @@ impl Amount for DutyPay {
 
     #[inline]
     fn first(&self, duty: &Duty) -> i64 {
-        duty.pay - duty.price - i64::from(self.base_price)
+        i64::from(duty.pay) - duty.price - i64::from(self.base_price)
     }
 
     #[inline]
     fn next(&self, _last: &Duty, next: &Duty) -> i64 {
-        next.pay - next.price
+        i64::from(next.pay) - next.price
     }
 
     #[inline]
@@ -121,7 +121,7 @@ impl StagedAmount<Duty> for DutyPay {
 
     #[inline]
     fn own(&self, duty: &Duty) -> i64 {
-        duty.pay - duty.price
+        i64::from(duty.pay) - duty.price
     }
 }
 
@@ -268,12 +268,12 @@ impl Amount for DutyMinutes {
 
     #[inline]
     fn first(&self, duty: &Duty) -> i64 {
-        duty.fdp
+        i64::from(duty.fdp)
     }
 
     #[inline]
     fn next(&self, _last: &Duty, duty: &Duty) -> i64 {
-        duty.fdp
+        i64::from(duty.fdp)
     }
 
     #[inline]
@@ -305,7 +305,7 @@ impl StagedAmount<Duty> for DutyMinutes {
 
     #[inline]
     fn own(&self, duty: &Duty) -> i64 {
-        duty.fdp
+        i64::from(duty.fdp)
     }
 }
 
@@ -326,12 +326,12 @@ impl Amount for FlightMinutes {
 
     #[inline]
     fn first(&self, duty: &Duty) -> i64 {
-        duty.fly
+        i64::from(duty.fly)
     }
 
     #[inline]
     fn next(&self, _last: &Duty, duty: &Duty) -> i64 {
-        duty.fly
+        i64::from(duty.fly)
     }
 
     #[inline]
@@ -363,7 +363,7 @@ impl StagedAmount<Duty> for FlightMinutes {
 
     #[inline]
     fn own(&self, duty: &Duty) -> i64 {
-        duty.fly
+        i64::from(duty.fly)
     }
 }
 
@@ -388,12 +388,12 @@ impl Amount for MinutesAway {
 
     #[inline]
     fn first(&self, duty: &Duty) -> i64 {
-        duty.release - duty.report
+        i64::from(duty.release) - i64::from(duty.report)
     }
 
     #[inline]
     fn next(&self, last: &Duty, duty: &Duty) -> i64 {
-        (duty.report - last.release) + (duty.release - duty.report)
+        (i64::from(duty.report) - i64::from(last.release)) + (i64::from(duty.release) - i64::from(duty.report))
     }
 
     #[inline]
@@ -425,6 +425,6 @@ impl StagedAmount<Duty> for MinutesAway {
 
     #[inline]
     fn own(&self, duty: &Duty) -> i64 {
-        duty.release - duty.report
+        i64::from(duty.release) - i64::from(duty.report)
     }
 }

@@ -7,7 +7,7 @@ ghost use Rattle.crew_duty.specs.Pairings.{IsDuty, is_within_caps};
 ghost use Rattle.crew_duty.specs.declared.duty.Duty.{Duty};
 ghost use Rattle.crew_duty.specs.declared.events.Arrival.{Arrival};
 ghost use Rattle.crew_duty.specs.declared.events.Departure.{Departure};
-ghost use Rattle.crew_duty.specs.declared.leg.Leg.{Leg};
+ghost use Rattle.crew_duty.specs.Legs.{Leg};
 ghost use Rattle.crew_flights.specs.Timetable as TimetableSpec;
 ghost use Rattle.crew_flights.specs.Timetable.{Timetable};
 ghost use Rattle.crew_resource.specs.Events.{Arriving, FromPools, view};

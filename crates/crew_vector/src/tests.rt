@@ -11,10 +11,7 @@ fn airport(letters: [u8; 3]) -> Result<Code, Fail> {
 
 // The key of a duty of one flight: which one doesn't count here.
 fn key() -> Result<Key, Fail> {
-    Ok(Key::of(Leg {
-        flight: FlightId::new(1).ok_or("id")?,
-        deadhead: false,
-    }))
+    Ok(Key::of(Leg::new(FlightId::new(1).ok_or("id")?, false)))
 }
 
 // A vector, in the order of its parts.

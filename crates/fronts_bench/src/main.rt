@@ -52,10 +52,7 @@ fn walk_of(alloc: Global, flights: &[u32; 2]) -> Result<Walk, AllocError> {
     let mut keys = Vec::with_capacity(alloc, 2)?;
     for number in flights.iter() {
         if let Some(flight) = FlightId::new(*number) {
-            keys.push(Key::of(Leg {
-                flight,
-                deadhead: false,
-            }))?;
+            keys.push(Key::of(Leg::new(flight, false)))?;
         }
     }
     Ok(Walk::new(keys))

@@ -4,7 +4,7 @@ use Rattle.std.specs.Ordering.{is_lt}
 use Rattle.std.proofs.lemmas.List.Sums.{prefix_len-le-length}
 use Rattle.crew_resource.specs.Labels.{Member}
 use Rattle.crew_front.proofs.EntryLemmas.{insert-first, Member-map_in}
-use Rattle.crew_duty.specs.declared.leg.Leg.{Leg}
+use Rattle.crew_duty.specs.Legs.{Leg}
 use Rattle.crew_front.specs.Entries.{placed}
 use Rattle.crew_front.proofs.front.join.Goals as goal
 

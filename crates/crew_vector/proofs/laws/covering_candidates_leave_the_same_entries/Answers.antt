@@ -1,7 +1,7 @@
 use Rattle.crew_resource.proofs.Covering.{local_of_all, local_of_part}
 use Rattle.crew_resource.specs.Events.{FromPools}
 use Rattle.crew_resource.specs.Labels.{Member}
-use Rattle.crew_duty.specs.declared.leg.Leg.{Leg}
+use Rattle.crew_duty.specs.Legs.{Leg}
 use Rattle.std.proofs.Common.{List}
 use Rattle.crew_vector.specs.Costs.{is_at_most}
 use Rattle.crew_vector.specs.Events.{network_of}

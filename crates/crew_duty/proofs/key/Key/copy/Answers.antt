@@ -1,5 +1,5 @@
-use Rattle.std.proofs.Common.{rules, ◌≡◌, ◌≤◌, ◌+◌, ◌-◌, ◌++◌, ◌∷◌, [], ◌∙◌, length, take, drop, refl, sym, ap, arith, append-nil, append_assoc}
-use Rattle.std.proofs.lemmas.List.{length-append, length-take, length-drop, take_all, take_more}
+use Rattle.std.proofs.Common.{rules, ◌≡◌, ◌≤◌, ◌+◌, ◌-◌, ◌++◌, ◌∷◌, [], ◌∙◌, length, take, drop, sym, ap, arith, append-nil, append_assoc}
+use Rattle.std.proofs.lemmas.List.{length-append, length-take, take_all, take_more}
 use Rattle.crew_duty.proofs.Keys.{first-alone, first-and-rest}
 use Rattle.crew_duty.proofs.key.Key.copy.Goals as goal
 

@@ -1,4 +1,4 @@
-use Rattle.std.proofs.Common.{not, ◌≡◌, ◌+◌, ◌+ℤ◌, ◌-ℤ◌, ◌++◌, ◌∷◌, [], pos, refl, ap, arith, of_z, to_z, w64, if◌then◌else◌}
+use Rattle.std.proofs.Common.{not, ◌≡◌, ◌-ℤ◌, pos, refl, ap, arith}
 use Rattle.std.proofs.lemmas.Int.{ints}
 use Rattle.crew_duty.specs.Legality.{minutes_flown, price_of}
 use Rattle.crew_duty.specs.declared.leg.TimedLeg.{TimedLeg}

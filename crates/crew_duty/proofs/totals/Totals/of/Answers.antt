@@ -1,4 +1,4 @@
-use Rattle.std.proofs.Common.{[], refl, arith}
+use Rattle.std.proofs.Common.{[], refl}
 use Rattle.crew_duty.proofs.totals.Totals.of.Goals as goal
 
 pub returns : goal.returns

@@ -4,7 +4,7 @@ use Rattle.std.specs.Prelude.{slice_get, slice_set, Some}
 use Rattle.std.specs.Ordering.{is_lt}
 use Rattle.std.proofs.lemmas.Result.{err_from_is_err_and}
 use Rattle.crew_resource.specs.Labels.{Member}
-use Rattle.crew_duty.specs.declared.leg.Leg.{Leg}
+use Rattle.crew_duty.specs.Legs.{Leg}
 use Rattle.crew_front.specs.Entries.{IsApart, placed}
 use Rattle.crew_front.specs.Grades.{HoldSame}
 use Rattle.crew_front.specs.Walks.{lesser}
