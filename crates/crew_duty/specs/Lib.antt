@@ -3,6 +3,7 @@ pub mod Events
 pub mod Keys
 pub mod Legality
 pub mod Legs
+pub mod Limits
 pub mod Listing
 pub mod Members
 pub mod Pairings

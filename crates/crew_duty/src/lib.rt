@@ -10,6 +10,7 @@ mod events;
 mod facts;
 mod key;
 mod leg;
+mod limits;
 mod search;
 mod totals;
 

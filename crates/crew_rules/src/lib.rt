@@ -12,7 +12,7 @@ mod tables;
 
 pub use pay::{duty_pay, pairing_pay};
 pub use settings::{BadSetting, Settings};
-pub use tables::{table_a, table_b};
+pub use tables::{limits_from, table_a, table_b};
 
 #[cfg(test)]
 mod tests;
