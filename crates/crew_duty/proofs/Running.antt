@@ -1,21 +1,17 @@
 -- The sums of one leg more, and their bounds.
-use Rattle.std.proofs.Common.{not, ◌≡◌, ◌≤◌, ◌+◌, ◌*◌, ℕ, ℤ, pos, negsuc, ◌-ℤ◌, ◌≤ℤ◌, List, [], ◌∷◌, ◌++◌, Bool, true, false, length, refl, arith, cond, if◌then◌else◌}
-use Rattle.std.specs.Prelude.{nat_lt, ◌||◌}
+use Rattle.std.proofs.Common.{not, ◌≡◌, ◌≤◌, ◌+◌, ◌*◌, ℤ, pos, negsuc, ◌-ℤ◌, ◌≤ℤ◌, List, [], ◌∷◌, ◌++◌, Bool, true, false, length, arith, cond, if◌then◌else◌}
 use Rattle.std.specs.List.{count_by}
-use Rattle.std.proofs.lemmas.Bool.Decides.{nat_tests}
 use Rattle.std.proofs.lemmas.Int.{ints}
 use Rattle.std.proofs.lemmas.List.Sums.{count_by-le-length, sum_by-cons}
 use Rattle.crew_flights.specs.Timetable.{IsFlight}
 use Rattle.crew_flights.specs.declared.flight.Flight.{Flight}
-use Rattle.crew_rules.specs.declared.settings.Settings.{Settings}
-use Rattle.crew_duty.specs.Legality.{deadheads, price_of, total}
-use Rattle.crew_duty.specs.Listing.{listing, timed}
+use Rattle.crew_duty.specs.Legality.{price_of, total}
 use Rattle.crew_duty.specs.Members.{Each, Member}
 use Rattle.crew_duty.specs.Running.{AreTotals, StayBounded}
 use Rattle.crew_duty.specs.declared.leg.TimedLeg.{TimedLeg}
 use Rattle.crew_duty.specs.declared.totals.Totals.{Totals}
 use Rattle.crew_duty.proofs.Times.{AllSound, flown-total}
-use Rattle.crew_duty.proofs.Tree.{Each-map, Each-member, listing-closed}
+use Rattle.crew_duty.proofs.Tree.{Each-map, Each-member}
 
 -- a count over one element more
 count_by-push : {X : Type 0} (p : X → Bool) (xs : List X) (x : X) → count_by p (xs ++ x ∷ []) ≡ count_by p xs + cond (p x) 1 0
@@ -59,17 +55,3 @@ bounded legs totals are few sound =
 pub sound-legs : (flights : List Flight) (legs : List TimedLeg) → Each (λ (f : Flight). IsFlight f.id f) flights → Each (λ (l : TimedLeg). Member flights l.flight) legs → AllSound legs
 sound-legs flights legs each known =
     Each-map (λ (l : TimedLeg). Member flights l.flight) (λ (l : TimedLeg). IsFlight l.flight.id l.flight) legs (λ l m. Each-member (λ (f : Flight). IsFlight f.id f) flights l.flight each m) known
-
--- below a deadhead too many nothing is listed
-pub cannot-ride : (room : ℕ) (s : Settings) (flights : List Flight) (first : TimedLeg) (others : List TimedLeg) (g : Flight) → s.deadheads ≤ deadheads (first ∷ others)
-    → listing room s flights first (others ++ timed true g ∷ []) ≡ []
-cannot-ride room s flights first others g full =
-    let one : deadheads (first ∷ (others ++ timed true g ∷ [])) ≡ deadheads (first ∷ others) + 1 = counted (λ (l : TimedLeg). l.deadhead) (first ∷ others) (timed true g) refl in
-    listing-closed room s flights first (others ++ timed true g ∷ []) (first-true _ _ (passed one))
-  where
-    first-true : (a b : Bool) → a ≡ true → (a || b) ≡ true
-    first-true true b e = refl
-    first-true false b e = cc
-
-    passed : {n : ℕ} → n ≡ deadheads (first ∷ others) + 1 → nat_lt s.deadheads n ≡ true
-    passed e = grind (arith, nat_tests)

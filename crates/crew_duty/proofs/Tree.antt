@@ -1,5 +1,5 @@
 -- One step of the tree of duties.
-use Rattle.std.proofs.Common.{◌≡◌, ◌≤◌, ◌<◌, ◌+◌, ◌-◌, min, ℕ, zero, suc, List, [], ◌∷◌, ◌++◌, Some, Bool, true, false, cond, length, refl, sym, ap, ◌∙◌, arith, take, get_or, filter, length-append, append_assoc, inl, inr, if◌then◌else◌}
+use Rattle.std.proofs.Common.{◌≡◌, ◌≤◌, ◌<◌, ◌+◌, ◌-◌, min, ℕ, zero, suc, List, [], ◌∷◌, ◌++◌, Some, Bool, true, false, cond, length, refl, sym, ap, ◌∙◌, arith, take, get_or, filter, length-append, append_assoc, append-nil, inl, inr, if◌then◌else◌}
 use Rattle.std.specs.Prelude.{slice_get}
 use Rattle.std.specs.List.{flat_map}
 use Rattle.std.proofs.lemmas.List.{flat_map_more, take_more}
@@ -7,7 +7,7 @@ use Rattle.std.proofs.Math.Seq.{take-append_seam}
 use Rattle.std.proofs.lemmas.Option.{get_or_from_slice_get}
 use Rattle.crew_flights.specs.declared.flight.Flight.{Flight}
 use Rattle.crew_rules.specs.declared.settings.Settings.{Settings}
-use Rattle.crew_duty.specs.Legality.{AllConnect, last_of, may_follow}
+use Rattle.crew_duty.specs.Legality.{AllConnect, duty_of, last_of, may_follow}
 use Rattle.crew_duty.specs.Listing.{below, is_hopeless, listing, own, timed}
 use Rattle.crew_duty.specs.Members.{Each, Member}
 use Rattle.crew_duty.specs.Plans.{IsBeginning}
@@ -101,6 +101,30 @@ pub listing-at : (s : Settings) (flights : List Flight) (first : TimedLeg) (othe
 listing-at s flights first others few hope =
     let room : 8 - length others ≡ suc (7 - length others) = omega arith in
     rw room (listing-open (7 - length others) s flights first others hope)
+
+-- with no room left only the legs themselves are listed
+flat_map-empty : {X Y : Type 0} (f : X → List Y) (xs : List X) → ((x : X) → f x ≡ []) → flat_map f xs ≡ []
+flat_map-empty f [] h = refl
+flat_map-empty f (x ∷ xs) h = rw (h x) (flat_map-empty f xs h)
+
+below-none : (s : Settings) (flights : List Flight) (first : TimedLeg) (others : List TimedLeg) (g : Flight) → below 0 s flights first others g ≡ []
+below-none s flights first others g = rw (listing-none s flights first (others ++ timed false g ∷ []), listing-none s flights first (others ++ timed true g ∷ [])) refl
+
+pub listing-last : (s : Settings) (flights : List Flight) (first : TimedLeg) (others : List TimedLeg) → length others ≡ 7 → is_hopeless s first others ≡ false
+    → listing (8 - length others) s flights first others ≡ own s first others
+listing-last s flights first others full hope =
+    let gs = filter (may_follow s (last_of first others).flight) flights in
+    let room : 7 - length others ≡ 0 = omega arith in
+    let none : flat_map (below (7 - length others) s flights first others) gs ≡ [] = rw room (flat_map-empty (below 0 s flights first others) gs (below-none s flights first others)) in
+    listing-at s flights first others (omega arith) hope ∙ rw none (append-nil (own s first others))
+
+-- legs are one duty or none
+pub own-few : (s : Settings) (first : TimedLeg) (others : List TimedLeg) → length (own s first others) ≤ 1
+own-few s first others = by (last_of first others).deadhead (duty_of s first others)
+  where
+    by : (b : Bool) (d : Duty) → length (if b then [] else d ∷ []) ≤ 1
+    by true d = omega arith
+    by false d = omega arith
 
 -- the list below one leg more
 pub listing-longer : (s : Settings) (flights : List Flight) (first : TimedLeg) (others longer : List TimedLeg) (l : TimedLeg) → longer ≡ others ++ l ∷ []

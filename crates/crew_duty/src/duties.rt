@@ -14,6 +14,7 @@ use crate::duty::Duty;
 use crate::search::{DUTIES, DutyFault, Plan, count_from, list_from, next_places};
 use crew_flights::{Data, Flight};
 use crew_rules::Settings;
+use rayon::current_num_threads;
 use rayon::prelude::*;
 use std::alloc::{AllocError, Global};
 use std::marker::Model;
@@ -21,6 +22,16 @@ use std::thread::Threads;
 
 // The fewest first flights that a thread of their own is started for.
 const PIECE: usize = 64;
+
+// The fewest first flights of a piece. Where one thread does all the work there is one piece, since
+// pieces are copied together.
+fn piece_len<R: Threads>(rt: &R, flights: usize) -> usize {
+    if current_num_threads(rt) == 1 {
+        flights
+    } else {
+        PIECE
+    }
+}
 
 /// The legal duties of a timetable, by key.
 ///
@@ -103,7 +114,7 @@ fn are_too_many<R: Threads + Sync>(
 {
     let counts = (0..plan.flights.len())
         .into_par_iter()
-        .with_min_len(PIECE)
+        .with_min_len(piece_len(rt, plan.flights.len()))
         .map(
             |place: usize| -> Result<usize, AllocError>
                 requires { IsPlan plan.now.settings.now plan.now.flights.now (rows plan.now.next.now) × (place < length plan.now.flights.now) }
@@ -126,7 +137,7 @@ fn list_all<R: Threads + Sync>(
 {
     let parts = (0..plan.flights.len())
         .into_par_iter()
-        .with_min_len(PIECE)
+        .with_min_len(piece_len(rt, plan.flights.len()))
         .fold(
             || -> Result<Vec<Duty>, AllocError>
                 ensures { IfOk result (λ found. found.items ≡ []) }

@@ -1,11 +1,12 @@
 //! The search for legal duties: a tree for each first leg, with the next legs in order.
 
-ghost use Rattle.std.specs.Prelude.{◌≡◌, ◌+◌, ◌-◌, ◌<◌, ◌≤◌, min, ◌++◌, ◌∷◌, [], Some, OnOk, IfOk, length, slice_get, filter};
+ghost use Rattle.std.specs.Prelude.{◌≡◌, false, ◌+◌, ◌-◌, ◌<◌, ◌≤◌, min, ◌++◌, ◌∷◌, [], Some, OnOk, IfOk, length, slice_get, filter};
 ghost use Rattle.crew_flights.specs.declared.flight.Flight.{Flight};
 ghost use Rattle.crew_flights.specs.Timetable.{IsFlight};
 ghost use Rattle.crew_rules.specs.Settings.{IsChecked};
 ghost use Rattle.crew_rules.specs.declared.settings.Settings.{Settings};
 ghost use Rattle.crew_duty.specs.Legality.{AllConnect, duty_of, last_of, may_follow};
+ghost use Rattle.crew_duty.specs.Limits.{AreLimits};
 ghost use Rattle.crew_duty.specs.Listing.{IsOkAnd, from_flight, from_place, is_hopeless, listing, own, timed};
 ghost use Rattle.crew_duty.specs.Members.{Each};
 ghost use Rattle.crew_duty.specs.Running.{AreTotals};
@@ -16,9 +17,10 @@ use crate::duty::Duty;
 use crate::facts::{flight_duty_period, last_leg, release, report};
 use crate::key::Key;
 use crate::leg::TimedLeg;
+use crate::limits::Limits;
 use crate::totals::Totals;
 use crew_flights::Flight;
-use crew_rules::{Settings, duty_pay, table_a, table_b};
+use crew_rules::{Settings, duty_pay};
 use std::alloc::{AllocError, Global};
 
 /// The most legs of a duty.
@@ -54,22 +56,6 @@ pub(crate) struct Plan<'a> {
     pub(crate) settings: &'a Settings,
     pub(crate) flights: &'a [Flight],
     pub(crate) next: &'a [Vec<u32>],
-}
-
-// Whether no duty can begin with these legs.
-fn cannot_begin(settings: &Settings, first: &TimedLeg, others: &[TimedLeg], totals: Totals) -> bool
-    requires checked { IsChecked settings.now }
-    requires few { length others.now ≤ 7 }
-    requires totals { AreTotals (first.now ∷ others.now) totals }
-    ensures { result ≡ is_hopeless settings.now first.now others.now }
-{
-    if totals.deadheads > settings.deadheads as usize {
-        return true;
-    }
-    let clock = first.flight.report_clock;
-    let counted = totals.segments.max(1) as u8;
-    totals.fly > i64::from(table_a(clock))
-        || flight_duty_period(settings, first, others) > i64::from(table_b(clock, counted))
 }
 
 // The places of the flights that may follow each flight.
@@ -170,76 +156,69 @@ fn places_of<'a>(plan: &Plan<'a>, place: usize) -> &'a [u32]
     &plan.next[place]
 }
 
-// Lists the duties that begin with these legs; the last is of the flight that stands at `last`.
+// Lists the duties that begin with these legs, which may begin one; the last is of the flight that
+// stands at `last`.
 fn list(
-    alloc: Global,
     found: &mut Vec<Duty>,
     plan: &Plan<'_>,
     first: &TimedLeg,
+    limits: &Limits,
     others: &mut Vec<TimedLeg>,
     last: usize,
     totals: Totals,
 ) -> Result<(), AllocError>
     requires plan { IsPlan plan.now.settings.now plan.now.flights.now (rows plan.now.next.now) }
+    requires limits { AreLimits plan.now.settings.now first.now limits.now }
     requires beginning { IsBeginning plan.now.settings.now plan.now.flights.now first.now others.old.items }
-    requires few { length others.old.items ≤ 8 }
+    requires few { length others.old.items ≤ 7 }
+    requires hope { is_hopeless plan.now.settings.now first.now others.old.items ≡ false }
     requires last { slice_get plan.now.flights.now last ≡ Some (last_of first.now others.old.items).flight }
     requires totals { AreTotals (first.now ∷ others.old.items) totals }
     ensures listed { OnOk result (found.new.items ≡ found.old.items
         ++ listing (8 - length others.old.items) plan.now.settings.now plan.now.flights.now first.now others.old.items) }
     ensures kept { OnOk result (others.new.items ≡ others.old.items) }
 {
-    if others.len() >= LEGS || cannot_begin(plan.settings, first, others, totals) {
+    list_own(found, plan.settings, first, others, totals)?;
+    if others.len() >= LEGS - 1 {
         return Ok(());
     }
-    list_own(found, plan.settings, first, others, totals)?;
-    let can_ride = totals.deadheads < plan.settings.deadheads as usize;
     for place in places_of(plan, last) {
         let place = *place as usize;
         let flight = &plan.flights[place];
         let flown = timed_leg(flight, false);
-        others.push(flown)?;
-        list(
-            alloc,
-            found,
-            plan,
-            first,
-            others,
-            place,
-            totals.after(&flown),
-        )?;
-        others.pop();
-        if can_ride {
-            let ridden = timed_leg(flight, true);
+        let come = totals.after(&flown);
+        if !limits.forbid(&flown, come) {
+            others.push(flown)?;
+            list(found, plan, first, limits, others, place, come)?;
+            others.pop();
+        }
+        let ridden = timed_leg(flight, true);
+        let gone = totals.after(&ridden);
+        if !limits.forbid(&ridden, gone) {
             others.push(ridden)?;
-            list(
-                alloc,
-                found,
-                plan,
-                first,
-                others,
-                place,
-                totals.after(&ridden),
-            )?;
+            list(found, plan, first, limits, others, place, gone)?;
             others.pop();
         }
     }
     Ok(())
 }
 
-// Adds how many duties begin with these legs to those so far, and ends at one more than may be
-// listed.
+// Adds how many duties begin with these legs, which may begin one, to those so far, and ends at one
+// more than may be listed.
 fn count(
     plan: &Plan<'_>,
     first: &TimedLeg,
+    limits: &Limits,
     others: &mut Vec<TimedLeg>,
     last: usize,
     totals: Totals,
     so_far: usize,
 ) -> Result<usize, AllocError>
     requires plan { IsPlan plan.now.settings.now plan.now.flights.now (rows plan.now.next.now) }
+    requires limits { AreLimits plan.now.settings.now first.now limits.now }
     requires beginning { IsBeginning plan.now.settings.now plan.now.flights.now first.now others.old.items }
-    requires few { length others.old.items ≤ 8 }
+    requires few { length others.old.items ≤ 7 }
+    requires hope { is_hopeless plan.now.settings.now first.now others.old.items ≡ false }
     requires last { slice_get plan.now.flights.now last ≡ Some (last_of first.now others.old.items).flight }
     requires totals { AreTotals (first.now ∷ others.old.items) totals }
     requires so_far { so_far ≤ 200_001 }
@@ -247,25 +226,28 @@ fn count(
         + length (listing (8 - length others.old.items) plan.now.settings.now plan.now.flights.now first.now others.old.items)) 200_001) }
     ensures kept { OnOk result (others.new.items ≡ others.old.items) }
 {
-    if so_far > DUTIES
-        || others.len() >= LEGS
-        || cannot_begin(plan.settings, first, others, totals)
-    {
+    if so_far > DUTIES {
         return Ok(so_far);
     }
     let mut counted = so_far + count_own(first, others);
-    let can_ride = totals.deadheads < plan.settings.deadheads as usize;
+    if others.len() >= LEGS - 1 {
+        return Ok(counted);
+    }
     for place in places_of(plan, last) {
         let place = *place as usize;
         let flight = &plan.flights[place];
         let flown = timed_leg(flight, false);
-        others.push(flown)?;
-        counted = count(plan, first, others, place, totals.after(&flown), counted)?;
-        others.pop();
-        if can_ride {
-            let ridden = timed_leg(flight, true);
+        let come = totals.after(&flown);
+        if !limits.forbid(&flown, come) {
+            others.push(flown)?;
+            counted = count(plan, first, limits, others, place, come, counted)?;
+            others.pop();
+        }
+        let ridden = timed_leg(flight, true);
+        let gone = totals.after(&ridden);
+        if !limits.forbid(&ridden, gone) {
             others.push(ridden)?;
-            counted = count(plan, first, others, place, totals.after(&ridden), counted)?;
+            counted = count(plan, first, limits, others, place, gone, counted)?;
             others.pop();
         }
     }
@@ -286,16 +268,14 @@ fn list_first(
         → found.new.items ≡ found.old.items ++ listing 8 plan.now.settings.now plan.now.flights.now (timed deadhead flight) []) }
 {
     let first = timed_leg(&plan.flights[place], deadhead);
+    let limits = Limits::of(plan.settings, &first);
+    let totals = Totals::of(&first);
+    if limits.forbid(&first, totals) {
+        return Ok(());
+    }
     let mut others = Vec::with_capacity(alloc, LEGS)?;
-    list(
-        alloc,
-        found,
-        plan,
-        &first,
-        &mut others,
-        place,
-        Totals::of(&first),
-    )
+    list(found, plan, &first, &limits, &mut others, place, totals)?;
+    Ok(())
 }
 
 // Counts the duties that begin with the flight at a place, flown or deadheaded.
@@ -314,15 +294,13 @@ fn count_first(
     ensures bound { IfOk result (λ n. n ≤ 200_001) }
 {
     let first = timed_leg(&plan.flights[place], deadhead);
+    let limits = Limits::of(plan.settings, &first);
+    let totals = Totals::of(&first);
+    if limits.forbid(&first, totals) {
+        return Ok(counted);
+    }
     let mut others = Vec::with_capacity(alloc, LEGS)?;
-    count(
-        plan,
-        &first,
-        &mut others,
-        place,
-        Totals::of(&first),
-        counted,
-    )
+    count(plan, &first, &limits, &mut others, place, totals, counted)
 }
 
 /// A list of duties with those after it that begin with the flight at a place.

@@ -1,10 +1,21 @@
-use Rattle.std.proofs.Common.{◌+◌, ◌-◌, min, [], ◌∙◌, ap, get_or, length, arith}
+use Rattle.std.proofs.Common.{◌≡◌, ◌+◌, ◌-◌, min, [], ◌∙◌, ap, sym, get_or, length, arith, refl}
 use Rattle.std.proofs.lemmas.Option.{get_or_from_slice_get, slice_get-get_or}
 use Rattle.rayon.proofs.ListFacts.{IfOk-then}
-use Rattle.crew_duty.specs.Listing.{listing, timed}
+use Rattle.crew_duty.specs.Listing.{is_hopeless, listing, timed}
 use Rattle.crew_duty.specs.Plans.{IsBeginning}
-use Rattle.crew_duty.proofs.Tree.{slice_get-Member}
+use Rattle.crew_duty.proofs.Tree.{listing-closed, slice_get-Member}
 use Rattle.crew_duty.proofs.search.count_first.Goals as goal
+
+pub returns-then-forbid-clause-counted : goal.returns-then-forbid-clause-counted
+returns-then-forbid-clause-counted c =
+    let s = c.args.plan.now.settings.now in
+    let flights = c.args.plan.now.flights.now in
+    let leg = c.timed_leg-first.result in
+    let tested : c.forbid.result ≡ is_hopeless s leg [] = c.forbid.ensures s leg [] c.of-limits.ensures c.of-totals.ensures refl in
+    λ flight h.
+    let same : leg ≡ timed c.args.deadhead flight = c.timed_leg-first.ensures ∙ ap (timed c.args.deadhead) (get_or_from_slice_get flights c.args.place flight c.index-plan-place.result h) in
+    let none : listing 8 s flights (timed c.args.deadhead flight) [] ≡ [] = rw same at (listing-closed 8 s flights leg [] (sym tested ∙ c.if-forbid.true)) in
+    rw none (omega (arith, c.requires.counted))
 
 pub count-requires-clause-beginning : goal.count-requires-clause-beginning
 count-requires-clause-beginning c =

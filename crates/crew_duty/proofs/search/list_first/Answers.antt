@@ -1,10 +1,20 @@
-use Rattle.std.proofs.Common.{◌-◌, ◌++◌, [], ◌∙◌, ap, get_or, length}
+use Rattle.std.proofs.Common.{◌≡◌, ◌-◌, ◌++◌, [], ◌∙◌, ap, sym, append-nil, get_or, length, refl}
 use Rattle.std.proofs.lemmas.Option.{get_or_from_slice_get, slice_get-get_or}
-use Rattle.std.proofs.lemmas.Result.{on_ok_weaker}
-use Rattle.crew_duty.specs.Listing.{listing, timed}
+use Rattle.crew_duty.specs.Listing.{is_hopeless, listing, timed}
 use Rattle.crew_duty.specs.Plans.{IsBeginning}
-use Rattle.crew_duty.proofs.Tree.{slice_get-Member}
+use Rattle.crew_duty.proofs.Tree.{listing-closed, slice_get-Member}
 use Rattle.crew_duty.proofs.search.list_first.Goals as goal
+
+pub returns-then-forbid : goal.returns-then-forbid
+returns-then-forbid c =
+    let s = c.args.plan.now.settings.now in
+    let flights = c.args.plan.now.flights.now in
+    let leg = c.timed_leg-first.result in
+    let tested : c.forbid.result ≡ is_hopeless s leg [] = c.forbid.ensures s leg [] c.of-limits.ensures c.of-totals.ensures refl in
+    λ flight h.
+    let same : leg ≡ timed c.args.deadhead flight = c.timed_leg-first.ensures ∙ ap (timed c.args.deadhead) (get_or_from_slice_get flights c.args.place flight c.index-plan-place.result h) in
+    let none : listing 8 s flights (timed c.args.deadhead flight) [] ≡ [] = rw same at (listing-closed 8 s flights leg [] (sym tested ∙ c.if-forbid.true)) in
+    rw none (sym (append-nil c.args.found.now.items))
 
 pub list-requires-clause-beginning : goal.list-requires-clause-beginning
 list-requires-clause-beginning c =
@@ -25,8 +35,6 @@ returns c =
     let s = c.args.plan.now.settings.now in
     let flights = c.args.plan.now.flights.now in
     let none = c.in_ok-others.ensures.items in
-    on_ok_weaker c.list.result
-    (λ e flight h.
+    λ flight h.
     let same = c.timed_leg-first.ensures ∙ ap (timed c.args.deadhead) (get_or_from_slice_get flights c.args.place flight c.index-plan-place.result h) in
-    e ∙ (λ j. c.args.found.now.items ++ listing (8 - length (none j)) s flights (same j) (none j)))
-    c.list.ensures.listed
+    c.in_ok-list.ensures.listed ∙ (λ j. c.args.found.now.items ++ listing (8 - length (none j)) s flights (same j) (none j))

@@ -1,12 +1,9 @@
-use Rattle.std.proofs.Common.{◌≡◌, ◌∷◌, List, ℕ, ◌+◌, ◌-◌, ◌*◌, ◌<◌, ◌≤◌, length, Bool, true, false, nat_lt, w64, ℤ, pos, ◌-ℤ◌, ◌≤ℤ◌, to_z, of_z, ap, sym, ◌∙◌, arith, max, min}
+use Rattle.std.proofs.Common.{◌≡◌, ◌∷◌, ◌-◌, false, nat_lt, w64, ℤ, pos, ◌-ℤ◌, ◌≤ℤ◌, to_z, of_z, ap, sym, ◌∙◌, arith, max, min}
 use Rattle.std.specs.Prelude.{int_lt, slice_index}
 use Rattle.std.proofs.lemmas.Bool.Decides.{nat_tests}
 use Rattle.std.proofs.lemmas.Int.{ints}
 use Rattle.crew_rules.specs.Tables.{table_a, table_b}
-use Rattle.crew_rules.specs.declared.settings.Settings.{Settings}
 use Rattle.crew_duty.specs.Legality.{deadheads, flight_duty_period, flight_time, last_of, segments}
-use Rattle.crew_duty.specs.Limits.{AreLimits}
-use Rattle.crew_duty.specs.Running.{AreTotals}
 use Rattle.crew_duty.specs.declared.leg.TimedLeg.{TimedLeg}
 use Rattle.crew_duty.proofs.limits.Limits.forbid.Goals as goal
 
