@@ -40,8 +40,8 @@ fn key_text(alloc: Global, duty: &Duty) -> Result<String, Fail> {
         if !text.is_empty() {
             text.push('-')?;
         }
-        text.push_str(format!(in alloc; "{}", leg.flight.get())?.as_str())?;
-        if leg.deadhead {
+        text.push_str(format!(in alloc; "{}", leg.flight().get())?.as_str())?;
+        if leg.is_deadhead() {
             text.push('d')?;
         }
     }
