@@ -393,7 +393,8 @@ impl Amount for MinutesAway {
 
     #[inline]
     fn next(&self, last: &Duty, duty: &Duty) -> i64 {
-        (i64::from(duty.report) - i64::from(last.release)) + (i64::from(duty.release) - i64::from(duty.report))
+        (i64::from(duty.report) - i64::from(last.release))
+            + (i64::from(duty.release) - i64::from(duty.report))
     }
 
     #[inline]

@@ -1,5 +1,5 @@
 use Rattle.std.proofs.Common.{◌≡◌, ◌+ℤ◌, arith, of_z, to_z, w64}
-use Rattle.std.proofs.lemmas.Int.{ints}
+use Rattle.std.proofs.lemmas.Int.{ints, to_z-of_z}
 use Rattle.crew_duty.specs.declared.duty.Duty.{Duty}
 use Rattle.crew_audit.proofs.Chains.{fits-add, item-in-range, sum-more}
 use Rattle.crew_audit.proofs.chain.add_up.Goals as goal
@@ -32,12 +32,15 @@ loop-duty-preserved c =
     let v = c.loop-duty.invariant in
     let r = item-in-range ds i x c.requires.ranges c.loop-duty-test.true c.duty-item.is in
     let few = c.requires.few in
-    let fdp : to_z w64 (of_z w64 (to_z w64 (of_z w64 c.loop-duty.sums.fdp) +ℤ to_z w64 (of_z w64 x.fdp))) ≡ c.loop-duty.sums.fdp +ℤ x.fdp =
-    fits-add 100_000_000 i 13 c.loop-duty.sums.fdp x.fdp v.fdp_least v.fdp_most (omega (arith, ints, r.fdp)) r.fdp_most (omega arith) (omega arith) in
-    let fly : to_z w64 (of_z w64 (to_z w64 (of_z w64 c.loop-duty.sums.fly) +ℤ to_z w64 (of_z w64 x.fly))) ≡ c.loop-duty.sums.fly +ℤ x.fly =
-    fits-add 1_000_000_000 i 13 c.loop-duty.sums.fly x.fly v.fly_least v.fly_most (omega (arith, ints, r.fly)) r.fly_most (omega arith) (omega arith) in
-    let pay : to_z w64 (of_z w64 (to_z w64 (of_z w64 c.loop-duty.sums.pay) +ℤ to_z w64 (of_z w64 x.pay))) ≡ c.loop-duty.sums.pay +ℤ x.pay =
-    fits-add 10_000_000_000 i 13 c.loop-duty.sums.pay x.pay v.pay_least v.pay_most (omega (arith, ints, r.pay)) r.pay_most (omega arith) (omega arith) in
+    let fdp-is : c.from.result ≡ x.fdp = grind (arith, ints, to_z-of_z, c.from.ensures) in
+    let fdp : to_z w64 (of_z w64 (to_z w64 (of_z w64 c.loop-duty.sums.fdp) +ℤ to_z w64 (of_z w64 c.from.result))) ≡ c.loop-duty.sums.fdp +ℤ x.fdp =
+    rw fdp-is (fits-add 100_000_000 i 13 c.loop-duty.sums.fdp x.fdp v.fdp_least v.fdp_most (omega (arith, ints, r.fdp)) r.fdp_most (omega arith) (omega arith)) in
+    let fly-is : c.from-in-loop-duty.result ≡ x.fly = grind (arith, ints, to_z-of_z, c.from-in-loop-duty.ensures) in
+    let fly : to_z w64 (of_z w64 (to_z w64 (of_z w64 c.loop-duty.sums.fly) +ℤ to_z w64 (of_z w64 c.from-in-loop-duty.result))) ≡ c.loop-duty.sums.fly +ℤ x.fly =
+    rw fly-is (fits-add 1_000_000_000 i 13 c.loop-duty.sums.fly x.fly v.fly_least v.fly_most (omega (arith, ints, r.fly)) r.fly_most (omega arith) (omega arith)) in
+    let pay-is : c.from-in-loop-duty-2.result ≡ x.pay = grind (arith, ints, to_z-of_z, c.from-in-loop-duty-2.ensures) in
+    let pay : to_z w64 (of_z w64 (to_z w64 (of_z w64 c.loop-duty.sums.pay) +ℤ to_z w64 (of_z w64 c.from-in-loop-duty-2.result))) ≡ c.loop-duty.sums.pay +ℤ x.pay =
+    rw pay-is (fits-add 10_000_000_000 i 13 c.loop-duty.sums.pay x.pay v.pay_least v.pay_most (omega (arith, ints, r.pay)) r.pay_most (omega arith) (omega arith)) in
     let price : to_z w64 (of_z w64 (to_z w64 (of_z w64 c.loop-duty.sums.price) +ℤ to_z w64 (of_z w64 x.price))) ≡ c.loop-duty.sums.price +ℤ x.price =
     fits-add 10_000_000_000 i 13 c.loop-duty.sums.price x.price v.price_least v.price_most (omega (arith, ints, r.price)) r.price_most (omega arith) (omega arith) in
     record {

@@ -15,7 +15,10 @@ returns-in-Some-Some-clause-value c =
     let end = sym c.last.ensures.value ∙ ap option_copied c.in-Some-Some.is-1 in
     let f = Each-member IsInRange ds first c.requires (slice_get-Member ds _ first at) in
     let l = Each-member IsInRange ds last c.requires (slice_get-Member ds _ last end) in
-    let fits : to_z w64 (of_z w64 (to_z w64 (of_z w64 last.release) -ℤ to_z w64 (of_z w64 first.report))) ≡ last.release -ℤ first.report = omega (arith, ints, f.report, f.report_most, l.release, l.release_most) in
+    let release : c.from.result ≡ last.release = omega (arith, ints, c.from.ensures, l.release, l.release_most) in
+    let report : c.from-in-Some-Some.result ≡ first.report = omega (arith, ints, c.from-in-Some-Some.ensures, f.report, f.report_most) in
+    let fits : to_z w64 (of_z w64 (to_z w64 (of_z w64 c.from.result) -ℤ to_z w64 (of_z w64 c.from-in-Some-Some.result))) ≡ last.release -ℤ first.report =
+    omega (arith, ints, release, report, f.report, f.report_most, l.release, l.release_most) in
     fits ∙ away-ends ds first last at end
 
 pub returns-in-Some-Some-clause-bound : goal.returns-in-Some-Some-clause-bound
