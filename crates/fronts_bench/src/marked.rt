@@ -1,6 +1,8 @@
 //! Pools of labels with one duty each.
-ghost use Rattle.std.specs.Prelude.{◌≡◌, List, [], ◌∷◌};
+ghost use Rattle.std.specs.Prelude.{◌≡◌, ◌++◌, ℕ, List, [], ◌∷◌, map, IfOk, OnOk};
+ghost use Rattle.crew_pool.specs.Tails.{IsPoolOf, shown};
 ghost use Rattle.crew_pool.specs.declared.tail.Tail.{Tail};
+ghost use Rattle.crew_vector.specs.Costs.{is_at_most};
 ghost use Rattle.crew_vector.specs.declared.parts.Parts.{Parts};
 ghost use Rattle.fronts_bench.specs.Marked.{AreMarked, IsMarked};
 
@@ -36,14 +38,18 @@ fn tail_of(number: usize) -> Tail
 
 impl Marked {
     /// No labels.
-    pub fn new(alloc: Global) -> Self {
+    pub fn new(alloc: Global) -> Self
+        ensures { result ≡ [] }
+    {
         Marked {
             pool: Pool::new(alloc),
         }
     }
 
     /// One label, with the duty of this number.
-    pub fn one(alloc: Global, value: Parts, number: usize) -> Result<Self, AllocError> {
+    pub fn one(alloc: Global, value: Parts, number: usize) -> Result<Self, AllocError>
+        ensures { IfOk result (λ one. map (λ l. l.0) one ≡ value ∷ []) }
+    {
         let mut labels = Vec::with_capacity(alloc, 1)?;
         labels.push((value, tail_of(number)))?;
         Ok(Marked {
@@ -52,7 +58,9 @@ impl Marked {
     }
 
     /// The labels.
-    pub fn labels(&self) -> &[(Parts, Tail)] {
+    pub fn labels(&self) -> &[(Parts, Tail)]
+        ensures { result.now ≡ self.now }
+    {
         self.pool.as_slice()
     }
 
@@ -65,6 +73,7 @@ impl Marked {
         walks: &Walks,
     ) -> Result<(), AllocError>
         requires { walks.now ≡ [] ∷ [] }
+        ensures { OnOk result ((candidates : List (Parts × List ℕ)) → IsPoolOf is_at_most candidates (map (shown walks.now) self.old) → IsPoolOf is_at_most (candidates ++ map (shown walks.now) list.now) (map (shown walks.now) self.new)) }
     {
         self.pool.merge(vector, room, &list.pool, walks)?;
         Ok(())
