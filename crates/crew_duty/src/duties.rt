@@ -21,7 +21,7 @@ use std::marker::Model;
 use std::thread::Threads;
 
 // The fewest first flights that a thread of their own is started for.
-const PIECE: usize = 64;
+const PIECE: usize = 256;
 
 // The fewest first flights of a piece. Where one thread does all the work there is one piece, since
 // pieces are copied together.
