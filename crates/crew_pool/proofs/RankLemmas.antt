@@ -1,15 +1,38 @@
 -- Walks by rank and walks by key: where duties are ranked by key, a pool by rank is one by key.
-use Rattle.std.proofs.Common.{◌≡◌, ℕ, ◌<◌, Bool, true, List, [], ◌∷◌, map, refl, sym, ◌∙◌, ap, subst}
+use Rattle.std.proofs.Common.{◌≡◌, ℕ, zero, suc, ◌<◌, Bool, true, List, [], ◌∷◌, length, map, refl, sym, ◌∙◌, ap, subst, arith}
 use Rattle.std.specs.Cmp.Lexicographic.{slice_cmp}
-use Rattle.std.specs.Ordering.{is_le, nat_cmp, ordering_then}
-use Rattle.crew_duty.specs.Keys.{key_cmp, walk_cmp}
+use Rattle.std.specs.Ordering.{is_le, nat_cmp, ordering_reverse, ordering_then}
+use Rattle.std.specs.declared.cmp.Ordering.TheVariants.{Less, Greater}
+use Rattle.std.specs.Cmp.{nat_cmp_is}
+use Rattle.std.proofs.lemmas.Cmp.{tied_itself}
+use Rattle.crew_duty.specs.Duties.{RiseByKey}
+use Rattle.crew_duty.specs.Keys.{key_cmp, key_total, walk_cmp}
 use Rattle.crew_duty.specs.Members.{Each}
+use Rattle.crew_duty.specs.declared.duty.Duty.{Duty}
 use Rattle.crew_duty.specs.Legs.{Leg}
 use Rattle.crew_resource.specs.Labels.{Member}
 use Rattle.crew_front.specs.Local.{IsLocalOf}
+use Rattle.crew_pool.specs.Ranks.{AreRanked, by_key, key_at}
 use Rattle.crew_pool.specs.Tails.{IsPoolOf}
 use Rattle.crew_front.specs.Walks.{walk_at_most}
 use Rattle.crew_pool.proofs.MergeLemmas.{Member-map_in, Member-map_out}
+
+later : (d : Duty) (ds : List Duty) (a : ℕ) → Each (λ e. key_cmp d.key e.key ≡ Less) ds → a < length ds → key_cmp d.key (key_at ds a) ≡ Less
+later d [] a h p = absurd (omega arith)
+later d (e ∷ es) zero h p = h.0
+later d (e ∷ es) (suc a) h p = later d es a h.1 (omega arith)
+
+one_more : (a b : ℕ) → nat_cmp (suc a) (suc b) ≡ nat_cmp a b
+one_more a b = grind (arith)
+
+-- in a list that rises by key, places compare as keys
+ranks_by_key : (ds : List Duty) → RiseByKey ds → (a b : ℕ) → a < length ds → b < length ds → nat_cmp a b ≡ key_cmp (key_at ds a) (key_at ds b)
+ranks_by_key [] rise a b p q = absurd (omega arith)
+ranks_by_key (d ∷ ds) rise zero zero p q = sym (tied_itself key_total d.key)
+ranks_by_key (d ∷ ds) rise zero (suc b) p q = sym (nat_cmp_is zero (suc b) Less (omega arith)) ∙ sym (later d ds b rise.0 (omega arith))
+ranks_by_key (d ∷ ds) rise (suc a) zero p q =
+    sym (nat_cmp_is (suc a) zero Greater (omega arith)) ∙ sym (key_total.antisymm (key_at ds a) d.key ∙ ap ordering_reverse (later d ds a rise.0 (omega arith)))
+ranks_by_key (d ∷ ds) rise (suc a) (suc b) p q = one_more a b ∙ ranks_by_key ds rise.1 a b (omega arith) (omega arith)
 
 module _ (count : ℕ) (key : ℕ → List Leg) (ranked : (a b : ℕ) → a < count → b < count → nat_cmp a b ≡ key_cmp (key a) (key b)) where
   -- each duty of the walk has a rank
@@ -58,3 +81,8 @@ module _ (count : ℕ) (key : ℕ → List Leg) (ranked : (a b : ℕ) → a < co
         let same = i.alone p.0.0 p.0.1 q.0.0 q.0.1 p.1 q.1 (subst (λ z. below z q.0.0 ≡ true) (sym pv) (subst (λ z. below v z ≡ true) (sym qv) h)) in
         (sym pv ∙ (same.0 ∙ qv), sym pw ∙ (ap (map key) same.1 ∙ qw));
   }
+
+-- over duties that rise by key
+pub pool_of_rising : {V : Type 0} (below : V → V → Bool) (ds : List Duty) (candidates entries : List (V × List ℕ)) → RiseByKey ds → AreRanked (length ds) candidates
+    → IsPoolOf below candidates entries → IsLocalOf below (by_key ds candidates) (by_key ds entries)
+pool_of_rising below ds candidates entries rise ranks i = pool_by_key (length ds) (key_at ds) (ranks_by_key ds rise) below candidates entries ranks i

@@ -3,4 +3,5 @@ pub mod ArenaLinks
 pub mod Apart
 pub mod Tails
 pub mod Meets
+pub mod Ranks
 pub mod Counted

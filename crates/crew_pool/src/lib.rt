@@ -6,6 +6,7 @@
 mod absorb;
 mod arena;
 mod entries;
+pub mod laws;
 mod merge;
 mod pool;
 mod room;

@@ -4,7 +4,7 @@ ghost use Rattle.crew_resource.specs.Sum.{LiesWithin};
 ghost use Rattle.crew_resource.specs.SumStages.{still};
 ghost use Rattle.crew_pool.specs.Apart.{AreApart};
 
-use crate::{NO_DUTY, Pool, Room, Tail, View, Walks, absorb_boarding};
+use crate::{NO_DUTY, Pool, Room, Tail, View, Walks, absorb_boarding, laws};
 use crew_resource::{Amount, Both, Count, Placed, Resource, StagedAmount, Sum};
 use std::alloc::{AllocError, Global};
 use std::cmp::Ordering;
@@ -381,5 +381,6 @@ fn views_show_what_boards(rt: HostRuntime) -> Result<(), Fail> {
     assert!(rt; narrow.len() == 1);
     let none = ride_for(16);
     assert!(rt; View::new(&rides, &list, &none, 2).is_empty());
+    laws::pools_by_rank_are_pools_by_key::<Rides>();
     Ok(())
 }

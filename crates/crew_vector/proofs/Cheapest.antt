@@ -1,5 +1,5 @@
 -- Under each pairing lies a clean one that costs no more, so that the best costs the least of all.
-use Rattle.std.proofs.Common.{◌≡◌, ℕ, true, List, [], ◌∷◌, Some, None, inl, inr, sym, ◌∙◌, ap, refl, subst, ⊎_elim, arith}
+use Rattle.std.proofs.Common.{◌≡◌, ℕ, true, ℤ, pos, ◌+ℤ◌, ◌-ℤ◌, ◌*ℤ◌, List, [], ◌∷◌, Some, None, inl, inr, sym, ◌∙◌, ap, refl, subst, ⊎_elim, arith}
 use Rattle.std.specs.Prelude.{◌≤ℤ◌}
 use Rattle.std.specs.Ordering.{eq_by_cmp}
 use Rattle.std.proofs.lemmas.Int.{ints}
@@ -13,7 +13,7 @@ use Rattle.crew_rules.specs.declared.settings.Settings.{Settings}
 use Rattle.crew_vector.specs.Bests.{AreFronts, IsBest, IsCleanPairing, IsHomeEntry, IsPairing, NoDearer, PricedPairing}
 use Rattle.crew_vector.specs.Costs.{cost_respects, reduced_cost}
 use Rattle.crew_vector.specs.Fronts.{At, vector_of, walk_at_most, walk_of}
-use Rattle.crew_vector.specs.Parts.{cost_of, pay_of}
+use Rattle.crew_vector.specs.Parts.{cost_of, pay_of, prices}
 use Rattle.crew_vector.specs.declared.parts.Parts.{Parts}
 use Rattle.crew_vector.proofs.Fitting.{cost-is}
 use Rattle.crew_vector.proofs.Cuts.{append-nothing}
@@ -54,9 +54,13 @@ best-least s t best p checked sound is h =
     let less = q.2 in
     ⊎_elim (λ lt. omega (arith, ints, lt, less)) (λ eq. let e = eq.0 in omega (arith, ints, e, less)) (is.1 q.0 q.1)
 
+-- what a cost and a trip rig each leave out is the same
+pay-again : (cost pay prices rig rig_less : ℤ) → cost ≡ pay -ℤ prices → rig_less ≡ rig -ℤ prices → pay ≡ cost +ℤ (rig -ℤ rig_less)
+pay-again cost pay prices rig rig_less h k = omega (arith, ints)
+
 -- an entry at home is a clean pairing
 pub entry-pairing : (s : Settings) (t : Timetable) (front : List ℕ → Duty → List (Parts × List (List Leg))) → AreFronts s t front → (base : List ℕ) (v : Parts) (w : List (List Leg)) → IsHomeEntry s t front base v w
-    → (p : PricedPairing) × IsCleanPairing s t p × (p.base ≡ base) × (p.walk ≡ w) × (p.cost ≡ reduced_cost v)
+    → (p : PricedPairing) × IsCleanPairing s t p × (p.base ≡ base) × (p.walk ≡ w) × (p.cost ≡ reduced_cost v) × (p.pay ≡ reduced_cost v +ℤ (pos s.trip_rig *ℤ v.away -ℤ v.trip_rig)) × (p.away ≡ v.away)
 entry-pairing s t front right base v w h =
     let clean = (right base h.price h.duty h.based h.legal).clean v w h.held in
     let at = clean.at in
@@ -67,6 +71,9 @@ entry-pairing s t front right base v w h =
       pay = pay_of s (at.first ∷ at.others);
       away = minutes_away (at.first ∷ at.others);
     } in
+    let duties = at.first ∷ at.others in
+    let cost : reduced_cost v ≡ cost_of s h.price duties = ap reduced_cost at.vector ∙ cost-is s h.price duties in
+    let away : v.away ≡ minutes_away duties = ap (λ z. z.away) at.vector in
     let home : is_pairing base at.first at.others ≡ true = ap (λ (d : Duty). eq_by_cmp code_cmp d.to base) at.ends ∙ code-itself h.duty.to base h.home in (
       p,
       record {
@@ -75,7 +82,9 @@ entry-pairing s t front right base v w h =
       },
       refl,
       refl,
-      sym (ap reduced_cost at.vector ∙ cost-is s h.price (at.first ∷ at.others)),
+      sym cost,
+      pay-again (reduced_cost v) (pay_of s duties) (prices h.price duties) (pos s.trip_rig *ℤ v.away) v.trip_rig cost (ap (λ z. z.trip_rig) at.vector ∙ ap (λ z. pos s.trip_rig *ℤ z -ℤ prices h.price duties) (sym away)),
+      sym away,
     )
 
 -- a clean pairing's vector is an entry at home, with a walk that is at most the pairing's

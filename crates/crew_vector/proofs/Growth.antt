@@ -48,7 +48,7 @@ raised-grown s e d u =
     refl
     (joined-away u.away e.release d.report d.release)
 
-four-capped : (p q r k : Bool) (m : ℤ × (ℤ × ℤ)) (f y n w : ℤ)
+pub four-capped : (p q r k : Bool) (m : ℤ × (ℤ × ℤ)) (f y n w : ℤ)
     → both (Some m) (both (both (cond p (Some f) None) (cond q (Some y) None)) (both (cond r (Some n) None) (cond k (Some w) None))) ≡ cond (p && (q && (r && k))) (Some (m, ((f, y), (n, w)))) None
 four-capped p q r k m f y n w =
     ap (λ z. both (Some m) (both z (both (cond r (Some n) None) (cond k (Some w) None)))) (both-capped p q f y)

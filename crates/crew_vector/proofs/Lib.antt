@@ -11,6 +11,8 @@ pub mod OneBest
 pub mod Orders
 pub mod Paths
 pub mod Pooled
+pub mod Pruned
+pub mod Spared
 pub mod Steps
 pub mod Unique
 pub mod Valued

@@ -40,7 +40,7 @@ test-le : (a b : ℤ) → int_le a b ≡ true → a ≤ℤ b
 test-le a b h = grind (arith, ints)
 
 -- who arrives in time for a departure left before it
-left-before : (s : Settings) (e : Duty) (x : Arrival) (g : Departure) → Events.IsSound e → arrival_of e ≡ x → may_wait s x g ≡ true → e.report <ℤ g.report
+pub left-before : (s : Settings) (e : Duty) (x : Arrival) (g : Departure) → Events.IsSound e → arrival_of e ≡ x → may_wait s x g ≡ true → e.report <ℤ g.report
 left-before s e x g sound at h =
     let here : may_wait s (arrival_of e) g ≡ true = ap (λ z. may_wait s z g) at ∙ h in
     let rest : pos 600 ≤ℤ (g.report -ℤ e.release) = test-le (pos 600) (g.report -ℤ e.release) (and_parts _ _ (and_parts _ _ here).1).0 in
@@ -87,14 +87,16 @@ pub pooled : (s : Settings) (t : Timetable) (base : List ℕ) (price : ℤ) (dut
 pooled s t base price duties checked sound exactly pools arrivals pool_local arrival_local =
     at-events s t base price duties checked sound exactly pools (λ g. arrivals) pool_local (λ d x legal window. arrival_local x)
 
-pub swept : (s : Settings) (t : Timetable) (base : List ℕ) (price : ℤ) (duties : List Duty) → IsChecked s → IsSound t → AreDuties s t duties
+-- only the arrivals in a duty's window need be right
+pub swept-in-window : (s : Settings) (t : Timetable) (base : List ℕ) (price : ℤ) (duties : List Duty) → IsChecked s → IsSound t → AreDuties s t duties
     → (pools : Departure → List (Parts × List (List Leg))) (arrivals : Departure → Arrival → List (Parts × List (List Leg)))
     → ((d : Duty) → IsDuty s (flights_of t) d → IsLocal is_at_most walk_at_most (FromPools (network_of s base price duties) (arrivals (departure_of d)) (departure_of d)) (pools (departure_of d)))
-    → ((d : Duty) (x : Arrival) → IsDuty s (flights_of t) d → IsLocal is_at_most walk_at_most (ArrivedBefore (network_of s base price duties) (λ e. view (network_of s base price duties) e (pools (departure_of e))) d.report x) (arrivals (departure_of d) x))
+    → ((d : Duty) (x : Arrival) → IsDuty s (flights_of t) d → may_wait s x (departure_of d) ≡ true
+    → IsLocal is_at_most walk_at_most (ArrivedBefore (network_of s base price duties) (λ e. view (network_of s base price duties) e (pools (departure_of e))) d.report x) (arrivals (departure_of d) x))
     → (d : Duty) → IsDuty s (flights_of t) d → IsFrontAt s t base price d (view (network_of s base price duties) d (pools (departure_of d)))
-swept s t base price duties checked sound exactly pools arrivals pool_local arrival_local =
+swept-in-window s t base price duties checked sound exactly pools arrivals pool_local arrival_local =
     at-events s t base price duties checked sound exactly pools arrivals pool_local (λ d x legal window.
-    let local = arrival_local d x legal in
+    let local = arrival_local d x legal window in
     record {
       among = λ v w m. let a = local.among v w m in (a.0, a.1, a.3, a.4);
       covers = λ v w a.
@@ -102,3 +104,11 @@ swept s t base price duties checked sound exactly pools arrivals pool_local arri
           local.covers v w (a.0, a.1, left-before s a.0 x (departure_of d) range a.2 window, a.2, a.3);
       alone = local.alone;
     })
+
+pub swept : (s : Settings) (t : Timetable) (base : List ℕ) (price : ℤ) (duties : List Duty) → IsChecked s → IsSound t → AreDuties s t duties
+    → (pools : Departure → List (Parts × List (List Leg))) (arrivals : Departure → Arrival → List (Parts × List (List Leg)))
+    → ((d : Duty) → IsDuty s (flights_of t) d → IsLocal is_at_most walk_at_most (FromPools (network_of s base price duties) (arrivals (departure_of d)) (departure_of d)) (pools (departure_of d)))
+    → ((d : Duty) (x : Arrival) → IsDuty s (flights_of t) d → IsLocal is_at_most walk_at_most (ArrivedBefore (network_of s base price duties) (λ e. view (network_of s base price duties) e (pools (departure_of e))) d.report x) (arrivals (departure_of d) x))
+    → (d : Duty) → IsDuty s (flights_of t) d → IsFrontAt s t base price d (view (network_of s base price duties) d (pools (departure_of d)))
+swept s t base price duties checked sound exactly pools arrivals pool_local arrival_local =
+    swept-in-window s t base price duties checked sound exactly pools arrivals pool_local (λ d x legal window. arrival_local d x legal)

@@ -59,3 +59,7 @@ network_of s base price duties = record {
 -- the entries at an arrival event of the duties that leave before a minute
 abbrev pub ArrivedBefore : Network Duty Parts (List (List Leg)) Departure Arrival → (Duty → List (Parts × List (List Leg))) → ℤ → Arrival → Parts → List (List Leg) → Type 0
 ArrivedBefore net fronts minute x v w = (d : Duty) × Member net.known d × (d.report <ℤ minute) × (net.arrives d ≡ x) × Member (fronts d) (v, w)
+
+-- of these the ones with a duty to spare: the others can board nothing
+abbrev pub ArrivedToSpare : Settings → Network Duty Parts (List (List Leg)) Departure Arrival → (Duty → List (Parts × List (List Leg))) → ℤ → Arrival → Parts → List (List Leg) → Type 0
+ArrivedToSpare s net fronts minute x v w = ArrivedBefore net fronts minute x v w × (v.duties <ℤ pos s.max_duties)

@@ -9,6 +9,7 @@ pub mod Named
 pub mod Numbers
 pub mod Pairing
 pub mod Parts
+pub mod Pruned
 pub mod Sides
 pub mod SidesLaws
 pub mod Terms

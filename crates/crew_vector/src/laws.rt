@@ -1,5 +1,5 @@
 //! Laws over the definitions alone.
-ghost use Rattle.std.specs.Prelude.{◌≡◌, ◌≤ℤ◌, ℕ, ℤ, cond, List, [], ◌∷◌, Option, Some, None, length};
+ghost use Rattle.std.specs.Prelude.{◌≡◌, ◌≤ℤ◌, ℕ, ℤ, pos, ◌+ℤ◌, ◌-ℤ◌, ◌*ℤ◌, cond, true, List, [], ◌∷◌, Option, Some, None, length};
 ghost use Rattle.crew_duty.specs.Duties.{AreDuties, flights_of};
 ghost use Rattle.crew_duty.specs.Events.{IsSound};
 ghost use Rattle.crew_duty.specs.Members.{Member};
@@ -18,11 +18,12 @@ ghost use Rattle.crew_vector.specs.Along.{IsLine};
 ghost use Rattle.crew_vector.specs.Amounts.{departure_of};
 ghost use Rattle.crew_vector.specs.Bests.{AreFronts, IsBest, IsCleanPairing, IsHomeEntry, IsPairing, NoDearer, PricedPairing};
 ghost use Rattle.crew_vector.specs.Costs.{is_at_most, reduced_cost};
-ghost use Rattle.crew_vector.specs.Events.{ArrivedBefore, board_vector, idle_vector, network_of, wait_vector};
+ghost use Rattle.crew_vector.specs.Events.{ArrivedBefore, ArrivedToSpare, board_vector, idle_vector, may_wait, network_of, wait_vector};
 ghost use Rattle.crew_vector.specs.Fronts.{Clean, IsFrontAt, IsUndominated, RiseByVector, vector_of, walk_at_most};
 ghost use Rattle.crew_vector.specs.Locals.{AreFrontsBefore, Candidate, Feed, IsLocalAt, grown, is_vector_within_caps};
 ghost use Rattle.crew_vector.specs.Pairing.{pairing_vector};
 ghost use Rattle.crew_vector.specs.Parts.{cost_of, parts_of, stays_within_caps, value_of};
+ghost use Rattle.crew_vector.specs.Pruned.{AreEnough, LieOver, StandsFor};
 ghost use Rattle.crew_vector.specs.declared.parts.Parts.{Parts};
 
 use crate::vector::PairingVector;
@@ -94,11 +95,14 @@ pub fn steps_are_those_of_the_vector()
     ensures step { (s : Settings) (price : ℤ) (last next : Duty) (v : Parts) → ⟦<PairingVector as Resource>⟧.extends (pairing_vector s price) v last next ≡ cond (is_vector_within_caps s (grown s last next v)) (Some (grown s last next v)) None }
 {}
 
-/// Some of the candidates that lie under all of them leave the same entries: at a node, and at a departure event.
+/// Some of the candidates that lie under all of them leave the same entries: at a node, at a departure event, and at an
+/// arrival event.
 pub fn covering_candidates_leave_the_same_entries()
     ensures node { (s : Settings) (base : List ℕ) (price : ℤ) (d : Duty) (feed : Feed) (part entries : List (Parts × List (List Leg))) → Labels.IsCovering is_at_most walk_at_most (λ v w. Labels.Member part (v, w)) (Candidate s base price d feed) → Labels.IsLocal is_at_most walk_at_most (λ v w. Labels.Member part (v, w)) entries → IsLocalAt s base price d feed entries }
     ensures back { (s : Settings) (base : List ℕ) (price : ℤ) (d : Duty) (feed : Feed) (part entries : List (Parts × List (List Leg))) → Labels.IsCovering is_at_most walk_at_most (λ v w. Labels.Member part (v, w)) (Candidate s base price d feed) → IsLocalAt s base price d feed entries → Labels.IsLocal is_at_most walk_at_most (λ v w. Labels.Member part (v, w)) entries }
     ensures pool { (s : Settings) (base : List ℕ) (price : ℤ) (duties : List Duty) (arrivals : Arrival → List (Parts × List (List Leg))) (g : Departure) (part entries : List (Parts × List (List Leg))) → Labels.IsCovering is_at_most walk_at_most (λ v w. Labels.Member part (v, w)) (FromPools (network_of s base price duties) arrivals g) → Labels.IsLocal is_at_most walk_at_most (λ v w. Labels.Member part (v, w)) entries → Labels.IsLocal is_at_most walk_at_most (FromPools (network_of s base price duties) arrivals g) entries }
+    ensures arrival { (s : Settings) (base : List ℕ) (price : ℤ) (duties : List Duty) (fronts : Duty → List (Parts × List (List Leg))) (minute : ℤ) (x : Arrival) (part entries : List (Parts × List (List Leg))) → Labels.IsCovering is_at_most walk_at_most (λ v w. Labels.Member part (v, w)) (ArrivedBefore (network_of s base price duties) fronts minute x) → Labels.IsLocal is_at_most walk_at_most (λ v w. Labels.Member part (v, w)) entries → Labels.IsLocal is_at_most walk_at_most (ArrivedBefore (network_of s base price duties) fronts minute x) entries }
+    ensures spare { (s : Settings) (base : List ℕ) (price : ℤ) (duties : List Duty) (fronts : Duty → List (Parts × List (List Leg))) (minute : ℤ) (x : Arrival) (part entries : List (Parts × List (List Leg))) → Labels.IsCovering is_at_most walk_at_most (λ v w. Labels.Member part (v, w)) (ArrivedToSpare s (network_of s base price duties) fronts minute x) → Labels.IsLocal is_at_most walk_at_most (λ v w. Labels.Member part (v, w)) entries → Labels.IsLocal is_at_most walk_at_most (ArrivedToSpare s (network_of s base price duties) fronts minute x) entries }
 {}
 
 /// Pools that are local at each event of a base's network show, at each duty, the duty's front.
@@ -120,10 +124,44 @@ pub fn sweeps_in_order_of_time_give_all_fronts()
         → (e : Duty) → IsDuty s (flights_of t) e → IsFrontAt s t base price e (view (network_of s base price duties) e (pools (departure_of e))) }
 {}
 
+/// In a sweep only the arrivals from which a duty's departure can be waited for need be right for it.
+pub fn sweeps_by_window_give_all_fronts()
+    ensures { (s : Settings) (t : Timetable) (base : List ℕ) (price : ℤ) (duties : List Duty) → IsChecked s → TimetableSpec.IsSound t → AreDuties s t duties
+        → (pools : Departure → List (Parts × List (List Leg))) (arrivals : Departure → Arrival → List (Parts × List (List Leg)))
+        → ((d : Duty) → IsDuty s (flights_of t) d → Labels.IsLocal is_at_most walk_at_most (FromPools (network_of s base price duties) (arrivals (departure_of d)) (departure_of d)) (pools (departure_of d)))
+        → ((d : Duty) (x : Arrival) → IsDuty s (flights_of t) d → may_wait s x (departure_of d) ≡ true → Labels.IsLocal is_at_most walk_at_most (ArrivedBefore (network_of s base price duties) (λ e. view (network_of s base price duties) e (pools (departure_of e))) d.report x) (arrivals (departure_of d) x))
+        → (e : Duty) → IsDuty s (flights_of t) e → IsFrontAt s t base price e (view (network_of s base price duties) e (pools (departure_of e))) }
+{}
+
+/// And labels with no duty to spare can be left out of the arrivals: they board nothing.
+pub fn sweeps_of_labels_to_spare_give_all_fronts()
+    ensures { (s : Settings) (t : Timetable) (base : List ℕ) (price : ℤ) (duties : List Duty) → IsChecked s → TimetableSpec.IsSound t → AreDuties s t duties
+        → (pools : Departure → List (Parts × List (List Leg))) (arrivals : Departure → Arrival → List (Parts × List (List Leg)))
+        → ((d : Duty) → IsDuty s (flights_of t) d → Labels.IsLocal is_at_most walk_at_most (FromPools (network_of s base price duties) (arrivals (departure_of d)) (departure_of d)) (pools (departure_of d)))
+        → ((d : Duty) (x : Arrival) → IsDuty s (flights_of t) d → may_wait s x (departure_of d) ≡ true → Labels.IsLocal is_at_most walk_at_most (ArrivedToSpare s (network_of s base price duties) (λ e. view (network_of s base price duties) e (pools (departure_of e))) d.report x) (arrivals (departure_of d) x))
+        → (e : Duty) → IsDuty s (flights_of t) e → IsFrontAt s t base price e (view (network_of s base price duties) e (pools (departure_of e))) }
+{}
+
+/// Where the entries of each duty at an arrival lie over those of one that is kept, the kept duties leave there what all
+/// duties leave.
+pub fn kept_duties_leave_the_same_arrivals()
+    ensures arrival { (s : Settings) (base : List ℕ) (price : ℤ) (duties kept : List Duty) (fronts : Duty → List (Parts × List (List Leg))) (minute : ℤ) (x : Arrival) (entries : List (Parts × List (List Leg))) → AreEnough duties kept fronts minute x → Labels.IsLocal is_at_most walk_at_most (ArrivedBefore (network_of s base price kept) fronts minute x) entries → Labels.IsLocal is_at_most walk_at_most (ArrivedBefore (network_of s base price duties) fronts minute x) entries }
+    ensures spare { (s : Settings) (base : List ℕ) (price : ℤ) (duties kept : List Duty) (fronts : Duty → List (Parts × List (List Leg))) (minute : ℤ) (x : Arrival) (entries : List (Parts × List (List Leg))) → AreEnough duties kept fronts minute x → Labels.IsLocal is_at_most walk_at_most (ArrivedToSpare s (network_of s base price kept) fronts minute x) entries → Labels.IsLocal is_at_most walk_at_most (ArrivedToSpare s (network_of s base price duties) fronts minute x) entries }
+{}
+
+/// Of two duties between the same events, one adds at most as much as the other to each part, and its key is the lesser
+/// where they add the same: then the other's entries lie over its own. So it is enough to keep, for each duty, one that
+/// stands for it.
+pub fn lesser_duties_stand_for_greater_ones()
+    ensures view { (s : Settings) (base : List ℕ) (price : ℤ) (duties : List Duty) (e d : Duty) (pool : List (Parts × List (List Leg))) → StandsFor e d → LieOver (view (network_of s base price duties) d pool) (view (network_of s base price duties) e pool) }
+    ensures enough { (s : Settings) (base : List ℕ) (price : ℤ) (duties kept : List Duty) (pools : Departure → List (Parts × List (List Leg))) (minute : ℤ) (x : Arrival) → ((d : Duty) → Labels.Member kept d → Labels.Member duties d) → ((d : Duty) → Labels.Member duties d → (e : Duty) × Labels.Member kept e × StandsFor e d) → AreEnough duties kept (λ d. view (network_of s base price duties) d (pools (departure_of d))) minute x }
+    ensures through { (c e d : Duty) → StandsFor c e → StandsFor e d → StandsFor c d }
+{}
+
 /// Where fronts are right, the entry at home that is least by cost and walk is the best pairing, and there is none where
-/// there is no such entry.
+/// there is no such entry. An entry at home tells its pairing's cost, pay and minutes away.
 pub fn best_is_the_least_entry_at_home()
-    ensures pairing { (s : Settings) (t : Timetable) (front : List ℕ → Duty → List (Parts × List (List Leg))) → AreFronts s t front → (base : List ℕ) (v : Parts) (w : List (List Leg)) → IsHomeEntry s t front base v w → (p : PricedPairing) × IsCleanPairing s t p × (p.base ≡ base) × (p.walk ≡ w) × (p.cost ≡ reduced_cost v) }
+    ensures pairing { (s : Settings) (t : Timetable) (front : List ℕ → Duty → List (Parts × List (List Leg))) → AreFronts s t front → (base : List ℕ) (v : Parts) (w : List (List Leg)) → IsHomeEntry s t front base v w → (p : PricedPairing) × IsCleanPairing s t p × (p.base ≡ base) × (p.walk ≡ w) × (p.cost ≡ reduced_cost v) × (p.pay ≡ reduced_cost v +ℤ (pos s.trip_rig *ℤ v.away -ℤ v.trip_rig)) × (p.away ≡ v.away) }
     ensures best { (s : Settings) (t : Timetable) (front : List ℕ → Duty → List (Parts × List (List Leg))) (best : PricedPairing) → IsChecked s → TimetableSpec.IsSound t → AreFronts s t front → IsCleanPairing s t best → ((base : List ℕ) (v : Parts) (w : List (List Leg)) → IsHomeEntry s t front base v w → NoDearer best.cost best.walk (reduced_cost v) w) → IsBest s t (Some best) }
     ensures none { (s : Settings) (t : Timetable) (front : List ℕ → Duty → List (Parts × List (List Leg))) → IsChecked s → TimetableSpec.IsSound t → AreFronts s t front → ((base : List ℕ) (v : Parts) (w : List (List Leg)) → IsHomeEntry s t front base v w → ⊥) → IsBest s t None }
 {}

@@ -180,5 +180,9 @@ fn order(rt: HostRuntime) -> Result<(), Fail> {
     laws::covering_candidates_leave_the_same_entries();
     laws::views_of_local_pools_are_fronts();
     laws::sweeps_in_order_of_time_give_all_fronts();
+    laws::sweeps_by_window_give_all_fronts();
+    laws::sweeps_of_labels_to_spare_give_all_fronts();
+    laws::kept_duties_leave_the_same_arrivals();
+    laws::lesser_duties_stand_for_greater_ones();
     Ok(())
 }

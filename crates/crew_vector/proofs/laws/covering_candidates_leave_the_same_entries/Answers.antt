@@ -4,7 +4,7 @@ use Rattle.crew_resource.specs.Labels.{Member}
 use Rattle.crew_duty.specs.Legs.{Leg}
 use Rattle.std.proofs.Common.{List}
 use Rattle.crew_vector.specs.Costs.{is_at_most}
-use Rattle.crew_vector.specs.Events.{network_of}
+use Rattle.crew_vector.specs.Events.{ArrivedBefore, ArrivedToSpare, network_of}
 use Rattle.crew_vector.specs.Fronts.{walk_at_most}
 use Rattle.crew_vector.specs.Locals.{Candidate}
 use Rattle.crew_vector.specs.declared.parts.Parts.{Parts}
@@ -23,3 +23,11 @@ returns-clause-back c = λ s base price d feed part entries covering local.
 pub returns-clause-pool : goal.returns-clause-pool
 returns-clause-pool c = λ s base price duties arrivals g part entries covering local.
     local_of_all Parts (List (List Leg)) is_at_most walk_at_most vector-order walk-order (λ v w. Member part (v, w)) (FromPools (network_of s base price duties) arrivals g) covering entries local
+
+pub returns-clause-arrival : goal.returns-clause-arrival
+returns-clause-arrival c = λ s base price duties fronts minute x part entries covering local.
+    local_of_all Parts (List (List Leg)) is_at_most walk_at_most vector-order walk-order (λ v w. Member part (v, w)) (ArrivedBefore (network_of s base price duties) fronts minute x) covering entries local
+
+pub returns-clause-spare : goal.returns-clause-spare
+returns-clause-spare c = λ s base price duties fronts minute x part entries covering local.
+    local_of_all Parts (List (List Leg)) is_at_most walk_at_most vector-order walk-order (λ v w. Member part (v, w)) (ArrivedToSpare s (network_of s base price duties) fronts minute x) covering entries local
