@@ -11,17 +11,17 @@ use Rattle.crew_flights.specs.Codes.{code_cmp}
 use Rattle.crew_rules.specs.Pay.{duty_pay}
 use Rattle.crew_rules.specs.Settings.{IsChecked}
 use Rattle.crew_rules.specs.declared.settings.Settings.{Settings}
-use Rattle.crew_duty.specs.Legality.{AllConnect, duty_of, flight_time, price_of, release, report, total}
-use Rattle.crew_duty.specs.Pairings.{is_within_caps, last_duty, may_stand_after, minutes_away}
-use Rattle.crew_duty.specs.declared.duty.Duty.{Duty}
-use Rattle.crew_duty.specs.declared.leg.TimedLeg.{TimedLeg}
-use Rattle.crew_duty.specs.Members.{Each}
-use Rattle.crew_duty.proofs.Sums.{total-push, total-take}
-use Rattle.crew_duty.proofs.Tree.{Each-member, slice_get-Member}
-use Rattle.crew_duty.proofs.Times.{AllSound, ends-later, flown-total}
-use Rattle.crew_vector.specs.Amounts.{rate_share}
-use Rattle.crew_audit.specs.Listing.{comes_back, may_join}
-use Rattle.crew_audit.specs.Ranges.{IsInRange}
+use Rattle.crew_pairing.specs.Legality.{AllConnect, duty_of, flight_time, price_of, release, report, total}
+use Rattle.crew_pairing.specs.Pairings.{is_within_caps, last_duty, may_stand_after, minutes_away}
+use Rattle.crew_pairing.specs.declared.duty.Duty.{Duty}
+use Rattle.crew_pairing.specs.declared.leg.TimedLeg.{TimedLeg}
+use Rattle.crew_resource.specs.Members.{Each}
+use Rattle.crew_pairing.proofs.Sums.{total-push, total-take}
+use Rattle.crew_pairing.proofs.Tree.{Each-member, slice_get-Member}
+use Rattle.crew_pairing.proofs.Paid.{legs-paid}
+use Rattle.crew_pairing.proofs.Times.{AllSound, ends-later, flown-total}
+use Rattle.crew_audit.specs.Machinery.Listing.{comes_back, may_join}
+use Rattle.crew_audit.specs.Machinery.Ranges.{IsInRange}
 
 pub last_duty-get : (first : Duty) (others : List Duty) (d : Duty) → slice_get (first ∷ others) (length (first ∷ others) - 1) ≡ Some d → last_duty first others ≡ d
 last_duty-get first [] d e = cc
@@ -49,21 +49,6 @@ away-ends (x ∷ ds) first last e f =
     let end = last_duty-get x ds last f in
     rw (end, same) refl
 
--- pay
-greatest-between : (a b : ℤ) (c n : ℕ) → a ≤ℤ pos n → b ≤ℤ pos n → c ≤ n → (pos 0 ≤ℤ int_max (int_max a b) (pos c)) × (int_max (int_max a b) (pos c) ≤ℤ pos n)
-greatest-between a b c n h i j = (grind (arith, ints), grind (arith, ints))
-
-pub pay-between : (s : Settings) (elapsed fly : ℤ) → IsChecked s → pos 0 ≤ℤ elapsed → elapsed ≤ℤ pos 70_000_000 → pos 0 ≤ℤ fly → fly ≤ℤ pos 70_000_000
-    → (pos 0 ≤ℤ duty_pay s elapsed fly) × (duty_pay s elapsed fly ≤ℤ pos 1_000_000_000)
-pay-between s elapsed fly checked a b c d =
-    let rig = rate_share s.duty_rig 70_000_000 elapsed a b in
-    let flown = rate_share 14 70_000_000 fly c d in
-    let most = checked.duty_rig in
-    let r : (pos s.duty_rig *ℤ elapsed) ≤ℤ pos 1_000_000_000 = omega (arith, ints, rig.1, most) in
-    let f : (pos 14 *ℤ fly) ≤ℤ pos 1_000_000_000 = omega (arith, ints, flown.1) in
-    let least = checked.duty_min in
-    greatest-between (pos 14 *ℤ fly) (pos s.duty_rig *ℤ elapsed) s.duty_min 1_000_000_000 f r (omega (arith, least))
-
 -- the facts of sound legs lie in their ranges
 pub made-in-range : (s : Settings) (first : TimedLeg) (others : List TimedLeg) → IsChecked s → AllSound (first ∷ others) → AllConnect s first others → length others ≤ 7
     → pos 15_000_000 ≤ℤ report s first → report s first ≤ℤ pos 70_000_000 → pos 15_000_000 ≤ℤ release s first others → release s first others ≤ℤ pos 70_000_000
@@ -73,7 +58,7 @@ made-in-range s first others checked sound linked few a b d e p q =
     let late = ends-later s first others sound linked in
     let flown = flown-total (first ∷ others) sound in
     let most : flight_time first others ≤ℤ pos 70_000_000 = omega (arith, ints, flown.1, few) in
-    let pay = pay-between s (release s first others -ℤ report s first) (flight_time first others) checked (omega (arith, ints, late)) (omega (arith, ints, a, e)) flown.0 most in
+    let pay = legs-paid s first others checked few sound linked a e in
     record {
       report = a;
       report_most = b;
@@ -89,18 +74,7 @@ made-in-range s first others checked sound linked few a b d e p q =
       price_most = omega (arith, ints, q);
     }
 
--- so many points for each of at most so many minutes, forward or back
-pub rate-between : (rate : ℕ) (z : ℤ) → rate ≤ 14 → (pos 0 -ℤ pos 60_000_000) ≤ℤ z → z ≤ℤ pos 60_000_000
-    → ((pos 0 -ℤ pos 1_000_000_000) ≤ℤ (pos rate *ℤ z)) × ((pos rate *ℤ z) ≤ℤ pos 1_000_000_000)
-rate-between rate (pos m) r h k =
-    let l : m ≤ 60_000_000 = omega (arith, ints) in
-    let p = mul-le-mul_left rate l in
-    (omega (arith, ints, p), omega (arith, ints, p))
-rate-between rate (negsuc m) r h k =
-    let l : suc m ≤ 60_000_000 = omega (arith, ints) in
-    let p = mul-le-mul_left rate l in
-    (omega (arith, ints, p), omega (arith, ints, p))
-
+-- the points of a guarantee
 pub points-between : (points n : ℕ) → points ≤ 20_000 → n ≤ 13 → (pos points *ℤ pos n) ≤ℤ pos 1_000_000_000
 points-between points n h k = let p = mul-le-mul_left points k in omega (arith, ints, p)
 

@@ -7,20 +7,20 @@ use Rattle.std.proofs.lemmas.Int.{ints}
 use Rattle.crew_flights.specs.Codes.{code_cmp, code_cmp_total}
 use Rattle.crew_flights.specs.declared.flight.Flight.{Flight}
 use Rattle.crew_rules.specs.declared.settings.Settings.{Settings}
-use Rattle.crew_duty.specs.Legality.{IsLegal, duty_of, total}
-use Rattle.crew_duty.specs.Listing.{all_duties}
-use Rattle.crew_duty.specs.Members.{Each, Member}
-use Rattle.crew_duty.specs.Pairings.{AllRested, IsDuty, is_within_caps, last_duty, may_stand_after}
-use Rattle.crew_duty.specs.Plans.{AreFlights}
-use Rattle.crew_duty.specs.declared.duty.Duty.{Duty}
-use Rattle.crew_duty.proofs.Complete.{all-every}
-use Rattle.crew_duty.proofs.InList.{Member-flat_map}
-use Rattle.crew_duty.specs.declared.leg.TimedLeg.{TimedLeg}
-use Rattle.crew_duty.proofs.Legal.{Each-after, known-sound}
-use Rattle.crew_duty.proofs.Sums.{total-append}
-use Rattle.crew_duty.proofs.Times.{ends-later, flown-total}
-use Rattle.crew_duty.proofs.Tree.{Each-map}
-use Rattle.crew_audit.specs.Listing.{after, goes_on, listed, with_next}
+use Rattle.crew_pairing.specs.Legality.{IsLegal, duty_of, total}
+use Rattle.crew_pairing.specs.Machinery.Listing.{all_duties}
+use Rattle.crew_resource.specs.Members.{Each, Member}
+use Rattle.crew_pairing.specs.Pairings.{AllRested, IsDuty, is_within_caps, last_duty, may_stand_after}
+use Rattle.crew_pairing.specs.Machinery.Beginnings.{AreFlights}
+use Rattle.crew_pairing.specs.declared.duty.Duty.{Duty}
+use Rattle.crew_pairing.proofs.Complete.{all-every}
+use Rattle.crew_pairing.proofs.InList.{Member-flat_map}
+use Rattle.crew_pairing.specs.declared.leg.TimedLeg.{TimedLeg}
+use Rattle.crew_pairing.proofs.Legal.{Each-after, known-sound}
+use Rattle.crew_pairing.proofs.Sums.{total-append}
+use Rattle.crew_pairing.proofs.Times.{ends-later, flown-total}
+use Rattle.crew_pairing.proofs.Tree.{Each-map}
+use Rattle.crew_audit.specs.Machinery.Listing.{after, goes_on, listed, with_next}
 use Rattle.crew_audit.specs.declared.partial.Partial.{Partial}
 use Rattle.crew_audit.proofs.Chains.{both-on, caps-kept, within-caps}
 use Rattle.crew_audit.proofs.Sound.{IsBegun}

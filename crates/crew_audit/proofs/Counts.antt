@@ -2,8 +2,8 @@
 use Rattle.std.proofs.Common.{◌≡◌, ℤ, ◌≤ℤ◌, Bool, true, false, List, [], ◌∷◌, ◌++◌, Option, Some, None, ◌⊎◌, ◌∙◌, int_le, refl, sym, arith, inl, inr, if◌then◌else◌}
 use Rattle.std.specs.Int.{int_min}
 use Rattle.std.proofs.lemmas.Int.{ints}
-use Rattle.crew_duty.specs.Members.{Member}
-use Rattle.crew_duty.proofs.InList.{Member-either, Member-left, Member-right}
+use Rattle.crew_resource.specs.Members.{Member}
+use Rattle.crew_pairing.proofs.InList.{Member-either, Member-left, Member-right}
 use Rattle.crew_audit.specs.Tallies.{IsLeast, cost_in, least_with}
 use Rattle.crew_audit.specs.declared.partial.Partial.{Partial}
 

@@ -5,8 +5,8 @@ use Rattle.std.specs.List.{flat_map}
 use Rattle.std.proofs.lemmas.List.{flat_map_more, take_more}
 use Rattle.std.proofs.lemmas.Grind.{flat_map-append}
 use Rattle.std.proofs.lemmas.Option.{get_or_from_slice_get, slice_get-get_or}
-use Rattle.crew_duty.specs.Members.{Member}
-use Rattle.crew_duty.proofs.Tree.{flat_map-room, slice_get-Member, slice_get-within}
+use Rattle.crew_resource.specs.Members.{Member}
+use Rattle.crew_pairing.proofs.Tree.{flat_map-room, slice_get-Member, slice_get-within}
 
 pub flat-flat : {X Y Z : Type 0} (f : Y → List Z) (g : X → List Y) (xs : List X) → flat_map f (flat_map g xs) ≡ flat_map (λ x. flat_map f (g x)) xs
 flat-flat f g [] = refl

@@ -8,17 +8,17 @@ use Rattle.std.proofs.lemmas.List.{map-append}
 use Rattle.crew_flights.specs.Codes.{code_cmp_total}
 use Rattle.crew_flights.specs.declared.flight.Flight.{Flight}
 use Rattle.crew_rules.specs.declared.settings.Settings.{Settings}
-use Rattle.crew_duty.specs.Duties.{RiseByKey}
-use Rattle.crew_duty.specs.Keys.{key_cmp, key_total, walk_cmp}
-use Rattle.crew_duty.specs.Listing.{all_duties}
-use Rattle.crew_duty.specs.Members.{Each, Member}
-use Rattle.crew_duty.specs.Plans.{Rises}
-use Rattle.crew_duty.specs.declared.duty.Duty.{Duty}
-use Rattle.crew_duty.specs.Legs.{Leg}
-use Rattle.crew_duty.proofs.InList.{Each-join, flat_map-Member}
-use Rattle.crew_duty.proofs.InOrder.{all-rise}
-use Rattle.crew_duty.proofs.Tree.{Each-member}
-use Rattle.crew_audit.specs.Listing.{after, goes_on, listed, with_next}
+use Rattle.crew_pairing.specs.Duties.{RiseByKey}
+use Rattle.crew_pairing.specs.Keys.{key_cmp, key_total, walk_cmp}
+use Rattle.crew_pairing.specs.Machinery.Listing.{all_duties}
+use Rattle.crew_resource.specs.Members.{Each, Member}
+use Rattle.crew_pairing.specs.Machinery.Beginnings.{Rises}
+use Rattle.crew_pairing.specs.declared.duty.Duty.{Duty}
+use Rattle.crew_pairing.specs.Legs.{Leg}
+use Rattle.crew_pairing.proofs.InList.{Each-join, flat_map-Member}
+use Rattle.crew_pairing.proofs.InOrder.{all-rise}
+use Rattle.crew_pairing.proofs.Tree.{Each-member}
+use Rattle.crew_audit.specs.Machinery.Listing.{after, goes_on, listed, with_next}
 use Rattle.crew_audit.specs.Partials.{Rise, partial_cmp}
 use Rattle.crew_audit.specs.declared.partial.Partial.{Partial}
 use Rattle.crew_audit.proofs.Sound.{after-form, next-form}

@@ -5,14 +5,14 @@ use Rattle.std.proofs.lemmas.Map.Lookups.{exact_bytes}
 use Rattle.std.proofs.lemmas.Map.Views.{tells_apart}
 use Rattle.crew_flights.specs.declared.flight.Flight.{Flight}
 use Rattle.crew_rules.specs.declared.settings.Settings.{Settings}
-use Rattle.crew_duty.specs.Listing.{all_duties}
-use Rattle.crew_duty.specs.Members.{Member}
-use Rattle.crew_duty.specs.Pairings.{AllRested, IsDuty, IsPartial, last_duty, may_stand_after}
-use Rattle.crew_duty.specs.declared.duty.Duty.{Duty}
-use Rattle.crew_duty.proofs.Complete.{all-sound}
-use Rattle.crew_duty.proofs.InList.{flat_map-Member}
-use Rattle.crew_duty.proofs.Tree.{Each-push}
-use Rattle.crew_audit.specs.Listing.{after, goes_on, listed, with_next}
+use Rattle.crew_pairing.specs.Machinery.Listing.{all_duties}
+use Rattle.crew_resource.specs.Members.{Member}
+use Rattle.crew_pairing.specs.Pairings.{AllRested, IsDuty, IsPartial, last_duty, may_stand_after}
+use Rattle.crew_pairing.specs.declared.duty.Duty.{Duty}
+use Rattle.crew_pairing.proofs.Complete.{all-sound}
+use Rattle.crew_pairing.proofs.InList.{flat_map-Member}
+use Rattle.crew_pairing.proofs.Tree.{Each-push}
+use Rattle.crew_audit.specs.Machinery.Listing.{after, goes_on, listed, with_next}
 use Rattle.crew_audit.specs.declared.partial.Partial.{Partial}
 use Rattle.crew_audit.proofs.Steps.{after-none, after-open}
 

@@ -5,21 +5,21 @@ use Rattle.std.proofs.lemmas.Grind.{flat_map-append}
 use Rattle.std.proofs.lemmas.Int.{ints}
 use Rattle.crew_flights.specs.declared.flight.Flight.{Flight}
 use Rattle.crew_rules.specs.declared.settings.Settings.{Settings}
-use Rattle.crew_duty.specs.Legality.{AllConnect, IsLegal, duty_of, last_of, may_follow, minutes_flown}
-use Rattle.crew_duty.specs.Listing.{all_duties, below, from_flight, is_hopeless, listing, own, timed}
+use Rattle.crew_pairing.specs.Legality.{AllConnect, IsLegal, duty_of, last_of, may_follow, minutes_flown}
+use Rattle.crew_pairing.specs.Machinery.Listing.{all_duties, below, from_flight, is_hopeless, listing, own, timed}
 use Rattle.crew_flights.specs.Timetable.{IsFlight}
-use Rattle.crew_duty.specs.Members.{Member}
-use Rattle.crew_duty.specs.Pairings.{is_within_caps}
-use Rattle.crew_duty.specs.Plans.{AreFlights, IsBeginning}
-use Rattle.crew_duty.specs.declared.duty.Duty.{Duty}
-use Rattle.crew_duty.specs.declared.leg.TimedLeg.{TimedLeg}
-use Rattle.crew_duty.proofs.Complete.{listing-sound}
-use Rattle.crew_duty.proofs.InList.{Member-either}
-use Rattle.crew_duty.proofs.Legal.{AllConnect-after, Each-after, known-sound, last_of-append}
-use Rattle.crew_duty.proofs.Sums.{total-append}
-use Rattle.crew_duty.proofs.Times.{AllSound, ends-later, flown-total, no-earlier}
-use Rattle.crew_duty.proofs.Tree.{listing-at}
-use Rattle.crew_audit.specs.Listing.{after, goes_on, listed, may_join, with_next}
+use Rattle.crew_resource.specs.Members.{Member}
+use Rattle.crew_pairing.specs.Pairings.{is_within_caps}
+use Rattle.crew_pairing.specs.Machinery.Beginnings.{AreFlights, IsBeginning}
+use Rattle.crew_pairing.specs.declared.duty.Duty.{Duty}
+use Rattle.crew_pairing.specs.declared.leg.TimedLeg.{TimedLeg}
+use Rattle.crew_pairing.proofs.Complete.{listing-sound}
+use Rattle.crew_pairing.proofs.InList.{Member-either}
+use Rattle.crew_pairing.proofs.Legal.{AllConnect-after, Each-after, known-sound, last_of-append}
+use Rattle.crew_pairing.proofs.Sums.{total-append}
+use Rattle.crew_pairing.proofs.Times.{AllSound, ends-later, flown-total, no-earlier}
+use Rattle.crew_pairing.proofs.Tree.{listing-at}
+use Rattle.crew_audit.specs.Machinery.Listing.{after, goes_on, listed, may_join, with_next}
 use Rattle.crew_audit.specs.declared.partial.Partial.{Partial}
 use Rattle.crew_audit.proofs.Chains.{both-on, caps-shorter}
 use Rattle.crew_audit.proofs.Flat.{flat-filter, flat-flat, flat-none}

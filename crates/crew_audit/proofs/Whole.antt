@@ -15,12 +15,12 @@ use Rattle.crew_flights.specs.Codes.{code_cmp, code_cmp_total}
 use Rattle.crew_flights.specs.Timetable.{IsBasePrice, IsSound, Timetable}
 use Rattle.crew_flights.specs.declared.flight.Flight.{Flight}
 use Rattle.crew_rules.specs.declared.settings.Settings.{Settings}
-use Rattle.crew_duty.specs.Duties.{flights_of}
-use Rattle.crew_duty.specs.Keys.{walk_cmp}
-use Rattle.crew_duty.specs.Members.{Each, Member}
-use Rattle.crew_duty.proofs.InList.{Member-flat_map, flat_map-Member}
-use Rattle.crew_duty.proofs.Timetables.{flights-of-timetable}
-use Rattle.crew_audit.specs.Listing.{all_partials, of_base}
+use Rattle.crew_pairing.specs.Duties.{flights_of}
+use Rattle.crew_pairing.specs.Keys.{walk_cmp}
+use Rattle.crew_resource.specs.Members.{Each, Member}
+use Rattle.crew_pairing.proofs.InList.{Member-flat_map, flat_map-Member}
+use Rattle.crew_pairing.proofs.Timetables.{flights-of-timetable}
+use Rattle.crew_audit.specs.Machinery.Listing.{all_partials, of_base}
 use Rattle.crew_audit.specs.Partials.{ArePartials, Rise, partial_cmp, partial_of}
 use Rattle.crew_audit.specs.declared.partial.Partial.{Partial}
 use Rattle.crew_audit.proofs.Chains.{within-caps}

@@ -1,4 +1,3 @@
-pub mod Listing
 pub mod Partials
-pub mod Ranges
 pub mod Tallies
+pub mod Machinery

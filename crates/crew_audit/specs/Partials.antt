@@ -7,12 +7,12 @@ use Rattle.std.specs.Ordering.{then_cmp}
 use Rattle.crew_flights.specs.Codes.{code_cmp}
 use Rattle.crew_flights.specs.Timetable.{Timetable}
 use Rattle.crew_rules.specs.declared.settings.Settings.{Settings}
-use Rattle.crew_duty.specs.Duties.{flights_of}
-use Rattle.crew_duty.specs.Keys.{walk_cmp}
-use Rattle.crew_duty.specs.Members.{Each, Member}
-use Rattle.crew_duty.specs.Pairings.{IsPartial, is_pairing}
-use Rattle.crew_duty.specs.declared.duty.Duty.{Duty}
-use Rattle.crew_vector.specs.Parts.{parts_of}
+use Rattle.crew_pairing.specs.Duties.{flights_of}
+use Rattle.crew_pairing.specs.Keys.{walk_cmp}
+use Rattle.crew_resource.specs.Members.{Each, Member}
+use Rattle.crew_pairing.specs.Pairings.{IsPartial, is_pairing}
+use Rattle.crew_pairing.specs.declared.duty.Duty.{Duty}
+use Rattle.crew_pairing.specs.Vectors.{vector_of}
 use Rattle.crew_audit.specs.declared.partial.Partial.{Partial}
 
 -- a first duty and others, as a partial pairing of a base with this price
@@ -20,7 +20,7 @@ abbrev pub partial_of : Settings → List ℕ → ℤ → Duty → List Duty →
 partial_of s base price first others = record {
   base = base;
   walk = map (λ d. d.key) (first ∷ others);
-  vector = parts_of s price (first ∷ others);
+  vector = vector_of s price (first ∷ others);
   pairing = is_pairing base first others;
 }
 

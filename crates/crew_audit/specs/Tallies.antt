@@ -1,8 +1,8 @@
 -- How many partial pairings there are, how many of them are pairings, and the least cost of a pairing.
 use Rattle.std.specs.Prelude.{◌≡◌, ℤ, ◌≤ℤ◌, true, List, Option, Some, None, length, count_by, if◌then◌else◌}
 use Rattle.std.specs.Int.{int_min}
-use Rattle.crew_duty.specs.Members.{Member}
-use Rattle.crew_vector.specs.Costs.{reduced_cost}
+use Rattle.crew_resource.specs.Members.{Member}
+use Rattle.crew_pairing.specs.Vectors.{reduced_cost}
 use Rattle.crew_audit.specs.declared.partial.Partial.{Partial}
 use Rattle.crew_audit.specs.declared.tally.Tally.{Tally}
 

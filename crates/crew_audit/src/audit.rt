@@ -5,10 +5,10 @@ ghost use Rattle.std.specs.FinMap as fin;
 ghost use Rattle.std.specs.List.{flat_map};
 ghost use Rattle.crew_flights.specs.Timetable.{IsBasePrice, IsSound};
 ghost use Rattle.crew_rules.specs.Settings.{IsChecked};
-ghost use Rattle.crew_duty.specs.Duties.{flights_of};
-ghost use Rattle.crew_duty.specs.Members.{Each};
-ghost use Rattle.crew_duty.specs.Plans.{AreFlights};
-ghost use Rattle.crew_audit.specs.Listing.{of_base};
+ghost use Rattle.crew_pairing.specs.Duties.{flights_of};
+ghost use Rattle.crew_resource.specs.Members.{Each};
+ghost use Rattle.crew_pairing.specs.Machinery.Beginnings.{AreFlights};
+ghost use Rattle.crew_audit.specs.Machinery.Listing.{of_base};
 ghost use Rattle.crew_audit.specs.Partials.{ArePartials, HasMoreThan};
 
 use crate::partial::{AuditFault, Partial};

@@ -4,20 +4,20 @@
 ghost use Rattle.std.specs.Prelude.{◌≡◌, ◌≤◌, ◌≤ℤ◌, ◌-ℤ◌, ◌*ℤ◌, ◌++◌, ◌∷◌, [], false, IfOk, length, map, pos};
 ghost use Rattle.crew_flights.specs.Timetable.{IsBasePrice};
 ghost use Rattle.crew_rules.specs.Settings.{IsChecked};
-ghost use Rattle.crew_duty.specs.Legality.{duty_of, total};
-ghost use Rattle.crew_duty.specs.Listing.{timed};
-ghost use Rattle.crew_duty.specs.Members.{Each};
-ghost use Rattle.crew_duty.specs.Pairings.{is_within_caps, may_stand_after};
-ghost use Rattle.crew_duty.specs.Pairings as Spec;
-ghost use Rattle.crew_vector.specs.Parts.{parts_of};
-ghost use Rattle.crew_audit.specs.Listing.{comes_back, listed, may_join};
-ghost use Rattle.crew_audit.specs.Ranges.{IsInRange};
+ghost use Rattle.crew_pairing.specs.Legality.{duty_of, total};
+ghost use Rattle.crew_pairing.specs.Machinery.Listing.{timed};
+ghost use Rattle.crew_resource.specs.Members.{Each};
+ghost use Rattle.crew_pairing.specs.Pairings.{is_within_caps, may_stand_after};
+ghost use Rattle.crew_pairing.specs.Pairings as Spec;
+ghost use Rattle.crew_pairing.specs.Vectors.{vector_of};
+ghost use Rattle.crew_audit.specs.Machinery.Listing.{comes_back, listed, may_join};
+ghost use Rattle.crew_audit.specs.Machinery.Ranges.{IsInRange};
 
 use crate::partial::Partial;
-use crew_duty::{Duty, Walk};
+use crew_pairing::{Duty, Walk};
 use crew_flights::{Code, Flight};
-use crew_rules::Settings;
-use crew_vector::Parts;
+use crew_rules::{Settings, guaranteed, rated};
+use crew_pairing::PairingVector;
 use std::alloc::{AllocError, Global};
 
 /// The least rest between two duties, in minutes: 14 CFR 117.25(e).
@@ -126,41 +126,21 @@ pub(crate) fn keep_within_caps(settings: &Settings, duties: &[Duty]) -> bool
     minutes_away(duties) <= i64::from(settings.away_cap)
 }
 
-// So many points for each minute.
-fn rated(rate: u32, minutes: i64) -> i64
-    requires rate { rate ≤ 14 }
-    requires minutes { ((pos 0 -ℤ pos 60_000_000) ≤ℤ minutes) × (minutes ≤ℤ pos 60_000_000) }
-    ensures value { result ≡ pos rate *ℤ minutes }
-    ensures bound { ((pos 0 -ℤ pos 1_000_000_000) ≤ℤ result) × (result ≤ℤ pos 1_000_000_000) }
-{
-    i64::from(rate) * minutes
-}
-
-// So many points for each duty.
-fn guaranteed(points: u32, duties: usize) -> i64
-    requires points { points ≤ 20_000 }
-    requires duties { duties ≤ 13 }
-    ensures value { result ≡ pos points *ℤ pos duties }
-    ensures bound { (pos 0 ≤ℤ result) × (result ≤ℤ pos 1_000_000_000) }
-{
-    i64::from(points) * duties as i64
-}
-
 // The vector of these duties.
-fn vector_of(settings: &Settings, base_price: i64, duties: &[Duty]) -> Parts
+fn vector_of(settings: &Settings, base_price: i64, duties: &[Duty]) -> PairingVector
     requires checked { IsChecked settings.now }
     requires price { IsBasePrice base_price }
     requires few { length duties.now ≤ 13 }
     requires ranges { Each IsInRange duties.now }
-    ensures { result ≡ parts_of settings.now base_price duties.now }
+    ensures { result ≡ vector_of settings.now base_price duties.now }
 {
     let sums = add_up(duties);
     let away = minutes_away(duties);
     let prices = sums.price + base_price;
-    Parts {
+    PairingVector {
         duty_pay: sums.pay - prices,
         trip_rig: rated(settings.trip_rig, away) - prices,
-        guarantee: guaranteed(settings.guarantee, duties.len()) - prices,
+        guarantee: guaranteed(settings.guarantee, duties.len() as u32) - prices,
         fdp: sums.fdp,
         fly: sums.fly,
         duties: duties.len() as i64,

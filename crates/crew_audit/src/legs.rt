@@ -3,16 +3,16 @@
 ghost use Rattle.std.specs.Prelude.{◌≡◌, ◌≤◌, ◌++◌, ◌∷◌, [], IfOk, length};
 ghost use Rattle.crew_flights.specs.Timetable.{IsFlight};
 ghost use Rattle.crew_rules.specs.Settings.{IsChecked};
-ghost use Rattle.crew_duty.specs.Legality.{AllConnect, duty_of, may_follow};
-ghost use Rattle.crew_duty.specs.Listing.{is_hopeless, timed};
-ghost use Rattle.crew_duty.specs.Members.{Each};
-ghost use Rattle.crew_audit.specs.Ranges.{IsInRange};
+ghost use Rattle.crew_pairing.specs.Legality.{AllConnect, duty_of, may_follow};
+ghost use Rattle.crew_pairing.specs.Machinery.Listing.{is_hopeless, timed};
+ghost use Rattle.crew_resource.specs.Members.{Each};
+ghost use Rattle.crew_audit.specs.Machinery.Ranges.{IsInRange};
 
-use crate::facts::{
+use crew_pairing::{Duty, Key, TimedLeg};
+use crew_flights::Flight;
+use crew_pairing::facts::{
     deadheads, flight_duty_period, flight_time, last_leg, price, release, report, segments,
 };
-use crew_duty::{Duty, Key, TimedLeg};
-use crew_flights::Flight;
 use crew_rules::{Settings, duty_pay, table_a, table_b};
 use std::alloc::{AllocError, Global};
 

@@ -7,7 +7,6 @@
 
 mod audit;
 mod chain;
-mod facts;
 mod legs;
 mod partial;
 mod search;
@@ -16,6 +15,3 @@ mod tally;
 pub use audit::enumerate;
 pub use partial::{AuditFault, Partial};
 pub use tally::Tally;
-
-#[cfg(test)]
-mod tests;

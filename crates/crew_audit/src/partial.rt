@@ -1,8 +1,8 @@
 //! Partial pairings, and why they are not listed.
 
-use crew_duty::Walk;
+use crew_pairing::Walk;
 use crew_flights::Code;
-use crew_vector::Parts;
+use crew_pairing::PairingVector;
 use std::alloc::{AllocError, AllocFailed};
 
 /// A partial pairing of a base.
@@ -13,7 +13,7 @@ pub struct Partial {
     /// The keys of its duties.
     pub walk: Walk,
     /// Its vector, less the prices of its flights and of its base.
-    pub vector: Parts,
+    pub vector: PairingVector,
     /// Whether it comes back to its base.
     pub pairing: bool,
 }

@@ -4,20 +4,20 @@ ghost use Rattle.std.specs.Prelude.{◌≡◌, ◌+◌, ◌-◌, ◌<◌, ◌≤
 ghost use Rattle.std.specs.List.{flat_map};
 ghost use Rattle.crew_flights.specs.Timetable.{IsBasePrice};
 ghost use Rattle.crew_rules.specs.Settings.{IsChecked};
-ghost use Rattle.crew_duty.specs.Legality.{duty_of, last_of, may_follow};
-ghost use Rattle.crew_duty.specs.Listing.{below, from_flight, listing, timed};
-ghost use Rattle.crew_duty.specs.Members.{Each, Member};
-ghost use Rattle.crew_duty.specs.Pairings.{is_within_caps};
-ghost use Rattle.crew_duty.specs.Plans.{AreFlights, IsBeginning};
-ghost use Rattle.crew_audit.specs.Listing.{after, listed, may_join, with_next};
-ghost use Rattle.crew_audit.specs.Ranges.{IsInRange};
+ghost use Rattle.crew_pairing.specs.Legality.{duty_of, last_of, may_follow};
+ghost use Rattle.crew_pairing.specs.Machinery.Listing.{below, from_flight, listing, timed};
+ghost use Rattle.crew_resource.specs.Members.{Each, Member};
+ghost use Rattle.crew_pairing.specs.Pairings.{is_within_caps};
+ghost use Rattle.crew_pairing.specs.Machinery.Beginnings.{AreFlights, IsBeginning};
+ghost use Rattle.crew_audit.specs.Machinery.Listing.{after, listed, may_join, with_next};
+ghost use Rattle.crew_audit.specs.Machinery.Ranges.{IsInRange};
 
 use crate::chain::{self, keep_within_caps, may_leave, partial_from};
-use crate::facts::last_leg;
 use crate::legs::{self, LEGS, cannot_begin, duty_from, may_come_next};
 use crate::partial::{AuditFault, Partial};
-use crew_duty::{Duty, TimedLeg};
+use crew_pairing::{Duty, TimedLeg};
 use crew_flights::{Code, Flight};
+use crew_pairing::facts::last_leg;
 use crew_rules::Settings;
 use std::alloc::Global;
 

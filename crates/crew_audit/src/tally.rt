@@ -22,10 +22,7 @@ impl Partial {
     pub fn cost(&self) -> i64
         ensures { result ≡ cost_in self.now }
     {
-        self.vector
-            .duty_pay
-            .max(self.vector.trip_rig)
-            .max(self.vector.guarantee)
+        self.vector.reduced_cost()
     }
 }
 

@@ -8,12 +8,12 @@ use Rattle.std.proofs.lemmas.List.Sorted.{All-permutation, IsPermutation-map, Is
 use Rattle.std.proofs.lemmas.Map.Keys.{IsDistinct-IsPermutation, IsDistinct-head, IsDistinct-tail, IsDistinct-cons, IsDistinct-from_apart, ge_from_not_lt}
 use Rattle.std.proofs.lemmas.List.Elements.{All-from_recursion, recursion_from_All}
 use Rattle.crew_flights.specs.declared.flight.Flight.{Flight}
-use Rattle.crew_duty.specs.Members.{Each, Member}
-use Rattle.crew_duty.specs.Plans.{StandAt}
-use Rattle.crew_duty.specs.Slots.{slot_of, slots_from}
+use Rattle.crew_resource.specs.Members.{Each, Member}
+use Rattle.crew_duty.specs.Machinery.Plans.{StandAt}
+use Rattle.crew_duty.specs.Machinery.Slots.{slot_of, slots_from}
 use Rattle.crew_duty.specs.declared.departures.Slot.{Slot}
-use Rattle.crew_duty.proofs.InList.{Each-filter, Member-filter, filter-Member}
-use Rattle.crew_duty.proofs.Tree.{Each-map, Each-member}
+use Rattle.crew_pairing.proofs.InList.{Each-filter, Member-filter, filter-Member}
+use Rattle.crew_pairing.proofs.Tree.{Each-map, Each-member}
 
 -- what stands in a list stands in each shuffle of it
 all-of : {X : Type 0} (P : X → Type 0) (xs : List X) → ((x : X) → Member xs x → P x) → AllByRecursion P xs

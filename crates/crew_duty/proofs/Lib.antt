@@ -1,17 +1,5 @@
-pub mod Sums
-pub mod Paid
 pub mod Parts
 pub mod Places
-pub mod Times
-pub mod Tree
-pub mod Complete
-pub mod Falling
-pub mod InList
-pub mod InOrder
 pub mod InPlace
-pub mod Keys
-pub mod Legal
-pub mod Rising
 pub mod Running
 pub mod Slots
-pub mod Timetables

@@ -7,8 +7,8 @@ use Rattle.std.proofs.lemmas.Grind.{flat_map-append}
 use Rattle.std.proofs.lemmas.List.{flat_map_more}
 use Rattle.std.proofs.lemmas.List.Sums.{sum_by-cons}
 use Rattle.crew_flights.specs.declared.flight.Flight.{Flight}
-use Rattle.crew_duty.specs.Listing.{IsOkAnd}
-use Rattle.crew_duty.specs.declared.duty.Duty.{Duty}
+use Rattle.crew_pairing.specs.Machinery.Listing.{IsOkAnd}
+use Rattle.crew_pairing.specs.declared.duty.Duty.{Duty}
 use Rattle.rayon.specs.Lists.{Folds}
 use Rattle.rayon.proofs.Reducing.{Folds-elim}
 

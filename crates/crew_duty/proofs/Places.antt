@@ -4,8 +4,8 @@ use Rattle.std.specs.Prelude.{slice_get}
 use Rattle.std.proofs.lemmas.List.{take_more}
 use Rattle.crew_flights.specs.declared.flight.Flight.{Flight}
 use Rattle.crew_rules.specs.declared.settings.Settings.{Settings}
-use Rattle.crew_duty.specs.Legality.{may_follow}
-use Rattle.crew_duty.specs.Plans.{AreNext, StandAt, rows}
+use Rattle.crew_pairing.specs.Legality.{may_follow}
+use Rattle.crew_duty.specs.Machinery.Plans.{AreNext, StandAt, rows}
 
 pub rows-push : (vs : List (Vec ℕ Global)) (v : Vec ℕ Global) → rows (vs ++ v ∷ []) ≡ rows vs ++ v.items ∷ []
 rows-push [] v = refl

@@ -5,13 +5,13 @@ use Rattle.std.proofs.lemmas.Int.{ints}
 use Rattle.std.proofs.lemmas.List.Sums.{count_by-le-length, sum_by-cons}
 use Rattle.crew_flights.specs.Timetable.{IsFlight}
 use Rattle.crew_flights.specs.declared.flight.Flight.{Flight}
-use Rattle.crew_duty.specs.Legality.{price_of, total}
-use Rattle.crew_duty.specs.Members.{Each, Member}
-use Rattle.crew_duty.specs.Running.{AreTotals, StayBounded}
-use Rattle.crew_duty.specs.declared.leg.TimedLeg.{TimedLeg}
+use Rattle.crew_pairing.specs.Legality.{price_of, total}
+use Rattle.crew_resource.specs.Members.{Each, Member}
+use Rattle.crew_duty.specs.Machinery.Running.{AreTotals, StayBounded}
+use Rattle.crew_pairing.specs.declared.leg.TimedLeg.{TimedLeg}
 use Rattle.crew_duty.specs.declared.totals.Totals.{Totals}
-use Rattle.crew_duty.proofs.Times.{AllSound, flown-total}
-use Rattle.crew_duty.proofs.Tree.{Each-map, Each-member}
+use Rattle.crew_pairing.proofs.Times.{AllSound, flown-total}
+use Rattle.crew_pairing.proofs.Tree.{Each-map, Each-member}
 
 -- a count over one element more
 count_by-push : {X : Type 0} (p : X → Bool) (xs : List X) (x : X) → count_by p (xs ++ x ∷ []) ≡ count_by p xs + cond (p x) 1 0

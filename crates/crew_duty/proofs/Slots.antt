@@ -14,14 +14,14 @@ use Rattle.std.proofs.lemmas.Map.Text.{is_eq-slice_cmp}
 use Rattle.std.proofs.lemmas.Slice.Eq.{bytes_eq-Decides}
 use Rattle.std.proofs.lemmas.Cmp.{int_ranked}
 use Rattle.std.proofs.lemmas.Int.{ints}
-use Rattle.crew_duty.specs.Members.{Each}
+use Rattle.crew_resource.specs.Members.{Each}
 use Rattle.crew_time.specs.Instant.{IsInstant}
 use Rattle.crew_flights.specs.Codes.{code_cmp, code_cmp_total, is_code, is_letter}
 use Rattle.crew_flights.specs.declared.flight.Flight.{Flight}
 use Rattle.crew_rules.specs.Settings.{IsChecked}
 use Rattle.crew_rules.specs.declared.settings.Settings.{Settings}
-use Rattle.crew_duty.specs.Legality.{may_follow}
-use Rattle.crew_duty.specs.Slots.{Ascend, IsNamed, is_between, code_number, moment, slot_of, slots_from}
+use Rattle.crew_pairing.specs.Legality.{may_follow}
+use Rattle.crew_duty.specs.Machinery.Slots.{Ascend, IsNamed, is_between, code_number, moment, slot_of, slots_from}
 use Rattle.crew_duty.specs.declared.departures.Slot.{Slot}
 
 -- what passes a test, where that is what stands from one place up to another

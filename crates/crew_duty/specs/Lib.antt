@@ -1,12 +1,1 @@
-pub mod Duties
-pub mod Events
-pub mod Keys
-pub mod Legality
-pub mod Legs
-pub mod Limits
-pub mod Listing
-pub mod Members
-pub mod Pairings
-pub mod Plans
-pub mod Running
-pub mod Slots
+pub mod Machinery

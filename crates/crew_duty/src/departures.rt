@@ -3,10 +3,10 @@
 ghost use Rattle.std.specs.Prelude.{◌≡◌, ◌≤◌, ◌<◌, ◌≤ℤ◌, pos, true, IfOk, filter, length, map};
 ghost use Rattle.crew_flights.specs.Codes.{is_code};
 ghost use Rattle.crew_rules.specs.Settings.{IsChecked};
-ghost use Rattle.crew_duty.specs.Legality.{may_follow};
-ghost use Rattle.crew_duty.specs.Plans.{StandAt};
-ghost use Rattle.crew_duty.specs.Slots as Spec;
-ghost use Rattle.crew_duty.specs.Slots.{Ascend, IsIndex, IsNamed, is_between};
+ghost use Rattle.crew_pairing.specs.Legality.{may_follow};
+ghost use Rattle.crew_duty.specs.Machinery.Plans.{StandAt};
+ghost use Rattle.crew_duty.specs.Machinery.Slots as Spec;
+ghost use Rattle.crew_duty.specs.Machinery.Slots.{Ascend, IsIndex, IsNamed, is_between};
 
 use crew_flights::{Code, Flight};
 use crew_rules::Settings;

@@ -5,21 +5,9 @@
 
 mod departures;
 mod duties;
-mod duty;
-mod events;
-mod facts;
-mod key;
-mod leg;
 mod limits;
 mod search;
 mod totals;
 
 pub use duties::{Duties, list_duties};
-pub use duty::Duty;
-pub use events::{Arrival, Departure};
-pub use key::{Key, Walk};
-pub use leg::{Leg, TimedLeg};
 pub use search::DutyFault;
-
-#[cfg(test)]
-mod tests;

@@ -3,14 +3,14 @@
 ghost use Rattle.std.specs.Prelude.{◌≡◌, ◌∷◌, List};
 ghost use Rattle.crew_rules.specs.Settings.{IsChecked};
 ghost use Rattle.crew_rules.specs.declared.settings.Settings.{Settings};
-ghost use Rattle.crew_duty.specs.Legality.{last_of};
-ghost use Rattle.crew_duty.specs.Limits.{AreLimits};
-ghost use Rattle.crew_duty.specs.Listing.{is_hopeless};
-ghost use Rattle.crew_duty.specs.Running.{AreTotals};
+ghost use Rattle.crew_pairing.specs.Legality.{last_of};
+ghost use Rattle.crew_duty.specs.Machinery.Limits.{AreLimits};
+ghost use Rattle.crew_pairing.specs.Machinery.Listing.{is_hopeless};
+ghost use Rattle.crew_duty.specs.Machinery.Running.{AreTotals};
 
-use crate::facts::report;
-use crate::leg::TimedLeg;
 use crate::totals::Totals;
+use crew_pairing::TimedLeg;
+use crew_pairing::facts::report;
 use crew_rules::{Settings, limits_from, table_a};
 
 /// What no beginning of a duty may pass, by its first leg: so it is looked up once for all of them.

@@ -2,9 +2,9 @@
 
 ghost use Rattle.std.specs.Prelude.{◌++◌, ◌∷◌, [], List};
 ghost use Rattle.crew_flights.specs.Timetable.{IsFlight};
-ghost use Rattle.crew_duty.specs.Running.{AreTotals, StayBounded};
+ghost use Rattle.crew_duty.specs.Machinery.Running.{AreTotals, StayBounded};
 
-use crate::leg::TimedLeg;
+use crew_pairing::TimedLeg;
 
 /// What the legs so far come to, kept along a path so that no leg is looked at twice.
 #[derive(Clone, Copy, Debug)]

@@ -16,6 +16,3 @@ pub use data::Data;
 pub use edit::{Edit, Refusal, Verdict};
 pub use entries::{Entry, Folding, fold};
 pub use flight::{Code, Flight, FlightId};
-
-#[cfg(test)]
-mod tests;

@@ -13,25 +13,11 @@ use Rattle.std.proofs.lemmas.Bool.Decides.{nat_tests}
 use Rattle.std.proofs.lemmas.Cmp.{tied_itself}
 use Rattle.std.proofs.Math.Numerals.{one-add}
 use Rattle.std.proofs.lemmas.List.Elements.{recursion_from_All}
-use Rattle.crew_resource.specs.Labels.{Member}
-use Rattle.crew_resource.proofs.Members.{Member-filter_out}
+use Rattle.crew_resource.specs.Members.{Member}
+use Rattle.crew_resource.proofs.Lists.{Member-All, map-slice_set, none_passes, within_some}
+use Rattle.crew_resource.proofs.Members.{Member-filter_out, Member-get, Member-map_in, Member-map_out}
 use Rattle.crew_resource.specs.Resource.{OrderLaws}
-use Rattle.crew_front.specs.Entries.{Parted, PartedFromAll, IsApart, placed}
-
-pub Member-get : {X : Type 0} (xs : List X) (k : ℕ) (d : X) → k < length xs → Member xs (get_or xs k d)
-Member-get [] k d h = absurd (omega arith)
-Member-get (x ∷ xs) zero d h = inl refl
-Member-get (x ∷ xs) (suc k) d h = inr (Member-get xs k d (omega arith))
-
-pub Member-map_in : {X Y : Type 0} (f : X → Y) (xs : List X) (x : X) → Member xs x → Member (map f xs) (f x)
-Member-map_in f [] x m = absurd m
-Member-map_in f (z ∷ xs) x (inl e) = inl (ap f e)
-Member-map_in f (z ∷ xs) x (inr m) = inr (Member-map_in f xs x m)
-
-pub Member-map_out : {X Y : Type 0} (f : X → Y) (xs : List X) (y : Y) → Member (map f xs) y → (x : X) × Member xs x × (f x ≡ y)
-Member-map_out f [] y m = absurd m
-Member-map_out f (z ∷ xs) y (inl e) = (z, inl refl, e)
-Member-map_out f (z ∷ xs) y (inr m) = let k = Member-map_out f xs y m in (k.0, inr k.1, k.2)
+use Rattle.crew_resource.specs.Entries.{Parted, PartedFromAll, IsApart, placed}
 
 -- an insert at the first place that passes
 pub insert-first : {X : Type 0} (p : X → Bool) (x : X) (xs : List X) → insert xs (position_or_len p xs) x ≡ placed p x xs
@@ -42,18 +28,6 @@ insert-first p x (y ∷ ys) =
 
 pub unwrap_or-position : {X : Type 0} (p : X → Bool) (xs : List X) → unwrap_or (position p xs) (length xs) ≡ position_or_len p xs
 unwrap_or-position p xs = let h = prefix_len-le-length (λ x. not (p x)) xs in grind (arith, nat_tests)
-
--- with no place, each element fails
-pub none_passes : {X : Type 0} (p : X → Bool) (xs : List X) → position p xs ≡ None → All (λ x. p x ≡ false) xs
-none_passes p xs e k d h = fails_before_first p xs k d (let q : length xs ≤ position_or_len p xs = grind (arith, nat_tests) in omega arith)
-
-member_recursion : {X : Type 0} (P : X → Type 0) (xs : List X) (x : X) → AllByRecursion P xs → Member xs x → P x
-member_recursion P [] x h m = absurd m
-member_recursion P (y ∷ ys) x h (inl e) = subst P e h.0
-member_recursion P (y ∷ ys) x h (inr m) = member_recursion P ys x h.1 m
-
-pub Member-All : {X : Type 0} (P : X → Type 0) (xs : List X) (x : X) → All P xs → Member xs x → P x
-Member-All P xs x h m = member_recursion P xs x (recursion_from_All P xs h) m
 
 -- a fact of each member is one of all
 pub All-from_members : {X : Type 0} (P : X → Type 0) (xs : List X) → ((x : X) → Member xs x → P x) → All P xs
@@ -128,17 +102,6 @@ module _ {X V : Type 0} (cmp : V → V → Ordering) (below : V → V → Bool) 
         IsApart-placed xs (λ y m. out y (inr m)) h.1,
       ))
       (cases_Bool (is_lt (cmp (f v) (f x))))
-
-pub within_some : {X : Type 0} (xs : List X) (i : ℕ) (x : X) → slice_get xs i ≡ Some x → i < length xs
-within_some [] i x g = absurd (let q : ⊥ = (cc) in q)
-within_some (y ∷ ys) zero x g = omega arith
-within_some (y ∷ ys) (suc i) x g = let k = within_some ys i x g in omega (arith, k)
-
--- an entry's walk may change
-pub map-slice_set : {X V : Type 0} (f : X → V) (xs : List X) (i : ℕ) (x y : X) → slice_get xs i ≡ Some x → f y ≡ f x → map f (set xs i y) ≡ map f xs
-map-slice_set f [] i x y g e = refl
-map-slice_set f (z ∷ xs) zero x y g e = let q : z ≡ x = (cc) in ap (λ r. r ∷ map f xs) (e ∙ ap f (sym q))
-map-slice_set f (z ∷ xs) (suc i) x y g e = ap (λ r. f z ∷ r) (map-slice_set f xs i x y g e)
 
 -- an offer's three cases, over plain lists
 module _ {V W : Type 0} (cmp : V → V → Ordering) (below : V → V → Bool) (total : IsTotalOrder cmp) (laws : OrderLaws cmp below) (old : List (V × W)) (v : V) where

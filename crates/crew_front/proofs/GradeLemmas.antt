@@ -6,14 +6,14 @@ use Rattle.std.specs.List.{filter, position, position_or_len, AllWithin}
 use Rattle.std.specs.List.Sorted.{IsNonDecreasingBy}
 use Rattle.std.proofs.lemmas.Bool.{cases_Bool, not-true, ltb-true, le-ltb, ltb-false}
 use Rattle.std.proofs.Math.Numerals.{one-add}
-use Rattle.crew_resource.specs.Labels.{Member}
+use Rattle.crew_resource.specs.Members.{Member}
 use Rattle.crew_resource.specs.Resource.{GradesOrder}
-use Rattle.crew_resource.proofs.Members.{Member-append, Member-append_left, Member-append_right, Member-filter_in, Member-filter_out}
-use Rattle.crew_front.specs.Entries.{placed}
-use Rattle.crew_front.specs.Grades.{AreRising, AreGraded, Admitted, HoldSame}
-use Rattle.crew_front.proofs.EntryLemmas.{none_passes, Member-All, Member-get, Member-map_in, Member-map_out}
+use Rattle.crew_resource.proofs.Members.{Member-append, Member-append_left, Member-append_right, Member-filter_in, Member-filter_out, Member-get_or, Member-get, Member-map_in, Member-map_out}
+use Rattle.crew_resource.specs.Entries.{placed}
+use Rattle.crew_front.specs.Machinery.Grades.{AreRising, AreGraded, Admitted, HoldSame}
+use Rattle.crew_resource.proofs.Lists.{none_passes, Member-All}
 use Rattle.std.proofs.lemmas.List.Quantifiers.{position-Some}
-use Rattle.crew_front.proofs.OfferLocal.{Member-get_or, Member-placed_in, Member-placed_out}
+use Rattle.crew_front.proofs.OfferLocal.{Member-placed_in, Member-placed_out}
 
 or_true : (b : Bool) → (b || true) ≡ true
 or_true true = refl

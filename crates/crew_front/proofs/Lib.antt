@@ -1,4 +1,3 @@
-pub mod WalkOrder
 pub mod EntryLemmas
 pub mod OfferLocal
 mod GradeLemmas

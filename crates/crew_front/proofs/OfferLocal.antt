@@ -5,30 +5,21 @@ use Rattle.std.specs.List.{All, Any, filter}
 use Rattle.std.specs.Ordering.{is_lt, is_le, ordering_reverse}
 use Rattle.std.specs.declared.cmp.Ordering.TheVariants.{Less, Equal, Greater}
 use Rattle.std.proofs.lemmas.Bool.{cases_Bool, false≢true, not-true, not_from_false, cond-true, cond-false}
-use Rattle.crew_resource.specs.Labels.{Member, Beats, IsLocal}
-use Rattle.crew_resource.proofs.Order.{IsOrder}
-use Rattle.crew_resource.proofs.Members.{Member-filter_in, Member-filter_out, Member-append, Member-append_left, Member-append_right}
+use Rattle.crew_resource.specs.Members.{Member}
+use Rattle.crew_resource.specs.Labels.{Beats, IsLocal}
+use Rattle.crew_resource.proofs.Order.{IsOrder, order}
+use Rattle.crew_resource.proofs.Members.{Member-at, Member-get_or, Member-filter_in, Member-filter_out, Member-append, Member-append_left, Member-append_right}
 use Rattle.crew_resource.proofs.Offers.{More, IsLocal-beaten, IsLocal-kept, IsLocal-tied}
 use Rattle.crew_resource.specs.Resource.{OrderLaws}
-use Rattle.crew_front.specs.Entries.{PartedFromAll, IsApart, placed}
-use Rattle.crew_duty.specs.Keys.{walk_cmp, walk_total}
-use Rattle.crew_duty.specs.Legs.{Leg}
-use Rattle.crew_front.specs.Walks.{walk_at_most, lesser}
-use Rattle.crew_front.proofs.WalkOrder.{walk_order}
+use Rattle.crew_resource.specs.Entries.{PartedFromAll, IsApart, placed}
+use Rattle.crew_pairing.specs.Keys.{walk_cmp, walk_total, walk_at_most}
+use Rattle.crew_pairing.specs.Legs.{Leg}
+use Rattle.crew_front.specs.Walks.{lesser}
+use Rattle.crew_pairing.proofs.WalkOrder.{walk_order}
 use Rattle.crew_front.specs.Offers.{Offered}
 use Rattle.crew_front.specs.declared.front.Offer.{Offer}
 use Rattle.crew_front.specs.declared.front.Offer.TheVariants.{Kept, Beaten, Tied}
-use Rattle.crew_front.proofs.EntryLemmas.{Member-All}
-
-pub Member-at : {X : Type 0} (xs : List X) (k : ℕ) (x : X) → slice_get xs k ≡ Some x → Member xs x
-Member-at [] k x e = absurd (let q : ⊥ = (cc) in q)
-Member-at (y ∷ ys) zero x e = inl (let q : y ≡ x = (cc) in q)
-Member-at (y ∷ ys) (suc k) x e = inr (Member-at ys k x e)
-
-pub Member-get_or : {X : Type 0} (xs : List X) (k : ℕ) (x : X) → k < length xs → get_or xs k x ≡ x → Member xs x
-Member-get_or [] k x h e = absurd (omega arith)
-Member-get_or (y ∷ ys) zero x h e = inl e
-Member-get_or (y ∷ ys) (suc k) x h e = inr (Member-get_or ys k x (omega arith) e)
+use Rattle.crew_resource.proofs.Lists.{Member-All}
 
 pub Member-placed_out : {X : Type 0} (g : X → Bool) (x : X) (xs : List X) (y : X) → Member (placed g x xs) y → (x ≡ y) ⊎ Member xs y
 Member-placed_out g x [] y (inl e) = inl e
@@ -119,27 +110,24 @@ module _ {V : Type 0} (cmp : V → V → Ordering) (below : V → V → Bool) (l
   set_there (z ∷ zs) zero v was now g = inl refl
   set_there (z ∷ zs) (suc i) v was now g = inr (set_there zs i v was now g)
 
-  pub order : IsOrder below
-  order = record { reflexive = laws.reflexive; transitive = laws.transitive; antisymmetric = laws.antisymmetric }
-
   abbrev pub Local : (V → List (List Leg) → Type 0) → List (V × List (List Leg)) → Type 0
   Local = IsLocal below walk_at_most
 
   abbrev pub AndOne : (V → List (List Leg) → Type 0) → V → List (List Leg) → V → List (List Leg) → Type 0
-  AndOne = More V (List (List Leg)) below walk_at_most order walk_order
+  AndOne = More V (List (List Leg)) below walk_at_most (order cmp below laws) walk_order
 
   pub offered_local : (C : V → List (List Leg) → Type 0) (old : List (V × List (List Leg))) (v : V) (w : List (List Leg)) (new : List (V × List (List Leg))) (o : Offer)
       → IsApart cmp below (map (λ e. e.0) old) → Local C old → Offered below cmp old v w new o → Local (AndOne C v w) new
   offered_local C old v w new Beaten apart i h =
       let any = h.0 in
       subst (λ es. IsLocal below walk_at_most (AndOne C v w) es) (sym h.1)
-      (IsLocal-beaten V (List (List Leg)) below walk_at_most order walk_order C old v w i any.1.0 any.1.1
+      (IsLocal-beaten V (List (List Leg)) below walk_at_most (order cmp below laws) walk_order C old v w i any.1.0 any.1.1
       (Member-get_or old any.0 any.1 any.2 any.3) (any.4.0, any.4.1))
   offered_local C old v w new Tied apart i h =
       let now = lesser h.1 w in
       let facts = lesser_facts h.1 w in
       subst (λ es. IsLocal below walk_at_most (AndOne C v w) es) (sym h.3)
-      (IsLocal-tied V (List (List Leg)) below walk_at_most order walk_order C old (set old h.0 (v, now)) v w h.1 now i
+      (IsLocal-tied V (List (List Leg)) below walk_at_most (order cmp below laws) walk_order C old (set old h.0 (v, now)) v w h.1 now i
       (Member-at old h.0 (v, h.1) h.2) facts.0 facts.1 facts.2
       (set_out old h.0 v h.1 now apart h.2)
       (set_in old h.0 v h.1 now h.2)
@@ -148,7 +136,7 @@ module _ {V : Type 0} (cmp : V → V → Ordering) (below : V → V → Bool) (l
       let rest = filter (λ e. not (below v e.0)) old in
       let all = placed (λ e. is_lt (cmp v e.0)) (v, w) rest in
       subst (λ es. IsLocal below walk_at_most (AndOne C v w) es) (sym h.1)
-      (IsLocal-kept V (List (List Leg)) below walk_at_most order walk_order C old all v w i
+      (IsLocal-kept V (List (List Leg)) below walk_at_most (order cmp below laws) walk_order C old all v w i
       (λ x y m. Member-All (λ e. below e.0 v ≡ false) old (x, y) h.0 m)
       (λ x y m. ⊎_elim
       (λ e. inl (ap (λ p. p.0) (sym e), ap (λ p. p.1) (sym e)))

@@ -1,5 +1,3 @@
 pub mod Walks
-pub mod Entries
-pub mod Grades
 pub mod Offers
-pub mod Local
+pub mod Machinery

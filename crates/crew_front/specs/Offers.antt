@@ -3,11 +3,11 @@ use Rattle.std.specs.Prelude.{◌≡◌, ◌≢◌, ℕ, Bool, true, false, not,
 use Rattle.std.specs.List.{All, Any, filter}
 use Rattle.std.specs.Ordering.{is_lt}
 use Rattle.std.specs.declared.cmp.Ordering.{Ordering}
-use Rattle.crew_duty.specs.Legs.{Leg}
+use Rattle.crew_pairing.specs.Legs.{Leg}
 use Rattle.crew_front.specs.declared.front.Offer.{Offer}
 use Rattle.crew_front.specs.declared.front.Offer.TheVariants.{Kept, Beaten, Tied}
 use Rattle.crew_front.specs.Walks.{lesser}
-use Rattle.crew_front.specs.Entries.{placed}
+use Rattle.crew_resource.specs.Entries.{placed}
 
 abbrev pub Offered : {V : Type 0} → (V → V → Bool) → (V → V → Ordering) → List (V × List (List Leg)) → V → List (List Leg) → List (V × List (List Leg)) → Offer → Type 0
 -- an entry beats the vector, and nothing changes

@@ -1,9 +1,8 @@
 -- Which of two walks stays.
 use Rattle.std.specs.Prelude.{List, cond}
 use Rattle.std.specs.Ordering.{is_lt}
-use Rattle.crew_duty.specs.Keys.{walk_cmp}
-pub use Rattle.crew_duty.specs.Keys.{walk_at_most}
-use Rattle.crew_duty.specs.Legs.{Leg}
+use Rattle.crew_pairing.specs.Keys.{walk_cmp}
+use Rattle.crew_pairing.specs.Legs.{Leg}
 
 -- the lesser of two walks
 abbrev pub lesser : List (List Leg) → List (List Leg) → List (List Leg)

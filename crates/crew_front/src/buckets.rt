@@ -1,9 +1,9 @@
 //! Values in buckets.
 ghost use Rattle.std.specs.Prelude.{◌≡◌, ◌≤◌, ◌<◌, ℕ, [], ◌∷◌, List, map, not, true, false, ltb, IsTrue, IfOk, IsOk, OnOk, OnErr, MatchOption, vec_len, vec_capacity};
 ghost use Rattle.std.specs.List.{position, position_or_len, filter};
-ghost use Rattle.crew_resource.specs.Labels.{Member};
-ghost use Rattle.crew_front.specs.Entries.{placed};
-ghost use Rattle.crew_front.specs.Grades.{AreRising, AreGraded, Admitted, HoldSame};
+ghost use Rattle.crew_resource.specs.Members.{Member};
+ghost use Rattle.crew_resource.specs.Entries.{placed};
+ghost use Rattle.crew_front.specs.Machinery.Grades.{AreRising, AreGraded, Admitted, HoldSame};
 
 use crew_resource::Resource;
 use std::alloc::{AllocError, Global};

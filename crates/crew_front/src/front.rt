@@ -3,15 +3,16 @@ ghost use Rattle.std.specs.Prelude.{◌≡◌, ◌↔◌, [], List, ℕ, length,
 ghost use Rattle.std.specs.List.{position, position_or_len, filter, Any};
 ghost use Rattle.std.specs.Ordering.{is_eq, is_lt};
 ghost use Rattle.std.specs.Slice.Iter.{iter_rest};
-ghost use Rattle.crew_duty.specs.Legs.{Leg};
-ghost use Rattle.crew_resource.specs.Labels.{Beats, Member};
-ghost use Rattle.crew_front.specs.Entries.{IsApart, placed};
-ghost use Rattle.crew_front.specs.Grades.{Admitted, HoldSame};
+ghost use Rattle.crew_pairing.specs.Legs.{Leg};
+ghost use Rattle.crew_resource.specs.Labels.{Beats};
+ghost use Rattle.crew_resource.specs.Members.{Member};
+ghost use Rattle.crew_resource.specs.Entries.{IsApart, placed};
+ghost use Rattle.crew_front.specs.Machinery.Grades.{Admitted, HoldSame};
 ghost use Rattle.crew_front.specs.Walks.{lesser};
-ghost use Rattle.crew_front.specs.Local.{IsLocalOf};
+ghost use Rattle.crew_pairing.specs.Local.{IsLocalOf};
 
 use crate::buckets::Buckets;
-use crew_duty::Walk;
+use crew_pairing::Walk;
 use crew_resource::Resource;
 use std::alloc::{AllocError, Global};
 use std::marker::Model;

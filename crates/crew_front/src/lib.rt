@@ -8,6 +8,3 @@ mod buckets;
 mod front;
 
 pub use front::{Front, Offer};
-
-#[cfg(test)]
-mod tests;

@@ -6,7 +6,7 @@ use Rattle.std.proofs.lemmas.Cmp.{nat_cmp_total, tied_itself}
 use Rattle.std.proofs.Math.Seq.{get_or-append_seam}
 use Rattle.std.proofs.lemmas.List.{get_or_append_left, length-append}
 use Rattle.crew_pool.specs.Arena.{walk_at}
-use Rattle.crew_pool.specs.ArenaLinks.{walks_from, all_walks, AreLinked}
+use Rattle.crew_pool.specs.Machinery.ArenaLinks.{walks_from, all_walks, AreLinked}
 use Rattle.crew_pool.specs.declared.arena.Link.{Link}
 
 length-walks_from : (ws : List (List ℕ)) (ls : List Link) → length (walks_from ws ls) ≡ length ws + length ls

@@ -6,12 +6,12 @@ use Rattle.std.proofs.lemmas.Bool.{cases_Bool, false≢true}
 use Rattle.std.proofs.lemmas.List.{length-append, take_more, flat_map_more}
 use Rattle.std.proofs.lemmas.Map.Views.{exact_unsigned_eq}
 use Rattle.crew_resource.specs.Events.{labelled}
-use Rattle.crew_resource.specs.Labels.{Member}
+use Rattle.crew_resource.specs.Members.{Member}
 use Rattle.crew_resource.proofs.Members.{Member-flat_map_out}
 use Rattle.crew_pool.specs.Apart.{ApartFromAll, AreApart}
 use Rattle.crew_pool.specs.Arena.{walk_at}
 use Rattle.crew_pool.specs.Counted.{AreCounted, AreWhole, IsCounted, boarded_label, boarded_labels}
-use Rattle.crew_pool.specs.Meets.{vectors_of}
+use Rattle.crew_pool.specs.Machinery.Meets.{vectors_of}
 use Rattle.crew_pool.specs.Tails.{AreAlike, duty_of, shown, tail_walk}
 use Rattle.crew_pool.specs.declared.tail.Tail.{Tail}
 use Rattle.crew_pool.proofs.MergeLemmas.{AreApart-append}

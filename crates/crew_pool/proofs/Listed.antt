@@ -7,9 +7,9 @@ use Rattle.std.specs.Ordering.{is_lt, ordering_then, ordering_reverse}
 use Rattle.std.specs.declared.cmp.Ordering.TheVariants.{Less, Equal, Greater}
 use Rattle.std.proofs.lemmas.Bool.{false≢true}
 use Rattle.crew_resource.specs.Resource.{OrderLaws}
-use Rattle.crew_front.specs.Entries.{IsApart, PartedFromAll}
+use Rattle.crew_resource.specs.Entries.{IsApart, PartedFromAll}
 use Rattle.crew_pool.specs.Apart.{ApartFromAll, AreApart}
-use Rattle.crew_pool.specs.Meets.{vectors_of}
+use Rattle.crew_pool.specs.Machinery.Meets.{vectors_of}
 use Rattle.crew_pool.specs.declared.tail.Tail.{Tail}
 
 pub map-itself : {X : Type 0} (xs : List X) → map (λ x. x) xs ≡ xs

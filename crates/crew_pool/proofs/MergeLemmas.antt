@@ -9,28 +9,17 @@ use Rattle.std.proofs.lemmas.List.Folds.{list_any_none}
 use Rattle.std.proofs.lemmas.List.Quantifiers.{position-Some}
 use Rattle.std.proofs.lemmas.List.Sorted.{IsPermutation-sym, list_any-IsPermutation}
 use Rattle.std.proofs.lemmas.Option.{slice_get-get_or}
-use Rattle.crew_resource.specs.Labels.{Member}
+use Rattle.crew_resource.specs.Members.{Member}
 use Rattle.crew_resource.proofs.Order.{IsOrder}
-use Rattle.crew_resource.proofs.Members.{Member-append, Member-append_left, Member-append_right, Member-filter_in, Member-filter_out, list_any_true, list_any_false}
+use Rattle.crew_resource.proofs.Members.{Member-append, Member-append_left, Member-append_right, Member-filter_in, Member-filter_out, list_any_true, list_any_false, Member-at, Member-map_in, Member-map_out}
 use Rattle.crew_pool.specs.Apart.{ApartFromAll, AreApart}
-use Rattle.crew_pool.specs.Meets.{is_free, vectors_of}
+use Rattle.crew_pool.specs.Machinery.Meets.{is_free, vectors_of}
 use Rattle.crew_pool.specs.Tails.{IsPoolOf, lesser_tail, ranks_at_most, shown, tail_walk}
 use Rattle.crew_pool.specs.declared.tail.Tail.{Tail}
-use Rattle.crew_front.proofs.EntryLemmas.{none_passes}
-use Rattle.crew_front.proofs.OfferLocal.{Member-at}
+use Rattle.crew_resource.proofs.Lists.{none_passes}
 use Rattle.crew_pool.proofs.Permuted.{Member-permuted}
 use Rattle.crew_pool.proofs.PoolLocal.{beaten_list, joined_list, tied_list}
 use Rattle.crew_pool.proofs.TailLemmas.{lesser_tail_facts, ranks_order}
-
-pub Member-map_in : {X Y : Type 0} (f : X → Y) (xs : List X) (x : X) → Member xs x → Member (map f xs) (f x)
-Member-map_in f [] x m = absurd m
-Member-map_in f (z ∷ zs) x (inl e) = inl (ap f e)
-Member-map_in f (z ∷ zs) x (inr m) = inr (Member-map_in f zs x m)
-
-pub Member-map_out : {X Y : Type 0} (f : X → Y) (xs : List X) (y : Y) → Member (map f xs) y → (x : X) × Member xs x × (f x ≡ y)
-Member-map_out f [] y m = absurd m
-Member-map_out f (z ∷ zs) y (inl e) = (z, inl refl, e)
-Member-map_out f (z ∷ zs) y (inr m) = let k = Member-map_out f zs y m in (k.0, inr k.1, k.2)
 
 pub some_is : {X : Type 0} (a b : X) (o : Option X) → o ≡ Some a → o ≡ Some b → a ≡ b
 some_is a b o p q = cc

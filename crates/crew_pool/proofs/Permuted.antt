@@ -6,12 +6,12 @@ use Rattle.std.proofs.lemmas.Bool.{cases_Bool}
 use Rattle.std.proofs.lemmas.List.Elements.{All-from_recursion}
 use Rattle.std.proofs.lemmas.List.Sorted.{All-permutation, IsPermutation-map, IsPermutation-sym, sum_by-IsPermutation}
 use Rattle.std.proofs.lemmas.List.Sums.{sum_by-cons}
-use Rattle.crew_resource.specs.Labels.{Member}
+use Rattle.crew_resource.specs.Members.{Member}
 use Rattle.crew_pool.specs.Apart.{ApartFromAll, AreApart}
-use Rattle.crew_pool.specs.Meets.{vectors_of}
+use Rattle.crew_pool.specs.Machinery.Meets.{vectors_of}
 use Rattle.crew_pool.specs.Tails.{IsPoolOf, shown}
 use Rattle.crew_pool.specs.declared.tail.Tail.{Tail}
-use Rattle.crew_front.proofs.EntryLemmas.{Member-All}
+use Rattle.crew_resource.proofs.Lists.{Member-All}
 
 all_members : {X : Type 0} (P : X → Type 0) (xs : List X) → ((x : X) → Member xs x → P x) → AllByRecursion P xs
 all_members P [] h = tt

@@ -2,12 +2,12 @@
 use Rattle.std.proofs.Common.{◌≡◌, ◌≢◌, ℕ, zero, suc, Bool, true, false, List, [], ◌∷◌, ◌++◌, set, map, Some, ◌⊎◌, inl, inr, refl, sym, ◌∙◌, ap, subst, ⊎_elim}
 use Rattle.std.specs.Prelude.{slice_get}
 use Rattle.std.proofs.lemmas.Bool.{false≢true}
-use Rattle.crew_resource.specs.Labels.{Member, Beats, IsLocal}
+use Rattle.crew_resource.specs.Members.{Member}
+use Rattle.crew_resource.specs.Labels.{Beats, IsLocal}
 use Rattle.crew_resource.proofs.Order.{IsOrder}
-use Rattle.crew_resource.proofs.Members.{Member-append, Member-append_left, Member-append_right}
+use Rattle.crew_resource.proofs.Members.{Member-append, Member-append_left, Member-append_right, Member-at}
 use Rattle.crew_resource.proofs.Offers.{More, IsLocal-beaten, IsLocal-tied}
 use Rattle.crew_pool.specs.Apart.{ApartFromAll, AreApart}
-use Rattle.crew_front.proofs.OfferLocal.{Member-at}
 
 module _ (V W : Type 0) (le : V → V → Bool) (wle : W → W → Bool) (order : IsOrder le) (walks : IsOrder wle) where
   -- the entries are what a list of candidates leaves

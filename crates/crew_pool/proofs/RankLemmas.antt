@@ -5,17 +5,15 @@ use Rattle.std.specs.Ordering.{is_le, nat_cmp, ordering_reverse, ordering_then}
 use Rattle.std.specs.declared.cmp.Ordering.TheVariants.{Less, Greater}
 use Rattle.std.specs.Cmp.{nat_cmp_is}
 use Rattle.std.proofs.lemmas.Cmp.{tied_itself}
-use Rattle.crew_duty.specs.Duties.{RiseByKey}
-use Rattle.crew_duty.specs.Keys.{key_cmp, key_total, walk_cmp}
-use Rattle.crew_duty.specs.Members.{Each}
-use Rattle.crew_duty.specs.declared.duty.Duty.{Duty}
-use Rattle.crew_duty.specs.Legs.{Leg}
-use Rattle.crew_resource.specs.Labels.{Member}
-use Rattle.crew_front.specs.Local.{IsLocalOf}
+use Rattle.crew_pairing.specs.Duties.{RiseByKey}
+use Rattle.crew_pairing.specs.Keys.{key_cmp, key_total, walk_cmp, walk_at_most}
+use Rattle.crew_resource.specs.Members.{Each, Member}
+use Rattle.crew_pairing.specs.declared.duty.Duty.{Duty}
+use Rattle.crew_pairing.specs.Legs.{Leg}
+use Rattle.crew_pairing.specs.Local.{IsLocalOf}
 use Rattle.crew_pool.specs.Ranks.{AreRanked, by_key, key_at}
 use Rattle.crew_pool.specs.Tails.{IsPoolOf}
-use Rattle.crew_front.specs.Walks.{walk_at_most}
-use Rattle.crew_pool.proofs.MergeLemmas.{Member-map_in, Member-map_out}
+use Rattle.crew_resource.proofs.Members.{Member-map_in, Member-map_out}
 
 later : (d : Duty) (ds : List Duty) (a : ℕ) → Each (λ e. key_cmp d.key e.key ≡ Less) ds → a < length ds → key_cmp d.key (key_at ds a) ≡ Less
 later d [] a h p = absurd (omega arith)

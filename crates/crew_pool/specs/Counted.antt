@@ -2,7 +2,7 @@
 use Rattle.std.specs.Prelude.{◌≡◌, ℕ, ◌<◌, Bool, List, length, nat_eq, true, Option, ℤ, pos}
 use Rattle.std.specs.List.{flat_map}
 use Rattle.crew_resource.specs.Events.{labelled}
-use Rattle.crew_resource.specs.Labels.{Member}
+use Rattle.crew_resource.specs.Members.{Member}
 use Rattle.crew_pool.specs.Tails.{tail_walk}
 use Rattle.crew_pool.specs.declared.tail.Tail.{Tail}
 

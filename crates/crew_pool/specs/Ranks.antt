@@ -1,9 +1,8 @@
 -- Duties by rank: their places in the list of all legal duties, which rises by key.
 use Rattle.std.specs.Prelude.{ℕ, ◌<◌, List, [], get_or, map}
-use Rattle.crew_duty.specs.Legs.{Leg}
-use Rattle.crew_duty.specs.Members.{Each}
-use Rattle.crew_duty.specs.declared.duty.Duty.{Duty}
-use Rattle.crew_resource.specs.Labels.{Member}
+use Rattle.crew_pairing.specs.Legs.{Leg}
+use Rattle.crew_resource.specs.Members.{Each, Member}
+use Rattle.crew_pairing.specs.declared.duty.Duty.{Duty}
 
 -- the key of the duty of a rank
 abbrev pub key_at : List Duty → ℕ → List Leg

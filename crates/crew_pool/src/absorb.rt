@@ -3,9 +3,9 @@ ghost use Rattle.std.specs.Prelude.{◌≡◌, ◌<◌, ℕ, List, [], ◌∷◌
 ghost use Rattle.std.specs.List.{flat_map};
 ghost use Rattle.std.specs.List.Sorted.{IsPermutation};
 ghost use Rattle.crew_resource.specs.Events.{labelled};
-ghost use Rattle.crew_resource.specs.Labels.{Member};
+ghost use Rattle.crew_resource.specs.Members.{Member};
 ghost use Rattle.crew_pool.specs.Counted.{AreCounted, boarded_label, boarded_labels};
-ghost use Rattle.crew_pool.specs.Meets.{vectors_of};
+ghost use Rattle.crew_pool.specs.Machinery.Meets.{vectors_of};
 ghost use Rattle.crew_pool.specs.Tails.{IsPoolOf, shown};
 
 use crate::arena::Walks;

@@ -3,7 +3,7 @@ ghost use Rattle.std.specs.Prelude.{◌≡◌, ◌<◌, ℕ, List, [], ◌∷◌
 ghost use Rattle.std.specs.Cmp.Lexicographic.{slice_cmp};
 ghost use Rattle.std.specs.Ordering.{nat_cmp};
 ghost use Rattle.crew_pool.specs.Arena.{walk_at};
-ghost use Rattle.crew_pool.specs.ArenaLinks.{all_walks, AreLinked};
+ghost use Rattle.crew_pool.specs.Machinery.ArenaLinks.{all_walks, AreLinked};
 ghost use Rattle.crew_pool.specs.Tails.{duty_of, tail_walk};
 
 use crate::tail::{NO_DUTY, Tail};

@@ -1,9 +1,9 @@
 //! Laws over the definitions alone.
 ghost use Rattle.std.specs.Prelude.{ℕ, List, length};
-ghost use Rattle.crew_duty.specs.Duties.{AreDuties};
-ghost use Rattle.crew_duty.specs.declared.duty.Duty.{Duty};
+ghost use Rattle.crew_pairing.specs.Duties.{AreDuties};
+ghost use Rattle.crew_pairing.specs.declared.duty.Duty.{Duty};
 ghost use Rattle.crew_flights.specs.Timetable.{Timetable};
-ghost use Rattle.crew_front.specs.Local.{IsLocalOf};
+ghost use Rattle.crew_pairing.specs.Local.{IsLocalOf};
 ghost use Rattle.crew_pool.specs.Ranks.{AreRanked, by_key};
 ghost use Rattle.crew_pool.specs.Tails.{IsPoolOf};
 ghost use Rattle.crew_rules.specs.declared.settings.Settings.{Settings};

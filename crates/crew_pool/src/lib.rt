@@ -20,6 +20,3 @@ pub use pool::Pool;
 pub use room::Room;
 pub use tail::{NO_DUTY, Tail};
 pub use view::View;
-
-#[cfg(test)]
-mod tests;

@@ -2,10 +2,10 @@
 ghost use Rattle.std.specs.Prelude.{◌≡◌, ◌<◌, ◌≤◌, ℕ, List, [], ◌∷◌, ◌++◌, ◌⊎◌, map, not, length, vec_len, vec_capacity, slice_get, slice_set, true, Some, OnOk, OnErr};
 ghost use Rattle.std.specs.List.{filter, list_any, position};
 ghost use Rattle.std.specs.List.Sorted.{IsPermutation};
-ghost use Rattle.crew_resource.specs.Labels.{Member};
+ghost use Rattle.crew_resource.specs.Members.{Member};
 ghost use Rattle.crew_pool.specs.Apart.{AreApart};
 ghost use Rattle.crew_pool.specs.Tails.{AreAlike, AreAlikeWhereSame, IsPoolOf, lesser_tail, shown};
-ghost use Rattle.crew_pool.specs.Meets.{is_free, vectors_of};
+ghost use Rattle.crew_pool.specs.Machinery.Meets.{is_free, vectors_of};
 
 use crate::arena::Walks;
 use crate::tail::{Tail, compare_tails};

@@ -2,9 +2,9 @@
 ghost use Rattle.std.specs.Prelude.{◌≡◌, ◌↔◌, ℕ, List, [], ◌∷◌, ◌++◌, ◌⊎◌, length, map, IsTrue, IfOk, OnOk, OnErr};
 ghost use Rattle.std.specs.List.Sorted.{IsPermutation};
 ghost use Rattle.std.specs.Slice.Iter.{iter_rest};
-ghost use Rattle.crew_resource.specs.Labels.{Member};
+ghost use Rattle.crew_resource.specs.Members.{Member};
 ghost use Rattle.crew_pool.specs.Apart.{AreApart};
-ghost use Rattle.crew_pool.specs.Meets.{vectors_of};
+ghost use Rattle.crew_pool.specs.Machinery.Meets.{vectors_of};
 ghost use Rattle.crew_pool.specs.Tails.{AreAlikeWhereSame, IsPoolOf, shown};
 ghost use Rattle.crew_pool.specs.declared.tail.Tail.{Tail};
 

@@ -3,11 +3,11 @@ ghost use Rattle.std.specs.Prelude.{◌≡◌, ◌<◌, ◌↔◌, ℕ, List, []
 ghost use Rattle.std.specs.List.{flat_map};
 ghost use Rattle.std.specs.List.Sorted.{IsPermutation};
 ghost use Rattle.crew_resource.specs.Events.{labelled};
-ghost use Rattle.crew_resource.specs.Labels.{Member};
-ghost use Rattle.crew_front.specs.Entries.{IsApart};
+ghost use Rattle.crew_resource.specs.Members.{Member};
+ghost use Rattle.crew_resource.specs.Entries.{IsApart};
 ghost use Rattle.crew_pool.specs.Apart.{AreApart};
 ghost use Rattle.crew_pool.specs.Counted.{boarded_labels, AreWhole};
-ghost use Rattle.crew_pool.specs.Meets.{vectors_of};
+ghost use Rattle.crew_pool.specs.Machinery.Meets.{vectors_of};
 ghost use Rattle.crew_pool.specs.Tails.{shown};
 ghost use Rattle.crew_pool.specs.declared.tail.Tail.{Tail};
 

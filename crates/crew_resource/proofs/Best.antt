@@ -1,9 +1,9 @@
 -- The best entry over the fronts is the best of all clean walks, and costs no more than any.
-use Rattle.std.proofs.Common.{◌≡◌, Bool, true, List, ℤ, sym, subst, arith}
+use Rattle.std.proofs.Common.{◌≡◌, Bool, true, List, ℤ, sym, subst, arith, inl, inr, ⊎_elim}
 use Rattle.std.specs.Prelude.{◌≤ℤ◌, ◌<ℤ◌, ◌⊎◌}
-use Rattle.std.proofs.Common.{inl, inr, ⊎_elim}
 use Rattle.std.proofs.lemmas.Int.{ints}
-use Rattle.crew_resource.specs.Labels.{Member, Undominated, IsFront}
+use Rattle.crew_resource.specs.Members.{Member}
+use Rattle.crew_resource.specs.Labels.{Undominated, IsFront}
 
 -- by cost, and then by walk
 abbrev pub NoWorse : {W : Type 0} → (W → W → Bool) → ℤ → W → ℤ → W → Type 0

@@ -1,9 +1,9 @@
 -- The value of a legal list lies within the bound for its number of items.
 use Rattle.std.proofs.Common.{◌≡◌, ℕ, zero, suc, ◌+◌, ◌<◌, Bool, true, List, [], ◌∷◌, length, Option, Some, sym, ◌∙◌, ap, subst, ⊎_elim, arith, length-append}
-use Rattle.crew_resource.specs.Labels.{Member}
+use Rattle.crew_resource.specs.Members.{Member}
 use Rattle.crew_resource.specs.Resource.{StepLaws}
 use Rattle.crew_resource.specs.Stages.{StagedLaws, BoundLaws}
-use Rattle.crew_resource.specs.Paths.{PathTo}
+use Rattle.crew_resource.specs.Machinery.Paths.{PathTo}
 use Rattle.crew_resource.proofs.Order.{IsOrder}
 use Rattle.crew_resource.proofs.Members.{Member-filter_out}
 use Rattle.crew_resource.proofs.Instance.{at_out, starting}

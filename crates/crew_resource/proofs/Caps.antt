@@ -5,8 +5,8 @@ use Rattle.std.proofs.Common.{refl, sym, ◌∙◌, ap, subst, arith, ⊎_elim}
 use Rattle.std.proofs.lemmas.Bool.{cases_Bool, and_from, and_left, and_right}
 use Rattle.std.proofs.lemmas.Int.{ints}
 use Rattle.std.proofs.lemmas.List.Folds.{list_all-map}
-use Rattle.crew_resource.specs.Sum.{is_within, rises, sum_of, capped_sum, beginnings, NeverFalls}
-use Rattle.crew_resource.specs.SumLaws.{within_lower}
+use Rattle.crew_resource.specs.Machinery.Sum.{is_within, rises, sum_of, capped_sum, beginnings, NeverFalls}
+use Rattle.crew_resource.specs.Machinery.SumLaws.{within_lower}
 
 rises_up : {I : Type 0} (next : I → I → ℤ) (x : I) (ys : List I) → NeverFalls next x ys → pos 0 ≤ℤ rises next x ys
 rises_up next x [] h = omega (arith, ints)

@@ -1,6 +1,7 @@
 -- A node that no change reaches has the same partials, and so the same front.
 use Rattle.std.proofs.Common.{◌≡◌, ℕ, zero, suc, ◌+◌, ◌<◌, Bool, List, Option, inl, inr, sym, ◌∙◌, ⊎_elim, arith}
-use Rattle.crew_resource.specs.Labels.{Member, Undominated, IsFront}
+use Rattle.crew_resource.specs.Members.{Member}
+use Rattle.crew_resource.specs.Labels.{Undominated, IsFront}
 use Rattle.crew_resource.proofs.Step.{Step, Rules}
 
 -- from the first graph to the second, along what is the same in both

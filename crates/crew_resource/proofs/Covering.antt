@@ -1,6 +1,7 @@
 -- A part of the candidates that lies under all of them leaves the same entries.
 use Rattle.std.proofs.Common.{◌≡◌, Bool, true, List, sym, ◌∙◌, subst}
-use Rattle.crew_resource.specs.Labels.{Member, IsLocal}
+use Rattle.crew_resource.specs.Members.{Member}
+use Rattle.crew_resource.specs.Labels.{IsLocal}
 pub use Rattle.crew_resource.specs.Labels.{IsCovering}
 use Rattle.crew_resource.proofs.Order.{IsOrder}
 

@@ -4,12 +4,13 @@ use Rattle.std.specs.List.{filter}
 use Rattle.std.proofs.lemmas.List.{map-append, length-map}
 use Rattle.std.proofs.lemmas.Option.{option_and_then_some}
 use Rattle.std.specs.Option.{option_and_then}
-use Rattle.crew_resource.specs.Labels.{Member, Undominated}
+use Rattle.crew_resource.specs.Members.{Member}
+use Rattle.crew_resource.specs.Labels.{Undominated}
 use Rattle.crew_resource.proofs.Order.{IsOrder}
 use Rattle.crew_resource.proofs.Members.{Member-filter_in, Member-filter_out, Member-append, Member-append_left, Member-append_right}
 use Rattle.crew_resource.proofs.Step.{Step, Rules}
 use Rattle.crew_resource.specs.Resource.{StepLaws}
-use Rattle.crew_resource.specs.Paths.{Linked, Begins, PathTo, CleanPathTo}
+use Rattle.crew_resource.specs.Machinery.Paths.{Linked, Begins, PathTo, CleanPathTo}
 use Rattle.crew_resource.proofs.Snoc.{snoc_cases, two_last, same_snoc, Linked-short, Linked-long, Begins-short, Begins-long}
 
 module _ (I V K : Type 0) (key : I → K) (known : List I) (may_start : I → Bool) (may_follow : I → I → Bool)

@@ -3,6 +3,7 @@ pub mod StageFacts
 pub mod Order
 pub mod Step
 pub mod Members
+pub mod Lists
 pub mod Offers
 pub mod Scratch
 pub mod Carry

@@ -1,6 +1,7 @@
 -- A front is what the fronts before it leave: the converse of the step.
 use Rattle.std.proofs.Common.{◌≡◌, Bool, true, List, Option, inl, inr, refl, sym, subst, ⊎_elim}
-use Rattle.crew_resource.specs.Labels.{Member, Undominated, IsFront, IsLocal}
+use Rattle.crew_resource.specs.Members.{Member}
+use Rattle.crew_resource.specs.Labels.{Undominated, IsFront, IsLocal}
 use Rattle.crew_resource.proofs.Order.{same_from_unbeaten}
 use Rattle.crew_resource.proofs.Step.{Step, Rules, Covers}
 

@@ -1,6 +1,7 @@
 -- The loop over the departure events in order: one event more.
 use Rattle.std.proofs.Common.{◌≡◌, ℕ, zero, suc, ◌+◌, ◌<◌, ◌≤◌, Bool, true, List, [], ◌∷◌, ◌++◌, length, get_or, ◌⊎◌, inl, inr, refl, sym, ◌∙◌, ap, subst, ⊎_elim, arith, length-append}
-use Rattle.crew_resource.specs.Labels.{Member, IsLocal}
+use Rattle.crew_resource.specs.Members.{Member}
+use Rattle.crew_resource.specs.Labels.{IsLocal}
 use Rattle.crew_resource.specs.Events.{Network, WaitLaws, view, FromFronts, FromPools, Arriving, Views, SoFar, Sent, Swept}
 use Rattle.crew_resource.proofs.Order.{IsOrder}
 use Rattle.crew_resource.proofs.Covering.{IsCovering, local_of_all, covering_same}

@@ -1,8 +1,9 @@
 -- Membership by recursion on the list.
-use Rattle.std.proofs.Common.{◌≡◌, Bool, true, false, cond, List, [], ◌∷◌, ◌++◌, ◌⊎◌, inl, inr, refl, sym, ◌∙◌, ap, subst, ⊎_elim}
+use Rattle.std.proofs.Common.{◌≡◌, ℕ, zero, suc, ◌<◌, Bool, true, false, cond, Some, get_or, length, map, List, [], ◌∷◌, ◌++◌, ◌⊎◌, inl, inr, refl, sym, ◌∙◌, ap, subst, ⊎_elim, arith}
+use Rattle.std.specs.Prelude.{slice_get}
 use Rattle.std.specs.List.{filter, flat_map, list_any}
 use Rattle.std.proofs.lemmas.Bool.{cases_Bool, false≢true, or_parts}
-use Rattle.crew_resource.specs.Labels.{Member}
+use Rattle.crew_resource.specs.Members.{Member}
 
 pub Member-append_left : {X : Type 0} (xs ys : List X) (x : X) → Member xs x → Member (xs ++ ys) x
 Member-append_left [] ys x h = absurd h
@@ -60,3 +61,28 @@ pub list_any_false : {X : Type 0} (p : X → Bool) (xs : List X) → list_any p 
 list_any_false p [] h x m = absurd m
 list_any_false p (z ∷ xs) h x (inl e) = sym (ap p e) ∙ (or_parts (p z) (list_any p xs) h).0
 list_any_false p (z ∷ xs) h x (inr m) = list_any_false p xs (or_parts (p z) (list_any p xs) h).1 x m
+
+pub Member-get : {X : Type 0} (xs : List X) (k : ℕ) (d : X) → k < length xs → Member xs (get_or xs k d)
+Member-get [] k d h = absurd (omega arith)
+Member-get (x ∷ xs) zero d h = inl refl
+Member-get (x ∷ xs) (suc k) d h = inr (Member-get xs k d (omega arith))
+
+pub Member-map_in : {X Y : Type 0} (f : X → Y) (xs : List X) (x : X) → Member xs x → Member (map f xs) (f x)
+Member-map_in f [] x m = absurd m
+Member-map_in f (z ∷ xs) x (inl e) = inl (ap f e)
+Member-map_in f (z ∷ xs) x (inr m) = inr (Member-map_in f xs x m)
+
+pub Member-map_out : {X Y : Type 0} (f : X → Y) (xs : List X) (y : Y) → Member (map f xs) y → (x : X) × Member xs x × (f x ≡ y)
+Member-map_out f [] y m = absurd m
+Member-map_out f (z ∷ xs) y (inl e) = (z, inl refl, e)
+Member-map_out f (z ∷ xs) y (inr m) = let k = Member-map_out f xs y m in (k.0, inr k.1, k.2)
+
+pub Member-at : {X : Type 0} (xs : List X) (k : ℕ) (x : X) → slice_get xs k ≡ Some x → Member xs x
+Member-at [] k x e = absurd (let q : ⊥ = (cc) in q)
+Member-at (y ∷ ys) zero x e = inl (let q : y ≡ x = (cc) in q)
+Member-at (y ∷ ys) (suc k) x e = inr (Member-at ys k x e)
+
+pub Member-get_or : {X : Type 0} (xs : List X) (k : ℕ) (x : X) → k < length xs → get_or xs k x ≡ x → Member xs x
+Member-get_or [] k x h e = absurd (omega arith)
+Member-get_or (y ∷ ys) zero x h e = inl e
+Member-get_or (y ∷ ys) (suc k) x h e = inr (Member-get_or ys k x (omega arith) e)

@@ -1,7 +1,8 @@
 -- What one more candidate does to the entries.
 use Rattle.std.proofs.Common.{◌≡◌, ◌≢◌, Bool, true, false, List, ◌⊎◌, inl, inr, sym, ◌∙◌, subst, ⊎_elim}
 use Rattle.std.proofs.lemmas.Bool.{cases_Bool, false≢true}
-use Rattle.crew_resource.specs.Labels.{Member, Beats, IsLocal}
+use Rattle.crew_resource.specs.Members.{Member}
+use Rattle.crew_resource.specs.Labels.{Beats, IsLocal}
 use Rattle.crew_resource.proofs.Order.{IsOrder}
 
 module _ (V W : Type 0) (le : V → V → Bool) (wle : W → W → Bool) (order : IsOrder le) (walks : IsOrder wle) where

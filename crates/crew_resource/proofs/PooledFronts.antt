@@ -6,11 +6,12 @@ use Rattle.std.specs.Cmp.Lexicographic.{slice_cmp}
 use Rattle.std.specs.declared.cmp.Ordering.TheVariants.{Equal}
 use Rattle.std.proofs.lemmas.Cmp.{lists_total}
 use Rattle.std.proofs.lemmas.Int.{ints}
-use Rattle.crew_resource.specs.Labels.{Member, IsFront, IsLocal}
+use Rattle.crew_resource.specs.Members.{Member}
+use Rattle.crew_resource.specs.Labels.{IsFront, IsLocal}
 use Rattle.crew_resource.specs.Events.{Network, WaitLaws, BoardLaws, CountLaws, StageLaws, view, FromPools, Arriving}
 use Rattle.crew_resource.specs.Resource.{OrderLaws, StepLaws}
 use Rattle.crew_resource.specs.Stages.{StagedLaws, ShiftLaws, CountingLaws}
-use Rattle.crew_resource.specs.Paths.{PathTo, CleanPathTo}
+use Rattle.crew_resource.specs.Machinery.Paths.{PathTo, CleanPathTo}
 use Rattle.crew_resource.proofs.Order.{IsOrder}
 use Rattle.crew_resource.proofs.Members.{Member-filter_in, Member-filter_out}
 use Rattle.crew_resource.proofs.ListOrder.{at_most, at_most_order, lists_exact, lists_grow}

@@ -1,7 +1,8 @@
 -- The pool of a departure event, and its view at each duty that leaves then.
 use Rattle.std.proofs.Common.{◌≡◌, Bool, true, List, Option, Some, None, inl, inr, refl, sym, ◌∙◌, ap, subst, ⊎_elim}
 use Rattle.std.specs.Option.{option_and_then}
-use Rattle.crew_resource.specs.Labels.{Member, IsLocal}
+use Rattle.crew_resource.specs.Members.{Member}
+use Rattle.crew_resource.specs.Labels.{IsLocal}
 use Rattle.crew_resource.specs.Events.{Network, WaitLaws, BoardLaws, Reflects, CountLaws, StageLaws, labelled, view, FromFronts, FromPools, Arriving}
 use Rattle.crew_resource.proofs.Order.{IsOrder}
 use Rattle.crew_resource.proofs.Step.{Step}

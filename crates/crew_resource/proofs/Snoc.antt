@@ -1,6 +1,6 @@
 -- One more item at the end.
 use Rattle.std.proofs.Common.{◌≡◌, Bool, true, List, [], ◌∷◌, ◌++◌, ◌⊎◌, inl, inr, refl, ◌∙◌, ap, append_assoc, ⊎_elim}
-use Rattle.crew_resource.specs.Paths.{LinkedFrom, Linked, Begins}
+use Rattle.crew_resource.specs.Machinery.Paths.{LinkedFrom, Linked, Begins}
 
 pub snoc_cases : {I : Type 0} (xs : List I) → (xs ≡ []) ⊎ ((bs : List I) × (e : I) × (xs ≡ bs ++ e ∷ []))
 snoc_cases [] = inl refl

@@ -2,7 +2,7 @@
 use Rattle.std.specs.Prelude.{◌≡◌, ℕ, Option}
 use Rattle.std.proofs.Common.{sym, ◌∙◌}
 use Rattle.crew_resource.specs.Stages.{BoundLaws}
-use Rattle.crew_resource.specs.Uses.{KeepsBound}
+use Rattle.crew_resource.specs.Machinery.Uses.{KeepsBound}
 
 -- a value within the bound that waits and boards is within the bound for one item more
 pub step_bound : {V I X G : Type 0} (is_sound : I → Type 0) (may_begin : G → Type 0) (may_follow : X → G → Type 0) (arrives : I → X) (leaves : I → G)

@@ -1,6 +1,7 @@
 -- The front of a node from the fronts of its predecessors.
 use Rattle.std.proofs.Common.{◌≡◌, Bool, true, List, Option, Some, ◌⊎◌, inl, inr, refl, sym, subst, ⊎_elim}
-use Rattle.crew_resource.specs.Labels.{Member, Undominated, IsFront, IsLocal}
+use Rattle.crew_resource.specs.Members.{Member}
+use Rattle.crew_resource.specs.Labels.{Undominated, IsFront, IsLocal}
 use Rattle.crew_resource.proofs.Order.{IsOrder, same_from_unbeaten}
 
 module _ (N V W : Type 0) (one : N → W) (more : W → N → W) (opens : N → Option V) (ext : V → N → N → Option V) (Arc : N → N → Type 0) where

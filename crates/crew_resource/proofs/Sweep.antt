@@ -1,6 +1,7 @@
 -- The sweep over the events: pools that are local at each event give each duty its front.
 use Rattle.std.proofs.Common.{ℕ, zero, suc, ◌+◌, ◌<◌, Bool, List, [], get_or, Option, sym, ◌∙◌, ap, subst, ⊎_elim, arith}
-use Rattle.crew_resource.specs.Labels.{Member, IsFront, IsLocal}
+use Rattle.crew_resource.specs.Members.{Member}
+use Rattle.crew_resource.specs.Labels.{IsFront, IsLocal}
 use Rattle.crew_resource.specs.Events.{Network, WaitLaws, BoardLaws, Reflects, CountLaws, StageLaws, view, FromFronts, FromPools, Arriving, Views, Swept}
 use Rattle.crew_resource.proofs.Order.{IsOrder}
 use Rattle.crew_resource.proofs.Step.{Rules, Covers, step_covers, step_front}

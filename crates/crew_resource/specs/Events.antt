@@ -1,7 +1,8 @@
 -- Pools of labels at the events of a time-space network, in place of one list of candidates for each duty.
 use Rattle.std.specs.Prelude.{◌≡◌, ℕ, ◌<◌, ◌⊎◌, Bool, true, length, get_or, List, [], ◌∷◌, Option, Some, None, option_and_then}
 use Rattle.std.specs.List.{flat_map}
-use Rattle.crew_resource.specs.Labels.{Member, IsLocal}
+use Rattle.crew_resource.specs.Members.{Member}
+use Rattle.crew_resource.specs.Labels.{IsLocal}
 
 -- N duties, V values, W walks, G departure events (airport, report), X arrival events (airport, release)
 pub record Network (N V W G X : Type 0) : Type 0 where

@@ -1,13 +1,7 @@
+pub mod Members
+pub mod Entries
 pub mod Resource
-pub mod Sum
-pub mod SumLaws
-pub mod Both
-pub mod BothLaws
 pub mod Stages
-pub mod SumStages
-pub mod BothStages
-pub mod Count
-pub mod Uses
 pub mod Labels
 pub mod Events
-pub mod Paths
+pub mod Machinery

@@ -1,7 +1,7 @@
 -- A step in two stages: waiting from one item's arrival to a departure, and boarding an item there.
 use Rattle.std.specs.Prelude.{◌≡◌, ℕ, suc, ◌≤◌, Bool, true, Option, Some, ℤ, pos, ◌+ℤ◌, ◌≤ℤ◌}
 use Rattle.std.specs.declared.cmp.Ordering.{Ordering}
-use Rattle.crew_resource.specs.Sum.{capped, LiesWithin}
+use Rattle.crew_resource.specs.Machinery.Sum.{capped, LiesWithin}
 
 -- a step is a wait and a boarding, and both keep the order
 pub record StagedLaws {V I X G : Type 0} (opens : I → Option V) (extends : V → I → I → Option V) (below : V → V → Bool) (arrives : I → X) (leaves : I → G) (idle : G → V) (wait : V → X → G → V) (board : V → I → Option V) : Type 0 where

@@ -1,8 +1,8 @@
 //! Two resources side by side.
 ghost use Rattle.std.specs.Prelude.{ℕ, ◌&&◌, max, List};
-ghost use Rattle.crew_resource.specs.Both.{both, both_extend, both_wait, both_board, either_side, side_of};
-ghost use Rattle.crew_resource.specs.BothLaws.{both_order, both_steps, both_grades};
-ghost use Rattle.crew_resource.specs.BothStages.{both_staged, both_shifts, both_counting, both_bounds};
+ghost use Rattle.crew_resource.specs.Machinery.Both.{both, both_extend, both_wait, both_board, either_side, side_of};
+ghost use Rattle.crew_resource.specs.Machinery.BothLaws.{both_order, both_steps, both_grades};
+ghost use Rattle.crew_resource.specs.Machinery.BothStages.{both_staged, both_shifts, both_counting, both_bounds};
 
 use crate::{Placed, Resource, Staged};
 use std::alloc::AllocError;

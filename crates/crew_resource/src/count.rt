@@ -1,11 +1,11 @@
 //! The number of items of a list.
 ghost use Rattle.std.specs.Prelude.{◌≡◌, ℕ, ℤ, pos, ◌+ℤ◌, int_le, Some, FitsSigned, List};
 ghost use Rattle.std.specs.Int.{w64};
-ghost use Rattle.crew_resource.specs.Sum.{capped, capped_sum};
-ghost use Rattle.crew_resource.specs.SumLaws.{sum_order, sum_steps};
+ghost use Rattle.crew_resource.specs.Machinery.Sum.{capped, capped_sum};
+ghost use Rattle.crew_resource.specs.Machinery.SumLaws.{sum_order, sum_steps};
 ghost use Rattle.crew_resource.specs.Stages.{shifted, boarded};
-ghost use Rattle.crew_resource.specs.SumStages.{sum_fits, sum_arrived, sum_ready, sum_shifts};
-ghost use Rattle.crew_resource.specs.Count.{count_grade, count_grades, count_staged, count_counting, count_bounds};
+ghost use Rattle.crew_resource.specs.Machinery.SumStages.{sum_fits, sum_arrived, sum_ready, sum_shifts};
+ghost use Rattle.crew_resource.specs.Machinery.Count.{count_grade, count_grades, count_staged, count_counting, count_bounds};
 
 use crate::sum::within;
 use crate::{Placed, Resource, Staged};

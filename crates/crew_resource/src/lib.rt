@@ -21,6 +21,3 @@ pub use resource::{Cost, Resource};
 pub use staged::{Placed, Staged};
 pub use sum::{Amount, StagedAmount, Sum};
 pub use uses::{extend_ordered, extend_staged, is_same, start_staged};
-
-#[cfg(test)]
-mod tests;

@@ -1,10 +1,10 @@
 //! Sums of an amount along a list.
 ghost use Rattle.std.specs.Prelude.{◌≡◌, ℕ, ℤ, ◌+ℤ◌, int_le, Option, None, FitsSigned, List};
 ghost use Rattle.std.specs.Int.{w64};
-ghost use Rattle.crew_resource.specs.Sum.{capped, capped_sum};
-ghost use Rattle.crew_resource.specs.SumLaws.{sum_order, sum_steps, no_grades};
+ghost use Rattle.crew_resource.specs.Machinery.Sum.{capped, capped_sum};
+ghost use Rattle.crew_resource.specs.Machinery.SumLaws.{sum_order, sum_steps, no_grades};
 ghost use Rattle.crew_resource.specs.Stages.{AmountLaws, shifted, boarded};
-ghost use Rattle.crew_resource.specs.SumStages.{sum_staged, sum_shifts, no_counting, sum_fits, sum_arrived, sum_ready, sum_bounds};
+ghost use Rattle.crew_resource.specs.Machinery.SumStages.{sum_staged, sum_shifts, no_counting, sum_fits, sum_arrived, sum_ready, sum_bounds};
 
 use crate::{Placed, Resource, Staged};
 use std::alloc::AllocError;

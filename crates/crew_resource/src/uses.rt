@@ -1,6 +1,6 @@
 //! What any code over a resource may conclude from the laws.
 ghost use Rattle.std.specs.Prelude.{◌≡◌, ◌↔◌, true, ℕ, Some, IsTrue, IfOk};
-ghost use Rattle.crew_resource.specs.Uses.{IsNoWorse, HasRoom, KeepsBound};
+ghost use Rattle.crew_resource.specs.Machinery.Uses.{IsNoWorse, HasRoom, KeepsBound};
 
 use crate::{Placed, Resource, Staged};
 use std::alloc::AllocError;

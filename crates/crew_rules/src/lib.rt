@@ -10,9 +10,6 @@ mod pay;
 mod settings;
 mod tables;
 
-pub use pay::{duty_pay, pairing_pay};
+pub use pay::{duty_pay, guaranteed, pairing_pay, rated};
 pub use settings::{BadSetting, Settings};
 pub use tables::{limits_from, table_a, table_b};
-
-#[cfg(test)]
-mod tests;

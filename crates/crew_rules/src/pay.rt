@@ -1,24 +1,24 @@
 //! What a duty and a pairing are paid, in points; 14 points are a paid minute.
 
-ghost use Rattle.std.specs.Prelude.{◌≡◌, ◌≤◌, ◌≤ℤ◌, ◌*ℤ◌, pos};
+ghost use Rattle.std.specs.Prelude.{◌≡◌, ◌≤◌, ◌≤ℤ◌, ◌*ℤ◌, negsuc, pos};
 ghost use Rattle.crew_rules.specs.Pay as Spec;
 ghost use Rattle.crew_rules.specs.Pay.{IsMinutes};
 ghost use Rattle.crew_rules.specs.Settings.{IsChecked};
 
 use crate::settings::Settings;
 
-// So many points for each minute.
-fn rated(rate: u32, minutes: i64) -> i64
+/// So many points for each of some minutes, forward or back.
+pub fn rated(rate: u32, minutes: i64) -> i64
     requires rate { rate ≤ 14 }
-    requires minutes { IsMinutes minutes }
+    requires minutes { (negsuc 99_999_999 ≤ℤ minutes) × (minutes ≤ℤ pos 100_000_000) }
     ensures value { result ≡ pos rate *ℤ minutes }
-    ensures bound { (pos 0 ≤ℤ result) × (result ≤ℤ pos 1_400_000_000) }
+    ensures bound { (negsuc 1_399_999_999 ≤ℤ result) × (result ≤ℤ pos 1_400_000_000) }
 {
     i64::from(rate) * minutes
 }
 
-// So many points for each duty.
-fn guaranteed(points: u32, duties: u32) -> i64
+/// So many points for each duty.
+pub fn guaranteed(points: u32, duties: u32) -> i64
     requires points { points ≤ 20_000 }
     ensures value { result ≡ pos points *ℤ pos duties }
     ensures bound { (pos 0 ≤ℤ result) × (result ≤ℤ pos 85_899_345_900_000) }

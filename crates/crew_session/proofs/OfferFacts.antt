@@ -16,13 +16,13 @@ use Rattle.crew_rules.specs.declared.settings.Settings.{Settings}
 use Rattle.crew_flights.specs.Codes.{code_cmp, code_cmp_total}
 use Rattle.crew_flights.specs.Timetable.{IsFlight, IsSound, Timetable, empty_timetable}
 use Rattle.crew_flights.specs.declared.flight.Flight.{Flight}
-use Rattle.crew_duty.specs.Duties.{AreDuties, flights_of}
-use Rattle.crew_duty.specs.Legality.{AllConnect, IsLegal, duty_of, flight_time, last_of, minutes_flown, price_of, total}
-use Rattle.crew_duty.specs.Members.{Each, Member}
-use Rattle.crew_duty.specs.declared.leg.TimedLeg.{TimedLeg}
-use Rattle.crew_duty.specs.declared.duty.Duty.{Duty}
-use Rattle.crew_duty.proofs.Times.{AllSound, ends-later, flown-total}
-use Rattle.crew_duty.proofs.Timetables.{flights-of-timetable}
+use Rattle.crew_pairing.specs.Duties.{AreDuties, flights_of}
+use Rattle.crew_pairing.specs.Legality.{AllConnect, IsLegal, duty_of, flight_time, last_of, minutes_flown, price_of, total}
+use Rattle.crew_resource.specs.Members.{Each, Member}
+use Rattle.crew_pairing.specs.declared.leg.TimedLeg.{TimedLeg}
+use Rattle.crew_pairing.specs.declared.duty.Duty.{Duty}
+use Rattle.crew_pairing.proofs.Times.{AllSound, ends-later, flown-total}
+use Rattle.crew_pairing.proofs.Timetables.{flights-of-timetable}
 use Rattle.crew_session.specs.Bests.{IsBest, IsOffer, IsPairing, away_of, offer_cmp, offer_total, priced}
 use Rattle.crew_session.specs.Offers.{IsBestAmong, IsBounded, IsOfferOf, chosen, least_of, lesser_of}
 use Rattle.crew_session.specs.declared.best.Best.{Best}

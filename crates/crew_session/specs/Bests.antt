@@ -8,11 +8,11 @@ use Rattle.std.specs.Cmp.{IsTotalOrder, int_cmp_total, on_total, then_total}
 use Rattle.crew_rules.specs.Pay.{pairing_pay}
 use Rattle.crew_rules.specs.declared.settings.Settings.{Settings}
 use Rattle.crew_flights.specs.Timetable.{Timetable}
-use Rattle.crew_duty.specs.Duties.{flights_of}
-use Rattle.crew_duty.specs.Keys.{walk_cmp, walk_total}
-use Rattle.crew_duty.specs.Legality.{IsLegal, duty_of}
-use Rattle.crew_duty.specs.declared.leg.TimedLeg.{TimedLeg}
-use Rattle.crew_duty.specs.declared.duty.Duty.{Duty}
+use Rattle.crew_pairing.specs.Duties.{flights_of}
+use Rattle.crew_pairing.specs.Keys.{walk_cmp, walk_total}
+use Rattle.crew_pairing.specs.Legality.{IsLegal, duty_of}
+use Rattle.crew_pairing.specs.declared.leg.TimedLeg.{TimedLeg}
+use Rattle.crew_pairing.specs.declared.duty.Duty.{Duty}
 use Rattle.crew_session.specs.declared.best.Best.{Best}
 
 -- minutes away: from report to release

@@ -5,7 +5,7 @@ use Rattle.std.specs.FinMap as fin
 use Rattle.crew_flights.specs.Refusals.{number_of}
 use Rattle.crew_flights.specs.declared.edit.Verdict.{Verdict}
 use Rattle.crew_flights.specs.declared.edit.Verdict.TheVariants.{Accepted, Refused}
-use Rattle.crew_duty.specs.Legs.{Leg}
+use Rattle.crew_pairing.specs.Legs.{Leg}
 use Rattle.crew_audit.specs.declared.tally.Tally.{Tally}
 use Rattle.crew_session.specs.Versions.{Snapshot, timetable_of}
 use Rattle.crew_session.specs.declared.best.Best.{Best}

@@ -4,8 +4,8 @@ use Rattle.std.specs.declared.cmp.Ordering.{Ordering}
 use Rattle.std.specs.declared.cmp.Ordering.TheVariants.{Less, Equal, Greater}
 use Rattle.crew_rules.specs.declared.settings.Settings.{Settings}
 use Rattle.crew_flights.specs.Timetable.{Timetable}
-use Rattle.crew_duty.specs.Members.{Member}
-use Rattle.crew_duty.specs.declared.duty.Duty.{Duty}
+use Rattle.crew_resource.specs.Members.{Member}
+use Rattle.crew_pairing.specs.declared.duty.Duty.{Duty}
 use Rattle.crew_session.specs.Bests.{IsPairing, away_of, offer_cmp, priced}
 use Rattle.crew_session.specs.declared.best.Best.{Best}
 

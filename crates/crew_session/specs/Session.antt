@@ -9,7 +9,7 @@ use Rattle.crew_flights.specs.declared.edit.Edit.{Edit}
 use Rattle.crew_flights.specs.declared.edit.Edit.TheVariants as edit
 use Rattle.crew_flights.specs.declared.entries.Entry.{Entry}
 use Rattle.crew_flights.specs.declared.flight.Flight.{Flight}
-use Rattle.crew_duty.specs.Duties.{HasTooMany}
+use Rattle.crew_pairing.specs.Duties.{HasTooMany}
 use Rattle.crew_session.specs.Audits.{Audits}
 use Rattle.crew_session.specs.Commands.{command_of}
 use Rattle.crew_session.specs.Faults.{record_number}

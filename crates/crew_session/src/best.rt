@@ -1,6 +1,6 @@
 //! The best pairing of a version.
 
-use crew_duty::Walk;
+use crew_pairing::Walk;
 use crew_flights::Code;
 
 /// A pairing with its cost. Money is in points.

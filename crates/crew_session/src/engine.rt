@@ -3,7 +3,7 @@
 ghost use denote.Param.Send.{IsSync};
 ghost use Rattle.std.specs.Prelude.{◌≡◌, ◌<◌, ◌++◌, ◌∷◌, [], Err, List, IfErr, OnErr, OnOk, length};
 ghost use Rattle.crew_flights.specs.declared.entries.Entry.{Entry};
-ghost use Rattle.crew_duty.specs.Duties.{HasTooMany};
+ghost use Rattle.crew_pairing.specs.Duties.{HasTooMany};
 ghost use Rattle.crew_session.specs.Engines.{BeginsWith, IsSettleFault, IsSubmitFault};
 ghost use Rattle.crew_session.specs.Versions.{Snapshot, entry_of, timetable_of};
 

@@ -11,7 +11,7 @@ use crate::best::Best;
 use crate::fault::SessionFault;
 use crate::version::Version;
 use crew_audit::Tally;
-use crew_duty::{Key, Leg, Walk};
+use crew_pairing::{Key, Leg, Walk};
 use crew_flights::Verdict;
 use std::alloc::{AllocError, Global};
 use std::io::Write;

@@ -2,14 +2,15 @@
 
 ghost use Rattle.std.specs.Prelude.{◌≡◌, ◌-ℤ◌, ◌≤ℤ◌, pos, negsuc, ℕ, Err, IfErr, IfOk};
 ghost use Rattle.crew_rules.specs.Settings.{IsChecked};
-ghost use Rattle.crew_duty.specs.Duties.{AreDuties, HasTooMany};
+ghost use Rattle.crew_pairing.specs.Duties.{AreDuties, HasTooMany};
 ghost use Rattle.crew_session.specs.Bests.{IsBest, offer_cmp};
 ghost use Rattle.crew_session.specs.Engines.{IsAdvanceFault};
 ghost use Rattle.crew_session.specs.Offers.{IsBounded, IsOfferOf, least_of, lesser_of};
 
 use crate::best::Best;
 use crate::fault::EngineFault;
-use crew_duty::{Duty, DutyFault, Walk, list_duties};
+use crew_pairing::{Duty, Walk};
+use crew_duty::{DutyFault, list_duties};
 use crew_flights::Data;
 use crew_rules::{Settings, pairing_pay};
 use std::alloc::{AllocError, Global};

@@ -70,7 +70,7 @@ fn append<T: Copy>(vec: &mut Vec<T>, items: &[T])
 impl Version {
     ghost use Rattle.crew_session.specs.Versions.{IsNext, IsRight};
     ghost use Rattle.crew_session.specs.Versions as Spec;
-    ghost use Rattle.crew_duty.specs.Duties.{HasTooMany};
+    ghost use Rattle.crew_pairing.specs.Duties.{HasTooMany};
 
     /// The version before any entry, number 0.
     pub fn opening(alloc: Global, settings: &Settings) -> Self

@@ -15,6 +15,3 @@ pub use fault::TimeFault;
 pub use instant::{ClockMinute, Minute};
 pub use texts::{read_minute, write_minute};
 pub use zone::Zone;
-
-#[cfg(test)]
-mod tests;

@@ -3,18 +3,19 @@ use Rattle.std.proofs.Common.{◌≡◌, ℕ, true, ℤ, pos, ◌+ℤ◌, ◌-�
 use Rattle.std.specs.Prelude.{◌≤ℤ◌}
 use Rattle.std.specs.Ordering.{eq_by_cmp}
 use Rattle.std.proofs.lemmas.Int.{ints}
-use Rattle.crew_duty.specs.Pairings.{is_pairing, last_duty, minutes_away}
-use Rattle.crew_duty.specs.declared.duty.Duty.{Duty}
-use Rattle.crew_duty.specs.Legs.{Leg}
+use Rattle.crew_pairing.specs.Pairings.{is_pairing, last_duty, minutes_away}
+use Rattle.crew_pairing.specs.declared.duty.Duty.{Duty}
+use Rattle.crew_pairing.specs.Legs.{Leg}
 use Rattle.crew_flights.specs.Codes.{code_cmp}
 use Rattle.crew_flights.specs.Timetable.{IsSound, Timetable}
 use Rattle.crew_rules.specs.Settings.{IsChecked}
 use Rattle.crew_rules.specs.declared.settings.Settings.{Settings}
 use Rattle.crew_vector.specs.Bests.{AreFronts, IsBest, IsCleanPairing, IsHomeEntry, IsPairing, NoDearer, PricedPairing}
-use Rattle.crew_vector.specs.Costs.{cost_respects, reduced_cost}
-use Rattle.crew_vector.specs.Fronts.{At, vector_of, walk_at_most, walk_of}
-use Rattle.crew_vector.specs.Parts.{cost_of, pay_of, prices}
-use Rattle.crew_vector.specs.declared.parts.Parts.{Parts}
+use Rattle.crew_vector.specs.Dominance.{cost_respects}
+use Rattle.crew_pairing.specs.Vectors.{reduced_cost, cost_of, pay_of, prices, vector_of}
+use Rattle.crew_vector.specs.Fronts.{At, walk_of}
+use Rattle.crew_pairing.specs.Keys.{walk_at_most}
+use Rattle.crew_pairing.specs.declared.vector.PairingVector.{PairingVector}
 use Rattle.crew_vector.proofs.Fitting.{cost-is}
 use Rattle.crew_vector.proofs.Cuts.{append-nothing}
 use Rattle.crew_vector.proofs.Nodes.{each-below, each-clean}
@@ -59,7 +60,7 @@ pay-again : (cost pay prices rig rig_less : ℤ) → cost ≡ pay -ℤ prices �
 pay-again cost pay prices rig rig_less h k = omega (arith, ints)
 
 -- an entry at home is a clean pairing
-pub entry-pairing : (s : Settings) (t : Timetable) (front : List ℕ → Duty → List (Parts × List (List Leg))) → AreFronts s t front → (base : List ℕ) (v : Parts) (w : List (List Leg)) → IsHomeEntry s t front base v w
+pub entry-pairing : (s : Settings) (t : Timetable) (front : List ℕ → Duty → List (PairingVector × List (List Leg))) → AreFronts s t front → (base : List ℕ) (v : PairingVector) (w : List (List Leg)) → IsHomeEntry s t front base v w
     → (p : PricedPairing) × IsCleanPairing s t p × (p.base ≡ base) × (p.walk ≡ w) × (p.cost ≡ reduced_cost v) × (p.pay ≡ reduced_cost v +ℤ (pos s.trip_rig *ℤ v.away -ℤ v.trip_rig)) × (p.away ≡ v.away)
 entry-pairing s t front right base v w h =
     let clean = (right base h.price h.duty h.based h.legal).clean v w h.held in
@@ -88,8 +89,8 @@ entry-pairing s t front right base v w h =
     )
 
 -- a clean pairing's vector is an entry at home, with a walk that is at most the pairing's
-pairing-entry : (s : Settings) (t : Timetable) (front : List ℕ → Duty → List (Parts × List (List Leg))) → IsChecked s → IsSound t → AreFronts s t front → (p : PricedPairing) → IsCleanPairing s t p
-    → (v : Parts) × (w : List (List Leg)) × IsHomeEntry s t front p.base v w × (reduced_cost v ≡ p.cost) × (walk_at_most w p.walk ≡ true)
+pairing-entry : (s : Settings) (t : Timetable) (front : List ℕ → Duty → List (PairingVector × List (List Leg))) → IsChecked s → IsSound t → AreFronts s t front → (p : PricedPairing) → IsCleanPairing s t p
+    → (v : PairingVector) × (w : List (List Leg)) × IsHomeEntry s t front p.base v w × (reduced_cost v ≡ p.cost) × (walk_at_most w p.walk ≡ true)
 pairing-entry s t front checked sound right p c =
     let is = c.pairing in
     let last = last_duty is.first is.others in
@@ -104,8 +105,8 @@ pairing-entry s t front checked sound right p c =
       f.least vector e.0 p.walk e.1 (record { at = record { first = is.first; others = is.others; partial = is.partial; ends = refl; vector = refl; walk = is.walk }; stays = c.stays }),
     )
 
-pub least-entry : (s : Settings) (t : Timetable) (front : List ℕ → Duty → List (Parts × List (List Leg))) (best : PricedPairing) → IsChecked s → IsSound t → AreFronts s t front → IsCleanPairing s t best
-    → ((base : List ℕ) (v : Parts) (w : List (List Leg)) → IsHomeEntry s t front base v w → NoDearer best.cost best.walk (reduced_cost v) w) → IsBest s t (Some best)
+pub least-entry : (s : Settings) (t : Timetable) (front : List ℕ → Duty → List (PairingVector × List (List Leg))) (best : PricedPairing) → IsChecked s → IsSound t → AreFronts s t front → IsCleanPairing s t best
+    → ((base : List ℕ) (v : PairingVector) (w : List (List Leg)) → IsHomeEntry s t front base v w → NoDearer best.cost best.walk (reduced_cost v) w) → IsBest s t (Some best)
 least-entry s t front best checked sound right clean least = (clean, each)
   where
     each : (p : PricedPairing) → IsCleanPairing s t p → NoDearer best.cost best.walk p.cost p.walk
@@ -114,8 +115,8 @@ least-entry s t front best checked sound right clean least = (clean, each)
         let n : NoDearer best.cost best.walk p.cost e.1 = subst (λ z. NoDearer best.cost best.walk z e.1) e.3 (least p.base e.0 e.1 e.2) in
         ⊎_elim inl (λ q. inr (q.0, walk-order.transitive best.walk e.1 p.walk q.1 e.4)) n
 
-pub no-entry : (s : Settings) (t : Timetable) (front : List ℕ → Duty → List (Parts × List (List Leg))) → IsChecked s → IsSound t → AreFronts s t front
-    → ((base : List ℕ) (v : Parts) (w : List (List Leg)) → IsHomeEntry s t front base v w → ⊥) → IsBest s t None
+pub no-entry : (s : Settings) (t : Timetable) (front : List ℕ → Duty → List (PairingVector × List (List Leg))) → IsChecked s → IsSound t → AreFronts s t front
+    → ((base : List ℕ) (v : PairingVector) (w : List (List Leg)) → IsHomeEntry s t front base v w → ⊥) → IsBest s t None
 no-entry s t front checked sound right none = λ p h.
     let q = clean-below s t p checked sound h in
     let e = pairing-entry s t front checked sound right q.0 q.1 in

@@ -1,9 +1,8 @@
 -- A list as its first element and the others, and as its last element and those before it.
 use Rattle.std.proofs.Common.{◌≡◌, List, [], ◌∷◌, ◌++◌, inl, inr, refl, sym, ◌∙◌, ap, append_assoc}
-use Rattle.crew_duty.specs.Members.{Member, Each}
-use Rattle.crew_duty.specs.Pairings.{last_duty}
-use Rattle.crew_duty.specs.declared.duty.Duty.{Duty}
-use Rattle.crew_resource.specs.Labels as Labels
+use Rattle.crew_resource.specs.Members.{Member, Each}
+use Rattle.crew_pairing.specs.Pairings.{last_duty}
+use Rattle.crew_pairing.specs.declared.duty.Duty.{Duty}
 
 -- all but the last of a first duty and others
 abbrev pub before_last : Duty → List Duty → List Duty
@@ -59,16 +58,6 @@ cut (b ∷ bs) e rest first others q =
     }
 
 -- members by both words
-pub to-member : {X : Type 0} (xs : List X) (x : X) → Member xs x → Labels.Member xs x
-to-member [] x m = absurd m
-to-member (y ∷ ys) x (inl e) = inl e
-to-member (y ∷ ys) x (inr m) = inr (to-member ys x m)
-
-pub from-member : {X : Type 0} (xs : List X) (x : X) → Labels.Member xs x → Member xs x
-from-member [] x m = absurd m
-from-member (y ∷ ys) x (inl e) = inl e
-from-member (y ∷ ys) x (inr m) = inr (from-member ys x m)
-
-pub each-of : {X : Type 0} (P : X → Type 0) (xs : List X) → ((x : X) → Labels.Member xs x → P x) → Each P xs
+pub each-of : {X : Type 0} (P : X → Type 0) (xs : List X) → ((x : X) → Member xs x → P x) → Each P xs
 each-of P [] f = tt
 each-of P (x ∷ xs) f = (f x (inl refl), each-of P xs (λ y m. f y (inr m)))

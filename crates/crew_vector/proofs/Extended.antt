@@ -2,7 +2,7 @@
 use Rattle.std.proofs.Common.{◌≡◌, Bool, List, [], ◌∷◌, ◌++◌, Option, Some, None, refl, sym, ◌∙◌, ap, append_assoc}
 use Rattle.std.specs.Option.{option_and_then}
 use Rattle.crew_resource.specs.Resource.{StepLaws}
-use Rattle.crew_vector.specs.Along.{extended}
+use Rattle.crew_vector.specs.Machinery.Along.{extended}
 
 module _ (V I : Type 0) (opens : I → Option V) (extends : V → I → I → Option V) (below : V → V → Bool) (value_of : List I → Option V) (steps : StepLaws opens extends below value_of) where
   pub none-goes-on : (before : List I) (last : I) (others : List I) → value_of (before ++ last ∷ []) ≡ None → value_of (before ++ last ∷ others) ≡ None

@@ -8,24 +8,24 @@ use Rattle.std.proofs.lemmas.Bool.{and_parts}
 use Rattle.std.proofs.lemmas.Int.{ints}
 use Rattle.std.proofs.lemmas.List.Folds.{list_all-map}
 use Rattle.std.proofs.lemmas.Option.{cond_some}
-use Rattle.crew_duty.specs.Legality.{total}
-use Rattle.crew_duty.specs.Events.{IsSound, MayFollow}
-use Rattle.crew_duty.specs.declared.duty.Duty.{Duty}
-use Rattle.crew_resource.specs.Sum.{is_within, sum_of, beginnings, NeverFalls}
-use Rattle.crew_resource.specs.Count.{count_grade}
-use Rattle.crew_resource.specs.SumStages.{sum_fits}
+use Rattle.crew_pairing.specs.Legality.{total}
+use Rattle.crew_pairing.specs.Events.{IsSound, MayFollow}
+use Rattle.crew_pairing.specs.declared.duty.Duty.{Duty}
+use Rattle.crew_resource.specs.Machinery.Sum.{is_within, sum_of, beginnings, NeverFalls}
+use Rattle.crew_resource.specs.Machinery.Count.{count_grade}
+use Rattle.crew_resource.specs.Machinery.SumStages.{sum_fits}
 use Rattle.crew_resource.proofs.Caps.{whole_test}
 use Rattle.crew_rules.specs.Settings.{IsChecked}
 use Rattle.crew_rules.specs.declared.settings.Settings.{Settings}
-use Rattle.crew_vector.specs.Along.{GoesOn, IsLine}
-use Rattle.crew_vector.specs.Amounts.{arrival_of, departure_of, fdp_first, fdp_next, fly_first, fly_next, away_first, away_next}
-use Rattle.crew_vector.specs.Costs.{reduced_cost}
-use Rattle.crew_duty.specs.Pairings.{is_within_caps, minutes_away}
-use Rattle.crew_vector.specs.Parts.{prices, cost_of, parts_of, stays_within_caps, value_of}
-use Rattle.crew_vector.specs.declared.parts.Parts.{Parts}
-use Rattle.crew_vector.specs.Pairing.{pairing_vector}
-use Rattle.crew_vector.specs.Sides.{fits_in}
-use Rattle.crew_vector.specs.Terms.{IsBasePrice}
+use Rattle.crew_vector.specs.Machinery.Along.{GoesOn, IsLine}
+use Rattle.crew_vector.specs.Machinery.Amounts.{arrival_of, departure_of, fdp_first, fdp_next, fly_first, fly_next, away_first, away_next}
+use Rattle.crew_pairing.specs.Vectors.{reduced_cost, prices, cost_of, vector_of}
+use Rattle.crew_pairing.specs.Pairings.{is_within_caps, minutes_away}
+use Rattle.crew_vector.specs.Values.{stays_within_caps, value_of}
+use Rattle.crew_pairing.specs.declared.vector.PairingVector.{PairingVector}
+use Rattle.crew_vector.specs.Machinery.VectorResources.{vector_resource}
+use Rattle.crew_vector.specs.Machinery.Sides.{fits_in}
+use Rattle.crew_flights.specs.Timetable.{IsBasePrice}
 use Rattle.crew_vector.proofs.Valued.{caps-together, same-all, sum-total, sum-count, sum-away}
 
 -- sums fit
@@ -36,7 +36,7 @@ price-size : (b : ℤ) → IsBasePrice b → unsigned_abs b ≤ 1_000_000_000
 price-size (pos n) h = omega (arith, ints, h.most)
 price-size (negsuc n) h = omega (arith, ints, h.least)
 
-pub all-fit : (s : Settings) (b : ℤ) → IsChecked s → IsBasePrice b → (n : ℕ) → n ≤ 100_000 → fits_in (pairing_vector s b) n
+pub all-fit : (s : Settings) (b : ℤ) → IsChecked s → IsBasePrice b → (n : ℕ) → n ≤ 100_000 → fits_in (vector_resource s b) n
 all-fit s b checked price n h =
     let size = price-size b price in
     let rig = checked.trip_rig in
@@ -49,7 +49,7 @@ all-fit s b checked price n h =
 greatest-less : (a b c q : ℤ) → int_max (int_max (a -ℤ q) (b -ℤ q)) (c -ℤ q) ≡ int_max (int_max a b) c -ℤ q
 greatest-less a b c q = grind (arith, ints)
 
-pub cost-is : (s : Settings) (b : ℤ) (ds : List Duty) → reduced_cost (parts_of s b ds) ≡ cost_of s b ds
+pub cost-is : (s : Settings) (b : ℤ) (ds : List Duty) → reduced_cost (vector_of s b ds) ≡ cost_of s b ds
 cost-is s b ds = greatest-less (total (λ d. d.pay) ds) (pos s.trip_rig *ℤ minutes_away ds) (pos s.guarantee *ℤ pos (length ds)) (prices b ds)
 
 -- the whole list is the last of its beginnings
@@ -58,10 +58,10 @@ whole-passes p x [] e = (and_parts _ _ e).0
 whole-passes p x (y ∷ ys) e = whole-passes (λ b. p (x ∷ b)) y ys (sym (list_all-map p (λ b. x ∷ b) (beginnings (y ∷ ys))) ∙ (and_parts _ _ e).1)
 
 -- a value is the vector of a list within the caps
-pub value-out : (s : Settings) (b : ℤ) (ds : List Duty) (v : Parts) → value_of s b ds ≡ Some v → (is_within_caps s ds ≡ true) × (parts_of s b ds ≡ v)
+pub value-out : (s : Settings) (b : ℤ) (ds : List Duty) (v : PairingVector) → value_of s b ds ≡ Some v → (is_within_caps s ds ≡ true) × (vector_of s b ds ≡ v)
 value-out s b [] v e = absurd (let q : ⊥ = (cc) in q)
 value-out s b (x ∷ ys) v e =
-    let k = cond_some (stays_within_caps s (x ∷ ys)) (parts_of s b (x ∷ ys)) v e in
+    let k = cond_some (stays_within_caps s (x ∷ ys)) (vector_of s b (x ∷ ys)) v e in
     (whole-passes (is_within_caps s) x ys k.0, k.1)
 
 pub few : (s : Settings) (ds : List Duty) → is_within_caps s ds ≡ true → length ds ≤ s.max_duties
@@ -108,13 +108,13 @@ caps-of-whole s x ys h =
     (capped-whole (λ _. pos 1) (λ _ _. pos 1) (λ ds. pos (length ds)) s.max_duties sum-count x ys (count-never x ys))
     (capped-whole away_first away_next minutes_away s.away_cap sum-away x ys (away-never x ys h.1))
 
-abbrev pub grade : Parts → ℕ
+abbrev pub grade : PairingVector → ℕ
 grade v = max (max 0 (max 0 0)) (max (max 0 0) (max (count_grade v.duties) 0))
 
-pub grade-counts : (s : Settings) (b : ℤ) (ds : List Duty) (v : Parts) → IsChecked s → value_of s b ds ≡ Some v → grade v ≡ length ds
+pub grade-counts : (s : Settings) (b : ℤ) (ds : List Duty) (v : PairingVector) → IsChecked s → value_of s b ds ≡ Some v → grade v ≡ length ds
 grade-counts s b ds v checked e =
     let out = value-out s b ds v e in
     let most = few s ds out.0 in
     let cap = checked.max_duties_most in
-    let count : grade (parts_of s b ds) ≡ length ds = omega (arith, most, cap) in
+    let count : grade (vector_of s b ds) ≡ length ds = omega (arith, most, cap) in
     ap grade (sym out.1) ∙ count

@@ -3,15 +3,15 @@ use Rattle.std.proofs.Common.{◌≡◌, Bool, true, ◌&&◌, cond, [], ◌∷�
 use Rattle.std.specs.Option.{option_map}
 use Rattle.std.proofs.lemmas.Int.{ints}
 use Rattle.std.proofs.lemmas.Option.{cond_some}
-use Rattle.crew_duty.specs.Pairings.{is_within_caps}
-use Rattle.crew_duty.specs.declared.duty.Duty.{Duty}
-use Rattle.crew_resource.specs.Both.{both}
+use Rattle.crew_pairing.specs.Pairings.{is_within_caps}
+use Rattle.crew_pairing.specs.declared.duty.Duty.{Duty}
+use Rattle.crew_resource.specs.Machinery.Both.{both}
 use Rattle.crew_rules.specs.declared.settings.Settings.{Settings}
-use Rattle.crew_vector.specs.Amounts.{pay_next, rig_next, guarantee_next, fdp_next, fly_next, away_next}
-use Rattle.crew_vector.specs.Fronts.{vector_of}
+use Rattle.crew_vector.specs.Machinery.Amounts.{pay_next, rig_next, guarantee_next, fdp_next, fly_next, away_next}
+use Rattle.crew_pairing.specs.Vectors.{vector_of}
 use Rattle.crew_vector.specs.Locals.{grown, is_vector_within_caps}
-use Rattle.crew_vector.specs.Numbers.{Numbers, named}
-use Rattle.crew_vector.specs.declared.parts.Parts.{Parts}
+use Rattle.crew_vector.specs.Machinery.Numbers.{Numbers, named}
+use Rattle.crew_pairing.specs.declared.vector.PairingVector.{PairingVector}
 use Rattle.crew_vector.proofs.Steps.{extends, opens, steps}
 use Rattle.crew_vector.proofs.Valued.{both-capped, both-free, named-cond, shuffle, stretch}
 
@@ -31,13 +31,13 @@ plain a b = omega (arith, ints)
 joined-away : (a x y z : ℤ) → a +ℤ ((y -ℤ x) +ℤ (z -ℤ y)) ≡ a +ℤ (z -ℤ x)
 joined-away a x y z = omega (arith, ints)
 
-abbrev raised : Settings → Duty → Duty → Parts → Numbers
+abbrev raised : Settings → Duty → Duty → PairingVector → Numbers
 raised s e d u = (
   (u.duty_pay +ℤ pay_next e d, (u.trip_rig +ℤ rig_next s.trip_rig e d, u.guarantee +ℤ guarantee_next s.guarantee e d)),
   ((u.fdp +ℤ fdp_next e d, u.fly +ℤ fly_next e d), (u.duties +ℤ pos 1, u.away +ℤ away_next e d)),
 )
 
-raised-grown : (s : Settings) (e d : Duty) (u : Parts) → named (raised s e d u) ≡ grown s e d u
+raised-grown : (s : Settings) (e d : Duty) (u : PairingVector) → named (raised s e d u) ≡ grown s e d u
 raised-grown s e d u =
     same-parts _ _ _ _ _ _ _ _ _ _ _ _ _ _
     (plain u.duty_pay (d.pay -ℤ d.price))
@@ -57,17 +57,17 @@ four-capped p q r k m f y n w =
     ∙ (both-free ((p && q) && (r && k)) m ((f, y), (n, w))
     ∙ ap (λ b. cond b (Some (m, ((f, y), (n, w)))) None) (shuffle p q r k))))
 
-pub step-is : (s : Settings) (e d : Duty) (u : Parts) → extends s u e d ≡ cond (is_vector_within_caps s (grown s e d u)) (Some (grown s e d u)) None
+pub step-is : (s : Settings) (e d : Duty) (u : PairingVector) → extends s u e d ≡ cond (is_vector_within_caps s (grown s e d u)) (Some (grown s e d u)) None
 step-is s e d u =
     let v = raised s e d u in
     ap (option_map named)
     (four-capped (int_le v.1.0.0 (pos s.fdp_cap)) (int_le v.1.0.1 (pos s.fly_cap)) (int_le v.1.1.0 (pos s.max_duties)) (int_le v.1.1.1 (pos s.away_cap)) v.0 v.1.0.0 v.1.0.1 v.1.1.0 v.1.1.1)
     ∙ (named-cond (is_vector_within_caps s (named v)) v ∙ ap (λ z. cond (is_vector_within_caps s z) (Some z) None) (raised-grown s e d u))
 
-pub step-in : (s : Settings) (e d : Duty) (u v : Parts) → is_vector_within_caps s (grown s e d u) ≡ true → v ≡ grown s e d u → extends s u e d ≡ Some v
+pub step-in : (s : Settings) (e d : Duty) (u v : PairingVector) → is_vector_within_caps s (grown s e d u) ≡ true → v ≡ grown s e d u → extends s u e d ≡ Some v
 step-in s e d u v within is = step-is s e d u ∙ (ap (λ b. cond b (Some (grown s e d u)) None) within ∙ ap Some (sym is))
 
-pub step-out : (s : Settings) (e d : Duty) (u v : Parts) → extends s u e d ≡ Some v → (is_vector_within_caps s (grown s e d u) ≡ true) × (v ≡ grown s e d u)
+pub step-out : (s : Settings) (e d : Duty) (u v : PairingVector) → extends s u e d ≡ Some v → (is_vector_within_caps s (grown s e d u) ≡ true) × (v ≡ grown s e d u)
 step-out s e d u v x =
     let k = cond_some (is_vector_within_caps s (grown s e d u)) (grown s e d u) v (sym (step-is s e d u) ∙ x) in
     (k.0, sym k.1)
@@ -79,10 +79,10 @@ pub start-is : (s : Settings) (price : ℤ) (d : Duty) → opens s price d ≡ c
 start-is s price d =
     sym ((steps s price).opening d) ∙ ap (λ b. cond b (Some (vector_of s price (d ∷ []))) None) (and-true (is_within_caps s (d ∷ [])))
 
-pub start-in : (s : Settings) (price : ℤ) (d : Duty) (v : Parts) → is_within_caps s (d ∷ []) ≡ true → v ≡ vector_of s price (d ∷ []) → opens s price d ≡ Some v
+pub start-in : (s : Settings) (price : ℤ) (d : Duty) (v : PairingVector) → is_within_caps s (d ∷ []) ≡ true → v ≡ vector_of s price (d ∷ []) → opens s price d ≡ Some v
 start-in s price d v within is = start-is s price d ∙ (ap (λ b. cond b (Some (vector_of s price (d ∷ []))) None) within ∙ ap Some (sym is))
 
-pub start-out : (s : Settings) (price : ℤ) (d : Duty) (v : Parts) → opens s price d ≡ Some v → (is_within_caps s (d ∷ []) ≡ true) × (v ≡ vector_of s price (d ∷ []))
+pub start-out : (s : Settings) (price : ℤ) (d : Duty) (v : PairingVector) → opens s price d ≡ Some v → (is_within_caps s (d ∷ []) ≡ true) × (v ≡ vector_of s price (d ∷ []))
 start-out s price d v x =
     let k = cond_some (is_within_caps s (d ∷ [])) (vector_of s price (d ∷ [])) v (sym (start-is s price d) ∙ x) in
     (k.0, sym k.1)

@@ -12,17 +12,17 @@ use Rattle.crew_rules.specs.Pay.{duty_pay}
 use Rattle.crew_rules.specs.Settings.{IsChecked}
 use Rattle.crew_rules.specs.Tables.{Row, in_force, rows_a, rows_b, table_a, table_b}
 use Rattle.crew_rules.specs.declared.settings.Settings.{Settings}
-use Rattle.crew_duty.specs.Duties.{AreDuties, flights_of}
-use Rattle.crew_duty.specs.Events as Events
-use Rattle.crew_duty.specs.Legality.{IsLegal, duty_of, flight_duty_period, flight_time, price_of, release, report, segments, total}
-use Rattle.crew_duty.specs.Members.{Member}
-use Rattle.crew_duty.specs.Plans.{AreFlights}
-use Rattle.crew_duty.specs.declared.duty.Duty.{Duty}
-use Rattle.crew_duty.specs.declared.leg.TimedLeg.{TimedLeg}
-use Rattle.crew_duty.proofs.Legal.{known-sound}
-use Rattle.crew_duty.proofs.Times.{AllSound, ends-later, flown-total}
-use Rattle.crew_duty.proofs.Timetables.{flights-of-timetable}
-use Rattle.crew_vector.specs.Amounts.{rate_share}
+use Rattle.crew_pairing.specs.Duties.{AreDuties, flights_of}
+use Rattle.crew_pairing.specs.Events as Events
+use Rattle.crew_pairing.specs.Legality.{IsLegal, duty_of, flight_duty_period, flight_time, price_of, release, report, segments, total}
+use Rattle.crew_resource.specs.Members.{Member}
+use Rattle.crew_pairing.specs.Machinery.Beginnings.{AreFlights}
+use Rattle.crew_pairing.specs.declared.duty.Duty.{Duty}
+use Rattle.crew_pairing.specs.declared.leg.TimedLeg.{TimedLeg}
+use Rattle.crew_pairing.proofs.Legal.{known-sound}
+use Rattle.crew_pairing.proofs.Times.{AllSound, ends-later, flown-total}
+use Rattle.crew_pairing.proofs.Timetables.{flights-of-timetable}
+use Rattle.crew_vector.specs.Machinery.Amounts.{rate_share}
 
 -- the greatest limits of the tables
 

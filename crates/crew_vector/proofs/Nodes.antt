@@ -2,12 +2,12 @@
 use Rattle.std.proofs.Common.{◌≡◌, ℕ, ◌+◌, ◌<◌, true, List, [], ◌∷◌, inl, inr, Option, ℤ, pos, negsuc, ◌+ℤ◌, subst, arith}
 use Rattle.std.specs.Prelude.{◌≤ℤ◌, ◌<ℤ◌, unsigned_abs}
 use Rattle.std.proofs.lemmas.Int.{ints}
-use Rattle.crew_duty.specs.Keys.{key_cmp, key_total}
-use Rattle.crew_duty.specs.Pairings.{may_stand_after}
-use Rattle.crew_duty.specs.declared.duty.Duty.{Duty}
-use Rattle.crew_duty.specs.Legs.{Leg}
+use Rattle.crew_pairing.specs.Keys.{key_cmp, key_total, walk_at_most}
+use Rattle.crew_pairing.specs.Pairings.{may_stand_after}
+use Rattle.crew_pairing.specs.declared.duty.Duty.{Duty}
+use Rattle.crew_pairing.specs.Legs.{Leg}
 use Rattle.crew_flights.specs.Timetable.{IsSound, Timetable}
-use Rattle.crew_resource.specs.Labels.{Member}
+use Rattle.crew_resource.specs.Members.{Member}
 use Rattle.crew_resource.proofs.Instance.{more, one, opening, preds, rules}
 use Rattle.crew_resource.proofs.ListOrder.{lists_grow}
 use Rattle.crew_resource.proofs.Members.{Member-filter_out}
@@ -15,10 +15,10 @@ use Rattle.crew_resource.proofs.Scratch.{clean_of_undominated, undominated_below
 use Rattle.crew_resource.proofs.Step.{Rules}
 use Rattle.crew_rules.specs.Settings.{IsChecked}
 use Rattle.crew_rules.specs.declared.settings.Settings.{Settings}
-use Rattle.crew_vector.specs.Costs.{is_at_most}
-use Rattle.crew_vector.specs.Fronts.{At, Clean, IsUndominated, walk_at_most}
-use Rattle.crew_vector.specs.Parts.{value_of}
-use Rattle.crew_vector.specs.declared.parts.Parts.{Parts}
+use Rattle.crew_vector.specs.Dominance.{is_at_most}
+use Rattle.crew_vector.specs.Fronts.{At, Clean, IsUndominated}
+use Rattle.crew_vector.specs.Values.{value_of}
+use Rattle.crew_pairing.specs.declared.vector.PairingVector.{PairingVector}
 use Rattle.crew_vector.proofs.Orders.{walk-either, walk-order}
 use Rattle.crew_vector.proofs.Paths.{CleanPath, Path, at-legal, clean-from, follows, key_of, known, known-legal, legal-in-range, legal-known, may_start, to-path, undominated-from, undominated-to}
 use Rattle.crew_vector.proofs.Steps.{extends, opens, same-length, steps, vector-order}
@@ -47,26 +47,26 @@ module _ (s : Settings) (t : Timetable) (base : List ℕ) (price : ℤ) (checked
   abbrev pub Known : List Duty
   Known = known s t base price checked sound
 
-  abbrev pub PathAt : Duty → Parts → List (List Leg) → Type 0
+  abbrev pub PathAt : Duty → PairingVector → List (List Leg) → Type 0
   PathAt = Path s t base price checked sound
 
-  abbrev pub CleanAt : Duty → Parts → List (List Leg) → Type 0
+  abbrev pub CleanAt : Duty → PairingVector → List (List Leg) → Type 0
   CleanAt = CleanPath s t base price checked sound
 
   abbrev pub One : Duty → List (List Leg)
-  One = one Duty Parts (List Leg) (key_of s t base price checked sound) Known (may_start s t base price checked sound) (may_stand_after s) (opens s price) (extends s) is_at_most (value_of s price) vector-order (steps s price) walk_at_most walk-order
+  One = one Duty PairingVector (List Leg) (key_of s t base price checked sound) Known (may_start s t base price checked sound) (may_stand_after s) (opens s price) (extends s) is_at_most (value_of s price) vector-order (steps s price) walk_at_most walk-order
 
   abbrev pub More : List (List Leg) → Duty → List (List Leg)
-  More = more Duty Parts (List Leg) (key_of s t base price checked sound) Known (may_start s t base price checked sound) (may_stand_after s) (opens s price) (extends s) is_at_most (value_of s price) vector-order (steps s price) walk_at_most walk-order
+  More = more Duty PairingVector (List Leg) (key_of s t base price checked sound) Known (may_start s t base price checked sound) (may_stand_after s) (opens s price) (extends s) is_at_most (value_of s price) vector-order (steps s price) walk_at_most walk-order
 
-  abbrev pub Opening : Duty → Option Parts
-  Opening = opening Duty Parts (List Leg) (key_of s t base price checked sound) Known (may_start s t base price checked sound) (may_stand_after s) (opens s price) (extends s) is_at_most (value_of s price) vector-order (steps s price) walk_at_most walk-order
+  abbrev pub Opening : Duty → Option PairingVector
+  Opening = opening Duty PairingVector (List Leg) (key_of s t base price checked sound) Known (may_start s t base price checked sound) (may_stand_after s) (opens s price) (extends s) is_at_most (value_of s price) vector-order (steps s price) walk_at_most walk-order
 
   abbrev pub Preds : Duty → List Duty
-  Preds = preds Duty Parts (List Leg) (key_of s t base price checked sound) Known (may_start s t base price checked sound) (may_stand_after s) (opens s price) (extends s) is_at_most (value_of s price) vector-order (steps s price) walk_at_most walk-order
+  Preds = preds Duty PairingVector (List Leg) (key_of s t base price checked sound) Known (may_start s t base price checked sound) (may_stand_after s) (opens s price) (extends s) is_at_most (value_of s price) vector-order (steps s price) walk_at_most walk-order
 
-  pub node-rules : Rules Duty Parts (List (List Leg)) One More Opening (extends s) (λ e d. Member (Preds d) e) is_at_most walk_at_most PathAt CleanAt
-  node-rules = rules Duty Parts (List Leg) (key_of s t base price checked sound) Known (may_start s t base price checked sound) (may_stand_after s) (opens s price) (extends s) is_at_most (value_of s price) vector-order (steps s price) walk_at_most walk-order
+  pub node-rules : Rules Duty PairingVector (List (List Leg)) One More Opening (extends s) (λ e d. Member (Preds d) e) is_at_most walk_at_most PathAt CleanAt
+  node-rules = rules Duty PairingVector (List Leg) (key_of s t base price checked sound) Known (may_start s t base price checked sound) (may_stand_after s) (opens s price) (extends s) is_at_most (value_of s price) vector-order (steps s price) walk_at_most walk-order
       (same-length s price) (lists_grow key_cmp key_total)
 
   -- arcs go forward in time
@@ -84,15 +84,15 @@ module _ (s : Settings) (t : Timetable) (base : List ℕ) (price : ℤ) (checked
       rises-as-number (e.report +ℤ pos (reach Known)) (d.report +ℤ pos (reach Known)) (within-reach Known e k.0) (omega (arith, ints, elapsed, gap))
 
   -- each undominated vector has a clean partial
-  pub each-clean : (d : Duty) (v : Parts) → IsUndominated s t base price d v → (w : List (List Leg)) × Clean s t base price d v w
+  pub each-clean : (d : Duty) (v : PairingVector) → IsUndominated s t base price d v → (w : List (List Leg)) × Clean s t base price d v w
   each-clean d v u =
       let k = legal-known s t base price checked sound d (at-legal s t base price checked sound d v u.walk u.has) in
-      let c = clean_of_undominated Duty Parts (List (List Leg)) One More Opening (extends s) Preds is_at_most walk_at_most PathAt CleanAt node-rules rank arcs-rise walk-either d v (undominated-to s t base price checked sound d k v u) in
+      let c = clean_of_undominated Duty PairingVector (List (List Leg)) One More Opening (extends s) Preds is_at_most walk_at_most PathAt CleanAt node-rules rank arcs-rise walk-either d v (undominated-to s t base price checked sound d k v u) in
       (c.0, clean-from s t base price checked sound d k v c.0 c.1)
 
   -- under each partial lies an undominated vector
-  pub each-below : (d : Duty) (x : Parts) (y : List (List Leg)) → At s t base price d x y → (v : Parts) × IsUndominated s t base price d v × (is_at_most v x ≡ true)
+  pub each-below : (d : Duty) (x : PairingVector) (y : List (List Leg)) → At s t base price d x y → (v : PairingVector) × IsUndominated s t base price d v × (is_at_most v x ≡ true)
   each-below d x y a =
       let k = legal-known s t base price checked sound d (at-legal s t base price checked sound d x y a) in
-      let u = undominated_below Duty Parts (List (List Leg)) One More Opening (extends s) Preds is_at_most walk_at_most PathAt CleanAt node-rules rank arcs-rise walk-either d x y (to-path s t base price checked sound d x y a) in
+      let u = undominated_below Duty PairingVector (List (List Leg)) One More Opening (extends s) Preds is_at_most walk_at_most PathAt CleanAt node-rules rank arcs-rise walk-either d x y (to-path s t base price checked sound d x y a) in
       (u.0, undominated-from s t base price checked sound d k u.0 u.1, u.2)

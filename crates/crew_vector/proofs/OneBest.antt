@@ -3,19 +3,19 @@ use Rattle.std.proofs.Common.{◌≡◌, ℕ, List, [], ◌∷◌, inl, inr, Opt
 use Rattle.std.specs.declared.cmp.Ordering.TheVariants.{Less, Equal}
 use Rattle.std.proofs.lemmas.Cmp.{tied_itself}
 use Rattle.std.proofs.lemmas.Int.{ints}
-use Rattle.crew_duty.proofs.InOrder.{all-duties}
-use Rattle.crew_duty.proofs.Timetables.{flights-of-timetable}
-use Rattle.crew_duty.specs.Duties.{RiseByKey, flights_of}
-use Rattle.crew_duty.specs.Keys.{key_cmp, key_total}
-use Rattle.crew_duty.specs.Listing.{all_duties}
-use Rattle.crew_duty.specs.Members.{Each, Member}
-use Rattle.crew_duty.specs.Pairings.{IsDuty, minutes_away}
-use Rattle.crew_duty.specs.declared.duty.Duty.{Duty}
+use Rattle.crew_pairing.proofs.InOrder.{all-duties}
+use Rattle.crew_pairing.proofs.Timetables.{flights-of-timetable}
+use Rattle.crew_pairing.specs.Duties.{RiseByKey, flights_of}
+use Rattle.crew_pairing.specs.Keys.{key_cmp, key_total}
+use Rattle.crew_pairing.specs.Machinery.Listing.{all_duties}
+use Rattle.crew_resource.specs.Members.{Each, Member}
+use Rattle.crew_pairing.specs.Pairings.{IsDuty, minutes_away}
+use Rattle.crew_pairing.specs.declared.duty.Duty.{Duty}
 use Rattle.crew_flights.specs.Timetable.{IsSound, Timetable}
 use Rattle.crew_rules.specs.declared.settings.Settings.{Settings}
 use Rattle.crew_vector.specs.Bests.{IsBest, IsPairing, NoDearer, PricedPairing}
 use Rattle.crew_vector.specs.Fronts.{walk_of}
-use Rattle.crew_vector.specs.Parts.{pay_of}
+use Rattle.crew_pairing.specs.Vectors.{pay_of}
 use Rattle.crew_vector.proofs.Orders.{walk-order}
 
 each-member : (P : Duty → Type 0) (xs : List Duty) (x : Duty) → Each P xs → Member xs x → P x

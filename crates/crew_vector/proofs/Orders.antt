@@ -4,13 +4,12 @@ use Rattle.std.specs.FinMap.{nat_cmp-IsAntisymmetric, slice_cmp-IsAntisymmetric}
 use Rattle.std.specs.Ordering.{bool_cmp, eq_by_cmp, is_eq, nat_cmp}
 use Rattle.std.specs.declared.cmp.Ordering.TheVariants.{Less, Equal, Greater}
 use Rattle.std.proofs.lemmas.Cmp.{eq_by_cmp_equiv}
-use Rattle.crew_duty.specs.Keys.{key_cmp, leg_cmp, walk_cmp, walk_total}
-use Rattle.crew_duty.specs.Legs.{Leg}
+use Rattle.crew_pairing.specs.Keys.{key_cmp, leg_cmp, walk_cmp, walk_total, walk_at_most}
+use Rattle.crew_pairing.specs.Legs.{Leg}
 use Rattle.crew_flights.specs.Codes.{code_cmp, code_cmp_total}
 use Rattle.crew_resource.proofs.ListOrder.{at_most_order, at_most_total, lists_exact}
 use Rattle.crew_resource.proofs.Order.{IsOrder}
-use Rattle.crew_resource.specs.BothLaws.{both_equal}
-use Rattle.crew_vector.specs.Fronts.{walk_at_most}
+use Rattle.crew_resource.specs.Machinery.BothLaws.{both_equal}
 
 tied : (r : Ordering) → is_eq r ≡ true → r ≡ Equal
 tied Less e = absurd (let q : ⊥ = (cc) in q)

@@ -4,30 +4,32 @@ use Rattle.std.specs.Prelude.{◌≤ℤ◌, int_le}
 use Rattle.std.specs.Ordering.{eq_by_cmp}
 use Rattle.std.proofs.lemmas.Bool.{and_parts}
 use Rattle.std.proofs.lemmas.Int.{ints}
-use Rattle.crew_duty.proofs.Complete.{all-every, all-sound}
-use Rattle.crew_duty.proofs.Timetables.{flights-of-timetable}
-use Rattle.crew_duty.specs.Duties.{flights_of}
-use Rattle.crew_duty.specs.Events as Events
-use Rattle.crew_duty.specs.Events.{MayFollow}
-use Rattle.crew_duty.specs.Listing.{all_duties}
-use Rattle.crew_duty.specs.Members.{Each}
-use Rattle.crew_duty.specs.Pairings.{AllRested, IsDuty, IsPartial, last_duty, may_stand_after}
-use Rattle.crew_duty.specs.declared.duty.Duty.{Duty}
-use Rattle.crew_duty.specs.Legs.{Leg}
+use Rattle.crew_pairing.proofs.Complete.{all-every, all-sound}
+use Rattle.crew_pairing.proofs.Timetables.{flights-of-timetable}
+use Rattle.crew_pairing.specs.Duties.{flights_of}
+use Rattle.crew_pairing.specs.Events as Events
+use Rattle.crew_pairing.specs.Events.{MayFollow}
+use Rattle.crew_pairing.specs.Machinery.Listing.{all_duties}
+use Rattle.crew_resource.specs.Members.{Each, Member}
+use Rattle.crew_pairing.specs.Pairings.{AllRested, IsDuty, IsPartial, last_duty, may_stand_after}
+use Rattle.crew_pairing.specs.declared.duty.Duty.{Duty}
+use Rattle.crew_pairing.specs.Legs.{Leg}
 use Rattle.crew_flights.specs.Codes.{code_cmp}
 use Rattle.crew_flights.specs.Timetable.{IsSound, Timetable}
-use Rattle.crew_resource.specs.Labels.{IsFront, Member, Undominated}
-use Rattle.crew_resource.specs.Paths.{Begins, CleanPathTo, Linked, LinkedFrom, PathTo}
+use Rattle.crew_resource.specs.Labels.{IsFront, Undominated}
+use Rattle.crew_resource.specs.Machinery.Paths.{Begins, CleanPathTo, Linked, LinkedFrom, PathTo}
 use Rattle.crew_resource.proofs.Members.{Member-append, Member-append_left}
 use Rattle.crew_rules.specs.Settings.{IsChecked}
 use Rattle.crew_rules.specs.declared.settings.Settings.{Settings}
-use Rattle.crew_vector.specs.Along.{GoesOn, IsLine}
-use Rattle.crew_vector.specs.Amounts.{arrival_of, departure_of}
-use Rattle.crew_vector.specs.Costs.{is_at_most}
-use Rattle.crew_vector.specs.Fronts.{At, Clean, IsFrontAt, IsUndominated, vector_of, walk_at_most, walk_of}
-use Rattle.crew_vector.specs.Parts.{value_of}
-use Rattle.crew_vector.specs.declared.parts.Parts.{Parts}
-use Rattle.crew_vector.proofs.Cuts.{before_last, by-first, cut, each-of, from-member, last-split, to-member, whole-split}
+use Rattle.crew_vector.specs.Machinery.Along.{GoesOn, IsLine}
+use Rattle.crew_vector.specs.Machinery.Amounts.{arrival_of, departure_of}
+use Rattle.crew_vector.specs.Dominance.{is_at_most}
+use Rattle.crew_vector.specs.Fronts.{At, Clean, IsFrontAt, IsUndominated, walk_of}
+use Rattle.crew_pairing.specs.Vectors.{vector_of}
+use Rattle.crew_pairing.specs.Keys.{walk_at_most}
+use Rattle.crew_vector.specs.Values.{value_of}
+use Rattle.crew_pairing.specs.declared.vector.PairingVector.{PairingVector}
+use Rattle.crew_vector.proofs.Cuts.{before_last, by-first, cut, each-of, last-split, whole-split}
 use Rattle.crew_vector.proofs.Extended.{none-goes-on}
 use Rattle.crew_vector.proofs.Fitting.{caps-of-whole, value-out}
 use Rattle.crew_vector.proofs.LegalDuties.{legal-sound}
@@ -61,18 +63,18 @@ module _ (s : Settings) (t : Timetable) (base : List ℕ) (price : ℤ) (checked
   abbrev pub may_start : Duty → Bool
   may_start d = eq_by_cmp code_cmp d.from base
 
-  abbrev pub Path : Duty → Parts → List (List Leg) → Type 0
+  abbrev pub Path : Duty → PairingVector → List (List Leg) → Type 0
   Path = PathTo key_of known may_start (may_stand_after s) (value_of s price)
 
-  abbrev pub CleanPath : Duty → Parts → List (List Leg) → Type 0
+  abbrev pub CleanPath : Duty → PairingVector → List (List Leg) → Type 0
   CleanPath = CleanPathTo is_at_most key_of known may_start (may_stand_after s) (value_of s price)
 
   pub legal-known : (d : Duty) → IsDuty s (flights_of t) d → Member known d
   legal-known d l =
-      subst (Member known) (sym l.3) (to-member known _ (all-every s (flights_of t) l.0 l.1 (flights-of-timetable t sound) l.2))
+      subst (Member known) (sym l.3) (all-every s (flights_of t) l.0 l.1 (flights-of-timetable t sound) l.2)
 
   pub known-legal : (d : Duty) → Member known d → IsDuty s (flights_of t) d
-  known-legal d m = all-sound s (flights_of t) d (from-member known d m)
+  known-legal d m = all-sound s (flights_of t) d m
 
   pub legal-in-range : (d : Duty) → IsDuty s (flights_of t) d → Events.IsSound d
   legal-in-range d l = subst Events.IsSound (sym l.3) (legal-sound s (flights_of t) l.0 l.1 checked (flights-of-timetable t sound) l.2)
@@ -103,7 +105,7 @@ module _ (s : Settings) (t : Timetable) (base : List ℕ) (price : ℤ) (checked
       let within = caps-of-whole s first others (line first others p.legal p.rested) ∙ p.capped in
       ap (λ b. cond b (Some (vector_of s price (first ∷ others))) None) within
 
-  pub to-path : (d : Duty) (v : Parts) (w : List (List Leg)) → At s t base price d v w → Path d v w
+  pub to-path : (d : Duty) (v : PairingVector) (w : List (List Leg)) → At s t base price d v w → Path d v w
   to-path d v w a =
       let whole : before_last a.first a.others ++ d ∷ [] ≡ a.first ∷ a.others = ap (λ z. before_last a.first a.others ++ z ∷ []) (sym a.ends) ∙ whole-split a.first a.others in
       record {
@@ -115,10 +117,10 @@ module _ (s : Settings) (t : Timetable) (base : List ℕ) (price : ℤ) (checked
         value = ap (value_of s price) whole ∙ (partial-value a.first a.others a.partial ∙ ap Some (sym a.vector));
       }
 
-  path-known : (d : Duty) → Member known d → (v : Parts) (w : List (List Leg)) (p : Path d v w) → (x : Duty) → Member (p.before ++ d ∷ []) x → Member known x
+  path-known : (d : Duty) → Member known d → (v : PairingVector) (w : List (List Leg)) (p : Path d v w) → (x : Duty) → Member (p.before ++ d ∷ []) x → Member known x
   path-known d k v w p x m = ⊎_elim (p.are_known x) (⊎_elim (λ e. subst (Member known) e k) (λ b. absurd b)) (Member-append p.before (d ∷ []) x m)
 
-  pub from-path : (d : Duty) → Member known d → (v : Parts) (w : List (List Leg)) → Path d v w → At s t base price d v w
+  pub from-path : (d : Duty) → Member known d → (v : PairingVector) (w : List (List Leg)) → Path d v w → At s t base price d v w
   from-path d k v w p =
       let f = by-first p.before d in
       let out = value-out s price (f.first ∷ f.others) v (ap (value_of s price) (sym f.whole) ∙ p.value) in
@@ -136,23 +138,23 @@ module _ (s : Settings) (t : Timetable) (base : List ℕ) (price : ℤ) (checked
         walk = p.walk ∙ ap walk_of f.whole;
       }
 
-  pub undominated-to : (d : Duty) → Member known d → (v : Parts) → IsUndominated s t base price d v → Undominated is_at_most (Path d) v
+  pub undominated-to : (d : Duty) → Member known d → (v : PairingVector) → IsUndominated s t base price d v → Undominated is_at_most (Path d) v
   undominated-to d k v u = record { walk = u.walk; has = to-path d v u.walk u.has; unbeaten = λ x y p. u.unbeaten x y (from-path d k x y p) }
 
-  pub undominated-from : (d : Duty) → Member known d → (v : Parts) → Undominated is_at_most (Path d) v → IsUndominated s t base price d v
+  pub undominated-from : (d : Duty) → Member known d → (v : PairingVector) → Undominated is_at_most (Path d) v → IsUndominated s t base price d v
   undominated-from d k v u = record { walk = u.walk; has = from-path d k v u.walk u.has; unbeaten = λ x y p. u.unbeaten x y (to-path d x y p) }
 
   -- a beginning of a list with a value has one, its vector
-  beginning-value : (bs : List Duty) (e : Duty) (rest : List Duty) (v : Parts) (first : Duty) (taken : List Duty) → bs ++ e ∷ [] ≡ first ∷ taken → value_of s price (bs ++ e ∷ rest) ≡ Some v → value_of s price (bs ++ e ∷ []) ≡ Some (vector_of s price (first ∷ taken))
+  beginning-value : (bs : List Duty) (e : Duty) (rest : List Duty) (v : PairingVector) (first : Duty) (taken : List Duty) → bs ++ e ∷ [] ≡ first ∷ taken → value_of s price (bs ++ e ∷ rest) ≡ Some v → value_of s price (bs ++ e ∷ []) ≡ Some (vector_of s price (first ∷ taken))
   beginning-value bs e rest v first taken q h =
       ⊎_elim
       (λ k. k.1 ∙ ap Some (sym (value-out s price (first ∷ taken) k.0 (ap (value_of s price) (sym q) ∙ k.1)).1))
       (λ n.
-      let past = none-goes-on Parts Duty (opens s price) (extends s) is_at_most (value_of s price) (steps s price) bs e rest n in
+      let past = none-goes-on PairingVector Duty (opens s price) (extends s) is_at_most (value_of s price) (steps s price) bs e rest n in
       absurd (let z : ⊥ = (cc) in z))
       (some-or-none (value_of s price (bs ++ e ∷ [])))
 
-  pub clean-from : (d : Duty) → Member known d → (v : Parts) (w : List (List Leg)) → CleanPath d v w → Clean s t base price d v w
+  pub clean-from : (d : Duty) → Member known d → (v : PairingVector) (w : List (List Leg)) → CleanPath d v w → Clean s t base price d v w
   unfolding from-path
   clean-from d k v w c =
       let f = by-first c.path.before d in
@@ -175,10 +177,10 @@ module _ (s : Settings) (t : Timetable) (base : List ℕ) (price : ℤ) (checked
   last-of-each first [] h = h.0
   last-of-each first (next ∷ others) h = last-of-each next others h.1
 
-  pub at-legal : (d : Duty) (v : Parts) (w : List (List Leg)) → At s t base price d v w → IsDuty s (flights_of t) d
+  pub at-legal : (d : Duty) (v : PairingVector) (w : List (List Leg)) → At s t base price d v w → IsDuty s (flights_of t) d
   at-legal d v w a = subst (IsDuty s (flights_of t)) a.ends (last-of-each a.first a.others a.partial.legal)
 
-  pub clean-to : (d : Duty) (v : Parts) (w : List (List Leg)) → Clean s t base price d v w → CleanPath d v w
+  pub clean-to : (d : Duty) (v : PairingVector) (w : List (List Leg)) → Clean s t base price d v w → CleanPath d v w
   unfolding to-path
   clean-to d v w c =
       let first = c.at.first in
@@ -195,7 +197,7 @@ module _ (s : Settings) (t : Timetable) (base : List ℕ) (price : ℤ) (checked
             undominated-to e known_e u there;
       }
 
-  pub front-from : (d : Duty) → Member known d → (entries : List (Parts × List (List Leg))) → IsFront is_at_most walk_at_most (Path d) (CleanPath d) entries → IsFrontAt s t base price d entries
+  pub front-from : (d : Duty) → Member known d → (entries : List (PairingVector × List (List Leg))) → IsFront is_at_most walk_at_most (Path d) (CleanPath d) entries → IsFrontAt s t base price d entries
   front-from d k entries f = record {
     clean = λ v w m. clean-from d k v w (f.clean v w m);
     undominated = λ v w m. undominated-from d k v (f.undominated v w m);
@@ -203,7 +205,7 @@ module _ (s : Settings) (t : Timetable) (base : List ℕ) (price : ℤ) (checked
     every = λ v u. f.every v (undominated-to d k v u);
   }
 
-  pub front-to : (d : Duty) → Member known d → (entries : List (Parts × List (List Leg))) → IsFrontAt s t base price d entries → IsFront is_at_most walk_at_most (Path d) (CleanPath d) entries
+  pub front-to : (d : Duty) → Member known d → (entries : List (PairingVector × List (List Leg))) → IsFrontAt s t base price d entries → IsFront is_at_most walk_at_most (Path d) (CleanPath d) entries
   front-to d k entries f = record {
     clean = λ v w m. clean-to d v w (f.clean v w m);
     undominated = λ v w m. undominated-to d k v (f.undominated v w m);

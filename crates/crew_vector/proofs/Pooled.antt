@@ -4,33 +4,32 @@ use Rattle.std.specs.Prelude.{◌≤ℤ◌, ◌<ℤ◌}
 use Rattle.std.specs.Ordering.{eq_by_cmp}
 use Rattle.std.proofs.lemmas.Bool.{and_parts}
 use Rattle.std.proofs.lemmas.Int.{ints}
-use Rattle.crew_duty.specs.Duties.{AreDuties, flights_of}
-use Rattle.crew_duty.specs.Events as Events
-use Rattle.crew_duty.specs.Keys.{key_cmp, key_total}
-use Rattle.crew_duty.specs.Members as Members
-use Rattle.crew_duty.specs.Pairings.{IsDuty, may_stand_after}
-use Rattle.crew_duty.specs.declared.duty.Duty.{Duty}
-use Rattle.crew_duty.specs.declared.events.Arrival.{Arrival}
-use Rattle.crew_duty.specs.declared.events.Departure.{Departure}
-use Rattle.crew_duty.specs.Legs.{Leg}
+use Rattle.crew_pairing.specs.Duties.{AreDuties, flights_of}
+use Rattle.crew_pairing.specs.Events as Events
+use Rattle.crew_pairing.specs.Keys.{key_cmp, key_total, walk_at_most}
+use Rattle.crew_pairing.specs.Pairings.{IsDuty, may_stand_after}
+use Rattle.crew_pairing.specs.declared.duty.Duty.{Duty}
+use Rattle.crew_pairing.specs.declared.events.Arrival.{Arrival}
+use Rattle.crew_pairing.specs.declared.events.Departure.{Departure}
+use Rattle.crew_pairing.specs.Legs.{Leg}
 use Rattle.crew_flights.specs.Codes.{code_cmp}
 use Rattle.crew_flights.specs.Timetable.{IsSound, Timetable}
 use Rattle.crew_resource.specs.Events.{Arriving, FromPools, view}
-use Rattle.crew_resource.specs.Labels.{IsLocal, Member}
+use Rattle.crew_resource.specs.Labels.{IsLocal}
+use Rattle.crew_resource.specs.Members.{Member}
 use Rattle.crew_resource.proofs.Members.{Member-filter_in}
 use Rattle.crew_resource.proofs.PooledFronts.{swept_fronts}
 use Rattle.crew_rules.specs.Settings.{IsChecked}
 use Rattle.crew_rules.specs.declared.settings.Settings.{Settings}
-use Rattle.crew_vector.specs.Amounts.{arrival_of, departure_of}
-use Rattle.crew_vector.specs.Costs.{is_at_most}
+use Rattle.crew_vector.specs.Machinery.Amounts.{arrival_of, departure_of}
+use Rattle.crew_vector.specs.Dominance.{is_at_most}
 use Rattle.crew_vector.specs.Events.{ArrivedBefore, board_vector, idle_vector, may_wait, network_of, wait_vector}
-use Rattle.crew_vector.specs.Fronts.{IsFrontAt, vector_cmp, walk_at_most}
-use Rattle.crew_vector.specs.Named.{named_order}
-use Rattle.crew_vector.specs.Pairing.{pairing_vector}
-use Rattle.crew_vector.specs.Parts.{value_of}
-use Rattle.crew_vector.specs.VectorLaws.{vector_counting, vector_shifts, vector_staged}
-use Rattle.crew_vector.specs.declared.parts.Parts.{Parts}
-use Rattle.crew_vector.proofs.Cuts.{from-member, to-member}
+use Rattle.crew_vector.specs.Fronts.{IsFrontAt, vector_cmp}
+use Rattle.crew_vector.specs.Machinery.Named.{named_order}
+use Rattle.crew_vector.specs.Machinery.VectorResources.{vector_resource}
+use Rattle.crew_vector.specs.Values.{value_of}
+use Rattle.crew_vector.specs.Machinery.VectorLaws.{vector_counting, vector_shifts, vector_staged}
+use Rattle.crew_pairing.specs.declared.vector.PairingVector.{PairingVector}
 use Rattle.crew_vector.proofs.Nodes.{Known, arcs-rise, rank}
 use Rattle.crew_vector.proofs.Orders.{key-exact}
 use Rattle.crew_vector.proofs.Paths.{legal-in-range, front-from, key_of, known-legal, legal-known, may_start}
@@ -49,7 +48,7 @@ left-before s e x g sound at h =
 
 -- where each pool is made from what stands at its arrivals when its departure comes
 at-events : (s : Settings) (t : Timetable) (base : List ℕ) (price : ℤ) (duties : List Duty) → IsChecked s → IsSound t → AreDuties s t duties
-    → (pools : Departure → List (Parts × List (List Leg))) (arrivals : Departure → Arrival → List (Parts × List (List Leg)))
+    → (pools : Departure → List (PairingVector × List (List Leg))) (arrivals : Departure → Arrival → List (PairingVector × List (List Leg)))
     → ((d : Duty) → IsDuty s (flights_of t) d → IsLocal is_at_most walk_at_most (FromPools (network_of s base price duties) (arrivals (departure_of d)) (departure_of d)) (pools (departure_of d)))
     → ((d : Duty) (x : Arrival) → IsDuty s (flights_of t) d → may_wait s x (departure_of d) ≡ true
     → IsLocal is_at_most walk_at_most (Arriving (network_of s base price duties) (λ e. view (network_of s base price duties) e (pools (departure_of e))) x) (arrivals (departure_of d) x))
@@ -57,13 +56,13 @@ at-events : (s : Settings) (t : Timetable) (base : List ℕ) (price : ℤ) (duti
 at-events s t base price duties checked sound exactly pools arrivals pool_local arrival_local d legal =
     let known = Known s t base price checked sound in
     let legal_of = λ (e : Duty) (m : Member known e). known-legal s t base price checked sound e m in
-    let inward = λ (e : Duty) (m : Member duties e). legal-known s t base price checked sound e (exactly.sound e (from-member duties e m)) in
+    let inward = λ (e : Duty) (m : Member duties e). legal-known s t base price checked sound e (exactly.sound e m) in
     let outward = λ (e : Duty) (m : Member known e).
     let l = legal_of e m in
-    to-member duties e (subst (Members.Member duties) (sym l.3) (exactly.every l.0 l.1 l.2)) in
+    subst (Member duties) (sym l.3) (exactly.every l.0 l.1 l.2) in
     front-from s t base price checked sound d (legal-known s t base price checked sound d legal) (view (network_of s base price duties) d (pools (departure_of d)))
-    (swept_fronts Parts Duty Arrival Departure (List Leg) vector_cmp is_at_most (opens s price) (extends s) (value_of s price) arrival_of departure_of (idle_vector price) (wait_vector s) (board_vector s) (λ v. v.duties) s.max_duties
-    named_order (steps s price) (vector_staged (pairing_vector s price)) (vector_shifts (pairing_vector s price)) (vector_counting (pairing_vector s price) s.max_duties refl)
+    (swept_fronts PairingVector Duty Arrival Departure (List Leg) vector_cmp is_at_most (opens s price) (extends s) (value_of s price) arrival_of departure_of (idle_vector price) (wait_vector s) (board_vector s) (λ v. v.duties) s.max_duties
+    named_order (steps s price) (vector_staged (vector_resource s price)) (vector_shifts (vector_resource s price)) (vector_counting (vector_resource s price) s.max_duties refl)
     (key_of s t base price checked sound) key_cmp key_total key-exact known (may_start s t base price checked sound) (may_stand_after s) (may_wait s) (λ g. eq_by_cmp code_cmp g.airport base)
     (λ d. refl) (λ e d. refl)
     (rank s t base price checked sound)
@@ -80,7 +79,7 @@ at-events s t base price duties checked sound exactly pools arrivals pool_local 
     d (legal-known s t base price checked sound d legal))
 
 pub pooled : (s : Settings) (t : Timetable) (base : List ℕ) (price : ℤ) (duties : List Duty) → IsChecked s → IsSound t → AreDuties s t duties
-    → (pools : Departure → List (Parts × List (List Leg))) (arrivals : Arrival → List (Parts × List (List Leg)))
+    → (pools : Departure → List (PairingVector × List (List Leg))) (arrivals : Arrival → List (PairingVector × List (List Leg)))
     → ((d : Duty) → IsDuty s (flights_of t) d → IsLocal is_at_most walk_at_most (FromPools (network_of s base price duties) arrivals (departure_of d)) (pools (departure_of d)))
     → ((x : Arrival) → IsLocal is_at_most walk_at_most (Arriving (network_of s base price duties) (λ d. view (network_of s base price duties) d (pools (departure_of d))) x) (arrivals x))
     → (d : Duty) → IsDuty s (flights_of t) d → IsFrontAt s t base price d (view (network_of s base price duties) d (pools (departure_of d)))
@@ -89,7 +88,7 @@ pooled s t base price duties checked sound exactly pools arrivals pool_local arr
 
 -- only the arrivals in a duty's window need be right
 pub swept-in-window : (s : Settings) (t : Timetable) (base : List ℕ) (price : ℤ) (duties : List Duty) → IsChecked s → IsSound t → AreDuties s t duties
-    → (pools : Departure → List (Parts × List (List Leg))) (arrivals : Departure → Arrival → List (Parts × List (List Leg)))
+    → (pools : Departure → List (PairingVector × List (List Leg))) (arrivals : Departure → Arrival → List (PairingVector × List (List Leg)))
     → ((d : Duty) → IsDuty s (flights_of t) d → IsLocal is_at_most walk_at_most (FromPools (network_of s base price duties) (arrivals (departure_of d)) (departure_of d)) (pools (departure_of d)))
     → ((d : Duty) (x : Arrival) → IsDuty s (flights_of t) d → may_wait s x (departure_of d) ≡ true
     → IsLocal is_at_most walk_at_most (ArrivedBefore (network_of s base price duties) (λ e. view (network_of s base price duties) e (pools (departure_of e))) d.report x) (arrivals (departure_of d) x))
@@ -100,13 +99,13 @@ swept-in-window s t base price duties checked sound exactly pools arrivals pool_
     record {
       among = λ v w m. let a = local.among v w m in (a.0, a.1, a.3, a.4);
       covers = λ v w a.
-          let range = legal-in-range s t base price checked sound a.0 (exactly.sound a.0 (from-member duties a.0 a.1)) in
+          let range = legal-in-range s t base price checked sound a.0 (exactly.sound a.0 a.1) in
           local.covers v w (a.0, a.1, left-before s a.0 x (departure_of d) range a.2 window, a.2, a.3);
       alone = local.alone;
     })
 
 pub swept : (s : Settings) (t : Timetable) (base : List ℕ) (price : ℤ) (duties : List Duty) → IsChecked s → IsSound t → AreDuties s t duties
-    → (pools : Departure → List (Parts × List (List Leg))) (arrivals : Departure → Arrival → List (Parts × List (List Leg)))
+    → (pools : Departure → List (PairingVector × List (List Leg))) (arrivals : Departure → Arrival → List (PairingVector × List (List Leg)))
     → ((d : Duty) → IsDuty s (flights_of t) d → IsLocal is_at_most walk_at_most (FromPools (network_of s base price duties) (arrivals (departure_of d)) (departure_of d)) (pools (departure_of d)))
     → ((d : Duty) (x : Arrival) → IsDuty s (flights_of t) d → IsLocal is_at_most walk_at_most (ArrivedBefore (network_of s base price duties) (λ e. view (network_of s base price duties) e (pools (departure_of e))) d.report x) (arrivals (departure_of d) x))
     → (d : Duty) → IsDuty s (flights_of t) d → IsFrontAt s t base price d (view (network_of s base price duties) d (pools (departure_of d)))

@@ -9,25 +9,25 @@ use Rattle.std.proofs.lemmas.Bool.{and_parts}
 use Rattle.std.proofs.lemmas.Cmp.{tied_itself}
 use Rattle.std.proofs.lemmas.Int.{ints}
 use Rattle.std.proofs.lemmas.Option.{cond_some}
-use Rattle.crew_duty.specs.Keys.{key_cmp, key_total, walk_cmp}
-use Rattle.crew_duty.specs.declared.duty.Duty.{Duty}
-use Rattle.crew_duty.specs.declared.events.Arrival.{Arrival}
-use Rattle.crew_duty.specs.declared.events.Departure.{Departure}
-use Rattle.crew_duty.specs.Legs.{Leg}
+use Rattle.crew_pairing.specs.Keys.{key_cmp, key_total, walk_cmp, walk_at_most}
+use Rattle.crew_pairing.specs.declared.duty.Duty.{Duty}
+use Rattle.crew_pairing.specs.declared.events.Arrival.{Arrival}
+use Rattle.crew_pairing.specs.declared.events.Departure.{Departure}
+use Rattle.crew_pairing.specs.Legs.{Leg}
 use Rattle.crew_resource.specs.Events.{view}
-use Rattle.crew_resource.specs.Labels.{IsCovering, IsLocal, Member}
+use Rattle.crew_resource.specs.Labels.{IsCovering, IsLocal}
+use Rattle.crew_resource.specs.Members.{Member}
 use Rattle.crew_resource.proofs.Covering.{local_of_all}
 use Rattle.crew_resource.proofs.ListOrder.{at_most_order}
 use Rattle.crew_resource.proofs.Pools.{view_in, view_out}
 use Rattle.crew_rules.specs.declared.settings.Settings.{Settings}
-use Rattle.crew_vector.specs.Amounts.{departure_of, guarantee_own, pay_own, rig_own}
-use Rattle.crew_vector.specs.Costs.{is_at_most}
+use Rattle.crew_vector.specs.Machinery.Amounts.{departure_of, guarantee_own, pay_own, rig_own}
+use Rattle.crew_vector.specs.Dominance.{is_at_most}
 use Rattle.crew_vector.specs.Events.{ArrivedBefore, ArrivedToSpare, board_vector, network_of}
-use Rattle.crew_vector.specs.Fronts.{walk_at_most}
 use Rattle.crew_vector.specs.Locals.{is_vector_within_caps}
-use Rattle.crew_vector.specs.Numbers.{named, numbers_of}
-use Rattle.crew_vector.specs.Pruned.{AreEnough, LieOver, StandsFor}
-use Rattle.crew_vector.specs.declared.parts.Parts.{Parts}
+use Rattle.crew_vector.specs.Machinery.Numbers.{named, numbers_of}
+use Rattle.crew_vector.specs.Machinery.Pruned.{AreEnough, LieOver, StandsFor}
+use Rattle.crew_pairing.specs.declared.vector.PairingVector.{PairingVector}
 use Rattle.crew_vector.proofs.Growth.{four-capped}
 use Rattle.crew_vector.proofs.Orders.{key-exact, walk-order}
 use Rattle.crew_vector.proofs.Steps.{vector-order}
@@ -37,7 +37,7 @@ test-le : (a b : ℤ) → int_le a b ≡ true → a ≤ℤ b
 test-le a b h = grind (arith, ints)
 
 -- a vector after a duty, whatever the caps
-abbrev aboard : Settings → Parts → Duty → Parts
+abbrev aboard : Settings → PairingVector → Duty → PairingVector
 aboard s v d = record {
   duty_pay = v.duty_pay +ℤ pay_own d;
   trip_rig = v.trip_rig +ℤ rig_own s.trip_rig d;
@@ -48,7 +48,7 @@ aboard s v d = record {
   away = v.away +ℤ (d.release -ℤ d.report);
 }
 
-board-is : (s : Settings) (v : Parts) (d : Duty) → board_vector s v d ≡ cond (is_vector_within_caps s (aboard s v d)) (Some (aboard s v d)) None
+board-is : (s : Settings) (v : PairingVector) (d : Duty) → board_vector s v d ≡ cond (is_vector_within_caps s (aboard s v d)) (Some (aboard s v d)) None
 board-is s v d =
     let z = aboard s v d in
     let n = numbers_of z in
@@ -66,7 +66,7 @@ same-ends : (e d : Duty) → StandsFor e d → (e.release -ℤ e.report) ≡ (d.
 same-ends e d h = ap (λ z. z -ℤ e.report) (ap (λ (x : Arrival). x.release) h.arrives) ∙ ap (λ z. d.release -ℤ z) (ap (λ (g : Departure). g.report) h.leaves)
 
 -- the duty that stands for another boards where it does, to a lesser vector
-lesser-aboard : (s : Settings) (v : Parts) (e d : Duty) → StandsFor e d → is_at_most (aboard s v e) (aboard s v d) ≡ true
+lesser-aboard : (s : Settings) (v : PairingVector) (e d : Duty) → StandsFor e d → is_at_most (aboard s v e) (aboard s v d) ≡ true
 lesser-aboard s v e d h =
     let pay = h.pay in
     let price = h.price in
@@ -79,7 +79,7 @@ lesser-aboard s v e d h =
     seven a.duty_pay a.trip_rig a.guarantee a.fdp a.fly a.duties a.away b.duty_pay b.trip_rig b.guarantee b.fdp b.fly b.duties b.away
     (omega (arith, ints, pay)) (omega (arith, ints, rig, price)) (omega (arith, ints, price)) (omega (arith, ints, fdp)) (omega (arith, ints, fly)) (omega (arith, ints)) (omega (arith, ints, away))
 
-lesser-within : (s : Settings) (u v : Parts) → is_at_most u v ≡ true → is_vector_within_caps s v ≡ true → is_vector_within_caps s u ≡ true
+lesser-within : (s : Settings) (u v : PairingVector) → is_at_most u v ≡ true → is_vector_within_caps s v ≡ true → is_vector_within_caps s u ≡ true
 lesser-within s u v h within =
     let time = and_parts _ _ (and_parts _ _ h).1 in
     let minutes = and_parts _ _ time.0 in
@@ -88,12 +88,12 @@ lesser-within s u v h within =
     (test-le u.fdp v.fdp minutes.0) (test-le u.fly v.fly minutes.1) (test-le u.duties v.duties span.0) (test-le u.away v.away span.1) within
 
 -- where both leave one vector, they add the same, and the key decides
-same-aboard : (s : Settings) (v : Parts) (e d : Duty) → StandsFor e d → aboard s v e ≡ aboard s v d → is_le (key_cmp e.key d.key) ≡ true
+same-aboard : (s : Settings) (v : PairingVector) (e d : Duty) → StandsFor e d → aboard s v e ≡ aboard s v d → is_le (key_cmp e.key d.key) ≡ true
 same-aboard s v e d h q =
-    let pay : (v.duty_pay +ℤ (e.pay -ℤ e.price)) ≡ (v.duty_pay +ℤ (d.pay -ℤ d.price)) = ap (λ (z : Parts). z.duty_pay) q in
-    let points : (v.guarantee +ℤ (pos s.guarantee -ℤ e.price)) ≡ (v.guarantee +ℤ (pos s.guarantee -ℤ d.price)) = ap (λ (z : Parts). z.guarantee) q in
-    let fdp : (v.fdp +ℤ e.fdp) ≡ (v.fdp +ℤ d.fdp) = ap (λ (z : Parts). z.fdp) q in
-    let fly : (v.fly +ℤ e.fly) ≡ (v.fly +ℤ d.fly) = ap (λ (z : Parts). z.fly) q in
+    let pay : (v.duty_pay +ℤ (e.pay -ℤ e.price)) ≡ (v.duty_pay +ℤ (d.pay -ℤ d.price)) = ap (λ (z : PairingVector). z.duty_pay) q in
+    let points : (v.guarantee +ℤ (pos s.guarantee -ℤ e.price)) ≡ (v.guarantee +ℤ (pos s.guarantee -ℤ d.price)) = ap (λ (z : PairingVector). z.guarantee) q in
+    let fdp : (v.fdp +ℤ e.fdp) ≡ (v.fdp +ℤ d.fdp) = ap (λ (z : PairingVector). z.fdp) q in
+    let fly : (v.fly +ℤ e.fly) ≡ (v.fly +ℤ d.fly) = ap (λ (z : PairingVector). z.fly) q in
     h.key (omega (arith, ints, pay, points)) (omega (arith, ints, points)) (omega (arith, ints, fdp)) (omega (arith, ints, fly))
 
 then-equal : (o : Ordering) → ordering_then o Equal ≡ o
@@ -109,15 +109,15 @@ one-more (k ∷ w) a b h = ap (λ o. is_le (ordering_then o (walk_cmp (w ++ a �
 less-than : (a b c : ℤ) → a ≤ℤ b → b <ℤ c → a <ℤ c
 less-than a b c h k = omega (arith, ints)
 
-still-room : (s : Settings) (u v : Parts) → is_at_most u v ≡ true → v.duties <ℤ pos s.max_duties → u.duties <ℤ pos s.max_duties
+still-room : (s : Settings) (u v : PairingVector) → is_at_most u v ≡ true → v.duties <ℤ pos s.max_duties → u.duties <ℤ pos s.max_duties
 still-room s u v h room =
     let span = and_parts _ _ (and_parts _ _ (and_parts _ _ h).1).1 in
     less-than u.duties v.duties (pos s.max_duties) (test-le u.duties v.duties span.0) room
 
 module _ (s : Settings) (base : List ℕ) (price : ℤ) (duties : List Duty) where
-  pub lies-over : (e d : Duty) (pool : List (Parts × List (List Leg))) → StandsFor e d → LieOver (view (network_of s base price duties) d pool) (view (network_of s base price duties) e pool)
+  pub lies-over : (e d : Duty) (pool : List (PairingVector × List (List Leg))) → StandsFor e d → LieOver (view (network_of s base price duties) d pool) (view (network_of s base price duties) e pool)
   lies-over e d pool h z w m =
-      let k = view_out Duty Parts (List (List Leg)) Departure Arrival (network_of s base price duties) d pool z w m in
+      let k = view_out Duty PairingVector (List (List Leg)) Departure Arrival (network_of s base price duties) d pool z w m in
       let v = k.0 in
       let c = cond_some (is_vector_within_caps s (aboard s v d)) (aboard s v d) z (sym (board-is s v d) ∙ k.3) in
       let below = lesser-aboard s v e d h in
@@ -125,13 +125,13 @@ module _ (s : Settings) (base : List ℕ) (price : ℤ) (duties : List Duty) whe
       let boards : board_vector s v e ≡ Some (aboard s v e) = board-is s v e ∙ ap (λ b. cond b (Some (aboard s v e)) None) within in (
         aboard s v e,
         k.1 ++ e.key ∷ [],
-        view_in Duty Parts (List (List Leg)) Departure Arrival (network_of s base price duties) e pool v k.1 (aboard s v e) k.2 boards,
+        view_in Duty PairingVector (List (List Leg)) Departure Arrival (network_of s base price duties) e pool v k.1 (aboard s v e) k.2 boards,
         subst (λ x. is_at_most (aboard s v e) x ≡ true) c.1 below,
         λ q. subst (λ x. walk_at_most (k.1 ++ e.key ∷ []) x ≡ true) (sym k.4) (one-more k.1 e.key d.key (same-aboard s v e d h (q ∙ sym c.1))),
       )
 
   -- least duties are enough
-  pub least-enough : (kept : List Duty) (pools : Departure → List (Parts × List (List Leg))) (minute : ℤ) (x : Arrival) → ((d : Duty) → Member kept d → Member duties d)
+  pub least-enough : (kept : List Duty) (pools : Departure → List (PairingVector × List (List Leg))) (minute : ℤ) (x : Arrival) → ((d : Duty) → Member kept d → Member duties d)
       → ((d : Duty) → Member duties d → (e : Duty) × Member kept e × StandsFor e d) → AreEnough duties kept (λ d. view (network_of s base price duties) d (pools (departure_of d))) minute x
   least-enough kept pools minute x among stands = record {
     among = among;
@@ -146,7 +146,7 @@ module _ (s : Settings) (base : List ℕ) (price : ℤ) (duties : List Duty) whe
         );
   }
 
-  module _ (kept : List Duty) (fronts : Duty → List (Parts × List (List Leg))) (minute : ℤ) (x : Arrival) (entries : List (Parts × List (List Leg))) (enough : AreEnough duties kept fronts minute x) where
+  module _ (kept : List Duty) (fronts : Duty → List (PairingVector × List (List Leg))) (minute : ℤ) (x : Arrival) (entries : List (PairingVector × List (List Leg))) (enough : AreEnough duties kept fronts minute x) where
     under : IsCovering is_at_most walk_at_most (ArrivedBefore (network_of s base price kept) fronts minute x) (ArrivedBefore (network_of s base price duties) fronts minute x)
     under = record {
       part = λ v w a. (a.0, enough.among a.0 a.1, a.2, a.3, a.4);
@@ -157,10 +157,10 @@ module _ (s : Settings) (base : List ℕ) (price : ℤ) (duties : List Duty) whe
     }
 
     pub kept-arrivals : IsLocal is_at_most walk_at_most (ArrivedBefore (network_of s base price kept) fronts minute x) entries → IsLocal is_at_most walk_at_most (ArrivedBefore (network_of s base price duties) fronts minute x) entries
-    kept-arrivals = local_of_all Parts (List (List Leg)) is_at_most walk_at_most vector-order walk-order (ArrivedBefore (network_of s base price kept) fronts minute x) (ArrivedBefore (network_of s base price duties) fronts minute x) under entries
+    kept-arrivals = local_of_all PairingVector (List (List Leg)) is_at_most walk_at_most vector-order walk-order (ArrivedBefore (network_of s base price kept) fronts minute x) (ArrivedBefore (network_of s base price duties) fronts minute x) under entries
 
     pub kept-spare : IsLocal is_at_most walk_at_most (ArrivedToSpare s (network_of s base price kept) fronts minute x) entries → IsLocal is_at_most walk_at_most (ArrivedToSpare s (network_of s base price duties) fronts minute x) entries
-    kept-spare = local_of_all Parts (List (List Leg)) is_at_most walk_at_most vector-order walk-order (ArrivedToSpare s (network_of s base price kept) fronts minute x) (ArrivedToSpare s (network_of s base price duties) fronts minute x)
+    kept-spare = local_of_all PairingVector (List (List Leg)) is_at_most walk_at_most vector-order walk-order (ArrivedToSpare s (network_of s base price kept) fronts minute x) (ArrivedToSpare s (network_of s base price duties) fronts minute x)
         (record {
           part = λ v w a. (under.part v w a.0, a.1);
           under = λ v w a. let k = under.under v w a.0 in (k.0, k.1, (k.2, still-room s k.0 v k.3 a.1), k.3, k.4);

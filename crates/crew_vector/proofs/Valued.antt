@@ -4,18 +4,19 @@ use Rattle.std.specs.List.{list_all}
 use Rattle.std.specs.Option.{option_map}
 use Rattle.std.proofs.Math.IntN.{*ℤ-zero}
 use Rattle.std.proofs.lemmas.Int.{ints}
-use Rattle.crew_duty.specs.Legality.{total}
-use Rattle.crew_duty.specs.declared.duty.Duty.{Duty}
-use Rattle.crew_resource.specs.Both.{both}
-use Rattle.crew_resource.specs.Sum.{is_within, rises, sum_of, beginnings, capped_sum}
+use Rattle.crew_pairing.specs.Legality.{total}
+use Rattle.crew_pairing.specs.declared.duty.Duty.{Duty}
+use Rattle.crew_resource.specs.Machinery.Both.{both}
+use Rattle.crew_resource.specs.Machinery.Sum.{is_within, rises, sum_of, beginnings, capped_sum}
 use Rattle.crew_resource.proofs.SignedProducts.{joined}
 use Rattle.crew_rules.specs.declared.settings.Settings.{Settings}
-use Rattle.crew_vector.specs.Amounts.{pay_first, pay_next, rig_first, rig_next, guarantee_first, guarantee_next, fdp_first, fdp_next, fly_first, fly_next, away_first, away_next}
-use Rattle.crew_duty.specs.Pairings.{is_within_caps, last_duty, minutes_away}
-use Rattle.crew_vector.specs.Numbers.{Numbers, named, numbers_of}
-use Rattle.crew_vector.specs.Pairing.{pairing_vector}
-use Rattle.crew_vector.specs.Parts.{parts_of, value_of}
-use Rattle.crew_vector.specs.Sides.{summed}
+use Rattle.crew_vector.specs.Machinery.Amounts.{pay_first, pay_next, rig_first, rig_next, guarantee_first, guarantee_next, fdp_first, fdp_next, fly_first, fly_next, away_first, away_next}
+use Rattle.crew_pairing.specs.Pairings.{is_within_caps, last_duty, minutes_away}
+use Rattle.crew_vector.specs.Machinery.Numbers.{Numbers, named, numbers_of}
+use Rattle.crew_vector.specs.Machinery.VectorResources.{vector_resource}
+use Rattle.crew_pairing.specs.Vectors.{vector_of}
+use Rattle.crew_vector.specs.Values.{value_of}
+use Rattle.crew_vector.specs.Machinery.Sides.{summed}
 
 -- each part's sum along a list is its sum over the whole list
 rises-total : (f : Duty → ℤ) (x : Duty) (ys : List Duty) → rises (λ _ d. pos 0 +ℤ f d) x ys ≡ total f ys
@@ -46,7 +47,7 @@ rises-pay : (x : Duty) (ys : List Duty) → rises pay_next x ys ≡ total (λ d.
 rises-pay x [] = refl
 rises-pay x (y ∷ ys) = omega (arith, ints, rises-pay y ys)
 
-sum-pay : (s : Settings) (b : ℤ) (x : Duty) (ys : List Duty) → sum_of (pay_first b) pay_next (x ∷ ys) ≡ (parts_of s b (x ∷ ys)).duty_pay
+sum-pay : (s : Settings) (b : ℤ) (x : Duty) (ys : List Duty) → sum_of (pay_first b) pay_next (x ∷ ys) ≡ (vector_of s b (x ∷ ys)).duty_pay
 sum-pay s b x ys = omega (arith, ints, rises-pay x ys)
 
 none-away : (r a : ℤ) → pos 0 ≡ r *ℤ (a -ℤ a) -ℤ pos 0
@@ -63,7 +64,7 @@ rises-rig r x [] = none-away (pos r) x.release
 rises-rig r x (y ∷ ys) =
     omega (arith, ints, rises-rig r y ys, stretch (pos r) x.release y.report y.release y.price, joined (pos r) x.release y.release (last_duty y ys).release y.price (total (λ d. d.price) ys))
 
-sum-rig : (s : Settings) (b : ℤ) (x : Duty) (ys : List Duty) → sum_of (rig_first s.trip_rig b) (rig_next s.trip_rig) (x ∷ ys) ≡ (parts_of s b (x ∷ ys)).trip_rig
+sum-rig : (s : Settings) (b : ℤ) (x : Duty) (ys : List Duty) → sum_of (rig_first s.trip_rig b) (rig_next s.trip_rig) (x ∷ ys) ≡ (vector_of s b (x ∷ ys)).trip_rig
 sum-rig s b x ys = omega (arith, ints, rises-rig s.trip_rig x ys, joined (pos s.trip_rig) x.report x.release (last_duty x ys).release x.price (total (λ d. d.price) ys))
 
 one-more : (p n : ℕ) → pos p *ℤ pos (suc n) ≡ pos p +ℤ pos p *ℤ pos n
@@ -73,7 +74,7 @@ rises-guarantee : (p : ℕ) (x : Duty) (ys : List Duty) → rises (guarantee_nex
 rises-guarantee p x [] = omega (arith, ints)
 rises-guarantee p x (y ∷ ys) = omega (arith, ints, rises-guarantee p y ys, one-more p (length ys))
 
-sum-guarantee : (s : Settings) (b : ℤ) (x : Duty) (ys : List Duty) → sum_of (guarantee_first s.guarantee b) (guarantee_next s.guarantee) (x ∷ ys) ≡ (parts_of s b (x ∷ ys)).guarantee
+sum-guarantee : (s : Settings) (b : ℤ) (x : Duty) (ys : List Duty) → sum_of (guarantee_first s.guarantee b) (guarantee_next s.guarantee) (x ∷ ys) ≡ (vector_of s b (x ∷ ys)).guarantee
 sum-guarantee s b x ys = omega (arith, ints, rises-guarantee s.guarantee x ys, one-more s.guarantee (length ys))
 
 -- parts without a cap, and parts with one
@@ -138,10 +139,10 @@ caps-together s bs =
     ∙ (ap (λ q. list_all f bs && q) (all-and y (λ ds. n ds && a ds) bs)
     ∙ all-and f (λ ds. y ds && (n ds && a ds)) bs))
 
-pub composed-value : (s : Settings) (b : ℤ) (ds : List Duty) → option_map named (summed (pairing_vector s b) ds) ≡ value_of s b ds
+pub composed-value : (s : Settings) (b : ℤ) (ds : List Duty) → option_map named (summed (vector_resource s b) ds) ≡ value_of s b ds
 composed-value s b [] = refl
 composed-value s b (x ∷ ys) =
-    let p = parts_of s b (x ∷ ys) in
+    let p = vector_of s b (x ∷ ys) in
     let bs = beginnings (x ∷ ys) in
     let fdp = list_all (λ ds. int_le (total (λ d. d.fdp) ds) (pos s.fdp_cap)) bs in
     let fly = list_all (λ ds. int_le (total (λ d. d.fly) ds) (pos s.fly_cap)) bs in

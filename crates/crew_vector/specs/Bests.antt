@@ -1,16 +1,17 @@
 -- Pairings, the best of the clean ones, and what a timetable gives from scratch.
 use Rattle.std.specs.Prelude.{◌≡◌, ◌⊎◌, ℕ, true, ℤ, ◌<ℤ◌, List, ◌∷◌, Option, Some, None}
 use Rattle.std.specs.FinMap as map
-use Rattle.crew_duty.specs.Duties.{flights_of}
-use Rattle.crew_duty.specs.Pairings.{IsDuty, IsPartial, is_pairing, minutes_away}
-use Rattle.crew_duty.specs.declared.duty.Duty.{Duty}
-use Rattle.crew_duty.specs.Legs.{Leg}
+use Rattle.crew_pairing.specs.Duties.{flights_of}
+use Rattle.crew_pairing.specs.Pairings.{IsDuty, IsPartial, is_pairing, minutes_away}
+use Rattle.crew_pairing.specs.declared.duty.Duty.{Duty}
+use Rattle.crew_pairing.specs.Legs.{Leg}
 use Rattle.crew_flights.specs.Timetable.{Timetable}
-use Rattle.crew_resource.specs.Labels.{Member}
+use Rattle.crew_resource.specs.Members.{Member}
 use Rattle.crew_rules.specs.declared.settings.Settings.{Settings}
-use Rattle.crew_vector.specs.Fronts.{IsFrontAt, StaysUndominated, walk_at_most, walk_of}
-use Rattle.crew_vector.specs.Parts.{cost_of, pay_of}
-use Rattle.crew_vector.specs.declared.parts.Parts.{Parts}
+use Rattle.crew_vector.specs.Fronts.{IsFrontAt, StaysUndominated, walk_of}
+use Rattle.crew_pairing.specs.Keys.{walk_at_most}
+use Rattle.crew_pairing.specs.Vectors.{cost_of, pay_of}
+use Rattle.crew_pairing.specs.declared.vector.PairingVector.{PairingVector}
 
 -- a pairing by its walk, with its reduced cost, pay and minutes away
 pub record PricedPairing : Type 0 where
@@ -47,12 +48,12 @@ IsBest s t None = (p : PricedPairing) → IsPairing s t p → ⊥
 IsBest s t (Some best) = IsCleanPairing s t best × ((p : PricedPairing) → IsCleanPairing s t p → NoDearer best.cost best.walk p.cost p.walk)
 
 -- the front of each base and legal duty
-abbrev pub AreFronts : Settings → Timetable → (List ℕ → Duty → List (Parts × List (List Leg))) → Type 0
+abbrev pub AreFronts : Settings → Timetable → (List ℕ → Duty → List (PairingVector × List (List Leg))) → Type 0
 AreFronts s t front =
     (base : List ℕ) (price : ℤ) (d : Duty) → map.get t.bases base ≡ Some price → IsDuty s (flights_of t) d → IsFrontAt s t base price d (front base d)
 
 -- an entry of a node that arrives at its base
-pub record IsHomeEntry (s : Settings) (t : Timetable) (front : List ℕ → Duty → List (Parts × List (List Leg))) (base : List ℕ) (v : Parts) (w : List (List Leg)) : Type 0 where
+pub record IsHomeEntry (s : Settings) (t : Timetable) (front : List ℕ → Duty → List (PairingVector × List (List Leg))) (base : List ℕ) (v : PairingVector) (w : List (List Leg)) : Type 0 where
   pub price : ℤ
   pub based : map.get t.bases base ≡ Some price
   pub duty : Duty
@@ -61,6 +62,6 @@ pub record IsHomeEntry (s : Settings) (t : Timetable) (front : List ℕ → Duty
   pub held : Member (front base duty) (v, w)
 
 -- from scratch: the front of each base and legal duty, and the best pairing
-pub record IsScratch (s : Settings) (t : Timetable) (front : List ℕ → Duty → List (Parts × List (List Leg))) (best : Option PricedPairing) : Type 0 where
+pub record IsScratch (s : Settings) (t : Timetable) (front : List ℕ → Duty → List (PairingVector × List (List Leg))) (best : Option PricedPairing) : Type 0 where
   pub fronts : AreFronts s t front
   pub best_is : IsBest s t best

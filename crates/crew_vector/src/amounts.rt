@@ -1,9 +1,9 @@
 //! What each duty adds to a part, and what a rest before it adds.
 ghost use Rattle.std.specs.Prelude.{◌≡◌, ◌+◌, ◌*◌, ◌≤ℤ◌, ◌+ℤ◌, ◌-ℤ◌, ◌*ℤ◌, neg_ℤ, ℤ, pos, negsuc, Some, None, unsigned_abs, refl};
-ghost use Rattle.crew_duty.specs.Events.{IsSound};
-ghost use Rattle.crew_vector.specs.Amounts as Spec;
+ghost use Rattle.crew_pairing.specs.Events.{IsSound};
+ghost use Rattle.crew_vector.specs.Machinery.Amounts as Spec;
 
-use crew_duty::{Arrival, Departure, Duty};
+use crew_pairing::{Arrival, Departure, Duty};
 use crew_resource::{Amount, StagedAmount};
 
 /// The minutes from one instant to another.

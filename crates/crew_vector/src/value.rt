@@ -1,13 +1,12 @@
 //! The value of a whole list.
 ghost use Rattle.std.specs.Prelude.{◌≡◌, ◌∷◌};
 ghost use Rattle.crew_rules.specs.Settings.{IsChecked};
-ghost use Rattle.crew_vector.specs.Along.{GoesOn, HasMost, IsLine};
-ghost use Rattle.crew_vector.specs.Parts.{value_of};
-ghost use Rattle.crew_vector.specs.Terms.{IsBasePrice};
+ghost use Rattle.crew_vector.specs.Machinery.Along.{GoesOn, HasMost, IsLine};
+ghost use Rattle.crew_vector.specs.Values.{value_of};
+ghost use Rattle.crew_flights.specs.Timetable.{IsBasePrice};
 
-use crate::parts::Parts;
-use crate::vector::PairingVector;
-use crew_duty::Duty;
+use crate::resource::VectorResource;
+use crew_pairing::{Duty, PairingVector};
 use crew_resource::{Placed, Staged, extend_staged, start_staged};
 use crew_rules::Settings;
 
@@ -35,12 +34,12 @@ fn along<P: Placed, R: Staged<P>>(resource: &R, first: &P, others: &[P]) -> Opti
 
 /// The value of a list of duties of one base, from its first duty on: its vector, and none where the list is empty, or
 /// where it or a beginning of it passes a cap.
-pub fn value_of_list(settings: &Settings, base_price: i64, duties: &[Duty]) -> Option<Parts>
+pub fn value_of_list(settings: &Settings, base_price: i64, duties: &[Duty]) -> Option<PairingVector>
     requires checked { IsChecked settings.now }
     requires price { IsBasePrice base_price }
     requires line { IsLine duties.now }
     ensures { result ≡ value_of settings.now base_price duties.now }
 {
     let (first, others) = duties.split_first()?;
-    along(&PairingVector::new(settings, base_price), first, others)
+    along(&VectorResource::new(settings, base_price), first, others)
 }

@@ -1,6 +1,6 @@
 -- Labels that may be merged: each has one duty alone as its walk.
 use Rattle.std.specs.Prelude.{◌≡◌, List, false, nat_eq}
-use Rattle.crew_resource.specs.Labels.{Member}
+use Rattle.crew_resource.specs.Members.{Member}
 use Rattle.crew_pool.specs.declared.tail.Tail.{Tail}
 
 -- no walk before a duty

@@ -9,12 +9,13 @@
 
 mod marked;
 
-use crew_duty::{Key, Leg, Walk};
+use crew_pairing::{Key, Leg, Walk};
 use crew_flights::FlightId;
 use crew_front::Front;
 use crew_pool::{Room, Walks};
 use crew_rules::Settings;
-use crew_vector::{PairingVector, Parts};
+use crew_vector::VectorResource;
+use crew_pairing::PairingVector;
 use marked::Marked;
 use std::alloc::{AllocError, Global};
 use std::env;
@@ -24,7 +25,7 @@ use std::io::{self, BufRead, BufReader};
 const LIST: usize = 32;
 
 // The vector and the flights of a line; what is left out is 0.
-fn offer_of(line: &str) -> (Parts, [u32; 2]) {
+fn offer_of(line: &str) -> (PairingVector, [u32; 2]) {
     let mut numbers = [0i64; 7];
     let mut flights = [0u32; 2];
     for (place, word) in line.split_whitespace().enumerate() {
@@ -35,7 +36,7 @@ fn offer_of(line: &str) -> (Parts, [u32; 2]) {
         }
     }
     let [duty_pay, trip_rig, guarantee, fdp, fly, duties, away] = numbers;
-    let value = Parts {
+    let value = PairingVector {
         duty_pay,
         trip_rig,
         guarantee,
@@ -59,12 +60,12 @@ fn walk_of(alloc: Global, flights: &[u32; 2]) -> Result<Walk, AllocError> {
 }
 
 // The resource that has the order of the vectors.
-fn vector() -> PairingVector {
-    PairingVector::new(&Settings::standard(), 0)
+fn vector() -> VectorResource {
+    VectorResource::new(&Settings::standard(), 0)
 }
 
 // Offers all to a new front, and gives how many entries it has and the sum of their first numbers.
-fn offer_all(alloc: Global, offers: &[(Parts, Walk)]) -> Result<(usize, i64), AllocError> {
+fn offer_all(alloc: Global, offers: &[(PairingVector, Walk)]) -> Result<(usize, i64), AllocError> {
     let mut front = Front::new(alloc, vector());
     for (value, walk) in offers {
         front.offer(*value, walk.copy(alloc)?)?;
@@ -89,7 +90,7 @@ fn absorb_all(alloc: Global, lists: &[Marked]) -> Result<Marked, AllocError> {
 }
 
 // The vectors as lists of labels: the duty of each is the number of its line.
-fn lists_of(alloc: Global, offers: &[(Parts, Walk)]) -> Result<Vec<Marked>, AllocError> {
+fn lists_of(alloc: Global, offers: &[(PairingVector, Walk)]) -> Result<Vec<Marked>, AllocError> {
     let mut singles = Vec::new(alloc);
     for (number, (value, _)) in offers.iter().enumerate() {
         singles.push(Marked::one(alloc, *value, number)?)?;
@@ -114,7 +115,7 @@ fn told(pool: &Marked) -> (usize, i64) {
 // Offers all so many times.
 fn offer_rounds(
     alloc: Global,
-    offers: &[(Parts, Walk)],
+    offers: &[(PairingVector, Walk)],
     rounds: u32,
 ) -> Result<(usize, i64), AllocError> {
     let mut last = (0, 0);
@@ -127,7 +128,7 @@ fn offer_rounds(
 // Merges all so many times.
 fn absorb_rounds(
     alloc: Global,
-    offers: &[(Parts, Walk)],
+    offers: &[(PairingVector, Walk)],
     rounds: u32,
 ) -> Result<(usize, i64), AllocError> {
     let lists = lists_of(alloc, offers)?;

@@ -2,23 +2,24 @@
 ghost use Rattle.std.specs.Prelude.{◌≡◌, ◌++◌, ℕ, List, [], ◌∷◌, map, IfOk, OnOk};
 ghost use Rattle.crew_pool.specs.Tails.{IsPoolOf, shown};
 ghost use Rattle.crew_pool.specs.declared.tail.Tail.{Tail};
-ghost use Rattle.crew_vector.specs.Costs.{is_at_most};
-ghost use Rattle.crew_vector.specs.declared.parts.Parts.{Parts};
+ghost use Rattle.crew_vector.specs.Dominance.{is_at_most};
+ghost use Rattle.crew_pairing.specs.declared.vector.PairingVector.{PairingVector};
 ghost use Rattle.fronts_bench.specs.Marked.{AreMarked, IsMarked};
 
 use crew_pool::{NO_DUTY, Pool, Room, Tail, Walks};
-use crew_vector::{PairingVector, Parts};
+use crew_vector::VectorResource;
+use crew_pairing::PairingVector;
 use std::alloc::{AllocError, Global};
 use std::marker::Model;
 
 /// A pool in which the walk of each label is one duty.
 #[derive(Drop)]
 pub struct Marked {
-    pool: Pool<PairingVector>,
+    pool: Pool<VectorResource>,
 }
 
 impl Model for Marked {
-    ghost Value = { List (Parts × Tail) };
+    ghost Value = { List (PairingVector × Tail) };
 
     ghost view = { λ m. m.pool };
 
@@ -47,7 +48,7 @@ impl Marked {
     }
 
     /// One label, with the duty of this number.
-    pub fn one(alloc: Global, value: Parts, number: usize) -> Result<Self, AllocError>
+    pub fn one(alloc: Global, value: PairingVector, number: usize) -> Result<Self, AllocError>
         ensures { IfOk result (λ one. map (λ l. l.0) one ≡ value ∷ []) }
     {
         let mut labels = Vec::with_capacity(alloc, 1)?;
@@ -58,7 +59,7 @@ impl Marked {
     }
 
     /// The labels.
-    pub fn labels(&self) -> &[(Parts, Tail)]
+    pub fn labels(&self) -> &[(PairingVector, Tail)]
         ensures { result.now ≡ self.now }
     {
         self.pool.as_slice()
@@ -67,13 +68,13 @@ impl Marked {
     /// Merges another pool into this one.
     pub fn merge(
         &mut self,
-        vector: &PairingVector,
-        room: &mut Room<Parts>,
+        vector: &VectorResource,
+        room: &mut Room<PairingVector>,
         list: &Marked,
         walks: &Walks,
     ) -> Result<(), AllocError>
         requires { walks.now ≡ [] ∷ [] }
-        ensures { OnOk result ((candidates : List (Parts × List ℕ)) → IsPoolOf is_at_most candidates (map (shown walks.now) self.old) → IsPoolOf is_at_most (candidates ++ map (shown walks.now) list.now) (map (shown walks.now) self.new)) }
+        ensures { OnOk result ((candidates : List (PairingVector × List ℕ)) → IsPoolOf is_at_most candidates (map (shown walks.now) self.old) → IsPoolOf is_at_most (candidates ++ map (shown walks.now) list.now) (map (shown walks.now) self.new)) }
     {
         self.pool.merge(vector, room, &list.pool, walks)?;
         Ok(())

@@ -3,9 +3,9 @@ use Rattle.std.specs.List.{flat_map}
 use Rattle.std.specs.FinMap as fin
 use Rattle.std.proofs.lemmas.Result.{err_from_is_err_and}
 use Rattle.crew_flights.specs.declared.flight.Flight.{Flight}
-use Rattle.crew_duty.specs.Duties.{flights_of}
-use Rattle.crew_duty.proofs.Timetables.{flights-of-timetable}
-use Rattle.crew_audit.specs.Listing.{all_partials, of_base}
+use Rattle.crew_pairing.specs.Duties.{flights_of}
+use Rattle.crew_pairing.proofs.Timetables.{flights-of-timetable}
+use Rattle.crew_audit.specs.Machinery.Listing.{all_partials, of_base}
 use Rattle.crew_audit.proofs.Whole.{all-partials, prices-fit}
 use Rattle.crew_audit.proofs.audit.enumerate.Goals as goal
 

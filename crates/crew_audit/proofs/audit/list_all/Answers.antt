@@ -3,8 +3,8 @@ use Rattle.std.specs.List.{flat_map}
 use Rattle.std.proofs.lemmas.Int.{ints}
 use Rattle.std.proofs.lemmas.Result.{err_from_is_err_and}
 use Rattle.crew_flights.specs.Timetable.{IsBasePrice}
-use Rattle.crew_duty.proofs.Tree.{Each-member, slice_get-Member}
-use Rattle.crew_audit.specs.Listing.{after, of_base}
+use Rattle.crew_pairing.proofs.Tree.{Each-member, slice_get-Member}
+use Rattle.crew_audit.specs.Machinery.Listing.{after, of_base}
 use Rattle.crew_audit.proofs.Flat.{item-at, over-at}
 use Rattle.crew_audit.proofs.audit.list_all.Goals as goal
 

@@ -1,6 +1,6 @@
 use Rattle.std.proofs.Common.{◌≡◌, ◌≤◌, length, take}
 use Rattle.std.specs.List.{flat_map}
-use Rattle.crew_audit.specs.Listing.{of_base}
+use Rattle.crew_audit.specs.Machinery.Listing.{of_base}
 use Rattle.crew_audit.proofs.audit.list_all.Given as goal
 
 abbrev pub invariant-loop-base : goal.invariant-loop-base

@@ -1,6 +1,6 @@
 use Rattle.std.proofs.Common.{◌≡◌, ◌+ℤ◌, arith, of_z, to_z, w64}
 use Rattle.std.proofs.lemmas.Int.{ints, to_z-of_z}
-use Rattle.crew_duty.specs.declared.duty.Duty.{Duty}
+use Rattle.crew_pairing.specs.declared.duty.Duty.{Duty}
 use Rattle.crew_audit.proofs.Chains.{fits-add, item-in-range, sum-more}
 use Rattle.crew_audit.proofs.chain.add_up.Goals as goal
 

@@ -1,5 +1,5 @@
 use Rattle.std.proofs.Common.{◌≡◌, ◌*◌, ◌-ℤ◌, ◌≤ℤ◌, pos, take}
-use Rattle.crew_duty.specs.Legality.{total}
+use Rattle.crew_pairing.specs.Legality.{total}
 use Rattle.crew_audit.proofs.chain.add_up.Given as goal
 
 abbrev pub invariant-loop-duty : goal.invariant-loop-duty

@@ -1,9 +1,9 @@
 use Rattle.std.proofs.Common.{[], false, ◌∙◌, sym, ap}
 use Rattle.std.specs.Option.{option_copied}
-use Rattle.crew_duty.specs.Legality.{duty_of}
-use Rattle.crew_duty.specs.Listing.{timed}
-use Rattle.crew_duty.proofs.Tree.{Each-member, slice_get-Member}
-use Rattle.crew_audit.specs.Ranges.{IsInRange}
+use Rattle.crew_pairing.specs.Legality.{duty_of}
+use Rattle.crew_pairing.specs.Machinery.Listing.{timed}
+use Rattle.crew_pairing.proofs.Tree.{Each-member, slice_get-Member}
+use Rattle.crew_audit.specs.Machinery.Ranges.{IsInRange}
 use Rattle.crew_audit.proofs.Chains.{join-last}
 use Rattle.crew_audit.proofs.chain.may_leave.Goals as goal
 

@@ -1,8 +1,8 @@
 use Rattle.std.proofs.Common.{◌≡◌, ◌-ℤ◌, ◌∙◌, sym, ap, arith, of_z, to_z, w64}
 use Rattle.std.specs.Option.{option_copied}
 use Rattle.std.proofs.lemmas.Int.{ints}
-use Rattle.crew_duty.proofs.Tree.{Each-member, slice_get-Member}
-use Rattle.crew_audit.specs.Ranges.{IsInRange}
+use Rattle.crew_pairing.proofs.Tree.{Each-member, slice_get-Member}
+use Rattle.crew_audit.specs.Machinery.Ranges.{IsInRange}
 use Rattle.crew_audit.proofs.Chains.{away-ends}
 use Rattle.crew_audit.proofs.chain.minutes_away.Goals as goal
 

@@ -1,5 +1,5 @@
 use Rattle.std.proofs.Common.{◌≡◌, ◌∷◌, map, take}
-use Rattle.crew_duty.specs.Legality.{leg_of}
+use Rattle.crew_pairing.specs.Legality.{leg_of}
 use Rattle.crew_audit.proofs.legs.duty_from.Given as goal
 
 abbrev pub invariant-loop-leg : goal.invariant-loop-leg

@@ -3,15 +3,15 @@ use Rattle.std.specs.List.{flat_map}
 use Rattle.std.proofs.lemmas.List.{take_all}
 use Rattle.std.proofs.lemmas.Result.{err_from_is_err_and}
 use Rattle.crew_flights.specs.declared.flight.Flight.{Flight}
-use Rattle.crew_duty.specs.Legality.{duty_of, last_of, may_follow}
-use Rattle.crew_duty.specs.Listing.{from_flight, listing, timed}
-use Rattle.crew_duty.specs.declared.duty.Duty.{Duty}
-use Rattle.crew_duty.specs.declared.leg.TimedLeg.{TimedLeg}
-use Rattle.crew_duty.proofs.Legal.{known-sound}
-use Rattle.crew_duty.proofs.Tree.{IsBeginning-more, listing-closed, listing-none}
-use Rattle.crew_audit.specs.Listing.{with_next}
+use Rattle.crew_pairing.specs.Legality.{duty_of, last_of, may_follow}
+use Rattle.crew_pairing.specs.Machinery.Listing.{from_flight, listing, timed}
+use Rattle.crew_pairing.specs.declared.duty.Duty.{Duty}
+use Rattle.crew_pairing.specs.declared.leg.TimedLeg.{TimedLeg}
+use Rattle.crew_pairing.proofs.Legal.{known-sound}
+use Rattle.crew_pairing.proofs.Tree.{IsBeginning-more, listing-closed, listing-none}
+use Rattle.crew_audit.specs.Machinery.Listing.{with_next}
 use Rattle.crew_audit.specs.declared.partial.Partial.{Partial}
-use Rattle.crew_duty.specs.Pairings.{is_within_caps}
+use Rattle.crew_pairing.specs.Pairings.{is_within_caps}
 use Rattle.std.proofs.lemmas.Grind.{common_steps}
 use Rattle.crew_audit.proofs.Flat.{item-at, item-known, more-at, over-at, skip-at}
 use Rattle.crew_audit.proofs.Steps.{after-flights, after-full, joined-up, join-legs, legs-open, more-after, more-than, not-joined, not-within, onward, onward-off, onward-on, own-listed}

@@ -1,8 +1,8 @@
 use Rattle.std.proofs.Common.{◌≡◌, ◌≤◌, ◌+◌, ◌-◌, ◌*◌, ◌++◌, [], length, take, if◌then◌else◌}
 use Rattle.std.specs.List.{flat_map}
-use Rattle.crew_duty.specs.Legality.{last_of, may_follow}
-use Rattle.crew_duty.specs.Listing.{below, from_flight}
-use Rattle.crew_audit.specs.Listing.{with_next}
+use Rattle.crew_pairing.specs.Legality.{last_of, may_follow}
+use Rattle.crew_pairing.specs.Machinery.Listing.{below, from_flight}
+use Rattle.crew_audit.specs.Machinery.Listing.{with_next}
 use Rattle.crew_audit.proofs.search.+partials.Given as goal
 
 abbrev pub decreases-list_after : goal.decreases-list_after

@@ -3,8 +3,8 @@ use Rattle.std.specs.Prelude.{IfOk, slice_get, Vec}
 use Rattle.std.specs.Global.{Global}
 use Rattle.std.specs.List.{AllZip, range_with_len}
 use Rattle.crew_flights.specs.declared.flight.Flight.{Flight}
-use Rattle.crew_duty.specs.Listing.{from_flight}
-use Rattle.crew_duty.specs.Plans.{IsPlan, rows}
+use Rattle.crew_pairing.specs.Machinery.Listing.{from_flight}
+use Rattle.crew_duty.specs.Machinery.Plans.{IsPlan, rows}
 use Rattle.crew_duty.proofs.Parts.{collected, counted}
 use Rattle.rayon.specs.Numbers.{nat_range}
 use Rattle.rayon.proofs.ToStd.{nat_range-All}

@@ -4,9 +4,9 @@ use Rattle.std.specs.Global.{Global}
 use Rattle.std.specs.declared.alloc.AllocError.{AllocError}
 use Rattle.std.specs.List.{AllZip, flat_map, range_with_len}
 use Rattle.crew_flights.specs.declared.flight.Flight.{Flight}
-use Rattle.crew_duty.specs.Listing.{from_flight, from_place}
-use Rattle.crew_duty.specs.Plans.{IsPlan, rows}
-use Rattle.crew_duty.specs.declared.duty.Duty.{Duty}
+use Rattle.crew_pairing.specs.Machinery.Listing.{from_flight, from_place}
+use Rattle.crew_duty.specs.Machinery.Plans.{IsPlan, rows}
+use Rattle.crew_pairing.specs.declared.duty.Duty.{Duty}
 use Rattle.crew_duty.proofs.Parts.{all-places, collected, list-grows, pieces-joined}
 use Rattle.rayon.specs.Numbers.{nat_range}
 use Rattle.rayon.proofs.ListFacts.{AllZip-weaken, IfOk-then}

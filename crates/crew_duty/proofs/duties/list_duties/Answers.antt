@@ -1,11 +1,11 @@
 use Rattle.std.proofs.Common.{◌≡◌, ◌≤◌, ◌<◌, ◌∙◌, List, ap, length, subst}
 use Rattle.crew_flights.specs.declared.flight.Flight.{Flight}
-use Rattle.crew_duty.specs.Duties.{flights_of}
-use Rattle.crew_duty.specs.Listing.{all_duties}
-use Rattle.crew_duty.specs.Plans.{AreNext, rows}
-use Rattle.crew_duty.proofs.InOrder.{all-duties}
+use Rattle.crew_pairing.specs.Duties.{flights_of}
+use Rattle.crew_pairing.specs.Machinery.Listing.{all_duties}
+use Rattle.crew_duty.specs.Machinery.Plans.{AreNext, rows}
+use Rattle.crew_pairing.proofs.InOrder.{all-duties}
 use Rattle.crew_duty.proofs.Parts.{no-more}
-use Rattle.crew_duty.proofs.Timetables.{flights-few, flights-of-timetable}
+use Rattle.crew_pairing.proofs.Timetables.{flights-few, flights-of-timetable}
 use Rattle.crew_duty.proofs.duties.list_duties.Goals as goal
 
 pub next_places-requires-clause-few : goal.next_places-requires-clause-few

@@ -6,13 +6,13 @@ use Rattle.std.proofs.lemmas.List.{take_all}
 use Rattle.std.proofs.lemmas.Option.{get_or_from_slice_get, slice_get-get_or}
 use Rattle.crew_flights.specs.Timetable.{IsFlight}
 use Rattle.crew_flights.specs.declared.flight.Flight.{Flight}
-use Rattle.crew_duty.specs.Legality.{last_of, may_follow}
-use Rattle.crew_duty.specs.Listing.{below, is_hopeless, listing, own, timed}
-use Rattle.crew_duty.specs.declared.leg.TimedLeg.{TimedLeg}
+use Rattle.crew_pairing.specs.Legality.{last_of, may_follow}
+use Rattle.crew_pairing.specs.Machinery.Listing.{below, is_hopeless, listing, own, timed}
+use Rattle.crew_pairing.specs.declared.leg.TimedLeg.{TimedLeg}
 use Rattle.crew_duty.proofs.Places.{StandAt-at, StandAt-length}
 use Rattle.crew_duty.proofs.Running.{bounded, sound-legs}
-use Rattle.crew_duty.proofs.Sums.{last_of-push}
-use Rattle.crew_duty.proofs.Tree.{Each-member, IsBeginning-more, count-more, filter-member, listing-at, listing-closed, listing-last, own-few, pop-back, slice_get-within}
+use Rattle.crew_pairing.proofs.Sums.{last_of-push}
+use Rattle.crew_pairing.proofs.Tree.{Each-member, IsBeginning-more, count-more, filter-member, listing-at, listing-closed, listing-last, own-few, pop-back, slice_get-within}
 use Rattle.crew_duty.proofs.search.+count.Goals as goal
 use Rattle.crew_duty.proofs.search.+count.Goals.{then-not-forbid+in_ok-push+in_ok-counted, else-not-forbid, then-not-forbid-2+in_ok-push-2+in_ok-counted-2, else-not-forbid-2}
 

@@ -1,7 +1,7 @@
 use Rattle.std.proofs.Common.{◌≡◌, ◌+◌, ◌-◌, take, length, filter, min}
 use Rattle.std.specs.List.{flat_map}
-use Rattle.crew_duty.specs.Legality.{last_of, may_follow}
-use Rattle.crew_duty.specs.Listing.{below, own}
+use Rattle.crew_pairing.specs.Legality.{last_of, may_follow}
+use Rattle.crew_pairing.specs.Machinery.Listing.{below, own}
 use Rattle.crew_duty.proofs.search.+count.Given as goal
 
 abbrev pub decreases-count : goal.decreases-count

@@ -6,15 +6,15 @@ use Rattle.std.proofs.lemmas.List.{take_all}
 use Rattle.std.proofs.lemmas.Option.{get_or_from_slice_get, slice_get-get_or}
 use Rattle.crew_flights.specs.Timetable.{IsFlight}
 use Rattle.crew_flights.specs.declared.flight.Flight.{Flight}
-use Rattle.crew_duty.specs.Legality.{last_of, may_follow}
-use Rattle.crew_duty.specs.Listing.{below, is_hopeless, listing, own, timed}
-use Rattle.crew_duty.specs.Members.{Member}
-use Rattle.crew_duty.specs.declared.duty.Duty.{Duty}
-use Rattle.crew_duty.specs.declared.leg.TimedLeg.{TimedLeg}
+use Rattle.crew_pairing.specs.Legality.{last_of, may_follow}
+use Rattle.crew_pairing.specs.Machinery.Listing.{below, is_hopeless, listing, own, timed}
+use Rattle.crew_resource.specs.Members.{Member}
+use Rattle.crew_pairing.specs.declared.duty.Duty.{Duty}
+use Rattle.crew_pairing.specs.declared.leg.TimedLeg.{TimedLeg}
 use Rattle.crew_duty.proofs.Places.{StandAt-at, StandAt-length}
 use Rattle.crew_duty.proofs.Running.{bounded, sound-legs}
-use Rattle.crew_duty.proofs.Sums.{last_of-push}
-use Rattle.crew_duty.proofs.Tree.{Each-map, Each-member, IsBeginning-more, below-more, filter-member, listing-at, listing-closed, listing-last, pop-back, slice_get-within}
+use Rattle.crew_pairing.proofs.Sums.{last_of-push}
+use Rattle.crew_pairing.proofs.Tree.{Each-map, Each-member, IsBeginning-more, below-more, filter-member, listing-at, listing-closed, listing-last, pop-back, slice_get-within}
 use Rattle.crew_duty.proofs.search.+list.Goals as goal
 use Rattle.crew_duty.proofs.search.+list.Goals.{then-not-forbid+in_ok-push+in_ok-list, else-not-forbid, then-not-forbid-2+in_ok-push-2+in_ok-list-2, else-not-forbid-2}
 

@@ -1,9 +1,9 @@
 use Rattle.std.proofs.Common.{◌≡◌, ◌+◌, ◌-◌, min, [], ◌∙◌, ap, sym, get_or, length, arith, refl}
 use Rattle.std.proofs.lemmas.Option.{get_or_from_slice_get, slice_get-get_or}
 use Rattle.rayon.proofs.ListFacts.{IfOk-then}
-use Rattle.crew_duty.specs.Listing.{is_hopeless, listing, timed}
-use Rattle.crew_duty.specs.Plans.{IsBeginning}
-use Rattle.crew_duty.proofs.Tree.{listing-closed, slice_get-Member}
+use Rattle.crew_pairing.specs.Machinery.Listing.{is_hopeless, listing, timed}
+use Rattle.crew_pairing.specs.Machinery.Beginnings.{IsBeginning}
+use Rattle.crew_pairing.proofs.Tree.{listing-closed, slice_get-Member}
 use Rattle.crew_duty.proofs.search.count_first.Goals as goal
 
 pub returns-then-forbid-clause-counted : goal.returns-then-forbid-clause-counted

@@ -2,10 +2,10 @@ use Rattle.std.proofs.Common.{◌≡◌, ◌∷◌, ℤ, ◌-ℤ◌, ◌∙◌, 
 use Rattle.std.proofs.lemmas.Int.{ints}
 use Rattle.std.proofs.lemmas.Grind.{common_steps}
 use Rattle.crew_rules.specs.Pay.{duty_pay}
-use Rattle.crew_duty.specs.declared.leg.TimedLeg.{TimedLeg}
-use Rattle.crew_duty.specs.Legality.{flight_duty_period, flight_time, last_of, leg_of, price_of, release, report, total}
-use Rattle.crew_duty.proofs.Paid.{legs-paid}
-use Rattle.crew_duty.proofs.Times.{ends-later, flown-total}
+use Rattle.crew_pairing.specs.declared.leg.TimedLeg.{TimedLeg}
+use Rattle.crew_pairing.specs.Legality.{flight_duty_period, flight_time, last_of, leg_of, price_of, release, report, total}
+use Rattle.crew_pairing.proofs.Paid.{legs-paid}
+use Rattle.crew_pairing.proofs.Times.{ends-later, flown-total}
 use Rattle.crew_duty.proofs.search.duty_from.Goals as goal
 
 pub duty_pay-requires-clause-elapsed : goal.duty_pay-requires-clause-elapsed

@@ -1,8 +1,8 @@
 use Rattle.std.proofs.Common.{◌≡◌, ◌-◌, ◌++◌, [], ◌∙◌, ap, sym, append-nil, get_or, length, refl}
 use Rattle.std.proofs.lemmas.Option.{get_or_from_slice_get, slice_get-get_or}
-use Rattle.crew_duty.specs.Listing.{is_hopeless, listing, timed}
-use Rattle.crew_duty.specs.Plans.{IsBeginning}
-use Rattle.crew_duty.proofs.Tree.{listing-closed, slice_get-Member}
+use Rattle.crew_pairing.specs.Machinery.Listing.{is_hopeless, listing, timed}
+use Rattle.crew_pairing.specs.Machinery.Beginnings.{IsBeginning}
+use Rattle.crew_pairing.proofs.Tree.{listing-closed, slice_get-Member}
 use Rattle.crew_duty.proofs.search.list_first.Goals as goal
 
 pub returns-then-forbid : goal.returns-then-forbid

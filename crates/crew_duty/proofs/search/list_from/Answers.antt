@@ -1,6 +1,6 @@
 use Rattle.std.proofs.Common.{◌++◌, [], ◌∙◌, List, false, true, sym, ap, append_assoc}
-use Rattle.crew_duty.specs.Listing.{from_flight, listing, timed}
-use Rattle.crew_duty.specs.declared.duty.Duty.{Duty}
+use Rattle.crew_pairing.specs.Machinery.Listing.{from_flight, listing, timed}
+use Rattle.crew_pairing.specs.declared.duty.Duty.{Duty}
 use Rattle.crew_duty.proofs.Parts.{place-gives, there}
 use Rattle.crew_duty.proofs.search.list_from.Goals as goal
 

@@ -1,7 +1,7 @@
 use Rattle.std.proofs.Common.{List, filter, subst}
 use Rattle.crew_flights.specs.declared.flight.Flight.{Flight}
-use Rattle.crew_duty.specs.Legality.{may_follow}
-use Rattle.crew_duty.specs.Plans.{StandAt}
+use Rattle.crew_pairing.specs.Legality.{may_follow}
+use Rattle.crew_duty.specs.Machinery.Plans.{StandAt}
 use Rattle.crew_duty.proofs.Places.{AreNext-more}
 use Rattle.crew_duty.proofs.search.next_places.Goals as goal
 

@@ -1,5 +1,5 @@
 use Rattle.std.proofs.Common.{take}
-use Rattle.crew_duty.specs.Plans.{AreNext, rows}
+use Rattle.crew_duty.specs.Machinery.Plans.{AreNext, rows}
 use Rattle.crew_duty.proofs.search.next_places.Given as goal
 
 abbrev pub invariant-loop-flight : goal.invariant-loop-flight

@@ -1,7 +1,7 @@
 use Rattle.std.proofs.Common.{◌≡◌, ◌∙◌, sym, ap, subst, List, [], ◌∷◌, ◌++◌, ◌+◌, map, take}
 use Rattle.std.proofs.lemmas.List.{take_more}
-use Rattle.crew_duty.specs.Legs.{Leg}
-use Rattle.crew_front.specs.Grades.{HoldSame}
+use Rattle.crew_pairing.specs.Legs.{Leg}
+use Rattle.crew_front.specs.Machinery.Grades.{HoldSame}
 use Rattle.crew_front.proofs.GradeLemmas.{more_same}
 use Rattle.crew_front.proofs.front.bucketed.Goals as goal
 

@@ -1,5 +1,5 @@
 use Rattle.std.proofs.Common.{take, map}
-use Rattle.crew_front.specs.Grades.{HoldSame}
+use Rattle.crew_front.specs.Machinery.Grades.{HoldSame}
 use Rattle.crew_front.proofs.front.bucketed.Given as goal
 
 abbrev pub invariant-loop-entry : goal.invariant-loop-entry

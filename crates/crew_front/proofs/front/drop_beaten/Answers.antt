@@ -1,7 +1,7 @@
 use Rattle.std.proofs.Common.{rules, ◌∙◌, ap, sym, refl, not, ltb, List}
 use Rattle.std.specs.Prelude.{◌||◌}
 use Rattle.std.proofs.lemmas.Fn.{filter_same}
-use Rattle.crew_duty.specs.Legs.{Leg}
+use Rattle.crew_pairing.specs.Legs.{Leg}
 use Rattle.crew_front.proofs.GradeLemmas.{filter_agree, filter_all, none_lesser}
 use Rattle.crew_front.proofs.front.drop_beaten.Goals as goal
 

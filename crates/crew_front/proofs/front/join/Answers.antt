@@ -2,10 +2,11 @@ use Rattle.std.proofs.Common.{◌∙◌, ap, not, arith, List, ◌≡◌, false,
 use Rattle.std.specs.List.{filter, insert, position_or_len}
 use Rattle.std.specs.Ordering.{is_lt}
 use Rattle.std.proofs.lemmas.List.Sums.{prefix_len-le-length}
-use Rattle.crew_resource.specs.Labels.{Member}
-use Rattle.crew_front.proofs.EntryLemmas.{insert-first, Member-map_in}
-use Rattle.crew_duty.specs.Legs.{Leg}
-use Rattle.crew_front.specs.Entries.{placed}
+use Rattle.crew_resource.specs.Members.{Member}
+use Rattle.crew_front.proofs.EntryLemmas.{insert-first}
+use Rattle.crew_resource.proofs.Members.{Member-map_in}
+use Rattle.crew_pairing.specs.Legs.{Leg}
+use Rattle.crew_resource.specs.Entries.{placed}
 use Rattle.crew_front.proofs.front.join.Goals as goal
 
 pub drop_beaten-requires : goal.drop_beaten-requires

@@ -2,7 +2,7 @@ use Rattle.std.proofs.Common.{◌++◌, List, sym, ◌∙◌, ap}
 use Rattle.crew_pool.specs.Counted.{boarded_label}
 use Rattle.crew_pool.specs.declared.tail.Tail.{Tail}
 use Rattle.crew_pool.proofs.BoardLemmas.{boarded_more}
-use Rattle.crew_front.proofs.OfferLocal.{Member-get_or}
+use Rattle.crew_resource.proofs.Members.{Member-get_or}
 use Rattle.crew_pool.proofs.absorb.board_all.Goals as goal
 
 pub board_one-requires : goal.board_one-requires

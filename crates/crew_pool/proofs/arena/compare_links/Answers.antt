@@ -2,7 +2,7 @@ use Rattle.std.proofs.Common.{◌-◌, [], ◌∷◌, ◌++◌, get_or, arith, r
 use Rattle.std.specs.Cmp.Lexicographic.{slice_cmp}
 use Rattle.std.specs.Ordering.{nat_cmp, ordering_then}
 use Rattle.crew_pool.specs.Arena.{walk_at}
-use Rattle.crew_pool.specs.ArenaLinks.{all_walks}
+use Rattle.crew_pool.specs.Machinery.ArenaLinks.{all_walks}
 use Rattle.crew_pool.specs.declared.arena.Link.{Link}
 use Rattle.crew_pool.proofs.ArenaLemmas.{length-all_walks, walk_of_link, not_first, cmp_after, one_more, shorter}
 use Rattle.crew_pool.proofs.arena.compare_links.Goals as goal

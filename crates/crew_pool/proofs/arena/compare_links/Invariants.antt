@@ -2,7 +2,7 @@ use Rattle.std.proofs.Common.{◌≡◌, ℕ, ◌<◌, ◌++◌, List, length}
 use Rattle.std.specs.Cmp.Lexicographic.{slice_cmp}
 use Rattle.std.specs.Ordering.{nat_cmp}
 use Rattle.crew_pool.specs.Arena.{walk_at}
-use Rattle.crew_pool.specs.ArenaLinks.{all_walks}
+use Rattle.crew_pool.specs.Machinery.ArenaLinks.{all_walks}
 use Rattle.crew_pool.proofs.arena.compare_links.Given as goal
 
 -- the walks are those at x and y with as many duties after them, whose order is known

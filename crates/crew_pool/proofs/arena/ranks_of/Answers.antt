@@ -2,7 +2,7 @@ use Rattle.std.proofs.Common.{◌-◌, List, ℕ, [], ◌∷◌, ◌++◌, get_o
 use Rattle.std.specs.Prelude.{reverse}
 use Rattle.std.proofs.lemmas.List.{reverse-append}
 use Rattle.crew_pool.specs.Arena.{walk_at}
-use Rattle.crew_pool.specs.ArenaLinks.{all_walks}
+use Rattle.crew_pool.specs.Machinery.ArenaLinks.{all_walks}
 use Rattle.crew_pool.specs.declared.arena.Link.{Link}
 use Rattle.crew_pool.proofs.ArenaLemmas.{first_walk, length-all_walks, one_more, walk_of_link}
 use Rattle.crew_pool.proofs.TailLemmas.{reverse-duty}

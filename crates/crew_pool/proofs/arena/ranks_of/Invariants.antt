@@ -1,7 +1,7 @@
 use Rattle.std.proofs.Common.{◌≡◌, ◌<◌, ◌++◌, length}
 use Rattle.std.specs.Prelude.{reverse}
 use Rattle.crew_pool.specs.Arena.{walk_at}
-use Rattle.crew_pool.specs.ArenaLinks.{all_walks}
+use Rattle.crew_pool.specs.Machinery.ArenaLinks.{all_walks}
 use Rattle.crew_pool.specs.Tails.{tail_walk}
 use Rattle.crew_pool.proofs.arena.ranks_of.Given as goal
 

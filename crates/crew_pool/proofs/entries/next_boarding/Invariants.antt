@@ -1,6 +1,6 @@
 use Rattle.std.proofs.Common.{◌≡◌, length}
 use Rattle.std.specs.Slice.Iter.{iter_rest}
-use Rattle.crew_resource.specs.Labels.{Member}
+use Rattle.crew_resource.specs.Members.{Member}
 use Rattle.crew_pool.specs.Counted.{boarded_labels}
 use Rattle.crew_pool.specs.declared.tail.Tail.{Tail}
 use Rattle.crew_pool.proofs.entries.next_boarding.Given as goal

@@ -2,13 +2,13 @@ use Rattle.std.proofs.Common.{◌≡◌, cond, ℕ, ◌++◌, inr, List, [], ◌
 use Rattle.std.specs.List.{filter, list_any}
 use Rattle.std.proofs.lemmas.List.{take_all}
 use Rattle.std.proofs.lemmas.List.Sorted.{IsPermutation-trans}
-use Rattle.crew_resource.specs.Labels.{Member}
-use Rattle.crew_resource.proofs.Members.{Member-append, Member-filter_out}
+use Rattle.crew_resource.specs.Members.{Member}
+use Rattle.crew_resource.proofs.Members.{Member-append, Member-filter_out, Member-get_or}
 use Rattle.crew_pool.specs.Apart.{AreApart}
-use Rattle.crew_pool.specs.Meets.{is_free, vectors_of}
+use Rattle.crew_pool.specs.Machinery.Meets.{is_free, vectors_of}
 use Rattle.crew_pool.specs.Tails.{IsPoolOf, shown}
 use Rattle.crew_pool.specs.declared.tail.Tail.{Tail}
-use Rattle.crew_front.proofs.OfferLocal.{Member-get_or, order}
+use Rattle.crew_resource.proofs.Order.{order}
 use Rattle.crew_pool.proofs.MergeLemmas.{filter-take_more, is_free-permuted, map_filter-take_more, merged_apart, merged_local, on_err}
 use Rattle.crew_pool.proofs.Permuted.{AreApart-permuted}
 use Rattle.crew_pool.proofs.merge.merge_labels.Goals as goal

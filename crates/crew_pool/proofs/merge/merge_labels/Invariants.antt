@@ -1,8 +1,8 @@
 use Rattle.std.proofs.Common.{◌≡◌, ℕ, ◌++◌, ◌⊎◌, List, map, not, take}
 use Rattle.std.specs.List.{filter}
 use Rattle.std.specs.List.Sorted.{IsPermutation}
-use Rattle.crew_resource.specs.Labels.{Member}
-use Rattle.crew_pool.specs.Meets.{is_free, vectors_of}
+use Rattle.crew_resource.specs.Members.{Member}
+use Rattle.crew_pool.specs.Machinery.Meets.{is_free, vectors_of}
 use Rattle.crew_pool.specs.Tails.{IsPoolOf, shown}
 use Rattle.crew_pool.specs.declared.tail.Tail.{Tail}
 use Rattle.crew_pool.proofs.merge.merge_labels.Given as goal

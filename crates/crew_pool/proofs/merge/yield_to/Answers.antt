@@ -1,12 +1,13 @@
 use Rattle.std.proofs.Common.{◌≡◌, ◌<◌, List, [], ◌∷◌, ◌++◌, Some, length, map, refl, ap, arith, sym, ◌∙◌, subst}
 use Rattle.std.specs.Prelude.{slice_get}
 use Rattle.std.proofs.lemmas.Option.{slice_get-get_or}
-use Rattle.crew_resource.specs.Labels.{Member}
-use Rattle.crew_pool.specs.Meets.{vectors_of}
+use Rattle.crew_resource.specs.Members.{Member}
+use Rattle.crew_pool.specs.Machinery.Meets.{vectors_of}
 use Rattle.crew_pool.specs.Tails.{IsPoolOf, lesser_tail, shown}
 use Rattle.crew_pool.specs.declared.tail.Tail.{Tail}
-use Rattle.crew_front.proofs.EntryLemmas.{map-slice_set}
-use Rattle.crew_front.proofs.OfferLocal.{Member-at, order}
+use Rattle.crew_resource.proofs.Lists.{map-slice_set}
+use Rattle.crew_resource.proofs.Members.{Member-at}
+use Rattle.crew_resource.proofs.Order.{order}
 use Rattle.crew_pool.proofs.MergeLemmas.{beaten_local, lowered_from, some_is, tied_at, tied_local}
 use Rattle.crew_pool.proofs.merge.yield_to.Goals as goal
 

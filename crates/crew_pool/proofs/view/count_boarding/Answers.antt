@@ -4,7 +4,7 @@ use Rattle.std.proofs.lemmas.List.{take_all}
 use Rattle.crew_pool.specs.Counted.{boarded_labels}
 use Rattle.crew_pool.specs.declared.tail.Tail.{Tail}
 use Rattle.crew_pool.proofs.BoardLemmas.{at_most_none, at_most_one, boarded_count_more, counted_none, counted_one}
-use Rattle.crew_front.proofs.OfferLocal.{Member-get_or}
+use Rattle.crew_resource.proofs.Members.{Member-get_or}
 use Rattle.crew_pool.proofs.view.count_boarding.Goals.{then-is_some, else-is_some}
 use Rattle.crew_pool.proofs.view.count_boarding.Goals as goal
 

@@ -4,7 +4,7 @@ use mir.Val.{of_z, to_z}
 use Rattle.std.specs.Int.{w32, w64}
 use Rattle.std.proofs.lemmas.Int.{ints, to_z-of_z}
 use Rattle.crew_rules.specs.Pay.{pairing_pay}
-use Rattle.crew_duty.specs.Legs.{Leg}
+use Rattle.crew_pairing.specs.Legs.{Leg}
 use Rattle.crew_session.specs.Bests.{away_of}
 use Rattle.crew_session.proofs.OfferFacts.{code-same, same-code, pairing_pay-between}
 use Rattle.crew_session.proofs.offers.offer.Goals as goal

@@ -2,7 +2,7 @@ use Rattle.std.proofs.Common.{◌≡◌, suc, ◌+◌, [], ◌∷◌, drop, sym,
 use Rattle.std.specs.Option.{option_and_then}
 use Rattle.std.proofs.Math.Seq.{drop-cons}
 use Rattle.std.proofs.lemmas.Int.{ints}
-use Rattle.crew_vector.specs.Along.{GoesOn, extended}
+use Rattle.crew_vector.specs.Machinery.Along.{GoesOn, extended}
 use Rattle.crew_vector.proofs.Extended.{goes-on, none-goes-on}
 use Rattle.crew_vector.proofs.value.along.Goals as goal
 

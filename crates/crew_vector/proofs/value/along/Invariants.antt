@@ -1,6 +1,6 @@
 -- What is left of the list, and room for one item more.
 use Rattle.std.proofs.Common.{◌≡◌, ℕ, suc, ◌≤◌, Some, pos, ◌∷◌, drop}
-use Rattle.crew_vector.specs.Along.{GoesOn, extended}
+use Rattle.crew_vector.specs.Machinery.Along.{GoesOn, extended}
 use Rattle.crew_vector.proofs.value.along.Given as goal
 
 abbrev pub invariant-loop-next : goal.invariant-loop-next

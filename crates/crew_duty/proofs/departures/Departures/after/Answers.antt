@@ -1,8 +1,8 @@
 use Rattle.std.proofs.Common.{◌≡◌, ◌∙◌, ◌+ℤ◌, ℕ, ℤ, pos, List, ap, subst, filter, map, arith, of_z, to_z, w64}
 use Rattle.std.specs.Prelude.{IsPermutation}
 use Rattle.std.proofs.lemmas.Int.{ints}
-use Rattle.crew_duty.specs.Legality.{may_follow}
-use Rattle.crew_duty.specs.Slots.{is_between, moment}
+use Rattle.crew_pairing.specs.Legality.{may_follow}
+use Rattle.crew_duty.specs.Machinery.Slots.{is_between, moment}
 use Rattle.crew_duty.specs.declared.departures.Slot.{Slot}
 use Rattle.crew_duty.proofs.InPlace.{in-place}
 use Rattle.crew_duty.proofs.Slots.{each-follows}

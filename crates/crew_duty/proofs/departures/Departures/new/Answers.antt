@@ -2,8 +2,8 @@ use Rattle.std.proofs.Common.{◌≡◌, ◌+◌, ◌++◌, ◌∷◌, [], ◌�
 use Rattle.std.specs.Prelude.{IsPermutation}
 use Rattle.std.proofs.lemmas.List.{take_all}
 use Rattle.std.proofs.lemmas.List.Sorted.{sorted_far}
-use Rattle.crew_duty.specs.Members.{Each}
-use Rattle.crew_duty.specs.Slots.{IsNamed, slot_of, slots_from}
+use Rattle.crew_resource.specs.Members.{Each}
+use Rattle.crew_duty.specs.Machinery.Slots.{IsNamed, slot_of, slots_from}
 use Rattle.crew_duty.specs.declared.departures.Slot.{Slot}
 use Rattle.crew_duty.proofs.Slots.{later-at, slot-order, named-more, slots-more}
 use Rattle.crew_duty.proofs.departures.Departures.new.Goals as goal

@@ -1,6 +1,6 @@
 use Rattle.std.proofs.Common.{◌≡◌, take}
-use Rattle.crew_duty.specs.Members.{Each}
-use Rattle.crew_duty.specs.Slots.{IsNamed, slots_from}
+use Rattle.crew_resource.specs.Members.{Each}
+use Rattle.crew_duty.specs.Machinery.Slots.{IsNamed, slots_from}
 use Rattle.crew_duty.proofs.departures.Departures.new.Given as goal
 
 abbrev pub invariant-loop-place : goal.invariant-loop-place

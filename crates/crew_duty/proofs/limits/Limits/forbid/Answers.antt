@@ -3,8 +3,8 @@ use Rattle.std.specs.Prelude.{int_lt, slice_index}
 use Rattle.std.proofs.lemmas.Bool.Decides.{nat_tests}
 use Rattle.std.proofs.lemmas.Int.{ints}
 use Rattle.crew_rules.specs.Tables.{table_a, table_b}
-use Rattle.crew_duty.specs.Legality.{deadheads, flight_duty_period, flight_time, last_of, segments}
-use Rattle.crew_duty.specs.declared.leg.TimedLeg.{TimedLeg}
+use Rattle.crew_pairing.specs.Legality.{deadheads, flight_duty_period, flight_time, last_of, segments}
+use Rattle.crew_pairing.specs.declared.leg.TimedLeg.{TimedLeg}
 use Rattle.crew_duty.proofs.limits.Limits.forbid.Goals as goal
 
 not-more : (a b : ℤ) → b ≤ℤ a → int_lt a b ≡ false

@@ -1,9 +1,9 @@
 use Rattle.std.proofs.Common.{not, ◌≡◌, ◌-ℤ◌, pos, refl, ap, arith}
 use Rattle.std.proofs.lemmas.Int.{ints}
-use Rattle.crew_duty.specs.Legality.{minutes_flown, price_of}
-use Rattle.crew_duty.specs.declared.leg.TimedLeg.{TimedLeg}
+use Rattle.crew_pairing.specs.Legality.{minutes_flown, price_of}
+use Rattle.crew_pairing.specs.declared.leg.TimedLeg.{TimedLeg}
 use Rattle.crew_duty.proofs.Running.{counted, not-counted}
-use Rattle.crew_duty.proofs.Sums.{total-push}
+use Rattle.crew_pairing.proofs.Sums.{total-push}
 use Rattle.crew_duty.proofs.totals.Totals.after.Goals as goal
 
 pub returns-then-leg : goal.returns-then-leg

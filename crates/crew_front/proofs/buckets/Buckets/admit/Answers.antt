@@ -1,11 +1,11 @@
 use Rattle.std.proofs.Common.{◌≡◌, ◌∙◌, sym, ap, subst, ltb, map, not, length, arith, false, List}
 use Rattle.std.specs.List.{filter}
 use Rattle.std.proofs.lemmas.Bool.{ltb-false, not-true}
-use Rattle.crew_resource.specs.Labels.{Member}
-use Rattle.crew_front.specs.Grades.{AreRising, AreGraded, Admitted}
-use Rattle.crew_front.specs.Entries.{placed}
+use Rattle.crew_resource.specs.Members.{Member}
+use Rattle.crew_front.specs.Machinery.Grades.{AreRising, AreGraded, Admitted}
+use Rattle.crew_resource.specs.Entries.{placed}
 use Rattle.crew_front.specs.declared.buckets.Graded.{Graded}
-use Rattle.crew_front.proofs.EntryLemmas.{Member-map_out}
+use Rattle.crew_resource.proofs.Members.{Member-map_out}
 use Rattle.crew_front.proofs.GradeLemmas.{AreRising-filter, AreRising-placed, AreGraded-filter, AreGraded-placed, admitted, none_gone}
 use Rattle.crew_front.proofs.buckets.Buckets.admit.Goals as goal
 

@@ -1,6 +1,6 @@
 use Rattle.std.proofs.Common.{◌≡◌, ◌∙◌, sym, ap, subst, take, ltb, None, Some}
 use Rattle.std.specs.List.{position, position_or_len}
-use Rattle.crew_resource.specs.Labels.{Member}
+use Rattle.crew_resource.specs.Members.{Member}
 use Rattle.crew_front.specs.declared.buckets.Graded.{Graded}
 use Rattle.crew_front.proofs.GradeLemmas.{none_found, found}
 use Rattle.crew_front.proofs.buckets.Buckets.find_at_most.Goals as goal

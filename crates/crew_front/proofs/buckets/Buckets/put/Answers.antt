@@ -1,5 +1,5 @@
 use Rattle.std.proofs.Common.{sym, subst, ltb, List, map, ◌∷◌}
-use Rattle.crew_front.specs.Grades.{AreRising, AreGraded, HoldSame}
+use Rattle.crew_front.specs.Machinery.Grades.{AreRising, AreGraded, HoldSame}
 use Rattle.crew_front.specs.declared.buckets.Graded.{Graded}
 use Rattle.crew_front.proofs.GradeLemmas.{AreRising-placed, AreGraded-placed, put_same}
 use Rattle.crew_front.proofs.buckets.Buckets.put.Goals as goal

@@ -3,13 +3,15 @@ use Rattle.std.specs.List.{All, filter}
 use Rattle.std.specs.Prelude.{slice_get, slice_set, Some}
 use Rattle.std.specs.Ordering.{is_lt}
 use Rattle.std.proofs.lemmas.Result.{err_from_is_err_and}
-use Rattle.crew_resource.specs.Labels.{Member}
-use Rattle.crew_duty.specs.Legs.{Leg}
-use Rattle.crew_front.specs.Entries.{IsApart, placed}
-use Rattle.crew_front.specs.Grades.{HoldSame}
+use Rattle.crew_resource.specs.Members.{Member}
+use Rattle.crew_pairing.specs.Legs.{Leg}
+use Rattle.crew_resource.specs.Entries.{IsApart, placed}
+use Rattle.crew_front.specs.Machinery.Grades.{HoldSame}
 use Rattle.crew_front.specs.Walks.{lesser}
 use Rattle.crew_front.specs.declared.front.Offer.TheVariants.{Kept, Beaten, Tied}
-use Rattle.crew_front.proofs.EntryLemmas.{All-from_members, Member-map_in, joined_apart, beaten_by, within_some, map-slice_set}
+use Rattle.crew_front.proofs.EntryLemmas.{All-from_members, joined_apart, beaten_by}
+use Rattle.crew_resource.proofs.Members.{Member-map_in}
+use Rattle.crew_resource.proofs.Lists.{within_some, map-slice_set}
 use Rattle.crew_front.proofs.GradeLemmas.{joined_same}
 use Rattle.crew_front.proofs.OfferLocal.{none_beats_first, none_beats_there, offered_list}
 use Rattle.crew_front.proofs.front.Front.offer.Goals as goal

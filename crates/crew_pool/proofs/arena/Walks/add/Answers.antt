@@ -1,6 +1,6 @@
 use Rattle.std.proofs.Common.{◌≡◌, [], ◌∷◌, ◌++◌, length, sym, ◌∙◌, ap, subst, arith}
 use Rattle.crew_pool.specs.Arena.{walk_at}
-use Rattle.crew_pool.specs.ArenaLinks.{all_walks, AreLinked}
+use Rattle.crew_pool.specs.Machinery.ArenaLinks.{all_walks, AreLinked}
 use Rattle.crew_pool.specs.declared.arena.Link.{Link}
 use Rattle.crew_pool.proofs.ArenaLemmas.{length-all_walks, all_walks-more, AreLinked-more}
 use Rattle.crew_pool.proofs.arena.Walks.add.Goals as goal

@@ -2,7 +2,7 @@ use Rattle.std.proofs.Common.{◌≡◌, ◌∙◌, List, sym, subst}
 use Rattle.std.proofs.lemmas.Iterator.Consumers.{YieldsList-end, YieldsList-from_first}
 use Rattle.std.specs.Ordering.{nat_cmp, ordering_then}
 use Rattle.crew_pool.specs.Apart.{AreApart}
-use Rattle.crew_pool.specs.Meets.{vectors_of}
+use Rattle.crew_pool.specs.Machinery.Meets.{vectors_of}
 use Rattle.crew_pool.specs.declared.tail.Tail.{Tail}
 use Rattle.crew_pool.proofs.Listed.{first_not_less, listed_apart, map-itself}
 use Rattle.crew_pool.proofs.Permuted.{labels-permuted}

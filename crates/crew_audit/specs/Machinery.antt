@@ -1,0 +1,3 @@
+-- The tree in which partial pairings are found, and bounds under which sums fit.
+pub mod Listing
+pub mod Ranges

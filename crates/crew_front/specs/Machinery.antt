@@ -1,0 +1,2 @@
+-- How values are kept by grade.
+pub mod Grades

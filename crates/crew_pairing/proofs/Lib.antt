@@ -1,0 +1,13 @@
+pub mod Sums
+pub mod Paid
+pub mod Times
+pub mod Tree
+pub mod Complete
+pub mod Falling
+pub mod InList
+pub mod InOrder
+pub mod Keys
+pub mod Legal
+pub mod Rising
+pub mod Timetables
+pub mod WalkOrder

@@ -1,0 +1,9 @@
+pub mod Legs
+pub mod Keys
+pub mod Legality
+pub mod Duties
+pub mod Events
+pub mod Pairings
+pub mod Vectors
+pub mod Local
+pub mod Machinery

@@ -1,0 +1,3 @@
+-- The tree in which legal duties are found, and what its theory works with.
+pub mod Beginnings
+pub mod Listing

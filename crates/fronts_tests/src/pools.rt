@@ -1,0 +1,386 @@
+//! Seven numbers, merged; and bus rides, of which the fares and the number count.
+ghost use Rattle.std.specs.Prelude.{◌≡◌, [], ◌∷◌, pos, ◌+ℤ◌, Some, refl, IfOk};
+ghost use Rattle.crew_resource.specs.Machinery.Sum.{LiesWithin};
+ghost use Rattle.crew_resource.specs.Machinery.SumStages.{still};
+ghost use Rattle.crew_pool.specs.Apart.{AreApart};
+
+use crew_pool::{NO_DUTY, Pool, Room, Tail, View, Walks, absorb_boarding, laws};
+use crew_resource::{Amount, Both, Count, Placed, Resource, StagedAmount, Sum};
+use std::alloc::{AllocError, Global};
+use std::cmp::Ordering;
+use std::test::Fail;
+
+/// Nothing, and free of cap: only the order of values counts here.
+#[derive(Clone, Copy, Drop)]
+struct Nothing;
+
+impl Amount for Nothing {
+    ghost use Rattle.std.specs.Prelude.{pos, None};
+
+    type Item = u32;
+
+    ghost first_of = { λ _ _. pos 0 };
+
+    ghost next_of = { λ _ _ _. pos 0 };
+
+    ghost cap_of = { λ _. None };
+
+    fn first(&self, _item: &u32) -> i64 {
+        0
+    }
+
+    fn next(&self, _last: &u32, _item: &u32) -> i64 {
+        0
+    }
+
+    fn cap(&self) -> Option<i64> {
+        None
+    }
+}
+
+type Free = Sum<Nothing>;
+
+type Money = Both<Free, Both<Free, Free>>;
+
+type Limits = Both<Both<Free, Free>, Both<Count<u32>, Free>>;
+
+type Parts = Both<Money, Limits>;
+
+type Numbers = ((i64, (i64, i64)), ((i64, i64), (i64, i64)));
+
+/// Seven numbers.
+#[derive(Clone, Copy, Debug, PartialEq, Eq, PartialOrd, Ord)]
+struct Value {
+    numbers: Numbers,
+}
+
+const FREE: Free = Sum { amount: Nothing };
+
+fn money() -> Money {
+    Both {
+        first: FREE,
+        second: Both {
+            first: FREE,
+            second: FREE,
+        },
+    }
+}
+
+fn limits() -> Limits {
+    Both {
+        first: Both {
+            first: FREE,
+            second: FREE,
+        },
+        second: Both {
+            first: Count::new(12),
+            second: FREE,
+        },
+    }
+}
+
+/// Seven sums and counts, of no list: only the order of their values counts here.
+#[derive(Clone, Copy, Drop)]
+struct Seven {
+    parts: Parts,
+}
+
+impl Resource for Seven {
+    ghost use Rattle.std.specs.Prelude.{None, refl, int_le};
+    ghost use Rattle.std.proofs.Common.{ap};
+    ghost use Rattle.crew_resource.specs.Machinery.BothLaws.{both_order, both_grades};
+    ghost use Rattle.crew_resource.specs.Machinery.SumLaws.{sum_order, no_grades};
+    ghost use Rattle.crew_resource.specs.Machinery.Count.{count_grades};
+
+    type Value = Value;
+
+    type Item = u32;
+
+    ghost opens = { λ _ _. None };
+
+    ghost extends = { λ _ _ _ _. None };
+
+    ghost below = { λ a b. ⟦<Parts as Resource>⟧.below a.numbers b.numbers };
+
+    ghost value_of = { λ _ _. None };
+
+    ghost grade_of = { λ v. ⟦<Parts as Resource>⟧.grade_of v.numbers };
+
+    ghost can_start = { λ _ _. Unit {0} };
+
+    ghost can_extend = { λ _ _ _ _. Unit {0} };
+
+    ghost order = { let o = both_order _ _ _ _ (both_order _ _ _ _ sum_order (both_order _ _ _ _ sum_order sum_order)) (both_order _ _ _ _ (both_order _ _ _ _ sum_order sum_order) (both_order _ _ _ _ sum_order sum_order)) in record { exact = λ a b e. ap (λ n. record { numbers = n }) (o.exact a.numbers b.numbers e); reflexive = λ a. o.reflexive a.numbers; transitive = λ a b c h k. o.transitive a.numbers b.numbers c.numbers h k; antisymmetric = λ a b h k. ap (λ n. record { numbers = n }) (o.antisymmetric a.numbers b.numbers h k) } };
+
+    ghost steps = { λ _. record { monotone = λ a b c last next h e. absurd (let q : ⊥ = Prim.cc in q); opening = λ _. refl; extension = λ _ _ _. refl } };
+
+    ghost grading = { λ a b h. both_grades _ _ _ _ (both_grades _ _ _ _ (no_grades int_le) (both_grades _ _ _ _ (no_grades int_le) (no_grades int_le))) (both_grades _ _ _ _ (both_grades _ _ _ _ (no_grades int_le) (no_grades int_le)) (both_grades _ _ _ _ count_grades (no_grades int_le))) a.numbers b.numbers h };
+
+    fn start(&self, _item: &u32) -> Result<Option<Value>, AllocError> {
+        Ok(None)
+    }
+
+    fn extend(
+        &self,
+        _value: &Value,
+        _last: &u32,
+        _next: &u32,
+    ) -> Result<Option<Value>, AllocError> {
+        Ok(None)
+    }
+
+    fn at_most(&self, a: &Value, b: &Value) -> bool {
+        self.parts.at_most(&a.numbers, &b.numbers)
+    }
+
+    fn copy(&self, value: &Value) -> Result<Value, AllocError> {
+        Ok(*value)
+    }
+
+    fn grade(&self, value: &Value) -> u32 {
+        self.parts.grade(&value.numbers)
+    }
+}
+
+fn resource() -> Seven {
+    Seven {
+        parts: Both {
+            first: money(),
+            second: limits(),
+        },
+    }
+}
+
+const SEVEN: Numbers = ((5_040, (5_880, 8_400)), ((250, 130), (2, 1_470)));
+
+#[test]
+fn walks_share_their_beginnings(rt: HostRuntime) -> Result<(), Fail> {
+    let mut walks = Walks::new(rt.alloc());
+    let first = walks.add(0, 7)?;
+    let longer = walks.add(first, 3)?;
+    let other = walks.add(first, 4)?;
+    assert!(rt; (first, longer, other) == (1, 2, 3));
+    assert!(rt; walks.compare(longer, other) == Ordering::Less);
+    assert!(rt; walks.compare(other, longer) == Ordering::Greater);
+    assert!(rt; walks.compare(other, other) == Ordering::Equal);
+    let tail = Tail {
+        walk: other,
+        duty: 5,
+    };
+    let ranks = walks.ranks(rt.alloc(), tail)?;
+    assert!(rt; ranks.as_slice() == [7, 4, 5].as_slice());
+    Ok(())
+}
+
+#[test]
+fn merges_into_an_empty_pool(rt: HostRuntime) -> Result<(), Fail> {
+    let alloc = rt.alloc();
+    let walks = Walks::new(alloc);
+    let mut labels = Vec::new(alloc);
+    let tail = Tail {
+        walk: 0,
+        duty: NO_DUTY,
+    };
+    labels.push((Value { numbers: SEVEN }, tail))?;
+    let list = Pool::<Seven>::from_apart(labels);
+    let mut pool = Pool::new(alloc);
+    let mut room = Room::new(alloc);
+    pool.merge(&resource(), &mut room, &list, &walks)?;
+    assert!(rt; pool.len() == 1);
+    assert!(rt; pool.as_slice()[0].0.numbers == SEVEN);
+    Ok(())
+}
+
+/// A bus ride, at one moment: only its fare counts.
+#[derive(Clone, Copy, Drop)]
+struct Ride {
+    at: i64,
+    fare: i64,
+}
+
+impl Placed for Ride {
+    type Arrival = i64;
+
+    type Departure = i64;
+
+    ghost arrives = { λ r. r.at };
+
+    ghost leaves = { λ r. r.at };
+
+    ghost is_sound = { λ r. LiesWithin 1000 r.fare };
+
+    ghost may_begin = { λ _. Unit {0} };
+
+    ghost may_follow = { λ _ _. Unit {0} };
+
+    fn arrival(&self) -> i64 {
+        self.at
+    }
+
+    fn departure(&self) -> i64 {
+        self.at
+    }
+}
+
+/// Fares, of at most 20 in all.
+#[derive(Clone, Copy, Drop)]
+struct Fare;
+
+impl Amount for Fare {
+    type Item = Ride;
+
+    ghost first_of = { λ _ ride. pos 0 +ℤ ride.fare };
+
+    ghost next_of = { λ _ _ ride. pos 0 +ℤ ride.fare };
+
+    ghost cap_of = { λ _. Some (pos 20) };
+
+    fn first(&self, item: &Ride) -> i64 {
+        item.fare
+    }
+
+    fn next(&self, _last: &Ride, item: &Ride) -> i64 {
+        item.fare
+    }
+
+    fn cap(&self) -> Option<i64> {
+        Some(20)
+    }
+}
+
+impl StagedAmount<Ride> for Fare {
+    ghost idle_amount = { λ _ _. pos 0 };
+
+    ghost wait_amount = { λ _ _ _. pos 0 };
+
+    ghost own_amount = { λ _ ride. ride.fare };
+
+    ghost share = { λ _. 1000 };
+
+    ghost amounts = { λ _. record { starts = λ i. refl; goes_on = λ last i. refl; idle_share = λ g b. still 1000; wait_share = λ x g f. still 1000; own_share = λ i s. s; first_call = λ i s b. tt; next_call = λ last i s t f. tt } };
+
+    fn idle(&self, _departure: &i64) -> i64 {
+        0
+    }
+
+    fn wait(&self, _arrival: &i64, _departure: &i64) -> i64 {
+        0
+    }
+
+    fn own(&self, item: &Ride) -> i64 {
+        item.fare
+    }
+}
+
+/// The number of rides, at most 4, and their fares.
+type Rides = Both<Count<Ride>, Sum<Fare>>;
+
+type Labelled = ((i64, i64), Tail);
+
+fn rides() -> Rides
+    ensures { result.first.most ≡ 4 }
+{
+    Both {
+        first: Count::new(4),
+        second: Sum { amount: Fare },
+    }
+}
+
+fn ride_for(fare: i64) -> Ride
+    ensures { result.fare ≡ fare }
+{
+    Ride { at: 600, fare }
+}
+
+/// A label whose walk stands whole.
+fn whole(rides: i64, fare: i64, walk: u32) -> Labelled
+    ensures { result ≡ ((rides, fare), record { walk = walk; duty = 4294967295 }) }
+{
+    (
+        (rides, fare),
+        Tail {
+            walk,
+            duty: NO_DUTY,
+        },
+    )
+}
+
+#[test]
+fn pools_are_lists(rt: HostRuntime) -> Result<(), Fail> {
+    let alloc = rt.alloc();
+    let mut labels = Vec::new(alloc);
+    labels.push(whole(1, 18, 0))?;
+    let mut pool = Pool::<Rides>::from_apart(labels);
+    assert!(rt; pool.len() == 1);
+    assert!(rt; !pool.is_empty());
+    assert!(rt; pool.as_slice() == [whole(1, 18, 0)].as_slice());
+    let other = pool.copy(alloc, &rides())?;
+    pool.clear();
+    assert!(rt; pool.is_empty());
+    let mut fares = 0;
+    for label in other.iter() {
+        fares = label.0.1;
+    }
+    assert!(rt; fares == 18);
+    Ok(())
+}
+
+/// The pool of two labels that are apart.
+fn pool_of_two(alloc: Global, first: Labelled, second: Labelled) -> Result<Pool<Rides>, AllocError>
+    requires { AreApart ⟦<Rides as Resource>⟧.below (first.0 ∷ second.0 ∷ []) }
+    ensures { IfOk result (λ pool. pool ≡ first ∷ second ∷ []) }
+{
+    let mut labels = Vec::new(alloc);
+    labels.push(first)?;
+    labels.push(second)?;
+    Ok(Pool::from_apart(labels))
+}
+
+#[test]
+fn absorbs_what_boards(rt: HostRuntime) -> Result<(), Fail> {
+    let alloc = rt.alloc();
+    let mut walks = Walks::new(alloc);
+    let first = walks.add(0, 7)?;
+    let second = walks.add(first, 3)?;
+    let third = walks.add(first, 4)?;
+    let rides = rides();
+    let ride = ride_for(4);
+    let mut pool = Pool::new(alloc);
+    let mut room = Room::new(alloc);
+    let greater = pool_of_two(alloc, whole(2, 5, third), whole(1, 6, first))?;
+    absorb_boarding(&rides, &mut pool, &mut room, &greater, &ride, 1, &walks)?;
+    assert!(rt; pool.len() == 2);
+    let lesser = pool_of_two(alloc, whole(2, 5, second), whole(1, 18, first))?;
+    absorb_boarding(&rides, &mut pool, &mut room, &lesser, &ride, 2, &walks)?;
+    assert!(rt; pool.len() == 2);
+    let walk = second;
+    assert!(rt; pool.as_slice()[0] == ((3, 9), Tail { walk, duty: 2 }));
+    Ok(())
+}
+
+#[test]
+fn views_show_what_boards(rt: HostRuntime) -> Result<(), Fail> {
+    let alloc = rt.alloc();
+    let list = pool_of_two(alloc, whole(2, 5, 1), whole(1, 6, 0))?;
+    let rides = rides();
+    let ride = ride_for(4);
+    let view = View::new(&rides, &list, &ride, 2);
+    assert!(rt; view.len() == 2);
+    assert!(rt; !view.is_empty());
+    let entries = view.list(alloc)?;
+    let lesser = ((2, 10), Tail { walk: 0, duty: 2 });
+    let greater = ((3, 9), Tail { walk: 1, duty: 2 });
+    assert!(rt; entries.as_slice() == [lesser, greater].as_slice());
+    let mut duty = 0;
+    for entry in view.iter() {
+        duty = entry.1.duty;
+    }
+    assert!(rt; duty == 2);
+    let dear = ride_for(15);
+    let narrow = View::new(&rides, &list, &dear, 2);
+    assert!(rt; narrow.len() == 1);
+    let none = ride_for(16);
+    assert!(rt; View::new(&rides, &list, &none, 2).is_empty());
+    laws::pools_by_rank_are_pools_by_key::<Rides>();
+    Ok(())
+}
