@@ -1,8 +1,8 @@
 use crew_audit::{AuditFault, Partial, Tally, enumerate};
 use crew_flights::{Code, Data, Edit, Flight, FlightId};
+use crew_pairing::PairingVector;
 use crew_rules::Settings;
 use crew_time::{Minute, Zone, read_minute};
-use crew_pairing::PairingVector;
 use std::alloc::Global;
 use std::test::Fail;
 

@@ -1,6 +1,6 @@
 use crew_duty::{DutyFault, list_duties};
-use crew_pairing::Duty;
 use crew_flights::{Code, Data, Edit, Flight, FlightId};
+use crew_pairing::Duty;
 use crew_rules::Settings;
 use crew_time::{Minute, Zone, read_minute};
 use std::alloc::Global;

@@ -6,4 +6,6 @@ mod fronts;
 #[cfg(test)]
 mod pools;
 #[cfg(test)]
+mod sevens;
+#[cfg(test)]
 mod vectors;

@@ -1,8 +1,9 @@
-use crew_vector::{ReducedCost, VectorResource, laws, value_of_list};
-use crew_pairing::{Departure, Duty, Key, Leg, PairingVector};
+use crate::sevens::vector;
 use crew_flights::{Code, FlightId};
+use crew_pairing::{Departure, Duty, Key, Leg, PairingVector};
 use crew_resource::{Cost, Resource, Staged};
 use crew_rules::Settings;
+use crew_vector::{ReducedCost, VectorResource, laws, value_of_list};
 use std::test::Fail;
 
 fn airport(letters: [u8; 3]) -> Result<Code, Fail> {
@@ -12,20 +13,6 @@ fn airport(letters: [u8; 3]) -> Result<Code, Fail> {
 // The key of a duty of one flight: which one doesn't count here.
 fn key() -> Result<Key, Fail> {
     Ok(Key::of(Leg::new(FlightId::new(1).ok_or("id")?, false)))
-}
-
-// A vector, in the order of its parts.
-fn parts(numbers: [i64; 7]) -> PairingVector {
-    let [duty_pay, trip_rig, guarantee, fdp, fly, duties, away] = numbers;
-    PairingVector {
-        duty_pay,
-        trip_rig,
-        guarantee,
-        fdp,
-        fly,
-        duties,
-        away,
-    }
 }
 
 #[test]
@@ -42,7 +29,7 @@ fn vector_of_a_short_duty(rt: HostRuntime) -> Result<(), Fail> {
         price: 3_000,
     };
     let value = value_of_list(&Settings::standard(), 0, &[duty]).ok_or("no value")?;
-    assert!(rt; value == parts([-480, -2_360, 1_200, 130, 70, 1, 160]));
+    assert!(rt; value == vector([-480, -2_360, 1_200, 130, 70, 1, 160]));
     assert!(rt; ReducedCost.cost(&value) == 1_200);
     Ok(())
 }
@@ -61,7 +48,7 @@ fn vector_of_a_long_duty(rt: HostRuntime) -> Result<(), Fail> {
         price: 0,
     };
     let value = value_of_list(&Settings::standard(), 0, &[duty]).ok_or("no value")?;
-    assert!(rt; value == parts([7_000, 2_360, 4_200, 560, 500, 1, 590]));
+    assert!(rt; value == vector([7_000, 2_360, 4_200, 560, 500, 1, 590]));
     Ok(())
 }
 
@@ -98,7 +85,7 @@ fn two_duties(settings: &Settings) -> Result<Option<PairingVector>, Fail> {
 fn vector_of_two_duties(rt: HostRuntime) -> Result<(), Fail> {
     let standard = Settings::standard();
     let value = two_duties(&standard)?.ok_or("no value")?;
-    assert!(rt; value == parts([5_040, 5_880, 8_400, 250, 130, 2, 1_470]));
+    assert!(rt; value == vector([5_040, 5_880, 8_400, 250, 130, 2, 1_470]));
     let reached = Settings {
         fdp_cap: 250,
         fly_cap: 130,
@@ -140,30 +127,30 @@ fn vector_of_two_duties(rt: HostRuntime) -> Result<(), Fail> {
 
 #[test]
 fn stages(rt: HostRuntime) -> Result<(), Fail> {
-    let vector = VectorResource::new(&Settings::standard(), 1_000);
+    let resource = VectorResource::new(&Settings::standard(), 1_000);
     let departure = Departure {
         airport: airport(*b"JFK")?,
         report: 29_189_580,
     };
-    let empty = vector.idle(&departure);
-    assert!(rt; empty == parts([-1_000, -1_000, -1_000, 0, 0, 0, 0]));
+    let empty = resource.idle(&departure);
+    assert!(rt; empty == vector([-1_000, -1_000, -1_000, 0, 0, 0, 0]));
     Ok(())
 }
 
 #[test]
 fn order(rt: HostRuntime) -> Result<(), Fail> {
-    let vector = VectorResource::new(&Settings::standard(), 0);
-    let early = parts([5_040, 6_360, 8_400, 240, 120, 2, 1_590]);
-    let late = parts([5_040, 5_880, 8_400, 250, 130, 2, 1_470]);
-    let longer = parts([5_040, 5_880, 8_400, 250, 130, 2, 1_471]);
+    let resource = VectorResource::new(&Settings::standard(), 0);
+    let early = vector([5_040, 6_360, 8_400, 240, 120, 2, 1_590]);
+    let late = vector([5_040, 5_880, 8_400, 250, 130, 2, 1_470]);
+    let longer = vector([5_040, 5_880, 8_400, 250, 130, 2, 1_471]);
     assert!(rt; early > late);
     assert!(rt; late < longer);
-    assert!(rt; !vector.at_most(&early, &late));
-    assert!(rt; !vector.at_most(&late, &early));
-    assert!(rt; vector.at_most(&late, &longer));
-    assert!(rt; !vector.at_most(&longer, &late));
-    assert!(rt; vector.grade(&late) == 2);
-    assert!(rt; vector.copy(&late)? == late);
+    assert!(rt; !resource.at_most(&early, &late));
+    assert!(rt; !resource.at_most(&late, &early));
+    assert!(rt; resource.at_most(&late, &longer));
+    assert!(rt; !resource.at_most(&longer, &late));
+    assert!(rt; resource.grade(&late) == 2);
+    assert!(rt; resource.copy(&late)? == late);
     assert!(rt; ReducedCost.cost(&early) == 8_400);
     laws::cost_is_pay_less_prices();
     laws::caps_on_the_whole_list_suffice();
