@@ -12,25 +12,25 @@ ghost use Rattle.crew_audit.specs.Machinery.Listing.{of_base};
 ghost use Rattle.crew_audit.specs.Partials.{ArePartials, HasMoreThan};
 
 use crate::partial::{AuditFault, Partial};
-use crate::search::{Plan, list_after};
-use crew_flights::{Code, Data, Flight};
+use crate::search::{Scope, list_after};
+use crew_flights::{Code, Timetable, Flight};
 use crew_rules::Settings;
 use std::alloc::{AllocError, Global};
 
 // The flights of a timetable, by number.
-fn held_flights(alloc: Global, data: &Data) -> Result<Vec<Flight>, AllocError>
-    ensures held { IfOk result (λ flights. flights.items ≡ flights_of data.now) }
-    ensures sound { IsSound data.now }
+fn held_flights(alloc: Global, timetable: &Timetable) -> Result<Vec<Flight>, AllocError>
+    ensures held { IfOk result (λ flights. flights.items ≡ flights_of timetable.now) }
+    ensures sound { IsSound timetable.now }
 {
-    data.flights().copied().collect(alloc)
+    timetable.flights().copied().collect(alloc)
 }
 
 // The bases of a timetable with their prices, by code.
-fn held_bases(alloc: Global, data: &Data) -> Result<Vec<(Code, i64)>, AllocError>
-    ensures held { IfOk result (λ bases. bases.items ≡ fin.entries data.now.bases) }
-    ensures sound { IsSound data.now }
+fn held_bases(alloc: Global, timetable: &Timetable) -> Result<Vec<(Code, i64)>, AllocError>
+    ensures held { IfOk result (λ bases. bases.items ≡ fin.entries timetable.now.bases) }
+    ensures sound { IsSound timetable.now }
 {
-    data.bases()
+    timetable.bases()
         .map(|(code, price)| (*code, *price))
         .collect(alloc)
 }
@@ -52,14 +52,14 @@ fn list_all(
 {
     let mut found = Vec::new(alloc);
     for &(base, base_price) in bases {
-        let plan = Plan {
+        let scope = Scope {
             settings,
             flights,
             base,
             base_price,
             limit,
         };
-        list_after(alloc, &mut found, &plan, &[])?;
+        list_after(alloc, &mut found, &scope, &[])?;
     }
     Ok(found)
 }
@@ -70,16 +70,16 @@ fn list_all(
 pub fn enumerate(
     alloc: Global,
     settings: &Settings,
-    data: &Data,
+    timetable: &Timetable,
     limit: usize,
 ) -> Result<Vec<Partial>, AuditFault>
     requires { IsChecked settings.now }
-    ensures listed { IfOk result (λ partials. ArePartials settings.now data.now partials.items) }
+    ensures listed { IfOk result (λ partials. ArePartials settings.now timetable.now partials.items) }
     ensures few { IfOk result (λ partials. length partials.items ≤ limit) }
-    ensures over { result ≡ Err AuditFault.OverLimit → HasMoreThan settings.now data.now limit }
+    ensures over { result ≡ Err AuditFault.OverLimit → HasMoreThan settings.now timetable.now limit }
 {
-    let flights = held_flights(alloc, data)?;
-    let bases = held_bases(alloc, data)?;
+    let flights = held_flights(alloc, timetable)?;
+    let bases = held_bases(alloc, timetable)?;
     let partials = list_all(alloc, settings, &flights, &bases, limit)?;
     Ok(partials)
 }

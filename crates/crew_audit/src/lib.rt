@@ -7,6 +7,7 @@
 
 mod audit;
 mod chain;
+pub mod laws;
 mod legs;
 mod partial;
 mod search;

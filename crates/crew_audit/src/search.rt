@@ -24,7 +24,7 @@ use std::alloc::Global;
 // What the search works with: the flights by number, a base with its price, and the most partials
 // that are listed.
 #[derive(Clone, Copy, Drop)]
-pub(crate) struct Plan<'a> {
+pub(crate) struct Scope<'a> {
     pub(crate) settings: &'a Settings,
     pub(crate) flights: &'a [Flight],
     pub(crate) base: Code,
@@ -36,22 +36,22 @@ pub(crate) struct Plan<'a> {
 fn list_one(
     alloc: Global,
     found: &mut Vec<Partial>,
-    plan: &Plan<'_>,
+    scope: &Scope<'_>,
     duties: &[Duty],
 ) -> Result<(), AuditFault>
-    requires checked { IsChecked plan.now.settings.now }
-    requires price { IsBasePrice plan.now.base_price }
+    requires checked { IsChecked scope.now.settings.now }
+    requires price { IsBasePrice scope.now.base_price }
     requires few { length duties.now ≤ 13 }
     requires ranges { Each IsInRange duties.now }
-    requires room { length found.old.items ≤ plan.now.limit }
-    ensures ok { OnOk result (found.new.items ≡ found.old.items ++ listed plan.now.settings.now plan.now.base plan.now.base_price duties.now ∷ []) }
-    ensures room { OnOk result (length found.new.items ≤ plan.now.limit) }
-    ensures over { result ≡ Err AuditFault.OverLimit → plan.now.limit < length found.old.items + 1 }
+    requires room { length found.old.items ≤ scope.now.limit }
+    ensures ok { OnOk result (found.new.items ≡ found.old.items ++ listed scope.now.settings.now scope.now.base scope.now.base_price duties.now ∷ []) }
+    ensures room { OnOk result (length found.new.items ≤ scope.now.limit) }
+    ensures over { result ≡ Err AuditFault.OverLimit → scope.now.limit < length found.old.items + 1 }
 {
-    if found.len() >= plan.limit {
+    if found.len() >= scope.limit {
         return Err(AuditFault::OverLimit);
     }
-    let partial = partial_from(alloc, plan.settings, plan.base, plan.base_price, duties)?;
+    let partial = partial_from(alloc, scope.settings, scope.base, scope.base_price, duties)?;
     found.push(partial)?;
     Ok(())
 }
@@ -61,27 +61,27 @@ fn list_one(
 pub(crate) fn list_after(
     alloc: Global,
     found: &mut Vec<Partial>,
-    plan: &Plan<'_>,
+    scope: &Scope<'_>,
     before: &[Duty],
 ) -> Result<(), AuditFault>
-    requires checked { IsChecked plan.now.settings.now }
-    requires flights { AreFlights plan.now.flights.now }
-    requires price { IsBasePrice plan.now.base_price }
-    requires few { length before.now ≤ plan.now.settings.now.max_duties }
+    requires checked { IsChecked scope.now.settings.now }
+    requires flights { AreFlights scope.now.flights.now }
+    requires price { IsBasePrice scope.now.base_price }
+    requires few { length before.now ≤ scope.now.settings.now.max_duties }
     requires ranges { Each IsInRange before.now }
-    requires room { length found.old.items ≤ plan.now.limit }
+    requires room { length found.old.items ≤ scope.now.limit }
     ensures ok { OnOk result (found.new.items ≡ found.old.items
-        ++ after (plan.now.settings.now.max_duties - length before.now) plan.now.settings.now plan.now.flights.now plan.now.base plan.now.base_price before.now) }
-    ensures room { OnOk result (length found.new.items ≤ plan.now.limit) }
-    ensures over { result ≡ Err AuditFault.OverLimit → plan.now.limit < length found.old.items
-        + length (after (plan.now.settings.now.max_duties - length before.now) plan.now.settings.now plan.now.flights.now plan.now.base plan.now.base_price before.now) }
+        ++ after (scope.now.settings.now.max_duties - length before.now) scope.now.settings.now scope.now.flights.now scope.now.base scope.now.base_price before.now) }
+    ensures room { OnOk result (length found.new.items ≤ scope.now.limit) }
+    ensures over { result ≡ Err AuditFault.OverLimit → scope.now.limit < length found.old.items
+        + length (after (scope.now.settings.now.max_duties - length before.now) scope.now.settings.now scope.now.flights.now scope.now.base scope.now.base_price before.now) }
 {
-    if before.len() >= plan.settings.max_duties as usize {
+    if before.len() >= scope.settings.max_duties as usize {
         return Ok(());
     }
-    for flight in plan.flights {
-        if may_leave(plan.settings, plan.base, before, flight) {
-            list_from(alloc, found, plan, before, flight)?;
+    for flight in scope.flights {
+        if may_leave(scope.settings, scope.base, before, flight) {
+            list_from(alloc, found, scope, before, flight)?;
         }
     }
     Ok(())
@@ -92,36 +92,36 @@ pub(crate) fn list_after(
 fn list_from(
     alloc: Global,
     found: &mut Vec<Partial>,
-    plan: &Plan<'_>,
+    scope: &Scope<'_>,
     before: &[Duty],
     flight: &Flight,
 ) -> Result<(), AuditFault>
-    requires checked { IsChecked plan.now.settings.now }
-    requires flights { AreFlights plan.now.flights.now }
-    requires price { IsBasePrice plan.now.base_price }
-    requires few { length before.now < plan.now.settings.now.max_duties }
+    requires checked { IsChecked scope.now.settings.now }
+    requires flights { AreFlights scope.now.flights.now }
+    requires price { IsBasePrice scope.now.base_price }
+    requires few { length before.now < scope.now.settings.now.max_duties }
     requires ranges { Each IsInRange before.now }
-    requires known { Member plan.now.flights.now flight.now }
-    requires joins { may_join plan.now.base plan.now.settings.now before.now (duty_of plan.now.settings.now (timed false flight.now) []) ≡ true }
-    requires room { length found.old.items ≤ plan.now.limit }
+    requires known { Member scope.now.flights.now flight.now }
+    requires joins { may_join scope.now.base scope.now.settings.now before.now (duty_of scope.now.settings.now (timed false flight.now) []) ≡ true }
+    requires room { length found.old.items ≤ scope.now.limit }
     ensures ok { OnOk result (found.new.items ≡ found.old.items
-        ++ flat_map (with_next (plan.now.settings.now.max_duties - (length before.now + 1)) plan.now.settings.now plan.now.flights.now plan.now.base plan.now.base_price before.now)
-        (from_flight plan.now.settings.now plan.now.flights.now flight.now)) }
-    ensures room { OnOk result (length found.new.items ≤ plan.now.limit) }
-    ensures over { result ≡ Err AuditFault.OverLimit → plan.now.limit < length found.old.items
-        + length (flat_map (with_next (plan.now.settings.now.max_duties - (length before.now + 1)) plan.now.settings.now plan.now.flights.now plan.now.base plan.now.base_price before.now)
-        (from_flight plan.now.settings.now plan.now.flights.now flight.now)) }
+        ++ flat_map (with_next (scope.now.settings.now.max_duties - (length before.now + 1)) scope.now.settings.now scope.now.flights.now scope.now.base scope.now.base_price before.now)
+        (from_flight scope.now.settings.now scope.now.flights.now flight.now)) }
+    ensures room { OnOk result (length found.new.items ≤ scope.now.limit) }
+    ensures over { result ≡ Err AuditFault.OverLimit → scope.now.limit < length found.old.items
+        + length (flat_map (with_next (scope.now.settings.now.max_duties - (length before.now + 1)) scope.now.settings.now scope.now.flights.now scope.now.base scope.now.base_price before.now)
+        (from_flight scope.now.settings.now scope.now.flights.now flight.now)) }
 {
     let flown = TimedLeg {
         flight: *flight,
         deadhead: false,
     };
-    list_legs(alloc, found, plan, before, &flown, &[])?;
+    list_legs(alloc, found, scope, before, &flown, &[])?;
     let ridden = TimedLeg {
         flight: *flight,
         deadhead: true,
     };
-    list_legs(alloc, found, plan, before, &ridden, &[])
+    list_legs(alloc, found, scope, before, &ridden, &[])
 }
 
 // Lists those that go on with a duty that begins with these legs.
@@ -129,41 +129,41 @@ fn list_from(
 fn list_legs(
     alloc: Global,
     found: &mut Vec<Partial>,
-    plan: &Plan<'_>,
+    scope: &Scope<'_>,
     before: &[Duty],
     first: &TimedLeg,
     others: &[TimedLeg],
 ) -> Result<(), AuditFault>
-    requires checked { IsChecked plan.now.settings.now }
-    requires flights { AreFlights plan.now.flights.now }
-    requires price { IsBasePrice plan.now.base_price }
-    requires few { length before.now < plan.now.settings.now.max_duties }
+    requires checked { IsChecked scope.now.settings.now }
+    requires flights { AreFlights scope.now.flights.now }
+    requires price { IsBasePrice scope.now.base_price }
+    requires few { length before.now < scope.now.settings.now.max_duties }
     requires ranges { Each IsInRange before.now }
-    requires joins { may_join plan.now.base plan.now.settings.now before.now (duty_of plan.now.settings.now first.now others.now) ≡ true }
-    requires beginning { IsBeginning plan.now.settings.now plan.now.flights.now first.now others.now }
+    requires joins { may_join scope.now.base scope.now.settings.now before.now (duty_of scope.now.settings.now first.now others.now) ≡ true }
+    requires beginning { IsBeginning scope.now.settings.now scope.now.flights.now first.now others.now }
     requires legs { length others.now ≤ 8 }
-    requires room { length found.old.items ≤ plan.now.limit }
+    requires room { length found.old.items ≤ scope.now.limit }
     ensures ok { OnOk result (found.new.items ≡ found.old.items
-        ++ flat_map (with_next (plan.now.settings.now.max_duties - (length before.now + 1)) plan.now.settings.now plan.now.flights.now plan.now.base plan.now.base_price before.now)
-        (listing (8 - length others.now) plan.now.settings.now plan.now.flights.now first.now others.now)) }
-    ensures room { OnOk result (length found.new.items ≤ plan.now.limit) }
-    ensures over { result ≡ Err AuditFault.OverLimit → plan.now.limit < length found.old.items
-        + length (flat_map (with_next (plan.now.settings.now.max_duties - (length before.now + 1)) plan.now.settings.now plan.now.flights.now plan.now.base plan.now.base_price before.now)
-        (listing (8 - length others.now) plan.now.settings.now plan.now.flights.now first.now others.now)) }
+        ++ flat_map (with_next (scope.now.settings.now.max_duties - (length before.now + 1)) scope.now.settings.now scope.now.flights.now scope.now.base scope.now.base_price before.now)
+        (listing (8 - length others.now) scope.now.settings.now scope.now.flights.now first.now others.now)) }
+    ensures room { OnOk result (length found.new.items ≤ scope.now.limit) }
+    ensures over { result ≡ Err AuditFault.OverLimit → scope.now.limit < length found.old.items
+        + length (flat_map (with_next (scope.now.settings.now.max_duties - (length before.now + 1)) scope.now.settings.now scope.now.flights.now scope.now.base scope.now.base_price before.now)
+        (listing (8 - length others.now) scope.now.settings.now scope.now.flights.now first.now others.now)) }
 {
-    if others.len() >= LEGS || cannot_begin(plan.settings, first, others) {
+    if others.len() >= LEGS || cannot_begin(scope.settings, first, others) {
         return Ok(());
     }
-    let next = duty_from(plan.settings, first, others);
+    let next = duty_from(scope.settings, first, others);
     let longer = chain::followed_by(alloc, before, next)?;
-    if !keep_within_caps(plan.settings, &longer) {
+    if !keep_within_caps(scope.settings, &longer) {
         return Ok(());
     }
     let last = last_leg(first, others);
-    list_own(alloc, found, plan, &longer, last.deadhead)?;
-    for flight in plan.flights {
-        if may_come_next(plan.settings, &last.flight, flight) {
-            list_below(alloc, found, plan, before, first, others, flight)?;
+    list_own(alloc, found, scope, &longer, last.deadhead)?;
+    for flight in scope.flights {
+        if may_come_next(scope.settings, &last.flight, flight) {
+            list_below(alloc, found, scope, before, first, others, flight)?;
         }
     }
     Ok(())
@@ -175,28 +175,28 @@ fn list_legs(
 fn list_own(
     alloc: Global,
     found: &mut Vec<Partial>,
-    plan: &Plan<'_>,
+    scope: &Scope<'_>,
     duties: &[Duty],
     deadhead: bool,
 ) -> Result<(), AuditFault>
-    requires checked { IsChecked plan.now.settings.now }
-    requires flights { AreFlights plan.now.flights.now }
-    requires price { IsBasePrice plan.now.base_price }
-    requires few { length duties.now ≤ plan.now.settings.now.max_duties }
+    requires checked { IsChecked scope.now.settings.now }
+    requires flights { AreFlights scope.now.flights.now }
+    requires price { IsBasePrice scope.now.base_price }
+    requires few { length duties.now ≤ scope.now.settings.now.max_duties }
     requires ranges { Each IsInRange duties.now }
-    requires room { length found.old.items ≤ plan.now.limit }
-    ensures ok { OnOk result (found.new.items ≡ found.old.items ++ (if deadhead then [] else listed plan.now.settings.now plan.now.base plan.now.base_price duties.now
-        ∷ after (plan.now.settings.now.max_duties - length duties.now) plan.now.settings.now plan.now.flights.now plan.now.base plan.now.base_price duties.now)) }
-    ensures room { OnOk result (length found.new.items ≤ plan.now.limit) }
-    ensures over { result ≡ Err AuditFault.OverLimit → plan.now.limit < length found.old.items
-        + length (if deadhead then [] else listed plan.now.settings.now plan.now.base plan.now.base_price duties.now
-        ∷ after (plan.now.settings.now.max_duties - length duties.now) plan.now.settings.now plan.now.flights.now plan.now.base plan.now.base_price duties.now) }
+    requires room { length found.old.items ≤ scope.now.limit }
+    ensures ok { OnOk result (found.new.items ≡ found.old.items ++ (if deadhead then [] else listed scope.now.settings.now scope.now.base scope.now.base_price duties.now
+        ∷ after (scope.now.settings.now.max_duties - length duties.now) scope.now.settings.now scope.now.flights.now scope.now.base scope.now.base_price duties.now)) }
+    ensures room { OnOk result (length found.new.items ≤ scope.now.limit) }
+    ensures over { result ≡ Err AuditFault.OverLimit → scope.now.limit < length found.old.items
+        + length (if deadhead then [] else listed scope.now.settings.now scope.now.base scope.now.base_price duties.now
+        ∷ after (scope.now.settings.now.max_duties - length duties.now) scope.now.settings.now scope.now.flights.now scope.now.base scope.now.base_price duties.now) }
 {
     if deadhead {
         return Ok(());
     }
-    list_one(alloc, found, plan, duties)?;
-    list_after(alloc, found, plan, duties)
+    list_one(alloc, found, scope, duties)?;
+    list_after(alloc, found, scope, duties)
 }
 
 // Lists those that go on with a duty that begins with these legs and this flight, flown and then
@@ -205,33 +205,33 @@ fn list_own(
 fn list_below(
     alloc: Global,
     found: &mut Vec<Partial>,
-    plan: &Plan<'_>,
+    scope: &Scope<'_>,
     before: &[Duty],
     first: &TimedLeg,
     others: &[TimedLeg],
     flight: &Flight,
 ) -> Result<(), AuditFault>
-    requires checked { IsChecked plan.now.settings.now }
-    requires flights { AreFlights plan.now.flights.now }
-    requires price { IsBasePrice plan.now.base_price }
-    requires few { length before.now < plan.now.settings.now.max_duties }
+    requires checked { IsChecked scope.now.settings.now }
+    requires flights { AreFlights scope.now.flights.now }
+    requires price { IsBasePrice scope.now.base_price }
+    requires few { length before.now < scope.now.settings.now.max_duties }
     requires ranges { Each IsInRange before.now }
-    requires joins { may_join plan.now.base plan.now.settings.now before.now (duty_of plan.now.settings.now first.now others.now) ≡ true }
-    requires beginning { IsBeginning plan.now.settings.now plan.now.flights.now first.now others.now }
+    requires joins { may_join scope.now.base scope.now.settings.now before.now (duty_of scope.now.settings.now first.now others.now) ≡ true }
+    requires beginning { IsBeginning scope.now.settings.now scope.now.flights.now first.now others.now }
     requires legs { length others.now < 8 }
-    requires known { Member plan.now.flights.now flight.now }
-    requires follows { may_follow plan.now.settings.now (last_of first.now others.now).flight flight.now ≡ true }
-    requires room { length found.old.items ≤ plan.now.limit }
+    requires known { Member scope.now.flights.now flight.now }
+    requires follows { may_follow scope.now.settings.now (last_of first.now others.now).flight flight.now ≡ true }
+    requires room { length found.old.items ≤ scope.now.limit }
     ensures ok { OnOk result (found.new.items ≡ found.old.items
-        ++ flat_map (with_next (plan.now.settings.now.max_duties - (length before.now + 1)) plan.now.settings.now plan.now.flights.now plan.now.base plan.now.base_price before.now)
-        (below (7 - length others.now) plan.now.settings.now plan.now.flights.now first.now others.now flight.now)) }
-    ensures room { OnOk result (length found.new.items ≤ plan.now.limit) }
-    ensures over { result ≡ Err AuditFault.OverLimit → plan.now.limit < length found.old.items
-        + length (flat_map (with_next (plan.now.settings.now.max_duties - (length before.now + 1)) plan.now.settings.now plan.now.flights.now plan.now.base plan.now.base_price before.now)
-        (below (7 - length others.now) plan.now.settings.now plan.now.flights.now first.now others.now flight.now)) }
+        ++ flat_map (with_next (scope.now.settings.now.max_duties - (length before.now + 1)) scope.now.settings.now scope.now.flights.now scope.now.base scope.now.base_price before.now)
+        (below (7 - length others.now) scope.now.settings.now scope.now.flights.now first.now others.now flight.now)) }
+    ensures room { OnOk result (length found.new.items ≤ scope.now.limit) }
+    ensures over { result ≡ Err AuditFault.OverLimit → scope.now.limit < length found.old.items
+        + length (flat_map (with_next (scope.now.settings.now.max_duties - (length before.now + 1)) scope.now.settings.now scope.now.flights.now scope.now.base scope.now.base_price before.now)
+        (below (7 - length others.now) scope.now.settings.now scope.now.flights.now first.now others.now flight.now)) }
 {
     let flown = legs::followed_by(alloc, others, flight, false)?;
-    list_legs(alloc, found, plan, before, first, &flown)?;
+    list_legs(alloc, found, scope, before, first, &flown)?;
     let ridden = legs::followed_by(alloc, others, flight, true)?;
-    list_legs(alloc, found, plan, before, first, &ridden)
+    list_legs(alloc, found, scope, before, first, &ridden)
 }

@@ -11,7 +11,7 @@ ghost use Rattle.crew_duty.specs.Machinery.Plans.{IsPlan, rows};
 ghost use Rattle.crew_pairing.specs.declared.duty.Duty.{Duty};
 
 use crate::search::{DUTIES, DutyFault, Plan, count_from, list_from, next_places};
-use crew_flights::{Data, Flight};
+use crew_flights::{Timetable, Flight};
 use crew_pairing::Duty;
 use crew_rules::Settings;
 use rayon::current_num_threads;
@@ -71,11 +71,11 @@ impl Duties {
 }
 
 // The flights of a timetable, by number.
-fn held_flights(alloc: Global, data: &Data) -> Result<Vec<Flight>, AllocError>
-    ensures held { IfOk result (λ flights. flights.items ≡ flights_of data.now) }
-    ensures sound { IsSound data.now }
+fn held_flights(alloc: Global, timetable: &Timetable) -> Result<Vec<Flight>, AllocError>
+    ensures held { IfOk result (λ flights. flights.items ≡ flights_of timetable.now) }
+    ensures sound { IsSound timetable.now }
 {
-    data.flights().copied().collect(alloc)
+    timetable.flights().copied().collect(alloc)
 }
 
 // The lists one after another: the first takes in the others.
@@ -160,14 +160,14 @@ pub fn list_duties<R: Threads + Sync>(
     rt: &R,
     alloc: Global,
     settings: &Settings,
-    data: &Data,
+    timetable: &Timetable,
 ) -> Result<Duties, DutyFault>
     requires { IsChecked settings.now }
-    ensures listed { IfOk result (λ duties. AreDuties settings.now data.now duties) }
+    ensures listed { IfOk result (λ duties. AreDuties settings.now timetable.now duties) }
     ensures few { IfOk result (λ duties. length duties ≤ 200_000) }
-    ensures too_many { result ≡ Err DutyFault.TooManyDuties → HasTooMany settings.now data.now }
+    ensures too_many { result ≡ Err DutyFault.TooManyDuties → HasTooMany settings.now timetable.now }
 {
-    let flights = held_flights(alloc, data)?;
+    let flights = held_flights(alloc, timetable)?;
     let next = next_places(alloc, settings, &flights)?;
     let plan = Plan {
         settings,

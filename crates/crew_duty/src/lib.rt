@@ -5,6 +5,7 @@
 
 mod departures;
 mod duties;
+pub mod laws;
 mod limits;
 mod search;
 mod totals;

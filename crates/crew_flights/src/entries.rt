@@ -2,7 +2,7 @@
 
 ghost use Rattle.std.specs.Prelude.{◌≡◌, ◌∷◌, ◌++◌, [], List, IfOk, OnErr};
 
-use crate::data::Data;
+use crate::timetable::Timetable;
 use crate::edit::{Edit, Refusal, Verdict};
 use std::alloc::{AllocError, Global};
 use std::marker::Model;
@@ -20,7 +20,7 @@ pub struct Entry {
 /// A contract sees the timetable, and how many entries of each seat were in turn.
 #[derive(Drop)]
 pub struct Folding {
-    data: Data,
+    timetable: Timetable,
     turns: [u64; 256],
 }
 
@@ -32,7 +32,7 @@ impl Model for Folding {
 
     ghost coded = { standing_code };
 
-    ghost view = { λ f. record { timetable = f.data; turns = f.turns } };
+    ghost view = { λ f. record { timetable = f.timetable; turns = f.turns } };
 
     ghost invariant = { λ f. length f.turns ≡ 256 };
 }
@@ -46,7 +46,7 @@ impl Folding {
         ensures { HasTaken [] result }
     {
         Folding {
-            data: Data::new(alloc),
+            timetable: Timetable::new(alloc),
             turns: [0; 256],
         }
     }
@@ -62,23 +62,23 @@ impl Folding {
         if u64::from(entry.number) != turn {
             return Ok(Verdict::Refused(Refusal::OutOfTurn));
         }
-        let verdict = self.data.apply(&entry.edit)?;
+        let verdict = self.timetable.apply(&entry.edit)?;
         self.turns[entry.seat as usize] = turn + 1;
         Ok(verdict)
     }
 
     /// The timetable that the entries so far come to.
-    pub fn data(&self) -> &Data
+    pub fn timetable(&self) -> &Timetable
         ensures { result.now ≡ self.now.timetable }
     {
-        &self.data
+        &self.timetable
     }
 
     /// The timetable that the entries so far come to, kept.
-    pub fn into_data(self) -> Data
+    pub fn into_timetable(self) -> Timetable
         ensures { result ≡ self.timetable }
     {
-        self.data
+        self.timetable
     }
 
     /// The same fold again.
@@ -86,7 +86,7 @@ impl Folding {
         ensures { IfOk result (λ copied. copied ≡ self.now) }
     {
         Ok(Folding {
-            data: self.data.copy(alloc)?,
+            timetable: self.timetable.copy(alloc)?,
             turns: self.turns,
         })
     }
@@ -96,7 +96,7 @@ ghost use Rattle.crew_flights.specs.Fold.{fold_of};
 
 /// Takes entries in place order, from an empty timetable: the timetable that they come to, and
 /// a verdict for each.
-pub fn fold(alloc: Global, entries: &[Entry]) -> Result<(Data, Vec<Verdict>), AllocError>
+pub fn fold(alloc: Global, entries: &[Entry]) -> Result<(Timetable, Vec<Verdict>), AllocError>
     ensures { IfOk result (λ folded. (folded.0, folded.1.items) ≡ fold_of entries.now) }
 {
     let mut fold = Folding::new(alloc);
@@ -104,5 +104,5 @@ pub fn fold(alloc: Global, entries: &[Entry]) -> Result<(Data, Vec<Verdict>), Al
     for entry in entries {
         verdicts.push(fold.take(entry)?)?;
     }
-    Ok((fold.into_data(), verdicts))
+    Ok((fold.into_timetable(), verdicts))
 }

@@ -1,6 +1,6 @@
 pub mod ArenaLemmas
 pub mod PoolLocal
-pub mod TailLemmas
+pub mod LabelWalkLemmas
 pub mod MergeLemmas
 pub mod BoardLemmas
 pub mod RankLemmas

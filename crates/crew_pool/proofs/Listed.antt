@@ -10,7 +10,7 @@ use Rattle.crew_resource.specs.Resource.{OrderLaws}
 use Rattle.crew_resource.specs.Entries.{IsApart, PartedFromAll}
 use Rattle.crew_pool.specs.Apart.{ApartFromAll, AreApart}
 use Rattle.crew_pool.specs.Machinery.Meets.{vectors_of}
-use Rattle.crew_pool.specs.declared.tail.Tail.{Tail}
+use Rattle.crew_pool.specs.declared.label_walk.LabelWalk.{LabelWalk}
 
 pub map-itself : {X : Type 0} (xs : List X) → map (λ x. x) xs ≡ xs
 map-itself [] = refl
@@ -43,12 +43,12 @@ module _ {V : Type 0} (cmp : V → V → Ordering) (below : V → V → Bool) (t
   parted_before x y (v ∷ vs) l p h = (record { rises = total.trans x y v l p.0.rises; forth = h.0.0; back = h.0.1 }, parted_before x y vs l p.1 h.1)
 
   -- labels that are apart, sorted by vector first: their vectors rise
-  pub listed_apart : (order : V × Tail → V × Tail → Ordering) → ((a b : V × Tail) → is_lt (order a b) ≡ false → is_lt (cmp a.0 b.0) ≡ false)
-      → (xs : List (V × Tail)) → IsSortedBy (λ a b. is_lt (order a b)) xs → AreApart below (vectors_of xs) → IsApart cmp below (vectors_of xs)
+  pub listed_apart : (order : V × LabelWalk → V × LabelWalk → Ordering) → ((a b : V × LabelWalk) → is_lt (order a b) ≡ false → is_lt (cmp a.0 b.0) ≡ false)
+      → (xs : List (V × LabelWalk)) → IsSortedBy (λ a b. is_lt (order a b)) xs → AreApart below (vectors_of xs) → IsApart cmp below (vectors_of xs)
   listed_apart order by_vector [] s h = tt
   listed_apart order by_vector (x ∷ []) s h = (tt, tt)
   listed_apart order by_vector (x ∷ y ∷ xs) s h =
-      let lt = λ (a b : V × Tail). is_lt (order a b) in
+      let lt = λ (a b : V × LabelWalk). is_lt (order a b) in
       let rest = listed_apart order by_vector (y ∷ xs) (sorted_tail lt x (y ∷ xs) s) h.1 in
       let less : cmp x.0 y.0 ≡ Less =
       rises (cmp y.0 x.0) (cmp x.0 y.0) (total.antisymm y.0 x.0) (by_vector y x (first_pair lt x y xs s))

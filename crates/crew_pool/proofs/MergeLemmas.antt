@@ -14,21 +14,21 @@ use Rattle.crew_resource.proofs.Order.{IsOrder}
 use Rattle.crew_resource.proofs.Members.{Member-append, Member-append_left, Member-append_right, Member-filter_in, Member-filter_out, list_any_true, list_any_false, Member-at, Member-map_in, Member-map_out}
 use Rattle.crew_pool.specs.Apart.{ApartFromAll, AreApart}
 use Rattle.crew_pool.specs.Machinery.Meets.{is_free, vectors_of}
-use Rattle.crew_pool.specs.Tails.{IsPoolOf, lesser_tail, ranks_at_most, shown, tail_walk}
-use Rattle.crew_pool.specs.declared.tail.Tail.{Tail}
+use Rattle.crew_pool.specs.LabelWalks.{IsPoolOf, lesser_label_walk, ranks_at_most, shown, walk_of_label}
+use Rattle.crew_pool.specs.declared.label_walk.LabelWalk.{LabelWalk}
 use Rattle.crew_resource.proofs.Lists.{none_passes}
 use Rattle.crew_pool.proofs.Permuted.{Member-permuted}
 use Rattle.crew_pool.proofs.PoolLocal.{beaten_list, joined_list, tied_list}
-use Rattle.crew_pool.proofs.TailLemmas.{lesser_tail_facts, ranks_order}
+use Rattle.crew_pool.proofs.LabelWalkLemmas.{lesser_label_walk_facts, ranks_order}
 
 pub some_is : {X : Type 0} (a b : X) (o : Option X) → o ≡ Some a → o ≡ Some b → a ≡ b
 some_is a b o p q = cc
 
--- an item and what it is, after its tail was lowered
-pub same_label : {V : Type 0} (ws : List (List ℕ)) (tail : Tail) (a b : V × Tail) → a ≡ b → ◌≡◌ {A = V × Tail} (a.0, lesser_tail ws a.1 tail) (b.0, lesser_tail ws b.1 tail)
-same_label ws tail a b e = ap (λ x. (x.0, lesser_tail ws x.1 tail)) e
+-- an item and what it is, after its walk was lowered
+pub same_label : {V : Type 0} (ws : List (List ℕ)) (walk : LabelWalk) (a b : V × LabelWalk) → a ≡ b → ◌≡◌ {A = V × LabelWalk} (a.0, lesser_label_walk ws a.1 walk) (b.0, lesser_label_walk ws b.1 walk)
+same_label ws walk a b e = ap (λ x. (x.0, lesser_label_walk ws x.1 walk)) e
 
-map-map_first : {V : Type 0} (ws : List (List ℕ)) (xs : List (V × Tail)) → map (λ e. e.0) (map (shown ws) xs) ≡ vectors_of xs
+map-map_first : {V : Type 0} (ws : List (List ℕ)) (xs : List (V × LabelWalk)) → map (λ e. e.0) (map (shown ws) xs) ≡ vectors_of xs
 map-map_first ws [] = refl
 map-map_first ws (x ∷ xs) = ap (λ r. x.0 ∷ r) (map-map_first ws xs)
 
@@ -50,15 +50,15 @@ Member-set_out (z ∷ zs) (suc i) y x (inl e) = inl (inl e)
 Member-set_out (z ∷ zs) (suc i) y x (inr m) = ⊎_elim (λ k. inl (inr k)) inr (Member-set_out zs i y x m)
 
 -- a label after one was lowered was there, or is the one that met it
-pub lowered_from : {V : Type 0} (xs : List (V × Tail)) (i : ℕ) (l : V × Tail) (was : Tail) (ws : List (List ℕ)) (a : V × Tail) → slice_get xs i ≡ Some (l.0, was)
-    → Member (set xs i (l.0, lesser_tail ws was l.1)) a → Member xs a ⊎ (a ≡ l)
+pub lowered_from : {V : Type 0} (xs : List (V × LabelWalk)) (i : ℕ) (l : V × LabelWalk) (was : LabelWalk) (ws : List (List ℕ)) (a : V × LabelWalk) → slice_get xs i ≡ Some (l.0, was)
+    → Member (set xs i (l.0, lesser_label_walk ws was l.1)) a → Member xs a ⊎ (a ≡ l)
 lowered_from xs i l was ws a g m =
     ⊎_elim inl
     (λ e. ⊎_elim
     (λ f. inl (subst (Member xs) (sym (e ∙ ap (λ t. (l.0, t)) f)) (Member-at xs i (l.0, was) g)))
     (λ f. inr (e ∙ ap (λ t. (l.0, t)) f))
-    (lesser_tail_facts ws was l.1).0)
-    (Member-set_out xs i (l.0, lesser_tail ws was l.1) a m)
+    (lesser_label_walk_facts ws was l.1).0)
+    (Member-set_out xs i (l.0, lesser_label_walk ws was l.1) a m)
 
 filter-append : {X : Type 0} (q : X → Bool) (xs ys : List X) → filter q (xs ++ ys) ≡ filter q xs ++ filter q ys
 filter-append q [] ys = refl
@@ -82,35 +82,35 @@ map_filter-take_more f q cs xs i x h e =
     ∙ ap (λ r. cs ++ r) (sym (map-append f (filter q (take i xs)) (filter q (x ∷ []))) ∙ ap (map f) (filter-take_more q xs i x h e))
 
 module _ {V : Type 0} (below : V → V → Bool) where
-  ApartFromAll-filter : (q : V × Tail → Bool) (a : V) (xs : List (V × Tail)) → ApartFromAll below a (vectors_of xs) → ApartFromAll below a (vectors_of (filter q xs))
+  ApartFromAll-filter : (q : V × LabelWalk → Bool) (a : V) (xs : List (V × LabelWalk)) → ApartFromAll below a (vectors_of xs) → ApartFromAll below a (vectors_of (filter q xs))
   ApartFromAll-filter q a [] h = tt
   ApartFromAll-filter q a (x ∷ xs) h =
       let rest = ApartFromAll-filter q a xs h.1 in
       elim (q x) as (λ b. ApartFromAll below a (vectors_of (cond b (x ∷ filter q xs) (filter q xs)))) [ true ↦ (h.0, rest) | false ↦ rest ]
 
-  AreApart-filter : (q : V × Tail → Bool) (xs : List (V × Tail)) → AreApart below (vectors_of xs) → AreApart below (vectors_of (filter q xs))
+  AreApart-filter : (q : V × LabelWalk → Bool) (xs : List (V × LabelWalk)) → AreApart below (vectors_of xs) → AreApart below (vectors_of (filter q xs))
   AreApart-filter q [] h = tt
   AreApart-filter q (x ∷ xs) h =
       let rest = AreApart-filter q xs h.1 in
       let here = ApartFromAll-filter q x.0 xs h.0 in
       elim (q x) as (λ b. AreApart below (vectors_of (cond b (x ∷ filter q xs) (filter q xs)))) [ true ↦ (here, rest) | false ↦ rest ]
 
-  ApartFromAll-append : (a : V) (xs ys : List (V × Tail)) → ApartFromAll below a (vectors_of xs) → ((y : V × Tail) → Member ys y → (below a y.0 ≡ false) × (below y.0 a ≡ false)) → ApartFromAll below a (vectors_of (xs ++ ys))
+  ApartFromAll-append : (a : V) (xs ys : List (V × LabelWalk)) → ApartFromAll below a (vectors_of xs) → ((y : V × LabelWalk) → Member ys y → (below a y.0 ≡ false) × (below y.0 a ≡ false)) → ApartFromAll below a (vectors_of (xs ++ ys))
   ApartFromAll-append a [] [] h out = tt
   ApartFromAll-append a [] (y ∷ ys) h out = (out y (inl refl), ApartFromAll-append a [] ys tt (λ z m. out z (inr m)))
   ApartFromAll-append a (x ∷ xs) ys h out = (h.0, ApartFromAll-append a xs ys h.1 out)
 
-  pub AreApart-append : (xs ys : List (V × Tail)) → AreApart below (vectors_of xs) → AreApart below (vectors_of ys) → ((x y : V × Tail) → Member xs x → Member ys y → (below x.0 y.0 ≡ false) × (below y.0 x.0 ≡ false)) → AreApart below (vectors_of (xs ++ ys))
+  pub AreApart-append : (xs ys : List (V × LabelWalk)) → AreApart below (vectors_of xs) → AreApart below (vectors_of ys) → ((x y : V × LabelWalk) → Member xs x → Member ys y → (below x.0 y.0 ≡ false) × (below y.0 x.0 ≡ false)) → AreApart below (vectors_of (xs ++ ys))
   AreApart-append [] ys h k out = k
   AreApart-append (x ∷ xs) ys h k out = (ApartFromAll-append x.0 xs ys h.0 (λ y m. out x y (inl refl) m), AreApart-append xs ys h.1 k (λ a b m n. out a b (inr m) n))
 
   -- the labels of a merged pool are apart
-  pub merged_apart : (before xs list : List (V × Tail)) → IsPermutation (vectors_of before) (vectors_of xs) → AreApart below (vectors_of xs) → AreApart below (vectors_of list)
+  pub merged_apart : (before xs list : List (V × LabelWalk)) → IsPermutation (vectors_of before) (vectors_of xs) → AreApart below (vectors_of xs) → AreApart below (vectors_of list)
       → AreApart below (vectors_of (filter (λ e. not (list_any (λ l. below l.0 e.0) (filter (is_free below (vectors_of before)) list))) xs ++ filter (is_free below (vectors_of before)) list))
   merged_apart before xs list same h k =
       let free = is_free below (vectors_of before) in
       let joins = filter free list in
-      let stays = λ (e : V × Tail). not (list_any (λ l. below l.0 e.0) joins) in
+      let stays = λ (e : V × LabelWalk). not (list_any (λ l. below l.0 e.0) joins) in
       AreApart-append (filter stays xs) joins (AreApart-filter stays xs h) (AreApart-filter free list k)
       (λ x y m n.
       let p = Member-filter_out stays xs x m in
@@ -121,21 +121,21 @@ module _ {V : Type 0} (below : V → V → Bool) where
       ))
 
   -- the same labels stay free in any order
-  pub is_free-permuted : (us vs : List V) (l : V × Tail) → IsPermutation us vs → is_free below us l ≡ is_free below vs l
+  pub is_free-permuted : (us vs : List V) (l : V × LabelWalk) → IsPermutation us vs → is_free below us l ≡ is_free below vs l
   is_free-permuted us vs l p = ap not (list_any-IsPermutation (λ u. below u l.0) us vs p)
 
-  any_map : (v : V) (ys : List (V × Tail)) → list_any (λ u. below u v) (vectors_of ys) ≡ list_any (λ e. below e.0 v) ys
+  any_map : (v : V) (ys : List (V × LabelWalk)) → list_any (λ u. below u v) (vectors_of ys) ≡ list_any (λ e. below e.0 v) ys
   any_map v [] = refl
   any_map v (y ∷ ys) = ap (λ r. below y.0 v || r) (any_map v ys)
 
   -- no label is at most it
-  pub free_none : (xs : List (V × Tail)) (l : V × Tail) → position (λ e. below e.0 l.0) xs ≡ None → is_free below (vectors_of xs) l ≡ true
+  pub free_none : (xs : List (V × LabelWalk)) (l : V × LabelWalk) → position (λ e. below e.0 l.0) xs ≡ None → is_free below (vectors_of xs) l ≡ true
   free_none xs l none =
       let all = none_passes (λ e. below e.0 l.0) xs none in
       ap not (any_map l.0 xs ∙ list_any_none (λ e. below e.0 l.0) xs all)
 
   -- a label is at most it
-  pub free_some : (xs : List (V × Tail)) (l : V × Tail) (i : ℕ) → position (λ e. below e.0 l.0) xs ≡ Some i → is_free below (vectors_of xs) l ≡ false
+  pub free_some : (xs : List (V × LabelWalk)) (l : V × LabelWalk) (i : ℕ) → position (λ e. below e.0 l.0) xs ≡ Some i → is_free below (vectors_of xs) l ≡ false
   free_some xs l i p =
       let k = position-Some (λ e. below e.0 l.0) xs i l p in
       let e = get_or xs i l in
@@ -143,39 +143,39 @@ module _ {V : Type 0} (below : V → V → Bool) where
       ⊎_elim {C = is_free below (vectors_of xs) l ≡ false} (λ t. ap not t) (λ f. absurd (false≢true (sym (list_any_false (λ u. below u l.0) (vectors_of xs) f e.0 there) ∙ k.1))) (cases_Bool (list_any (λ u. below u l.0) (vectors_of xs)))
 
   -- the label at the place that was found is at most it
-  pub found_lower : (xs : List (V × Tail)) (l : V × Tail) (i : ℕ) → position (λ e. below e.0 l.0) xs ≡ Some i → (held : V × Tail) → slice_get xs i ≡ Some held → below held.0 l.0 ≡ true
+  pub found_lower : (xs : List (V × LabelWalk)) (l : V × LabelWalk) (i : ℕ) → position (λ e. below e.0 l.0) xs ≡ Some i → (held : V × LabelWalk) → slice_get xs i ≡ Some held → below held.0 l.0 ≡ true
   found_lower xs l i p held g =
       let k = position-Some (λ e. below e.0 l.0) xs i l p in
-      subst (λ (z : V × Tail). below z.0 l.0 ≡ true) (some_is (get_or xs i l) held (slice_get xs i) (slice_get-get_or xs i l k.0) g) k.1
+      subst (λ (z : V × LabelWalk). below z.0 l.0 ≡ true) (some_is (get_or xs i l) held (slice_get xs i) (slice_get-get_or xs i l k.0) g) k.1
 
   module _ (order : IsOrder below) (ws : List (List ℕ)) where
     -- its vector is there: the lesser walk stays
-    pub tied_local : (xs : List (V × Tail)) (i : ℕ) (v : V) (tail was : Tail) (cs : List (V × List ℕ)) → AreApart below (vectors_of xs) → slice_get xs i ≡ Some (v, was)
-        → IsPoolOf below cs (map (shown ws) xs) → IsPoolOf below (cs ++ (v, tail_walk ws tail) ∷ []) (map (shown ws) (set xs i (v, lesser_tail ws was tail)))
-    tied_local xs i v tail was cs apart g h =
-        let now = lesser_tail ws was tail in
-        let facts = lesser_tail_facts ws was tail in
-        subst (λ es. IsPoolOf below (cs ++ (v, tail_walk ws tail) ∷ []) es) (sym (map-set (shown ws) xs i (v, now)))
-        (tied_list V (List ℕ) below ranks_at_most order ranks_order cs (map (shown ws) xs) i v (tail_walk ws was) (tail_walk ws tail) (tail_walk ws now)
+    pub tied_local : (xs : List (V × LabelWalk)) (i : ℕ) (v : V) (walk was : LabelWalk) (cs : List (V × List ℕ)) → AreApart below (vectors_of xs) → slice_get xs i ≡ Some (v, was)
+        → IsPoolOf below cs (map (shown ws) xs) → IsPoolOf below (cs ++ (v, walk_of_label ws walk) ∷ []) (map (shown ws) (set xs i (v, lesser_label_walk ws was walk)))
+    tied_local xs i v walk was cs apart g h =
+        let now = lesser_label_walk ws was walk in
+        let facts = lesser_label_walk_facts ws was walk in
+        subst (λ es. IsPoolOf below (cs ++ (v, walk_of_label ws walk) ∷ []) es) (sym (map-set (shown ws) xs i (v, now)))
+        (tied_list V (List ℕ) below ranks_at_most order ranks_order cs (map (shown ws) xs) i v (walk_of_label ws was) (walk_of_label ws walk) (walk_of_label ws now)
         (subst (AreApart below) (sym (map-map_first ws xs)) apart) h (slice_get-map (shown ws) xs i (v, was) g)
-        (⊎_elim (λ e. inl (ap (tail_walk ws) e)) (λ e. inr (ap (tail_walk ws) e)) facts.0) facts.1 facts.2)
+        (⊎_elim (λ e. inl (ap (walk_of_label ws) e)) (λ e. inr (ap (walk_of_label ws) e)) facts.0) facts.1 facts.2)
 
     -- a label beats it
-    pub beaten_local : (xs : List (V × Tail)) (l e : V × Tail) (cs : List (V × List ℕ)) → Member xs e → below e.0 l.0 ≡ true → below l.0 e.0 ≡ false
+    pub beaten_local : (xs : List (V × LabelWalk)) (l e : V × LabelWalk) (cs : List (V × List ℕ)) → Member xs e → below e.0 l.0 ≡ true → below l.0 e.0 ≡ false
         → IsPoolOf below cs (map (shown ws) xs) → IsPoolOf below (cs ++ shown ws l ∷ []) (map (shown ws) xs)
     beaten_local xs l e cs m t f h =
-        beaten_list V (List ℕ) below ranks_at_most order ranks_order cs (map (shown ws) xs) l.0 (tail_walk ws l.1) (shown ws e) h (Member-map_in (shown ws) xs e m)
+        beaten_list V (List ℕ) below ranks_at_most order ranks_order cs (map (shown ws) xs) l.0 (walk_of_label ws l.1) (shown ws e) h (Member-map_in (shown ws) xs e m)
         (t, λ q. false≢true (sym f ∙ (ap (below l.0) q ∙ order.reflexive l.0)))
 
     -- the free ones join, and the labels that they are at most go
-    pub merged_local : (before xs list : List (V × Tail)) (cs : List (V × List ℕ)) → IsPermutation (vectors_of before) (vectors_of xs) → AreApart below (vectors_of list)
+    pub merged_local : (before xs list : List (V × LabelWalk)) (cs : List (V × List ℕ)) → IsPermutation (vectors_of before) (vectors_of xs) → AreApart below (vectors_of list)
         → IsPoolOf below (cs ++ map (shown ws) (filter (λ l. not (is_free below (vectors_of before) l)) list)) (map (shown ws) xs)
         → IsPoolOf below (cs ++ map (shown ws) list) (map (shown ws) (filter (λ e. not (list_any (λ l. below l.0 e.0) (filter (is_free below (vectors_of before)) list))) xs ++ filter (is_free below (vectors_of before)) list))
     merged_local before xs list cs same apart h =
         let free = is_free below (vectors_of before) in
         let met = filter (λ l. not (free l)) list in
         let joins = filter free list in
-        let stays = λ (e : V × Tail). not (list_any (λ l. below l.0 e.0) joins) in
+        let stays = λ (e : V × LabelWalk). not (list_any (λ l. below l.0 e.0) joins) in
         joined_list V (List ℕ) below ranks_at_most order ranks_order cs (map (shown ws) met) (map (shown ws) list) (map (shown ws) xs) (map (shown ws) joins) (map (shown ws) (filter stays xs ++ joins))
         h
         (subst (AreApart below) (sym (map-map_first ws joins)) (AreApart-filter free list apart))
@@ -225,7 +225,7 @@ module _ {V : Type 0} (below : V → V → Bool) where
         subst (Member (map (shown ws) (filter stays xs ++ joins))) p.2 (Member-map_in (shown ws) (filter stays xs ++ joins) p.0 (Member-append_right (filter stays xs) joins p.0 p.1)))
 
 -- of two vectors of which each is at most the other the held label has the newcomer's
-pub tied_at : {V : Type 0} (below : V → V → Bool) → IsOrder below → (xs : List (V × Tail)) (i : ℕ) (v : V) (e : V × Tail) → slice_get xs i ≡ Some e → below e.0 v ≡ true → below v e.0 ≡ true → slice_get xs i ≡ Some (v, e.1)
+pub tied_at : {V : Type 0} (below : V → V → Bool) → IsOrder below → (xs : List (V × LabelWalk)) (i : ℕ) (v : V) (e : V × LabelWalk) → slice_get xs i ≡ Some e → below e.0 v ≡ true → below v e.0 ≡ true → slice_get xs i ≡ Some (v, e.1)
 tied_at below order xs i v e g p q = g ∙ ap (λ z. Some (z, e.1)) (order.antisymmetric e.0 v p q)
 
 -- what holds anyway holds where there is an error

@@ -9,8 +9,8 @@ use Rattle.std.proofs.lemmas.List.Sums.{sum_by-cons}
 use Rattle.crew_resource.specs.Members.{Member}
 use Rattle.crew_pool.specs.Apart.{ApartFromAll, AreApart}
 use Rattle.crew_pool.specs.Machinery.Meets.{vectors_of}
-use Rattle.crew_pool.specs.Tails.{IsPoolOf, shown}
-use Rattle.crew_pool.specs.declared.tail.Tail.{Tail}
+use Rattle.crew_pool.specs.LabelWalks.{IsPoolOf, shown}
+use Rattle.crew_pool.specs.declared.label_walk.LabelWalk.{LabelWalk}
 use Rattle.crew_resource.proofs.Lists.{Member-All}
 
 all_members : {X : Type 0} (P : X → Type 0) (xs : List X) → ((x : X) → Member xs x → P x) → AllByRecursion P xs
@@ -120,11 +120,11 @@ module _ {V : Type 0} (below : V → V → Bool) (reflexive : (a : V) → below 
   AreApart-permuted us vs p h =
       apart_of_once vs (λ a m. sum_by-IsPermutation (hits a) us vs p ∙ reached_once us h a (Member-permuted vs us (IsPermutation-sym us vs p) a m))
 
-  pub labels-permuted : (xs ys : List (V × Tail)) → IsPermutation xs ys → AreApart below (vectors_of xs) → AreApart below (vectors_of ys)
+  pub labels-permuted : (xs ys : List (V × LabelWalk)) → IsPermutation xs ys → AreApart below (vectors_of xs) → AreApart below (vectors_of ys)
   labels-permuted xs ys p h = AreApart-permuted (vectors_of xs) (vectors_of ys) (IsPermutation-map (λ l. l.0) xs ys p) h
 
 -- what candidates leave has no order
-pub IsPoolOf-permuted : {V : Type 0} (below : V → V → Bool) (ws : List (List ℕ)) (cs : List (V × List ℕ)) (xs ys : List (V × Tail)) → IsPermutation xs ys
+pub IsPoolOf-permuted : {V : Type 0} (below : V → V → Bool) (ws : List (List ℕ)) (cs : List (V × List ℕ)) (xs ys : List (V × LabelWalk)) → IsPermutation xs ys
     → IsPoolOf below cs (map (shown ws) xs) → IsPoolOf below cs (map (shown ws) ys)
 IsPoolOf-permuted below ws cs xs ys p h =
     let us = map (shown ws) xs in

@@ -12,7 +12,7 @@ use Rattle.crew_pairing.specs.declared.duty.Duty.{Duty}
 use Rattle.crew_pairing.specs.Legs.{Leg}
 use Rattle.crew_pairing.specs.Local.{IsLocalOf}
 use Rattle.crew_pool.specs.Ranks.{AreRanked, by_key, key_at}
-use Rattle.crew_pool.specs.Tails.{IsPoolOf}
+use Rattle.crew_pool.specs.LabelWalks.{IsPoolOf}
 use Rattle.crew_resource.proofs.Members.{Member-map_in, Member-map_out}
 
 later : (d : Duty) (ds : List Duty) (a : ℕ) → Each (λ e. key_cmp d.key e.key ≡ Less) ds → a < length ds → key_cmp d.key (key_at ds a) ≡ Less

@@ -1,6 +1,6 @@
 pub mod Arena
 pub mod Apart
-pub mod Tails
+pub mod LabelWalks
 pub mod Ranks
 pub mod Counted
 pub mod Machinery

@@ -6,12 +6,12 @@ ghost use Rattle.crew_resource.specs.Events.{labelled};
 ghost use Rattle.crew_resource.specs.Members.{Member};
 ghost use Rattle.crew_pool.specs.Counted.{AreCounted, boarded_label, boarded_labels};
 ghost use Rattle.crew_pool.specs.Machinery.Meets.{vectors_of};
-ghost use Rattle.crew_pool.specs.Tails.{IsPoolOf, shown};
+ghost use Rattle.crew_pool.specs.LabelWalks.{IsPoolOf, shown};
 
 use crate::arena::Walks;
 use crate::pool::Pool;
-use crate::room::Room;
-use crate::tail::Tail;
+use crate::workspace::Workspace;
+use crate::label_walk::LabelWalk;
 use crew_resource::{Placed, Resource, Staged};
 use std::alloc::AllocError;
 
@@ -25,7 +25,7 @@ use std::alloc::AllocError;
 pub fn absorb_boarding<P: Placed, R: Staged<P>>(
     resource: &R,
     pool: &mut Pool<R>,
-    room: &mut Room<R::Value>,
+    room: &mut Workspace<R::Value>,
     list: &Pool<R>,
     item: &P,
     duty: u32,
@@ -34,7 +34,7 @@ pub fn absorb_boarding<P: Placed, R: Staged<P>>(
     requires shift { R.is_shift resource.now }
     requires counting { (most : ℕ) × (R.most resource.now ≡ Some most) }
     requires duty { duty < 4_294_967_295 }
-    requires can { (l : R.Value × Tail) → Member list.now l → R.can_board resource.now l.0 item.now }
+    requires can { (l : R.Value × LabelWalk) → Member list.now l → R.can_board resource.now l.0 item.now }
     requires pool_counts { AreCounted (R.count_of resource.now) walks.now false pool.old }
     requires list_counts { AreCounted (R.count_of resource.now) walks.now true list.now }
     ensures local { OnOk result ((candidates : List (R.Value × List ℕ)) → IsPoolOf R.below candidates (map (shown walks.now) pool.old) → IsPoolOf R.below (candidates ++ flat_map (λ e. labelled (R.boards resource.now e.0 item.now) (e.1 ++ duty ∷ [])) (map (shown walks.now) list.now)) (map (shown walks.now) pool.new)) }
@@ -49,12 +49,12 @@ pub fn absorb_boarding<P: Placed, R: Staged<P>>(
 // The labels of a list that board an item.
 fn board_all<P: Placed, R: Staged<P>>(
     resource: &R,
-    boarded: &mut Vec<(R::Value, Tail)>,
-    list: &[(R::Value, Tail)],
+    boarded: &mut Vec<(R::Value, LabelWalk)>,
+    list: &[(R::Value, LabelWalk)],
     item: &P,
     duty: u32,
 ) -> Result<(), AllocError>
-    requires { (l : R.Value × Tail) → Member list.now l → R.can_board resource.now l.0 item.now }
+    requires { (l : R.Value × LabelWalk) → Member list.now l → R.can_board resource.now l.0 item.now }
     ensures { OnOk result (boarded.new.items ≡ boarded_labels (λ v. R.boards resource.now v item.now) duty list.now) }
 {
     boarded.clear();
@@ -67,8 +67,8 @@ fn board_all<P: Placed, R: Staged<P>>(
 // A label boards an item, if it can.
 fn board_one<P: Placed, R: Staged<P>>(
     resource: &R,
-    boarded: &mut Vec<(R::Value, Tail)>,
-    label: &(R::Value, Tail),
+    boarded: &mut Vec<(R::Value, LabelWalk)>,
+    label: &(R::Value, LabelWalk),
     item: &P,
     duty: u32,
 ) -> Result<(), AllocError>
@@ -79,6 +79,6 @@ fn board_one<P: Placed, R: Staged<P>>(
         return Ok(());
     };
     let walk = label.1.walk;
-    boarded.push((value, Tail { walk, duty }))?;
+    boarded.push((value, LabelWalk { walk, duty }))?;
     Ok(())
 }

@@ -4,9 +4,9 @@ ghost use Rattle.std.specs.Cmp.Lexicographic.{slice_cmp};
 ghost use Rattle.std.specs.Ordering.{nat_cmp};
 ghost use Rattle.crew_pool.specs.Arena.{walk_at};
 ghost use Rattle.crew_pool.specs.Machinery.ArenaLinks.{all_walks, AreLinked};
-ghost use Rattle.crew_pool.specs.Tails.{duty_of, tail_walk};
+ghost use Rattle.crew_pool.specs.LabelWalks.{duty_of, walk_of_label};
 
-use crate::tail::{NO_DUTY, Tail};
+use crate::label_walk::{NO_DUTY, LabelWalk};
 use std::alloc::{AllocError, Global};
 use std::cmp::Ordering;
 use std::marker::Model;
@@ -74,12 +74,12 @@ impl Walks {
         compare_links(&self.links, a, b)
     }
 
-    /// The walk of a tail, by rank, from its first duty on.
-    pub fn ranks(&self, alloc: Global, tail: Tail) -> Result<Vec<u32>, AllocError>
-        requires { tail.walk < length self.now }
-        ensures { IfOk result (λ ranks. ranks.items ≡ tail_walk self.now tail) }
+    /// The walk of a label, by rank, from its first duty on.
+    pub fn ranks(&self, alloc: Global, label: LabelWalk) -> Result<Vec<u32>, AllocError>
+        requires { label.walk < length self.now }
+        ensures { IfOk result (λ ranks. ranks.items ≡ walk_of_label self.now label) }
     {
-        ranks_of(alloc, &self.links, tail)
+        ranks_of(alloc, &self.links, label)
     }
 }
 
@@ -104,14 +104,14 @@ fn compare_links(links: &[Link], a: u32, b: u32) -> Ordering
     order
 }
 
-// The walk of a tail: from its last duty back, and then turned round.
-fn ranks_of(alloc: Global, links: &[Link], tail: Tail) -> Result<Vec<u32>, AllocError>
+// The walk of a label: from its last duty back, and then turned round.
+fn ranks_of(alloc: Global, links: &[Link], label: LabelWalk) -> Result<Vec<u32>, AllocError>
     requires linked { AreLinked 0 links.now }
-    requires walk { tail.walk < length (all_walks links.now) }
-    ensures { IfOk result (λ ranks. ranks.items ≡ tail_walk (all_walks links.now) tail) }
+    requires walk { label.walk < length (all_walks links.now) }
+    ensures { IfOk result (λ ranks. ranks.items ≡ walk_of_label (all_walks links.now) label) }
 {
-    let mut ranks = last_of(alloc, tail.duty)?;
-    let mut place = tail.walk;
+    let mut ranks = last_of(alloc, label.duty)?;
+    let mut place = label.walk;
     while place != 0 {
         let link = links[place as usize - 1];
         ranks.push(link.duty)?;

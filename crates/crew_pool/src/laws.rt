@@ -5,7 +5,7 @@ ghost use Rattle.crew_pairing.specs.declared.duty.Duty.{Duty};
 ghost use Rattle.crew_flights.specs.Timetable.{Timetable};
 ghost use Rattle.crew_pairing.specs.Local.{IsLocalOf};
 ghost use Rattle.crew_pool.specs.Ranks.{AreRanked, by_key};
-ghost use Rattle.crew_pool.specs.Tails.{IsPoolOf};
+ghost use Rattle.crew_pool.specs.LabelWalks.{IsPoolOf};
 ghost use Rattle.crew_rules.specs.declared.settings.Settings.{Settings};
 
 use crew_resource::Resource;

@@ -9,14 +9,14 @@ mod entries;
 pub mod laws;
 mod merge;
 mod pool;
-mod room;
-mod tail;
+mod workspace;
+mod label_walk;
 mod view;
 
 pub use absorb::absorb_boarding;
 pub use arena::Walks;
 pub use entries::Entries;
 pub use pool::Pool;
-pub use room::Room;
-pub use tail::{NO_DUTY, Tail};
+pub use workspace::Workspace;
+pub use label_walk::{LabelWalk, NO_DUTY};
 pub use view::View;

@@ -4,11 +4,11 @@ ghost use Rattle.std.specs.List.{filter, list_any, position};
 ghost use Rattle.std.specs.List.Sorted.{IsPermutation};
 ghost use Rattle.crew_resource.specs.Members.{Member};
 ghost use Rattle.crew_pool.specs.Apart.{AreApart};
-ghost use Rattle.crew_pool.specs.Tails.{AreAlike, AreAlikeWhereSame, IsPoolOf, lesser_tail, shown};
+ghost use Rattle.crew_pool.specs.LabelWalks.{AreAlike, AreAlikeWhereSame, IsPoolOf, lesser_label_walk, shown};
 ghost use Rattle.crew_pool.specs.Machinery.Meets.{is_free, vectors_of};
 
 use crate::arena::Walks;
-use crate::tail::{Tail, compare_tails};
+use crate::label_walk::{LabelWalk, compare_label_walks};
 use crew_resource::Resource;
 use std::alloc::AllocError;
 
@@ -20,9 +20,9 @@ const SETTLED: usize = 4;
 // The free ones wait in the room until all have met the labels; then they join, and those that they are at most go.
 pub(crate) fn merge_labels<R: Resource>(
     resource: &R,
-    labels: &mut Vec<(R::Value, Tail)>,
-    room: &mut Vec<(R::Value, Tail)>,
-    list: &[(R::Value, Tail)],
+    labels: &mut Vec<(R::Value, LabelWalk)>,
+    room: &mut Vec<(R::Value, LabelWalk)>,
+    list: &[(R::Value, LabelWalk)],
     walks: &Walks,
 ) -> Result<(), AllocError>
     requires labels { AreApart R.below (vectors_of labels.old.items) }
@@ -31,7 +31,7 @@ pub(crate) fn merge_labels<R: Resource>(
     requires within { AreAlikeWhereSame walks.now list.now list.now }
     ensures local { OnOk result ((candidates : List (R.Value × List ℕ)) → IsPoolOf R.below candidates (map (shown walks.now) labels.old.items) → IsPoolOf R.below (candidates ++ map (shown walks.now) list.now) (map (shown walks.now) labels.new.items)) }
     ensures apart { AreApart R.below (vectors_of labels.new.items) }
-    ensures from { (a : R.Value × Tail) → Member labels.new.items a → Member labels.old.items a ⊎ Member list.now a }
+    ensures from { (a : R.Value × LabelWalk) → Member labels.new.items a → Member labels.old.items a ⊎ Member list.now a }
     ensures err { OnErr result (IsPermutation (vectors_of labels.old.items) (vectors_of labels.new.items)) }
 {
     room.clear();
@@ -48,15 +48,15 @@ pub(crate) fn merge_labels<R: Resource>(
 // the lesser walk stays.
 fn meet<R: Resource>(
     resource: &R,
-    labels: &mut Vec<(R::Value, Tail)>,
-    room: &mut Vec<(R::Value, Tail)>,
-    label: &(R::Value, Tail),
+    labels: &mut Vec<(R::Value, LabelWalk)>,
+    room: &mut Vec<(R::Value, LabelWalk)>,
+    label: &(R::Value, LabelWalk),
     walks: &Walks,
 ) -> Result<(), AllocError>
     requires apart { AreApart R.below (vectors_of labels.old.items) }
-    requires alike { (a : R.Value × Tail) → Member labels.old.items a → a.0 ≡ label.now.0 → AreAlike walks.now a.1 label.now.1 }
+    requires alike { (a : R.Value × LabelWalk) → Member labels.old.items a → a.0 ≡ label.now.0 → AreAlike walks.now a.1 label.now.1 }
     ensures vectors { IsPermutation (vectors_of labels.old.items) (vectors_of labels.new.items) }
-    ensures from { (a : R.Value × Tail) → Member labels.new.items a → Member labels.old.items a ⊎ (a ≡ label.now) }
+    ensures from { (a : R.Value × LabelWalk) → Member labels.new.items a → Member labels.old.items a ⊎ (a ≡ label.now) }
     ensures room { OnOk result (room.new.items ≡ room.old.items ++ filter (is_free R.below (vectors_of labels.old.items)) (label.now ∷ [])) }
     ensures local { OnOk result ((candidates : List (R.Value × List ℕ)) → IsPoolOf R.below candidates (map (shown walks.now) labels.old.items) → IsPoolOf R.below (candidates ++ map (shown walks.now) (filter (λ l. not (is_free R.below (vectors_of labels.old.items) l)) (label.now ∷ []))) (map (shown walks.now) labels.new.items)) }
 {
@@ -72,18 +72,18 @@ fn meet<R: Resource>(
 // A label yields to the one at a place, which is at most it: where it has the same vector, the lesser walk stays.
 fn yield_to<R: Resource>(
     resource: &R,
-    labels: &mut Vec<(R::Value, Tail)>,
+    labels: &mut Vec<(R::Value, LabelWalk)>,
     place: usize,
-    label: &(R::Value, Tail),
+    label: &(R::Value, LabelWalk),
     walks: &Walks,
 )
     requires place { place < vec_len labels.old }
-    requires lower { (held : R.Value × Tail) → slice_get labels.old.items place ≡ Some held → R.below held.0 label.now.0 ≡ true }
+    requires lower { (held : R.Value × LabelWalk) → slice_get labels.old.items place ≡ Some held → R.below held.0 label.now.0 ≡ true }
     requires apart { AreApart R.below (vectors_of labels.old.items) }
-    requires alike { (a : R.Value × Tail) → Member labels.old.items a → a.0 ≡ label.now.0 → AreAlike walks.now a.1 label.now.1 }
+    requires alike { (a : R.Value × LabelWalk) → Member labels.old.items a → a.0 ≡ label.now.0 → AreAlike walks.now a.1 label.now.1 }
     ensures vectors { vectors_of labels.new.items ≡ vectors_of labels.old.items }
     ensures long { vec_len labels.new ≡ vec_len labels.old }
-    ensures from { (a : R.Value × Tail) → Member labels.new.items a → Member labels.old.items a ⊎ (a ≡ label.now) }
+    ensures from { (a : R.Value × LabelWalk) → Member labels.new.items a → Member labels.old.items a ⊎ (a ≡ label.now) }
     ensures local { (candidates : List (R.Value × List ℕ)) → IsPoolOf R.below candidates (map (shown walks.now) labels.old.items) → IsPoolOf R.below (candidates ++ shown walks.now label.now ∷ []) (map (shown walks.now) labels.new.items) }
 {
     if resource.at_most(&label.0, &labels[place].0) {
@@ -92,7 +92,7 @@ fn yield_to<R: Resource>(
 }
 
 // Moves a label halfway to the front, so that those that rule out many are found soon.
-fn drift<V: Drop>(labels: &mut Vec<(V, Tail)>, place: usize)
+fn drift<V: Drop>(labels: &mut Vec<(V, LabelWalk)>, place: usize)
     requires { place < vec_len labels.old }
     ensures { IsPermutation labels.old.items labels.new.items }
 {
@@ -101,23 +101,23 @@ fn drift<V: Drop>(labels: &mut Vec<(V, Tail)>, place: usize)
     }
 }
 
-// Puts the tail with the lesser walk into a label.
-fn lower<V: Drop>(labels: &mut Vec<(V, Tail)>, place: usize, tail: Tail, walks: &Walks)
+// Puts the lesser of its walk and this one into a label.
+fn lower<V: Drop>(labels: &mut Vec<(V, LabelWalk)>, place: usize, walk: LabelWalk, walks: &Walks)
     requires place { place < vec_len labels.old }
-    requires alike { (value : V) (was : Tail) → slice_get labels.old.items place ≡ Some (value, was) → AreAlike walks.now was tail }
+    requires alike { (value : V) (was : LabelWalk) → slice_get labels.old.items place ≡ Some (value, was) → AreAlike walks.now was walk }
     ensures long { vec_len labels.new ≡ vec_len labels.old }
-    ensures lowered { (value : V) (was : Tail) → slice_get labels.old.items place ≡ Some (value, was) → labels.new.items ≡ slice_set labels.old.items place (value, lesser_tail walks.now was tail) }
+    ensures lowered { (value : V) (was : LabelWalk) → slice_get labels.old.items place ≡ Some (value, was) → labels.new.items ≡ slice_set labels.old.items place (value, lesser_label_walk walks.now was walk) }
 {
     let label = &mut labels[place];
-    if compare_tails(walks, tail, label.1).is_lt() {
-        label.1 = tail;
+    if compare_label_walks(walks, walk, label.1).is_lt() {
+        label.1 = walk;
     }
 }
 
 // The place of the first label that is at most the vector.
 fn first_at_most<R: Resource>(
     resource: &R,
-    labels: &[(R::Value, Tail)],
+    labels: &[(R::Value, LabelWalk)],
     value: &R::Value,
 ) -> Option<usize>
     ensures { result ≡ position (λ l. R.below l.0 value.now) labels.now }
@@ -128,7 +128,7 @@ fn first_at_most<R: Resource>(
 }
 
 // Whether a label is at most the vector.
-fn is_reached<R: Resource>(resource: &R, labels: &[(R::Value, Tail)], value: &R::Value) -> bool
+fn is_reached<R: Resource>(resource: &R, labels: &[(R::Value, LabelWalk)], value: &R::Value) -> bool
     ensures { result ≡ list_any (λ l. R.below l.0 value.now) labels.now }
 {
     labels.iter().any(|label| resource.at_most(&label.0, value))
@@ -137,8 +137,8 @@ fn is_reached<R: Resource>(resource: &R, labels: &[(R::Value, Tail)], value: &R:
 // Lets go of the labels that one of these is at most.
 fn drop_reached<R: Resource>(
     resource: &R,
-    labels: &mut Vec<(R::Value, Tail)>,
-    joins: &[(R::Value, Tail)],
+    labels: &mut Vec<(R::Value, LabelWalk)>,
+    joins: &[(R::Value, LabelWalk)],
 )
     ensures kept { labels.new.items ≡ filter (λ e. not (list_any (λ l. R.below l.0 e.0) joins.now)) labels.old.items }
     ensures fewer { vec_len labels.new ≤ vec_len labels.old }

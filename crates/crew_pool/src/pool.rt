@@ -5,13 +5,13 @@ ghost use Rattle.std.specs.Slice.Iter.{iter_rest};
 ghost use Rattle.crew_resource.specs.Members.{Member};
 ghost use Rattle.crew_pool.specs.Apart.{AreApart};
 ghost use Rattle.crew_pool.specs.Machinery.Meets.{vectors_of};
-ghost use Rattle.crew_pool.specs.Tails.{AreAlikeWhereSame, IsPoolOf, shown};
-ghost use Rattle.crew_pool.specs.declared.tail.Tail.{Tail};
+ghost use Rattle.crew_pool.specs.LabelWalks.{AreAlikeWhereSame, IsPoolOf, shown};
+ghost use Rattle.crew_pool.specs.declared.label_walk.LabelWalk.{LabelWalk};
 
 use crate::arena::Walks;
 use crate::merge::merge_labels;
-use crate::room::Room;
-use crate::tail::Tail;
+use crate::workspace::Workspace;
+use crate::label_walk::LabelWalk;
 use crew_resource::Resource;
 use std::alloc::{AllocError, Global};
 use std::marker::Model;
@@ -22,11 +22,11 @@ use std::slice;
 /// A contract sees the list of the labels. Their order is free, and statements on pools speak of membership.
 #[derive(Drop)]
 pub struct Pool<R: Resource> {
-    labels: Vec<(R::Value, Tail)>,
+    labels: Vec<(R::Value, LabelWalk)>,
 }
 
 impl<R: Resource> Model for Pool<R> {
-    ghost Value = { List (R.Value × Tail) };
+    ghost Value = { List (R.Value × LabelWalk) };
 
     ghost view = { λ p. p.labels.items };
 
@@ -44,7 +44,7 @@ impl<R: Resource> Pool<R> {
     }
 
     /// The labels of a list, of which none is at most another.
-    pub fn from_apart(labels: Vec<(R::Value, Tail)>) -> Self
+    pub fn from_apart(labels: Vec<(R::Value, LabelWalk)>) -> Self
         requires { AreApart R.below (vectors_of labels.items) }
         ensures { result ≡ labels.items }
     {
@@ -66,7 +66,7 @@ impl<R: Resource> Pool<R> {
     }
 
     /// The labels: none is at most another.
-    pub fn as_slice(&self) -> &[(R::Value, Tail)]
+    pub fn as_slice(&self) -> &[(R::Value, LabelWalk)]
         ensures all { result.now ≡ self.now }
         ensures apart { AreApart R.below (vectors_of self.now) }
     {
@@ -74,7 +74,7 @@ impl<R: Resource> Pool<R> {
     }
 
     /// The labels, one by one.
-    pub fn iter(&self) -> slice::Iter<'_, (R::Value, Tail)>
+    pub fn iter(&self) -> slice::Iter<'_, (R::Value, LabelWalk)>
         ensures all { iter_rest result ≡ self.now }
         ensures apart { AreApart R.below (vectors_of self.now) }
     {
@@ -107,14 +107,14 @@ impl<R: Resource> Pool<R> {
     pub fn merge(
         &mut self,
         resource: &R,
-        room: &mut Room<R::Value>,
+        room: &mut Workspace<R::Value>,
         list: &Pool<R>,
         walks: &Walks,
     ) -> Result<(), AllocError>
         requires between { AreAlikeWhereSame walks.now self.old list.now }
         requires within { AreAlikeWhereSame walks.now list.now list.now }
         ensures local { OnOk result ((candidates : List (R.Value × List ℕ)) → IsPoolOf R.below candidates (map (shown walks.now) self.old) → IsPoolOf R.below (candidates ++ map (shown walks.now) list.now) (map (shown walks.now) self.new)) }
-        ensures from { (a : R.Value × Tail) → Member self.new a → Member self.old a ⊎ Member list.now a }
+        ensures from { (a : R.Value × LabelWalk) → Member self.new a → Member self.old a ⊎ Member list.now a }
         ensures err { OnErr result (IsPermutation (vectors_of self.old) (vectors_of self.new)) }
     {
         self.merge_list(resource, &mut room.free, list.as_slice(), walks)?;
@@ -125,15 +125,15 @@ impl<R: Resource> Pool<R> {
     pub(crate) fn merge_list(
         &mut self,
         resource: &R,
-        room: &mut Vec<(R::Value, Tail)>,
-        list: &[(R::Value, Tail)],
+        room: &mut Vec<(R::Value, LabelWalk)>,
+        list: &[(R::Value, LabelWalk)],
         walks: &Walks,
     ) -> Result<(), AllocError>
         requires list { AreApart R.below (vectors_of list.now) }
         requires between { AreAlikeWhereSame walks.now self.old list.now }
         requires within { AreAlikeWhereSame walks.now list.now list.now }
         ensures local { OnOk result ((candidates : List (R.Value × List ℕ)) → IsPoolOf R.below candidates (map (shown walks.now) self.old) → IsPoolOf R.below (candidates ++ map (shown walks.now) list.now) (map (shown walks.now) self.new)) }
-        ensures from { (a : R.Value × Tail) → Member self.new a → Member self.old a ⊎ Member list.now a }
+        ensures from { (a : R.Value × LabelWalk) → Member self.new a → Member self.old a ⊎ Member list.now a }
         ensures err { OnErr result (IsPermutation (vectors_of self.old) (vectors_of self.new)) }
     {
         merge_labels(resource, &mut self.labels, room, list, walks)?;

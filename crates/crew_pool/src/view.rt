@@ -8,12 +8,12 @@ ghost use Rattle.crew_resource.specs.Entries.{IsApart};
 ghost use Rattle.crew_pool.specs.Apart.{AreApart};
 ghost use Rattle.crew_pool.specs.Counted.{boarded_labels, AreWhole};
 ghost use Rattle.crew_pool.specs.Machinery.Meets.{vectors_of};
-ghost use Rattle.crew_pool.specs.Tails.{shown};
-ghost use Rattle.crew_pool.specs.declared.tail.Tail.{Tail};
+ghost use Rattle.crew_pool.specs.LabelWalks.{shown};
+ghost use Rattle.crew_pool.specs.declared.label_walk.LabelWalk.{LabelWalk};
 
 use crate::entries::Entries;
 use crate::pool::Pool;
-use crate::tail::Tail;
+use crate::label_walk::LabelWalk;
 use crew_resource::{Placed, Resource, Staged};
 use std::alloc::{AllocError, Global};
 use std::marker::Model;
@@ -25,24 +25,24 @@ use std::marker::Model;
 #[derive(Drop)]
 pub struct View<'a, P: Placed, R: Staged<P>> {
     resource: &'a R,
-    labels: &'a [(R::Value, Tail)],
+    labels: &'a [(R::Value, LabelWalk)],
     item: &'a P,
     duty: u32,
 }
 
 impl<'a, P: Placed, R: Staged<P>> Model for View<'a, P, R> {
-    ghost Value = { List (R.Value × Tail) };
+    ghost Value = { List (R.Value × LabelWalk) };
 
     ghost view = { λ v. boarded_labels (λ u. R.boards v.resource.now u v.item.now) v.duty v.labels.now };
 
-    ghost invariant = { λ v. ((l : R.Value × Tail) → Member v.labels.now l → R.can_board v.resource.now l.0 v.item.now) × AreApart R.below (vectors_of (boarded_labels (λ u. R.boards v.resource.now u v.item.now) v.duty v.labels.now)) };
+    ghost invariant = { λ v. ((l : R.Value × LabelWalk) → Member v.labels.now l → R.can_board v.resource.now l.0 v.item.now) × AreApart R.below (vectors_of (boarded_labels (λ u. R.boards v.resource.now u v.item.now) v.duty v.labels.now)) };
 }
 
 impl<'a, P: Placed, R: Staged<P>> View<'a, P, R> {
     /// The view of a pool at a duty of this rank. The pool's labels stand whole, with no duty after their walks.
     pub fn new(resource: &'a R, pool: &'a Pool<R>, item: &'a P, duty: u32) -> Self
         requires shift { R.is_shift resource.now }
-        requires can { (l : R.Value × Tail) → Member pool.now l → R.can_board resource.now l.0 item.now }
+        requires can { (l : R.Value × LabelWalk) → Member pool.now l → R.can_board resource.now l.0 item.now }
         requires duty { duty < 4_294_967_295 }
         requires whole { AreWhole pool.now }
         ensures labels { result ≡ boarded_labels (λ v. R.boards resource.now v item.now) duty pool.now }
@@ -79,7 +79,7 @@ impl<'a, P: Placed, R: Staged<P>> View<'a, P, R> {
     }
 
     /// The entries in order of vector.
-    pub fn list(&self, alloc: Global) -> Result<Vec<(R::Value, Tail)>, AllocError>
+    pub fn list(&self, alloc: Global) -> Result<Vec<(R::Value, LabelWalk)>, AllocError>
         ensures same { IfOk result (λ list. IsPermutation self.now list.items) }
         ensures rises { IfOk result (λ list. IsApart R.Value.cmp R.below (vectors_of list.items)) }
     {
@@ -95,10 +95,10 @@ impl<'a, P: Placed, R: Staged<P>> View<'a, P, R> {
 // How many labels board an item.
 fn count_boarding<P: Placed, R: Staged<P>>(
     resource: &R,
-    labels: &[(R::Value, Tail)],
+    labels: &[(R::Value, LabelWalk)],
     item: &P,
 ) -> usize
-    requires { (l : R.Value × Tail) → Member labels.now l → R.can_board resource.now l.0 item.now }
+    requires { (l : R.Value × LabelWalk) → Member labels.now l → R.can_board resource.now l.0 item.now }
     ensures { (duty : ℕ) → result ≡ length (boarded_labels (λ v. R.boards resource.now v item.now) duty labels.now) }
 {
     let mut count = 0;

@@ -4,6 +4,7 @@ pub mod Order
 pub mod Step
 pub mod Members
 pub mod Lists
+pub mod Rising
 pub mod Offers
 pub mod Scratch
 pub mod Carry

@@ -22,7 +22,7 @@ pub(crate) fn answer_audit<W: Write>(
 ) -> Result<(), SessionFault>
     ensures { OnOk result ((text : List ℕ) × Appends (W.contents writer.old) (W.contents writer.new) text × Audits limit number version.now text) }
 {
-    match enumerate(alloc, version.settings(), version.data(), limit as usize) {
+    match enumerate(alloc, version.settings(), version.timetable(), limit as usize) {
         Ok(partials) => write_audit(alloc, writer, &Tally::of(&partials)),
         Err(AuditFault::OverLimit) => write_refused(alloc, writer, number, 45),
         Err(AuditFault::Memory) => Err(SessionFault::Memory),

@@ -11,7 +11,7 @@ use crate::best::Best;
 use crate::fault::EngineFault;
 use crew_pairing::{Duty, Walk};
 use crew_duty::{DutyFault, list_duties};
-use crew_flights::Data;
+use crew_flights::Timetable;
 use crew_rules::{Settings, pairing_pay};
 use std::alloc::{AllocError, Global};
 use std::cmp::Ordering;
@@ -31,7 +31,7 @@ fn cost_of(pay: i64, prices: i64, base_price: i64) -> i64
 fn offer(
     alloc: Global,
     settings: &Settings,
-    timetable: &Data,
+    timetable: &Timetable,
     duty: &Duty,
 ) -> Result<Option<Best>, AllocError>
     requires checked { IsChecked settings.now }
@@ -98,7 +98,7 @@ fn least(best: Option<Best>, offer: Option<Best>) -> Option<Best>
 fn best_of(
     alloc: Global,
     settings: &Settings,
-    timetable: &Data,
+    timetable: &Timetable,
     duties: &[Duty],
 ) -> Result<Option<Best>, AllocError>
     requires checked { IsChecked settings.now }
@@ -121,7 +121,7 @@ pub(crate) fn find_best<R: Threads + Sync>(
     rt: &R,
     alloc: Global,
     settings: &Settings,
-    timetable: &Data,
+    timetable: &Timetable,
 ) -> Result<Option<Best>, EngineFault>
     requires { IsChecked settings.now }
     ensures ok { IfOk result (IsBest settings.now timetable.now) }

@@ -10,7 +10,7 @@ ghost use Rattle.crew_session.specs.Versions.{FoldsOn};
 use crate::best::Best;
 use crate::fault::EngineFault;
 use crate::offers::find_best;
-use crew_flights::{Data, Entry, Folding, Verdict};
+use crew_flights::{Timetable, Entry, Folding, Verdict};
 use crew_rules::Settings;
 use std::alloc::{AllocError, Global};
 use std::marker::Model;
@@ -128,14 +128,14 @@ impl Version {
     pub fn flights(&self) -> usize
         ensures { result ≡ map.len (Spec.timetable_of self.now.entries).flights }
     {
-        self.fold.data().flight_count()
+        self.fold.timetable().flight_count()
     }
 
     /// Its timetable.
-    pub fn data(&self) -> &Data
+    pub fn timetable(&self) -> &Timetable
         ensures { result.now ≡ Spec.timetable_of self.now.entries }
     {
-        self.fold.data()
+        self.fold.timetable()
     }
 
     /// The best pairing, if there is one.
@@ -164,7 +164,7 @@ impl Version {
             return Err(EngineFault::LastVersion);
         };
         let (fold, verdicts) = fold_on(alloc, &self.fold, entries)?;
-        let best = find_best(rt, alloc, &self.settings, fold.data())?;
+        let best = find_best(rt, alloc, &self.settings, fold.timetable())?;
         self.entries.reserve(entries.len())?;
         self.verdicts.reserve(verdicts.len())?;
         append(&mut self.entries, entries);

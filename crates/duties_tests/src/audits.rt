@@ -1,5 +1,5 @@
 use crew_audit::{AuditFault, Partial, Tally, enumerate};
-use crew_flights::{Code, Data, Edit, Flight, FlightId};
+use crew_flights::{Code, Timetable, Edit, Flight, FlightId};
 use crew_pairing::PairingVector;
 use crew_rules::Settings;
 use crew_time::{Minute, Zone, read_minute};
@@ -26,23 +26,23 @@ fn flight(settings: &Settings, row: Row<'_>) -> Result<Flight, Fail> {
 }
 
 // A timetable of these bases and flights.
-fn data_of(
+fn timetable_of(
     alloc: Global,
     settings: &Settings,
     bases: &[(&[u8; 3], i64)],
     rows: &[Row<'_>],
-) -> Result<Data, Fail> {
-    let mut data = Data::new(alloc);
+) -> Result<Timetable, Fail> {
+    let mut timetable = Timetable::new(alloc);
     for (code, price) in bases {
-        data.apply(&Edit::AddBase {
+        timetable.apply(&Edit::AddBase {
             code: Code::new(**code).ok_or("base")?,
             price: *price,
         })?;
     }
     for row in rows {
-        data.apply(&Edit::AddFlight(flight(settings, *row)?))?;
+        timetable.apply(&Edit::AddFlight(flight(settings, *row)?))?;
     }
-    Ok(data)
+    Ok(timetable)
 }
 
 // A partial as text: its base, its duties' ids joined by `-`, with `d` behind a deadheaded one, and
@@ -70,9 +70,9 @@ fn partial_text(alloc: Global, partial: &Partial) -> Result<String, Fail> {
 }
 
 // The partials, one a line.
-fn listing(alloc: Global, settings: &Settings, data: &Data, limit: usize) -> Result<String, Fail> {
+fn listing(alloc: Global, settings: &Settings, timetable: &Timetable, limit: usize) -> Result<String, Fail> {
     settings.check()?;
-    let partials = enumerate(alloc, settings, data, limit)?;
+    let partials = enumerate(alloc, settings, timetable, limit)?;
     let mut text = String::new(alloc);
     for partial in &partials {
         text.push_str(partial_text(alloc, partial)?.as_str())?;
@@ -185,8 +185,8 @@ fn rests(rt: HostRuntime) -> Result<(), Fail> {
             0,
         ),
     ];
-    let data = data_of(rt.alloc(), &settings, &[(b"JFK", 0)], &rows)?;
-    let text = listing(rt.alloc(), &settings, &data, 3)?;
+    let timetable = timetable_of(rt.alloc(), &settings, &[(b"JFK", 0)], &rows)?;
+    let text = listing(rt.alloc(), &settings, &timetable, 3)?;
     assert_eq!(rt;
         text.as_str(),
         "JFK 501\nJFK 501 512 pairing\nJFK 501 513 pairing\n"
@@ -223,11 +223,11 @@ fn caps(rt: HostRuntime) -> Result<(), Fail> {
             ..standard
         },
     ];
-    let data = data_of(rt.alloc(), &standard, &[(b"JFK", 0)], &[OUT, AFTER_600])?;
-    let text = listing(rt.alloc(), &reached, &data, 2)?;
+    let timetable = timetable_of(rt.alloc(), &standard, &[(b"JFK", 0)], &[OUT, AFTER_600])?;
+    let text = listing(rt.alloc(), &reached, &timetable, 2)?;
     assert_eq!(rt; text.as_str(), "JFK 501\nJFK 501 512 pairing\n");
     for settings in passed {
-        let text = listing(rt.alloc(), &settings, &data, 2)?;
+        let text = listing(rt.alloc(), &settings, &timetable, 2)?;
         assert_eq!(rt; text.as_str(), "JFK 501\n");
     }
     Ok(())
@@ -236,13 +236,13 @@ fn caps(rt: HostRuntime) -> Result<(), Fail> {
 #[test]
 fn three_duties(rt: HostRuntime) -> Result<(), Fail> {
     let settings = Settings::standard();
-    let data = data_of(rt.alloc(), &settings, &[(b"JFK", 0)], &THREE_DUTIES)?;
-    let text = listing(rt.alloc(), &settings, &data, 6)?;
+    let timetable = timetable_of(rt.alloc(), &settings, &[(b"JFK", 0)], &THREE_DUTIES)?;
+    let text = listing(rt.alloc(), &settings, &timetable, 6)?;
     assert_eq!(rt;
         text.as_str(),
         "JFK 401\nJFK 401 403\nJFK 401 403 404 pairing\nJFK 402\nJFK 402 403\nJFK 402 403 404 pairing\n"
     );
-    let partials = enumerate(rt.alloc(), &settings, &data, 6)?;
+    let partials = enumerate(rt.alloc(), &settings, &timetable, 6)?;
     assert!(rt;
         Tally::of(&partials)
             == Tally {
@@ -253,7 +253,7 @@ fn three_duties(rt: HostRuntime) -> Result<(), Fail> {
     );
     assert!(rt;
         matches!(
-            enumerate(rt.alloc(), &settings, &data, 5),
+            enumerate(rt.alloc(), &settings, &timetable, 5),
             Err(AuditFault::OverLimit)
         )
     );
@@ -289,8 +289,8 @@ fn equal_vectors(rt: HostRuntime) -> Result<(), Fail> {
             0,
         ),
     ];
-    let data = data_of(rt.alloc(), &settings, &[(b"JFK", 0)], &rows)?;
-    let text = listing(rt.alloc(), &settings, &data, 100)?;
+    let timetable = timetable_of(rt.alloc(), &settings, &[(b"JFK", 0)], &rows)?;
+    let text = listing(rt.alloc(), &settings, &timetable, 100)?;
     assert_eq!(rt;
         text.as_str(),
         "JFK 999\nJFK 999 603 pairing\nJFK 1000\nJFK 1000 603 pairing\n"
@@ -304,7 +304,7 @@ fn equal_vectors(rt: HostRuntime) -> Result<(), Fail> {
         duties: 2,
         away: 1_590,
     };
-    for partial in &enumerate(rt.alloc(), &settings, &data, 100)? {
+    for partial in &enumerate(rt.alloc(), &settings, &timetable, 100)? {
         assert!(rt; !partial.pairing || partial.vector == vector);
         assert!(rt; !partial.pairing || partial.cost() == 8_400);
     }
@@ -316,15 +316,15 @@ fn equal_vectors(rt: HostRuntime) -> Result<(), Fail> {
 fn two_bases(rt: HostRuntime) -> Result<(), Fail> {
     let settings = Settings::standard();
     let bases = [(b"JFK", 0), (b"BOS", 100)];
-    let data = data_of(rt.alloc(), &settings, &bases, &[OUT, AFTER_600])?;
-    let text = listing(rt.alloc(), &settings, &data, 3)?;
+    let timetable = timetable_of(rt.alloc(), &settings, &bases, &[OUT, AFTER_600])?;
+    let text = listing(rt.alloc(), &settings, &timetable, 3)?;
     assert_eq!(rt; text.as_str(), "BOS 512\nJFK 501\nJFK 501 512 pairing\n");
     let vectors = [
         (2_420, 500, 4_100, 120, 60, 1, 150),
         (2_520, 600, 4_200, 120, 60, 1, 150),
         (5_040, 3_600, 8_400, 240, 120, 2, 900),
     ];
-    let partials = enumerate(rt.alloc(), &settings, &data, 3)?;
+    let partials = enumerate(rt.alloc(), &settings, &timetable, 3)?;
     assert_eq!(rt; partials.len(), 3);
     for (partial, want) in partials.iter().zip(&vectors) {
         let parts = partial.vector;
@@ -346,14 +346,14 @@ fn deadhead_first(rt: HostRuntime) -> Result<(), Fail> {
         deadheads: 1,
         ..Settings::standard()
     };
-    let data = data_of(rt.alloc(), &settings, &[(b"JFK", 0)], &OUT_AND_BACK)?;
-    let text = listing(rt.alloc(), &settings, &data, 3)?;
+    let timetable = timetable_of(rt.alloc(), &settings, &[(b"JFK", 0)], &OUT_AND_BACK)?;
+    let text = listing(rt.alloc(), &settings, &timetable, 3)?;
     assert_eq!(rt;
         text.as_str(),
         "JFK 101\nJFK 101-102 pairing\nJFK 101d-102 pairing\n"
     );
     let mut costs = [0; 3];
-    let partials = enumerate(rt.alloc(), &settings, &data, 3)?;
+    let partials = enumerate(rt.alloc(), &settings, &timetable, 3)?;
     for (cost, partial) in costs.iter_mut().zip(&partials) {
         *cost = partial.cost();
     }
@@ -364,8 +364,8 @@ fn deadhead_first(rt: HostRuntime) -> Result<(), Fail> {
 #[test]
 fn no_base(rt: HostRuntime) -> Result<(), Fail> {
     let settings = Settings::standard();
-    let data = data_of(rt.alloc(), &settings, &[], &OUT_AND_BACK)?;
-    let partials = enumerate(rt.alloc(), &settings, &data, 0)?;
+    let timetable = timetable_of(rt.alloc(), &settings, &[], &OUT_AND_BACK)?;
+    let partials = enumerate(rt.alloc(), &settings, &timetable, 0)?;
     assert!(rt;
         Tally::of(&partials)
             == Tally {
@@ -381,8 +381,8 @@ fn no_base(rt: HostRuntime) -> Result<(), Fail> {
 #[test]
 fn a_refused_allocation(rt: HostRuntime) -> Result<(), Fail> {
     let settings = Settings::standard();
-    let data = data_of(rt.alloc(), &settings, &[(b"JFK", 0)], &THREE_DUTIES)?;
-    match enumerate(rt.alloc(), &settings, &data, 6) {
+    let timetable = timetable_of(rt.alloc(), &settings, &[(b"JFK", 0)], &THREE_DUTIES)?;
+    match enumerate(rt.alloc(), &settings, &timetable, 6) {
         Ok(partials) => assert_eq!(rt; partials.len(), 6),
         Err(fault) => assert!(rt; fault == AuditFault::Memory),
     }

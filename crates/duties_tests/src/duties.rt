@@ -1,5 +1,5 @@
 use crew_duty::{DutyFault, list_duties};
-use crew_flights::{Code, Data, Edit, Flight, FlightId};
+use crew_flights::{Code, Timetable, Edit, Flight, FlightId};
 use crew_pairing::Duty;
 use crew_rules::Settings;
 use crew_time::{Minute, Zone, read_minute};
@@ -26,12 +26,12 @@ fn flight(settings: &Settings, row: Row<'_>) -> Result<Flight, Fail> {
     })
 }
 
-fn data_of(alloc: Global, settings: &Settings, rows: &[Row<'_>]) -> Result<Data, Fail> {
-    let mut data = Data::new(alloc);
+fn timetable_of(alloc: Global, settings: &Settings, rows: &[Row<'_>]) -> Result<Timetable, Fail> {
+    let mut timetable = Timetable::new(alloc);
     for row in rows {
-        data.apply(&Edit::AddFlight(flight(settings, *row)?))?;
+        timetable.apply(&Edit::AddFlight(flight(settings, *row)?))?;
     }
-    Ok(data)
+    Ok(timetable)
 }
 
 // A key as text: ids joined by `-`, with `d` behind a deadheaded one.
@@ -56,8 +56,8 @@ fn keys<R: Threads + Sync + AllocGlobal>(
     rows: &[Row<'_>],
 ) -> Result<String, Fail> {
     settings.check()?;
-    let data = data_of(rt.alloc(), settings, rows)?;
-    let duties = list_duties(rt, rt.alloc(), settings, &data)?;
+    let timetable = timetable_of(rt.alloc(), settings, rows)?;
+    let duties = list_duties(rt, rt.alloc(), settings, &timetable)?;
     let mut text = String::new(rt.alloc());
     for duty in duties.as_slice() {
         text.push_str(key_text(rt.alloc(), duty)?.as_str())?;
@@ -212,8 +212,8 @@ fn facts_of_a_duty(rt: HostRuntime) -> Result<(), Fail> {
         ..Settings::standard()
     };
     settings.check()?;
-    let data = data_of(rt.alloc(), &settings, &[FIRST, SECOND])?;
-    let duties = list_duties(&rt, rt.alloc(), &settings, &data)?;
+    let timetable = timetable_of(rt.alloc(), &settings, &[FIRST, SECOND])?;
+    let duties = list_duties(&rt, rt.alloc(), &settings, &timetable)?;
     assert_eq!(rt; duties.len(), 4);
     let report = read_minute(b"2025-07-01T11:00")?.get();
     // (flight duty minutes, flight minutes, pay, price), by key.
@@ -245,7 +245,7 @@ fn too_many_duties(rt: HostRuntime) -> Result<(), Fail> {
         Code::new(*b"JFK").ok_or("JFK")?,
         Code::new(*b"BOS").ok_or("BOS")?,
     ];
-    let mut data = Data::new(rt.alloc());
+    let mut timetable = Timetable::new(rt.alloc());
     for k in 0..8u32 {
         let dep = Minute::new(start + 30 * i64::from(k)).ok_or("dep")?;
         let arr = Minute::new(start + 30 * i64::from(k) + 30).ok_or("arr")?;
@@ -259,19 +259,19 @@ fn too_many_duties(rt: HostRuntime) -> Result<(), Fail> {
                 report_clock: zone.clock(dep),
                 price: 0,
             };
-            data.apply(&Edit::AddFlight(flight))?;
+            timetable.apply(&Edit::AddFlight(flight))?;
         }
     }
     assert!(rt;
         matches!(
-            list_duties(&rt, rt.alloc(), &settings, &data),
+            list_duties(&rt, rt.alloc(), &settings, &timetable),
             Err(DutyFault::TooManyDuties)
         )
     );
     for id in 1..=24 {
-        data.apply(&Edit::Cancel(FlightId::new(id).ok_or("id")?))?;
+        timetable.apply(&Edit::Cancel(FlightId::new(id).ok_or("id")?))?;
     }
-    let duties = list_duties(&rt, rt.alloc(), &settings, &data)?;
+    let duties = list_duties(&rt, rt.alloc(), &settings, &timetable)?;
     assert_eq!(rt; duties.len(), 1_860);
     Ok(())
 }

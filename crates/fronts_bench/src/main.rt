@@ -12,7 +12,7 @@ mod marked;
 use crew_pairing::{Key, Leg, Walk};
 use crew_flights::FlightId;
 use crew_front::Front;
-use crew_pool::{Room, Walks};
+use crew_pool::{Workspace, Walks};
 use crew_rules::Settings;
 use crew_vector::VectorResource;
 use crew_pairing::PairingVector;
@@ -81,7 +81,7 @@ fn offer_all(alloc: Global, offers: &[(PairingVector, Walk)]) -> Result<(usize, 
 fn absorb_all(alloc: Global, lists: &[Marked]) -> Result<Marked, AllocError> {
     let vector = vector();
     let walks = Walks::new(alloc);
-    let mut room = Room::new(alloc);
+    let mut room = Workspace::new(alloc);
     let mut pool = Marked::new(alloc);
     for list in lists {
         pool.merge(&vector, &mut room, list, &walks)?;

@@ -1,12 +1,12 @@
 //! Pools of labels with one duty each.
 ghost use Rattle.std.specs.Prelude.{◌≡◌, ◌++◌, ℕ, List, [], ◌∷◌, map, IfOk, OnOk};
-ghost use Rattle.crew_pool.specs.Tails.{IsPoolOf, shown};
-ghost use Rattle.crew_pool.specs.declared.tail.Tail.{Tail};
+ghost use Rattle.crew_pool.specs.LabelWalks.{IsPoolOf, shown};
+ghost use Rattle.crew_pool.specs.declared.label_walk.LabelWalk.{LabelWalk};
 ghost use Rattle.crew_vector.specs.Dominance.{is_at_most};
 ghost use Rattle.crew_pairing.specs.declared.vector.PairingVector.{PairingVector};
 ghost use Rattle.fronts_bench.specs.Marked.{AreMarked, IsMarked};
 
-use crew_pool::{NO_DUTY, Pool, Room, Tail, Walks};
+use crew_pool::{NO_DUTY, Pool, Workspace, LabelWalk, Walks};
 use crew_vector::VectorResource;
 use crew_pairing::PairingVector;
 use std::alloc::{AllocError, Global};
@@ -19,7 +19,7 @@ pub struct Marked {
 }
 
 impl Model for Marked {
-    ghost Value = { List (PairingVector × Tail) };
+    ghost Value = { List (PairingVector × LabelWalk) };
 
     ghost view = { λ m. m.pool };
 
@@ -27,14 +27,14 @@ impl Model for Marked {
 }
 
 // The walk of one duty.
-fn tail_of(number: usize) -> Tail
+fn tail_of(number: usize) -> LabelWalk
     ensures { IsMarked result }
 {
     let duty = u32::try_from(number).unwrap_or(0);
     if duty == NO_DUTY {
-        return Tail { walk: 0, duty: 0 };
+        return LabelWalk { walk: 0, duty: 0 };
     }
-    Tail { walk: 0, duty }
+    LabelWalk { walk: 0, duty }
 }
 
 impl Marked {
@@ -59,7 +59,7 @@ impl Marked {
     }
 
     /// The labels.
-    pub fn labels(&self) -> &[(PairingVector, Tail)]
+    pub fn labels(&self) -> &[(PairingVector, LabelWalk)]
         ensures { result.now ≡ self.now }
     {
         self.pool.as_slice()
@@ -69,7 +69,7 @@ impl Marked {
     pub fn merge(
         &mut self,
         vector: &VectorResource,
-        room: &mut Room<PairingVector>,
+        room: &mut Workspace<PairingVector>,
         list: &Marked,
         walks: &Walks,
     ) -> Result<(), AllocError>

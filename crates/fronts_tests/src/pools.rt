@@ -5,7 +5,7 @@ ghost use Rattle.crew_resource.specs.Machinery.SumStages.{still};
 ghost use Rattle.crew_pool.specs.Apart.{AreApart};
 
 use crate::sevens::{resource, vector};
-use crew_pool::{NO_DUTY, Pool, Room, Tail, View, Walks, absorb_boarding, laws};
+use crew_pool::{NO_DUTY, Pool, Workspace, LabelWalk, View, Walks, absorb_boarding, laws};
 use crew_resource::{Amount, Both, Count, Placed, Resource, StagedAmount, Sum};
 use crew_vector::VectorResource;
 use std::alloc::{AllocError, Global};
@@ -24,7 +24,7 @@ fn walks_share_their_beginnings(rt: HostRuntime) -> Result<(), Fail> {
     assert!(rt; walks.compare(longer, other) == Ordering::Less);
     assert!(rt; walks.compare(other, longer) == Ordering::Greater);
     assert!(rt; walks.compare(other, other) == Ordering::Equal);
-    let tail = Tail {
+    let tail = LabelWalk {
         walk: other,
         duty: 5,
     };
@@ -38,14 +38,14 @@ fn merges_into_an_empty_pool(rt: HostRuntime) -> Result<(), Fail> {
     let alloc = rt.alloc();
     let walks = Walks::new(alloc);
     let mut labels = Vec::new(alloc);
-    let tail = Tail {
+    let tail = LabelWalk {
         walk: 0,
         duty: NO_DUTY,
     };
     labels.push((vector(SEVEN), tail))?;
     let list = Pool::<VectorResource>::from_apart(labels);
     let mut pool = Pool::new(alloc);
-    let mut room = Room::new(alloc);
+    let mut room = Workspace::new(alloc);
     pool.merge(&resource(), &mut room, &list, &walks)?;
     assert!(rt; pool.len() == 1);
     assert!(rt; pool.as_slice()[0].0 == vector(SEVEN));
@@ -136,7 +136,7 @@ impl StagedAmount<Ride> for Fare {
 /// The number of rides, at most 4, and their fares.
 type Rides = Both<Count<Ride>, Sum<Fare>>;
 
-type Labelled = ((i64, i64), Tail);
+type Labelled = ((i64, i64), LabelWalk);
 
 fn rides() -> Rides
     ensures { result.first.most ≡ 4 }
@@ -159,7 +159,7 @@ fn whole(rides: i64, fare: i64, walk: u32) -> Labelled
 {
     (
         (rides, fare),
-        Tail {
+        LabelWalk {
             walk,
             duty: NO_DUTY,
         },
@@ -207,7 +207,7 @@ fn absorbs_what_boards(rt: HostRuntime) -> Result<(), Fail> {
     let rides = rides();
     let ride = ride_for(4);
     let mut pool = Pool::new(alloc);
-    let mut room = Room::new(alloc);
+    let mut room = Workspace::new(alloc);
     let greater = pool_of_two(alloc, whole(2, 5, third), whole(1, 6, first))?;
     absorb_boarding(&rides, &mut pool, &mut room, &greater, &ride, 1, &walks)?;
     assert!(rt; pool.len() == 2);
@@ -215,7 +215,7 @@ fn absorbs_what_boards(rt: HostRuntime) -> Result<(), Fail> {
     absorb_boarding(&rides, &mut pool, &mut room, &lesser, &ride, 2, &walks)?;
     assert!(rt; pool.len() == 2);
     let walk = second;
-    assert!(rt; pool.as_slice()[0] == ((3, 9), Tail { walk, duty: 2 }));
+    assert!(rt; pool.as_slice()[0] == ((3, 9), LabelWalk { walk, duty: 2 }));
     Ok(())
 }
 
@@ -229,8 +229,8 @@ fn views_show_what_boards(rt: HostRuntime) -> Result<(), Fail> {
     assert!(rt; view.len() == 2);
     assert!(rt; !view.is_empty());
     let entries = view.list(alloc)?;
-    let lesser = ((2, 10), Tail { walk: 0, duty: 2 });
-    let greater = ((3, 9), Tail { walk: 1, duty: 2 });
+    let lesser = ((2, 10), LabelWalk { walk: 0, duty: 2 });
+    let greater = ((3, 9), LabelWalk { walk: 1, duty: 2 });
     assert!(rt; entries.as_slice() == [lesser, greater].as_slice());
     let mut duty = 0;
     for entry in view.iter() {

@@ -1,4 +1,4 @@
-use crew_flights::{Code, Data, Edit, Entry, Flight, FlightId, Folding, Refusal, Verdict, fold};
+use crew_flights::{Code, Timetable, Edit, Entry, Flight, FlightId, Folding, Refusal, Verdict, fold};
 use crew_time::{ClockMinute, Minute};
 use std::test::Fail;
 
@@ -43,7 +43,7 @@ fn ranges(rt: HostRuntime) -> Result<(), Fail> {
 #[test]
 fn edits(rt: HostRuntime) -> Result<(), Fail> {
     let jfk = code(*b"JFK")?;
-    let mut data = Data::new(rt.alloc());
+    let mut timetable = Timetable::new(rt.alloc());
     let verdicts = [
         (
             Edit::AddBase {
@@ -131,15 +131,15 @@ fn edits(rt: HostRuntime) -> Result<(), Fail> {
         ),
     ];
     for (edit, verdict) in verdicts {
-        assert_eq!(rt; data.apply(&edit)?, verdict);
+        assert_eq!(rt; timetable.apply(&edit)?, verdict);
     }
-    let held = data.flight(id(101)?).ok_or("a flight")?;
+    let held = timetable.flight(id(101)?).ok_or("a flight")?;
     assert_eq!(rt; held.arr.get(), 29_201_440);
     assert_eq!(rt; held.price, -1_000_000_000);
-    assert_eq!(rt; data.base_price(jfk), Some(-7));
-    let again = data.copy(rt.alloc())?;
-    assert_eq!(rt; data.apply(&Edit::Cancel(id(101)?))?, Verdict::Accepted);
-    assert_eq!(rt; data.flight_count(), 0);
+    assert_eq!(rt; timetable.base_price(jfk), Some(-7));
+    let again = timetable.copy(rt.alloc())?;
+    assert_eq!(rt; timetable.apply(&Edit::Cancel(id(101)?))?, Verdict::Accepted);
+    assert_eq!(rt; timetable.flight_count(), 0);
     assert_eq!(rt; again.flights().count(), 1);
     assert_eq!(rt; again.bases().count(), again.base_count());
     Ok(())
@@ -147,25 +147,25 @@ fn edits(rt: HostRuntime) -> Result<(), Fail> {
 
 #[test]
 fn limits(rt: HostRuntime) -> Result<(), Fail> {
-    let mut data = Data::new(rt.alloc());
+    let mut timetable = Timetable::new(rt.alloc());
     for number in 1..5_001u32 {
         assert_eq!(rt;
-            data.apply(&Edit::AddFlight(flight(number)?))?,
+            timetable.apply(&Edit::AddFlight(flight(number)?))?,
             Verdict::Accepted
         );
     }
-    let verdict = data.apply(&Edit::AddFlight(flight(5_001)?))?;
+    let verdict = timetable.apply(&Edit::AddFlight(flight(5_001)?))?;
     assert_eq!(rt; verdict, Verdict::Refused(Refusal::TooManyFlights));
-    let verdict = data.apply(&Edit::AddFlight(flight(17)?))?;
+    let verdict = timetable.apply(&Edit::AddFlight(flight(17)?))?;
     assert_eq!(rt; verdict, Verdict::Refused(Refusal::FlightExists));
     for letter in b'A'..b'Q' {
         let edit = Edit::AddBase {
             code: code([letter, b'X', b'X'])?,
             price: 0,
         };
-        assert_eq!(rt; data.apply(&edit)?, Verdict::Accepted);
+        assert_eq!(rt; timetable.apply(&edit)?, Verdict::Accepted);
     }
-    let verdict = data.apply(&Edit::AddBase {
+    let verdict = timetable.apply(&Edit::AddBase {
         code: code(*b"QXX")?,
         price: 0,
     })?;
@@ -234,16 +234,16 @@ fn turns(rt: HostRuntime) -> Result<(), Fail> {
         Verdict::Refused(Refusal::OutOfTurn),
         Verdict::Accepted,
     ];
-    let (data, given) = fold(rt.alloc(), &entries)?;
+    let (timetable, given) = fold(rt.alloc(), &entries)?;
     assert_eq!(rt; given.as_slice(), verdicts.as_slice());
-    assert_eq!(rt; data.base_price(jfk), Some(6));
+    assert_eq!(rt; timetable.base_price(jfk), Some(6));
     let mut folding = Folding::new(rt.alloc());
     for entry in &entries[..4] {
         let _ = folding.take(entry)?;
     }
     let mut other = folding.copy(rt.alloc())?;
     assert_eq!(rt; other.take(&entries[5])?, Verdict::Accepted);
-    assert_eq!(rt; folding.data().base_price(jfk), Some(4));
-    assert_eq!(rt; other.into_data().base_price(jfk), Some(6));
+    assert_eq!(rt; folding.timetable().base_price(jfk), Some(4));
+    assert_eq!(rt; other.into_timetable().base_price(jfk), Some(6));
     Ok(())
 }

@@ -10,15 +10,15 @@ use Rattle.crew_audit.proofs.Whole.{all-partials, prices-fit}
 use Rattle.crew_audit.proofs.audit.enumerate.Goals as goal
 
 pub list_all-requires-clause-flights : goal.list_all-requires-clause-flights
-list_all-requires-clause-flights c = rw (c.deref.ensures.value, c.in_ok-flights.ensures.held) (flights-of-timetable c.args.data.now c.held_flights.ensures.sound)
+list_all-requires-clause-flights c = rw (c.deref.ensures.value, c.in_ok-flights.ensures.held) (flights-of-timetable c.args.timetable.now c.held_flights.ensures.sound)
 
 pub list_all-requires-clause-prices : goal.list_all-requires-clause-prices
-list_all-requires-clause-prices c = rw (c.deref-2.ensures.value, c.in_ok-bases.ensures.held) (prices-fit c.args.data.now c.held_flights.ensures.sound)
+list_all-requires-clause-prices c = rw (c.deref-2.ensures.value, c.in_ok-bases.ensures.held) (prices-fit c.args.timetable.now c.held_flights.ensures.sound)
 
 pub returns-in_err-partials-clause-over : goal.returns-in_err-partials-clause-over
 returns-in_err-partials-clause-over c =
     let s = c.args.settings.now in
-    let t = c.args.data.now in
+    let t = c.args.timetable.now in
     let flights : c.deref.result.now ≡ flights_of t = c.deref.ensures.value ∙ c.in_ok-flights.ensures.held in
     let bases : c.deref-2.result.now ≡ fin.entries t.bases = c.deref-2.ensures.value ∙ c.in_ok-bases.ensures.held in
     let p = err_from_is_err_and c.from_residual-in_err-partials.result c.from_residual-in_err-partials.ensures.1 in
@@ -32,7 +32,7 @@ returns-in_err-partials-clause-over c =
 pub returns-clause-listed : goal.returns-clause-listed
 returns-clause-listed c =
     let s = c.args.settings.now in
-    let t = c.args.data.now in
+    let t = c.args.timetable.now in
     let flights : c.deref.result.now ≡ flights_of t = c.deref.ensures.value ∙ c.in_ok-flights.ensures.held in
     let bases : c.deref-2.result.now ≡ fin.entries t.bases = c.deref-2.ensures.value ∙ c.in_ok-bases.ensures.held in
     let listed : c.in_ok-partials.partials.items ≡ all_partials s t =

@@ -18,43 +18,43 @@ use Rattle.crew_audit.proofs.Steps.{after-flights, after-full, joined-up, join-l
 use Rattle.crew_audit.proofs.search.+partials.Goals as goal
 use Rattle.crew_audit.proofs.search.+partials.Goals.{list_after-then-may_leave+in_ok-list_from, list_after-else-may_leave, list_legs-then-others-ge-LEGS-via-then-others-ge-LEGS, list_legs-then-others-ge-LEGS-via-else-others-ge-LEGS+then-cannot_begin, list_legs-then-may_come_next+in_ok-list_below, list_legs-else-may_come_next}
 
-pub list_after-returns-then-before-plan-clause-ok : goal.list_after-returns-then-before-plan-clause-ok
-list_after-returns-then-before-plan-clause-ok t c =
-    let s = c.args.plan.now.settings.now in
-    let none = after-full s.max_duties (length c.args.before.now) s c.args.plan.now.flights.now c.args.plan.now.base c.args.plan.now.base_price c.args.before.now c.if-before-plan.true in
+pub list_after-returns-then-before-scope-clause-ok : goal.list_after-returns-then-before-scope-clause-ok
+list_after-returns-then-before-scope-clause-ok t c =
+    let s = c.args.scope.now.settings.now in
+    let none = after-full s.max_duties (length c.args.before.now) s c.args.scope.now.flights.now c.args.scope.now.base c.args.scope.now.base_price c.args.before.now c.if-before-scope.true in
     rw none (sym (append-nil c.args.found.now.items))
 
 pub list_after-list_from-requires : goal.list_after-list_from-requires
 list_after-list_from-requires t c =
-    let flights = c.args.plan.now.flights.now in
+    let flights = c.args.scope.now.flights.now in
     let i = c.loop-flight.flight-index in
     let f = c.flight-item.result in
     let known = item-known flights i f c.loop-flight-test.true c.flight-item.is in
-    (omega arith, (c.requires.checked, (c.requires.flights, (c.requires.price, (c.if-before-plan.false, (c.requires.ranges, (known, (sym c.may_leave.ensures ∙ c.if-may_leave.true, c.loop-flight.invariant.room))))))))
+    (omega arith, (c.requires.checked, (c.requires.flights, (c.requires.price, (c.if-before-scope.false, (c.requires.ranges, (known, (sym c.may_leave.ensures ∙ c.if-may_leave.true, c.loop-flight.invariant.room))))))))
 
 pub list_after-returns-in_err-list_from-clause-over : goal.list_after-returns-in_err-list_from-clause-over
 list_after-returns-in_err-list_from-clause-over t c =
-    let s = c.args.plan.now.settings.now in
-    let flights = c.args.plan.now.flights.now in
-    let base = c.args.plan.now.base in
-    let price = c.args.plan.now.base_price in
+    let s = c.args.scope.now.settings.now in
+    let flights = c.args.scope.now.flights.now in
+    let base = c.args.scope.now.base in
+    let price = c.args.scope.now.base_price in
     let before = c.args.before.now in
     let n = s.max_duties - (length before + 1) in
     let i = c.loop-flight.flight-index in
     let f = c.flight-item.result in
     let at = item-at flights i f c.loop-flight-test.true c.flight-item.is in
-    let opened = after-flights s.max_duties (length before) s flights base price before c.if-before-plan.false in
+    let opened = after-flights s.max_duties (length before) s flights base price before c.if-before-scope.false in
     let p = err_from_is_err_and c.from_residual.result c.from_residual.ensures.1 in
     λ e. rw opened
-    (over-at (λ (g : Flight). flat_map (with_next n s flights base price before) (from_flight s flights g)) flights i f c.args.found.now.items c.loop-flight.found.items c.args.plan.now.limit at
+    (over-at (λ (g : Flight). flat_map (with_next n s flights base price before) (from_flight s flights g)) flights i f c.args.found.now.items c.loop-flight.found.items c.args.scope.now.limit at
     c.loop-flight.invariant.found (c.in_err-list_from.ensures.over (cc)))
 
 pub list_after-loop-flight-preserved : goal.list_after-loop-flight-preserved
 list_after-loop-flight-preserved t c =
-    let s = c.args.plan.now.settings.now in
-    let flights = c.args.plan.now.flights.now in
-    let base = c.args.plan.now.base in
-    let price = c.args.plan.now.base_price in
+    let s = c.args.scope.now.settings.now in
+    let flights = c.args.scope.now.flights.now in
+    let base = c.args.scope.now.base in
+    let price = c.args.scope.now.base_price in
     let before = c.args.before.now in
     let n = s.max_duties - (length before + 1) in
     let i = c.loop-flight.flight-index in
@@ -80,45 +80,45 @@ list_after-loop-flight-preserved t c =
 
 pub list_after-returns-clause-ok : goal.list_after-returns-clause-ok
 list_after-returns-clause-ok t c =
-    let s = c.args.plan.now.settings.now in
-    let flights = c.args.plan.now.flights.now in
-    let base = c.args.plan.now.base in
-    let price = c.args.plan.now.base_price in
+    let s = c.args.scope.now.settings.now in
+    let flights = c.args.scope.now.flights.now in
+    let base = c.args.scope.now.base in
+    let price = c.args.scope.now.base_price in
     let before = c.args.before.now in
-    let opened = after-flights s.max_duties (length before) s flights base price before c.if-before-plan.false in
+    let opened = after-flights s.max_duties (length before) s flights base price before c.if-before-scope.false in
     let all : take c.loop-flight.flight-index flights ≡ flights = take_all c.loop-flight.flight-index flights (omega arith) in
     rw opened (rw all at c.loop-flight.invariant.found)
 
 pub list_below-list_legs-requires : goal.list_below-list_legs-requires
 list_below-list_legs-requires t c =
-    let s = c.args.plan.now.settings.now in
-    let flights = c.args.plan.now.flights.now in
+    let s = c.args.scope.now.settings.now in
+    let flights = c.args.scope.now.flights.now in
     let first = c.args.first.now in
     let others = c.args.others.now in
     let g = c.args.flight.now in
     let flown : c.deref.result.now ≡ others ++ timed false g ∷ [] = c.deref.ensures.value ∙ c.in_ok-flown.ensures in
     let long : length c.deref.result.now ≡ length others + 1 = ap length flown ∙ length-append others (timed false g ∷ []) in
-    let joins = join-legs c.args.plan.now.base s c.args.before.now first c.deref.result.now others ∙ c.requires.joins in
+    let joins = join-legs c.args.scope.now.base s c.args.before.now first c.deref.result.now others ∙ c.requires.joins in
     let more = IsBeginning-more s flights first others false g c.requires.beginning c.requires.follows c.requires.known in
     (omega arith, (c.requires.checked, (c.requires.flights, (c.requires.price, (c.requires.few, (c.requires.ranges, (joins, (rw flown more, (omega arith, c.requires.room)))))))))
 
 pub list_below-list_legs-requires-2 : goal.list_below-list_legs-requires-2
 list_below-list_legs-requires-2 t c =
-    let s = c.args.plan.now.settings.now in
-    let flights = c.args.plan.now.flights.now in
+    let s = c.args.scope.now.settings.now in
+    let flights = c.args.scope.now.flights.now in
     let first = c.args.first.now in
     let others = c.args.others.now in
     let g = c.args.flight.now in
     let ridden : c.deref-2.result.now ≡ others ++ timed true g ∷ [] = c.deref-2.ensures.value ∙ c.in_ok-ridden.ensures in
     let long : length c.deref-2.result.now ≡ length others + 1 = ap length ridden ∙ length-append others (timed true g ∷ []) in
-    let joins = join-legs c.args.plan.now.base s c.args.before.now first c.deref-2.result.now others ∙ c.requires.joins in
+    let joins = join-legs c.args.scope.now.base s c.args.before.now first c.deref-2.result.now others ∙ c.requires.joins in
     let more = IsBeginning-more s flights first others true g c.requires.beginning c.requires.follows c.requires.known in
     (omega arith, (c.requires.checked, (c.requires.flights, (c.requires.price, (c.requires.few, (c.requires.ranges, (joins, (rw ridden more, (omega arith, c.in_ok-list_legs.ensures.room)))))))))
 
 pub list_legs-returns-then-others-ge-LEGS-clause-ok : goal.list_legs-returns-then-others-ge-LEGS-clause-ok
 list_legs-returns-then-others-ge-LEGS-clause-ok t c =
-    let s = c.args.plan.now.settings.now in
-    let flights = c.args.plan.now.flights.now in
+    let s = c.args.scope.now.settings.now in
+    let flights = c.args.scope.now.flights.now in
     let first = c.args.first.now in
     let others = c.args.others.now in
     let none : listing (8 - length others) s flights first others ≡ [] =
@@ -129,31 +129,31 @@ list_legs-returns-then-others-ge-LEGS-clause-ok t c =
     rw none (sym (append-nil c.args.found.now.items))
 
 pub list_legs-duty_from-next-requires-clause-sound : goal.list_legs-duty_from-next-requires-clause-sound
-list_legs-duty_from-next-requires-clause-sound t c = known-sound c.args.plan.now.flights.now (c.args.first.now ∷ c.args.others.now) c.requires.flights c.requires.beginning.known
+list_legs-duty_from-next-requires-clause-sound t c = known-sound c.args.scope.now.flights.now (c.args.first.now ∷ c.args.others.now) c.requires.flights c.requires.beginning.known
 
 pub list_legs-returns-then-not-keep_within_caps-clause-ok : goal.list_legs-returns-then-not-keep_within_caps-clause-ok
 list_legs-returns-then-not-keep_within_caps-clause-ok t c =
-    let s = c.args.plan.now.settings.now in
-    let flights = c.args.plan.now.flights.now in
+    let s = c.args.scope.now.settings.now in
+    let flights = c.args.scope.now.flights.now in
     let first = c.args.first.now in
     let others = c.args.others.now in
     let before = c.args.before.now in
     let longer : c.deref.result.now ≡ before ++ duty_of s first others ∷ [] =
     c.deref.ensures.value ∙ c.in_ok-longer.ensures ∙ ap (λ (d : Duty). before ++ d ∷ []) c.duty_from-next.ensures.value in
     let caps : is_within_caps s (before ++ duty_of s first others ∷ []) ≡ false = ap (is_within_caps s) (sym longer) ∙ sym c.keep_within_caps.ensures ∙ c.if-not-keep_within_caps.true in
-    let none = not-within (s.max_duties - (length before + 1)) (8 - length others) s flights c.args.plan.now.base c.args.plan.now.base_price before first others c.requires.flights c.requires.beginning
+    let none = not-within (s.max_duties - (length before + 1)) (8 - length others) s flights c.args.scope.now.base c.args.scope.now.base_price before first others c.requires.flights c.requires.beginning
     (omega arith) caps in
     rw none (sym (append-nil c.args.found.now.items))
 
 pub list_legs-returns-in_err-list_own-clause-over : goal.list_legs-returns-in_err-list_own-clause-over
 list_legs-returns-in_err-list_own-clause-over t c =
-    let s = c.args.plan.now.settings.now in
-    let flights = c.args.plan.now.flights.now in
+    let s = c.args.scope.now.settings.now in
+    let flights = c.args.scope.now.flights.now in
     let first = c.args.first.now in
     let others = c.args.others.now in
     let before = c.args.before.now in
-    let base = c.args.plan.now.base in
-    let price = c.args.plan.now.base_price in
+    let base = c.args.scope.now.base in
+    let price = c.args.scope.now.base_price in
     let room = s.max_duties - (length before + 1) in
     let longer : c.deref.result.now ≡ before ++ duty_of s first others ∷ [] =
     c.deref.ensures.value ∙ c.in_ok-longer.ensures ∙ ap (λ (d : Duty). before ++ d ∷ []) c.duty_from-next.ensures.value in
@@ -167,8 +167,8 @@ list_legs-returns-in_err-list_own-clause-over t c =
 
 pub list_legs-list_below-requires : goal.list_legs-list_below-requires
 list_legs-list_below-requires t c =
-    let s = c.args.plan.now.settings.now in
-    let flights = c.args.plan.now.flights.now in
+    let s = c.args.scope.now.settings.now in
+    let flights = c.args.scope.now.flights.now in
     let i = c.loop-flight.flight-index in
     let g = c.flight-item.result in
     let known = item-known flights i g c.loop-flight-test.true c.flight-item.is in
@@ -178,13 +178,13 @@ list_legs-list_below-requires t c =
 
 pub list_legs-returns-in_err-list_below-clause-over : goal.list_legs-returns-in_err-list_below-clause-over
 list_legs-returns-in_err-list_below-clause-over t c =
-    let s = c.args.plan.now.settings.now in
-    let flights = c.args.plan.now.flights.now in
+    let s = c.args.scope.now.settings.now in
+    let flights = c.args.scope.now.flights.now in
     let first = c.args.first.now in
     let others = c.args.others.now in
     let before = c.args.before.now in
-    let base = c.args.plan.now.base in
-    let price = c.args.plan.now.base_price in
+    let base = c.args.scope.now.base in
+    let price = c.args.scope.now.base_price in
     let room = s.max_duties - (length before + 1) in
     let i = c.loop-flight.flight-index in
     let g = c.flight-item.result in
@@ -200,19 +200,19 @@ list_legs-returns-in_err-list_below-clause-over t c =
     let p = err_from_is_err_and c.from_residual-in_err-list_below.result c.from_residual-in_err-list_below.ensures.1 in
     let ward = onward-on room s flights base price before first others g follows in
     λ e. rw opened
-    (more-after c.args.found.now.items c.list_own.new.found.items _ _ (flat_map (onward room s flights base price before first others) flights) c.args.plan.now.limit own-is c.in_ok-list_own.ensures.ok
-    (over-at (onward room s flights base price before first others) flights i g c.list_own.new.found.items c.loop-flight.found.items c.args.plan.now.limit at c.loop-flight.invariant.found
+    (more-after c.args.found.now.items c.list_own.new.found.items _ _ (flat_map (onward room s flights base price before first others) flights) c.args.scope.now.limit own-is c.in_ok-list_own.ensures.ok
+    (over-at (onward room s flights base price before first others) flights i g c.list_own.new.found.items c.loop-flight.found.items c.args.scope.now.limit at c.loop-flight.invariant.found
     (rw ward (c.in_err-list_below.ensures.over (cc)))))
 
 pub list_legs-loop-flight-preserved : goal.list_legs-loop-flight-preserved
 list_legs-loop-flight-preserved t c =
-    let s = c.args.plan.now.settings.now in
-    let flights = c.args.plan.now.flights.now in
+    let s = c.args.scope.now.settings.now in
+    let flights = c.args.scope.now.flights.now in
     let first = c.args.first.now in
     let others = c.args.others.now in
     let before = c.args.before.now in
-    let base = c.args.plan.now.base in
-    let price = c.args.plan.now.base_price in
+    let base = c.args.scope.now.base in
+    let price = c.args.scope.now.base_price in
     let room = s.max_duties - (length before + 1) in
     let i = c.loop-flight.flight-index in
     let g = c.flight-item.result in
@@ -238,13 +238,13 @@ list_legs-loop-flight-preserved t c =
 
 pub list_legs-returns-clause-ok : goal.list_legs-returns-clause-ok
 list_legs-returns-clause-ok t c =
-    let s = c.args.plan.now.settings.now in
-    let flights = c.args.plan.now.flights.now in
+    let s = c.args.scope.now.settings.now in
+    let flights = c.args.scope.now.flights.now in
     let first = c.args.first.now in
     let others = c.args.others.now in
     let before = c.args.before.now in
-    let base = c.args.plan.now.base in
-    let price = c.args.plan.now.base_price in
+    let base = c.args.scope.now.base in
+    let price = c.args.scope.now.base_price in
     let room = s.max_duties - (length before + 1) in
     let longer : c.deref.result.now ≡ before ++ duty_of s first others ∷ [] =
     c.deref.ensures.value ∙ c.in_ok-longer.ensures ∙ ap (λ (d : Duty). before ++ d ∷ []) c.duty_from-next.ensures.value in

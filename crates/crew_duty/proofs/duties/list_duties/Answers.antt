@@ -9,12 +9,12 @@ use Rattle.crew_pairing.proofs.Timetables.{flights-few, flights-of-timetable}
 use Rattle.crew_duty.proofs.duties.list_duties.Goals as goal
 
 pub next_places-requires-clause-few : goal.next_places-requires-clause-few
-next_places-requires-clause-few g c = rw (c.deref.ensures.value, c.in_ok-flights.ensures.held) (flights-few c.args.data.now c.held_flights.ensures.sound)
+next_places-requires-clause-few g c = rw (c.deref.ensures.value, c.in_ok-flights.ensures.held) (flights-few c.args.timetable.now c.held_flights.ensures.sound)
 
 pub are_too_many-requires-after_bounds : goal.are_too_many-requires-after_bounds
 are_too_many-requires-after_bounds g c =
     let s = c.args.settings.now in
-    let t = c.args.data.now in
+    let t = c.args.timetable.now in
     let held = c.in_ok-flights.ensures.held in
     let fs = c.deref-2.ensures.value ∙ held in
     let next = c.in_ok-next.ensures in
@@ -29,7 +29,7 @@ are_too_many-requires-after_bounds g c =
 pub list_all-requires-after_bounds : goal.list_all-requires-after_bounds
 list_all-requires-after_bounds g c =
     let s = c.args.settings.now in
-    let t = c.args.data.now in
+    let t = c.args.timetable.now in
     let held = c.in_ok-flights.ensures.held in
     let fs = c.deref-2.ensures.value ∙ held in
     let next = c.in_ok-next.ensures in
@@ -44,7 +44,7 @@ list_all-requires-after_bounds g c =
 pub returns-then-branch-clause-too_many : goal.returns-then-branch-clause-too_many
 returns-then-branch-clause-too_many g c =
     let s = c.args.settings.now in
-    let t = c.args.data.now in
+    let t = c.args.timetable.now in
     let same : c.deref-2.result.now ≡ flights_of t = c.deref-2.ensures.value ∙ c.in_ok-flights.ensures.held in
     let many = c.in_ok-are_too_many.ensures.0 c.if-branch.true in
     λ e. (
@@ -56,7 +56,7 @@ returns-then-branch-clause-too_many g c =
 pub returns-clause-listed : goal.returns-clause-listed
 returns-clause-listed g c =
     let s = c.args.settings.now in
-    let t = c.args.data.now in
+    let t = c.args.timetable.now in
     let same : c.deref-2.result.now ≡ flights_of t = c.deref-2.ensures.value ∙ c.in_ok-flights.ensures.held in
     let listed : c.in_ok-list.list.items ≡ all_duties s (flights_of t) = c.in_ok-list.ensures ∙ ap (λ (fs : List Flight). all_duties s fs) same in
     rw listed (all-duties s (flights_of t) (flights-of-timetable t c.held_flights.ensures.sound))

@@ -3,8 +3,8 @@ use Rattle.crew_resource.specs.Members.{Member}
 use Rattle.crew_pool.specs.Apart.{AreApart}
 use Rattle.crew_pool.specs.Counted.{boarded_labels}
 use Rattle.crew_pool.specs.Machinery.Meets.{vectors_of}
-use Rattle.crew_pool.specs.Tails.{IsPoolOf, shown}
-use Rattle.crew_pool.specs.declared.tail.Tail.{Tail}
+use Rattle.crew_pool.specs.LabelWalks.{IsPoolOf, shown}
+use Rattle.crew_pool.specs.declared.label_walk.LabelWalk.{LabelWalk}
 use Rattle.crew_pool.proofs.BoardLemmas.{boarded_apart, boarded_counted, counted_alike, is_rank, shown_boarded}
 use Rattle.crew_pool.proofs.absorb.absorb_boarding.Goals as goal
 
@@ -14,7 +14,7 @@ merge_list-requires-clause-list g c =
     let board = λ (v : g.row.R-Value.Denot). g.R.Staged.boards c.args.resource.now v c.args.item.now in
     let items : c.deref.result.now ≡ boarded_labels board c.args.duty c.args.list.now = c.deref.ensures.value ∙ (c.in_ok-board_all.ensures ∙ ap (boarded_labels board c.args.duty) c.as_slice.ensures.all) in
     let law = g.met.R.Staged.shifting c.args.resource.now c.requires.shift in
-    subst (λ (es : List (g.row.R-Value.Denot × Tail)). AreApart below (vectors_of es)) (sym items)
+    subst (λ (es : List (g.row.R-Value.Denot × LabelWalk)). AreApart below (vectors_of es)) (sym items)
     (boarded_apart below board c.args.duty (λ a b y z p q t. law.board_reflects a b y z c.args.item.now p q t) c.args.list.now c.as_slice.ensures.apart)
 
 pub merge_list-requires-clause-between : goal.merge_list-requires-clause-between
@@ -26,7 +26,7 @@ merge_list-requires-clause-between g c a b m n e =
     let law = g.met.R.Staged.counting c.args.resource.now c.requires.counting.0 c.requires.counting.1 in
     let rank = is_rank c.args.duty c.requires.duty in
     let counted = boarded_counted count ws board c.args.duty rank (λ v z e. law.one_more v z c.args.item.now e) c.args.list.now c.requires.list_counts in
-    counted_alike count ws false a b (c.requires.pool_counts a m) (counted b (subst (λ (es : List (g.row.R-Value.Denot × Tail)). Member es b) items n)) e
+    counted_alike count ws false a b (c.requires.pool_counts a m) (counted b (subst (λ (es : List (g.row.R-Value.Denot × LabelWalk)). Member es b) items n)) e
 
 pub merge_list-requires-clause-within : goal.merge_list-requires-clause-within
 merge_list-requires-clause-within g c a b m n e =
@@ -37,7 +37,7 @@ merge_list-requires-clause-within g c a b m n e =
     let law = g.met.R.Staged.counting c.args.resource.now c.requires.counting.0 c.requires.counting.1 in
     let rank = is_rank c.args.duty c.requires.duty in
     let counted = boarded_counted count ws board c.args.duty rank (λ v z e. law.one_more v z c.args.item.now e) c.args.list.now c.requires.list_counts in
-    counted_alike count ws false a b (counted a (subst (λ (es : List (g.row.R-Value.Denot × Tail)). Member es a) items m)) (counted b (subst (λ (es : List (g.row.R-Value.Denot × Tail)). Member es b) items n)) e
+    counted_alike count ws false a b (counted a (subst (λ (es : List (g.row.R-Value.Denot × LabelWalk)). Member es a) items m)) (counted b (subst (λ (es : List (g.row.R-Value.Denot × LabelWalk)). Member es b) items n)) e
 
 pub returns-clause-local : goal.returns-clause-local
 returns-clause-local g c cs h =
@@ -61,4 +61,4 @@ returns-clause-counts g c l m =
     let law = g.met.R.Staged.counting c.args.resource.now c.requires.counting.0 c.requires.counting.1 in
     let rank = is_rank c.args.duty c.requires.duty in
     let counted = boarded_counted count ws board c.args.duty rank (λ v z e. law.one_more v z c.args.item.now e) c.args.list.now c.requires.list_counts in
-    ⊎_elim (c.requires.pool_counts l) (λ q. counted l (subst (λ (es : List (g.row.R-Value.Denot × Tail)). Member es l) items q)) (c.merge_list.ensures.from l m)
+    ⊎_elim (c.requires.pool_counts l) (λ q. counted l (subst (λ (es : List (g.row.R-Value.Denot × LabelWalk)). Member es l) items q)) (c.merge_list.ensures.from l m)

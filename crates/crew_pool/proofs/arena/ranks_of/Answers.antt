@@ -5,12 +5,12 @@ use Rattle.crew_pool.specs.Arena.{walk_at}
 use Rattle.crew_pool.specs.Machinery.ArenaLinks.{all_walks}
 use Rattle.crew_pool.specs.declared.arena.Link.{Link}
 use Rattle.crew_pool.proofs.ArenaLemmas.{first_walk, length-all_walks, one_more, walk_of_link}
-use Rattle.crew_pool.proofs.TailLemmas.{reverse-duty}
+use Rattle.crew_pool.proofs.LabelWalkLemmas.{reverse-duty}
 use Rattle.crew_pool.proofs.arena.ranks_of.Goals as goal
 
 pub loop-place-init : goal.loop-place-init
 loop-place-init c =
-    (c.requires.walk, ap (λ (xs : List ℕ). walk_at (all_walks c.args.links.now) c.args.tail.walk ++ xs) (sym (reverse-duty c.args.tail.duty) ∙ ap reverse (sym c.in_ok-ranks.ensures)))
+    (c.requires.walk, ap (λ (xs : List ℕ). walk_at (all_walks c.args.links.now) c.args.label.walk ++ xs) (sym (reverse-duty c.args.label.duty) ∙ ap reverse (sym c.in_ok-ranks.ensures)))
 
 pub bounds-links-place : goal.bounds-links-place
 bounds-links-place c =

@@ -4,8 +4,8 @@ use Rattle.std.specs.List.Sorted.{IsPermutation}
 use Rattle.std.proofs.lemmas.List.Quantifiers.{position-Some}
 use Rattle.std.proofs.lemmas.List.Sorted.{IsPermutation-map, IsPermutation-sym}
 use Rattle.crew_pool.specs.Machinery.Meets.{vectors_of}
-use Rattle.crew_pool.specs.Tails.{IsPoolOf, shown}
-use Rattle.crew_pool.specs.declared.tail.Tail.{Tail}
+use Rattle.crew_pool.specs.LabelWalks.{IsPoolOf, shown}
+use Rattle.crew_pool.specs.declared.label_walk.LabelWalk.{LabelWalk}
 use Rattle.crew_pool.proofs.MergeLemmas.{found_lower, free_none, free_some}
 use Rattle.crew_pool.proofs.Permuted.{IsPoolOf-permuted, Member-permuted}
 use Rattle.crew_pool.proofs.merge.meet.Goals as goal
@@ -59,7 +59,7 @@ drift-requires g c =
 pub returns-clause-vectors : goal.returns-clause-vectors
 returns-clause-vectors g c =
     subst (λ (vs : List (g.row.R-Value.Denot)). IsPermutation vs (vectors_of c.drift.new.labels.items)) c.yield_to.ensures.vectors
-    (IsPermutation-map (λ (x : g.row.R-Value.Denot × Tail). x.0) c.yield_to.new.labels.items c.drift.new.labels.items c.drift.ensures)
+    (IsPermutation-map (λ (x : g.row.R-Value.Denot × LabelWalk). x.0) c.yield_to.new.labels.items c.drift.new.labels.items c.drift.ensures)
 
 pub returns-clause-from : goal.returns-clause-from
 returns-clause-from g c a m =

@@ -6,8 +6,8 @@ use Rattle.crew_resource.specs.Members.{Member}
 use Rattle.crew_resource.proofs.Members.{Member-append, Member-filter_out, Member-get_or}
 use Rattle.crew_pool.specs.Apart.{AreApart}
 use Rattle.crew_pool.specs.Machinery.Meets.{is_free, vectors_of}
-use Rattle.crew_pool.specs.Tails.{IsPoolOf, shown}
-use Rattle.crew_pool.specs.declared.tail.Tail.{Tail}
+use Rattle.crew_pool.specs.LabelWalks.{IsPoolOf, shown}
+use Rattle.crew_pool.specs.declared.label_walk.LabelWalk.{LabelWalk}
 use Rattle.crew_resource.proofs.Order.{order}
 use Rattle.crew_pool.proofs.MergeLemmas.{filter-take_more, is_free-permuted, map_filter-take_more, merged_apart, merged_local, on_err}
 use Rattle.crew_pool.proofs.Permuted.{AreApart-permuted}
@@ -61,19 +61,19 @@ returns g c =
     let joins : c.loop-label.room.items ≡ filter free list = inv.2 ∙ ap (filter free) all in
     let now : c.append.new.self.items ≡ filter (λ e. not (list_any (λ l. below l.0 e.0) (filter free list))) xs ++ filter free list =
     c.in_ok-append.ensures.items
-    ∙ (ap (λ (r : List (g.row.R-Value.Denot × Tail)). r ++ c.loop-label.room.items) (c.drop_reached.ensures.kept ∙ (ap (filter (λ e. not (list_any (λ l. below l.0 e.0) c.deref.result.now))) c.in_ok-reserve.ensures.items ∙ ap (λ (r : List (g.row.R-Value.Denot × Tail)). filter (λ e. not (list_any (λ l. below l.0 e.0) r)) xs) (c.deref.ensures.value ∙ joins)))
-    ∙ ap (λ (r : List (g.row.R-Value.Denot × Tail)). filter (λ e. not (list_any (λ l. below l.0 e.0) (filter free list))) xs ++ r) joins) in
+    ∙ (ap (λ (r : List (g.row.R-Value.Denot × LabelWalk)). r ++ c.loop-label.room.items) (c.drop_reached.ensures.kept ∙ (ap (filter (λ e. not (list_any (λ l. below l.0 e.0) c.deref.result.now))) c.in_ok-reserve.ensures.items ∙ ap (λ (r : List (g.row.R-Value.Denot × LabelWalk)). filter (λ e. not (list_any (λ l. below l.0 e.0) r)) xs) (c.deref.ensures.value ∙ joins)))
+    ∙ ap (λ (r : List (g.row.R-Value.Denot × LabelWalk)). filter (λ e. not (list_any (λ l. below l.0 e.0) (filter free list))) xs ++ r) joins) in
     record {
       local = λ cs h.
-          subst (λ (es : List (g.row.R-Value.Denot × Tail)). IsPoolOf below (cs ++ map (shown ws) list) (map (shown ws) es)) (sym now)
+          subst (λ (es : List (g.row.R-Value.Denot × LabelWalk)). IsPoolOf below (cs ++ map (shown ws) list) (map (shown ws) es)) (sym now)
           (merged_local below (order g.R.Value.Ord.cmp below g.met.R.Resource.order) ws before xs list cs inv.0 c.requires.list
-          (subst (λ (es : List (g.row.R-Value.Denot × Tail)). IsPoolOf below (cs ++ map (shown ws) (filter (λ x. not (free x)) es)) (map (shown ws) xs)) all (inv.3 cs h)));
+          (subst (λ (es : List (g.row.R-Value.Denot × LabelWalk)). IsPoolOf below (cs ++ map (shown ws) (filter (λ x. not (free x)) es)) (map (shown ws) xs)) all (inv.3 cs h)));
       apart =
-          subst (λ (es : List (g.row.R-Value.Denot × Tail)). AreApart below (vectors_of es)) (sym now)
+          subst (λ (es : List (g.row.R-Value.Denot × LabelWalk)). AreApart below (vectors_of es)) (sym now)
           (merged_apart below before xs list inv.0 (AreApart-permuted below g.met.R.Resource.order.reflexive (vectors_of before) (vectors_of xs) inv.0 c.requires.labels) c.requires.list);
       from = λ a m.
           ⊎_elim (λ p. inv.1 a (Member-filter_out (λ e. not (list_any (λ l. below l.0 e.0) (filter free list))) xs a p).0) (λ q. inr (Member-filter_out free list a q).0)
-          (Member-append (filter (λ e. not (list_any (λ l. below l.0 e.0) (filter free list))) xs) (filter free list) a (subst (λ (es : List (g.row.R-Value.Denot × Tail)). Member es a) now m));
+          (Member-append (filter (λ e. not (list_any (λ l. below l.0 e.0) (filter free list))) xs) (filter free list) a (subst (λ (es : List (g.row.R-Value.Denot × LabelWalk)). Member es a) now m));
       err = tt;
     }
 
@@ -100,5 +100,5 @@ pub returns-in_err-reserve-clause-apart : goal.returns-in_err-reserve-clause-apa
 returns-in_err-reserve-clause-apart g c =
     let before = vectors_of c.args.labels.now.items in
     let below = g.R.Resource.below in
-    subst (λ (xs : List (g.row.R-Value.Denot × Tail)). AreApart below (vectors_of xs)) (sym c.reserve.ensures.items)
+    subst (λ (xs : List (g.row.R-Value.Denot × LabelWalk)). AreApart below (vectors_of xs)) (sym c.reserve.ensures.items)
     (AreApart-permuted below g.met.R.Resource.order.reflexive before (vectors_of c.loop-label.labels.items) c.loop-label.invariant.0 c.requires.labels)

@@ -3,8 +3,8 @@ use Rattle.std.specs.Prelude.{slice_get}
 use Rattle.std.proofs.lemmas.Option.{slice_get-get_or}
 use Rattle.crew_resource.specs.Members.{Member}
 use Rattle.crew_pool.specs.Machinery.Meets.{vectors_of}
-use Rattle.crew_pool.specs.Tails.{IsPoolOf, lesser_tail, shown}
-use Rattle.crew_pool.specs.declared.tail.Tail.{Tail}
+use Rattle.crew_pool.specs.LabelWalks.{IsPoolOf, lesser_label_walk, shown}
+use Rattle.crew_pool.specs.declared.label_walk.LabelWalk.{LabelWalk}
 use Rattle.crew_resource.proofs.Lists.{map-slice_set}
 use Rattle.crew_resource.proofs.Members.{Member-at}
 use Rattle.crew_resource.proofs.Order.{order}
@@ -37,7 +37,7 @@ returns-then-at_most-clause-vectors g c =
     let here : slice_get items c.args.place ≡ Some item = slice_get-get_or items c.args.place item within ∙ ap Some (sym c.index.ensures) in
     let tied = tied_at below o items c.args.place l.0 item here (c.requires.lower item here) (sym c.at_most.ensures ∙ c.if-at_most.true) in
     let now = c.lower.ensures.lowered l.0 item.1 tied in
-    ap vectors_of now ∙ map-slice_set (λ e. e.0) items c.args.place (l.0, item.1) (l.0, lesser_tail ws item.1 l.1) tied refl
+    ap vectors_of now ∙ map-slice_set (λ e. e.0) items c.args.place (l.0, item.1) (l.0, lesser_label_walk ws item.1 l.1) tied refl
 
 pub returns-then-at_most-clause-from : goal.returns-then-at_most-clause-from
 returns-then-at_most-clause-from g c a m =
@@ -51,7 +51,7 @@ returns-then-at_most-clause-from g c a m =
     let here : slice_get items c.args.place ≡ Some item = slice_get-get_or items c.args.place item within ∙ ap Some (sym c.index.ensures) in
     let tied = tied_at below o items c.args.place l.0 item here (c.requires.lower item here) (sym c.at_most.ensures ∙ c.if-at_most.true) in
     let now = c.lower.ensures.lowered l.0 item.1 tied in
-    lowered_from items c.args.place l item.1 ws a tied (subst (λ (es : List (g.row.R-Value.Denot × Tail)). Member es a) now m)
+    lowered_from items c.args.place l item.1 ws a tied (subst (λ (es : List (g.row.R-Value.Denot × LabelWalk)). Member es a) now m)
 
 pub returns-then-at_most-clause-local : goal.returns-then-at_most-clause-local
 returns-then-at_most-clause-local g c cs i =
@@ -65,7 +65,7 @@ returns-then-at_most-clause-local g c cs i =
     let here : slice_get items c.args.place ≡ Some item = slice_get-get_or items c.args.place item within ∙ ap Some (sym c.index.ensures) in
     let tied = tied_at below o items c.args.place l.0 item here (c.requires.lower item here) (sym c.at_most.ensures ∙ c.if-at_most.true) in
     let now = c.lower.ensures.lowered l.0 item.1 tied in
-    subst (λ (es : List (g.row.R-Value.Denot × Tail)). IsPoolOf below (cs ++ shown ws l ∷ []) (map (shown ws) es)) (sym now)
+    subst (λ (es : List (g.row.R-Value.Denot × LabelWalk)). IsPoolOf below (cs ++ shown ws l ∷ []) (map (shown ws) es)) (sym now)
     (tied_local below o ws items c.args.place l.0 l.1 item.1 cs c.requires.apart tied i)
 
 pub returns-else-at_most-clause-local : goal.returns-else-at_most-clause-local

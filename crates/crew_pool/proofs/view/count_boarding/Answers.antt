@@ -2,7 +2,7 @@ use Rattle.std.proofs.Common.{◌≡◌, ℕ, List, cond, length, sym, ◌∙◌
 use Rattle.std.specs.Prelude.{is_some}
 use Rattle.std.proofs.lemmas.List.{take_all}
 use Rattle.crew_pool.specs.Counted.{boarded_labels}
-use Rattle.crew_pool.specs.declared.tail.Tail.{Tail}
+use Rattle.crew_pool.specs.declared.label_walk.LabelWalk.{LabelWalk}
 use Rattle.crew_pool.proofs.BoardLemmas.{at_most_none, at_most_one, boarded_count_more, counted_none, counted_one}
 use Rattle.crew_resource.proofs.Members.{Member-get_or}
 use Rattle.crew_pool.proofs.view.count_boarding.Goals.{then-is_some, else-is_some}
@@ -33,4 +33,4 @@ loop-label-preserved g c =
 pub returns : goal.returns
 returns g c duty =
     let board = λ (v : g.row.R-Value.Denot). g.R.Staged.boards c.args.resource.now v c.args.item.now in
-    c.loop-label.invariant.0 duty ∙ ap (λ (ls : List (g.row.R-Value.Denot × Tail)). length (boarded_labels board duty ls)) (take_all c.loop-label.label-index c.args.labels.now (omega arith))
+    c.loop-label.invariant.0 duty ∙ ap (λ (ls : List (g.row.R-Value.Denot × LabelWalk)). length (boarded_labels board duty ls)) (take_all c.loop-label.label-index c.args.labels.now (omega arith))

@@ -13,7 +13,7 @@ returns-in-Ok g c =
       inl (record {
         partials = c.in-Ok.partials.items;
         tally = c.of.result;
-        all = rw (c.settings.ensures.value, c.data.ensures) at listed;
+        all = rw (c.settings.ensures.value, c.timetable.ensures) at listed;
         few = c.in-Ok.ensures.few;
         counted = rw c.deref.ensures.value at c.of.ensures;
         written = refl;
@@ -24,5 +24,5 @@ returns-in-Ok g c =
 pub returns-in-Err-OverLimit : goal.returns-in-Err-OverLimit
 returns-in-Err-OverLimit g c =
     on_ok_weaker c.write_refused.result
-    (λ w. (refused_line c.args.number 45, w, inr (record { more = rw (c.settings.ensures.value, c.data.ensures) at (c.in-Err-OverLimit.ensures.over (cc)); written = refl })))
+    (λ w. (refused_line c.args.number 45, w, inr (record { more = rw (c.settings.ensures.value, c.timetable.ensures) at (c.in-Err-OverLimit.ensures.over (cc)); written = refl })))
     c.write_refused.ensures

@@ -1,9 +1,0 @@
-use Rattle.std.proofs.Common.{◌∙◌, ap, sym}
-use Rattle.std.specs.FinMap as map
-use Rattle.crew_flights.specs.Codes.{code_cmp}
-use Rattle.crew_flights.specs.Timetable.{Timetable}
-use Rattle.crew_flights.proofs.Maps.{entries_seen}
-use Rattle.crew_flights.proofs.data.Data.bases.Goals as goal
-
-pub returns-clause-held : goal.returns-clause-held
-returns-clause-held c = c.iter.ensures.rest ∙ sym (entries_seen code_cmp _ c.self.invariant.bases_ordered) ∙ ap (λ (t : Timetable). map.entries t.bases) c.self.view_is

@@ -1,0 +1,6 @@
+use Rattle.std.proofs.Common.{◌∙◌, sym}
+use Rattle.crew_flights.proofs.Soundness.{changed_sound}
+use Rattle.crew_flights.proofs.timetable.Timetable.apply.Goals as goal
+
+pub change-requires : goal.change-requires
+change-requires c = changed_sound c.args.self.now c.args.edit.now c.refusal.ensures.sound (sym c.refusal.ensures.first ∙ c.in_default.is)
