@@ -13,7 +13,7 @@ ghost use Rattle.crew_audit.specs.Partials.{ArePartials, HasMoreThan};
 
 use crate::partial::{AuditFault, Partial};
 use crate::search::{Scope, list_after};
-use crew_flights::{Code, Timetable, Flight};
+use crew_flights::{Code, Flight, Timetable};
 use crew_rules::Settings;
 use std::alloc::{AllocError, Global};
 
@@ -30,7 +30,8 @@ fn held_bases(alloc: Global, timetable: &Timetable) -> Result<Vec<(Code, i64)>, 
     ensures held { IfOk result (λ bases. bases.items ≡ fin.entries timetable.now.bases) }
     ensures sound { IsSound timetable.now }
 {
-    timetable.bases()
+    timetable
+        .bases()
         .map(|(code, price)| (*code, *price))
         .collect(alloc)
 }

@@ -14,10 +14,9 @@ ghost use Rattle.crew_audit.specs.Machinery.Listing.{comes_back, listed, may_joi
 ghost use Rattle.crew_audit.specs.Machinery.Ranges.{IsInRange};
 
 use crate::partial::Partial;
-use crew_pairing::{Duty, Walk};
 use crew_flights::{Code, Flight};
+use crew_pairing::{Duty, PairingVector, Walk};
 use crew_rules::{Settings, guaranteed, rated};
-use crew_pairing::PairingVector;
 use std::alloc::{AllocError, Global};
 
 /// The least rest between two duties, in minutes: 14 CFR 117.25(e).

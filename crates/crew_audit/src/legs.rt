@@ -8,11 +8,11 @@ ghost use Rattle.crew_pairing.specs.Machinery.Listing.{is_hopeless, timed};
 ghost use Rattle.crew_resource.specs.Members.{Each};
 ghost use Rattle.crew_audit.specs.Machinery.Ranges.{IsInRange};
 
-use crew_pairing::{Duty, Key, TimedLeg};
 use crew_flights::Flight;
 use crew_pairing::facts::{
     deadheads, flight_duty_period, flight_time, last_leg, price, release, report, segments,
 };
+use crew_pairing::{Duty, Key, TimedLeg};
 use crew_rules::{Settings, duty_pay, table_a, table_b};
 use std::alloc::{AllocError, Global};
 

@@ -1,9 +1,10 @@
 //! Partial pairings, and why they are not listed.
 
-use crew_pairing::Walk;
+ghost use Rattle.std.specs.Prelude.{◌≡◌, IfOk};
+
 use crew_flights::Code;
-use crew_pairing::PairingVector;
-use std::alloc::{AllocError, AllocFailed};
+use crew_pairing::{PairingVector, Walk};
+use std::alloc::{AllocError, AllocFailed, Global};
 
 /// A partial pairing of a base.
 #[derive(Debug, Drop)]
@@ -16,6 +17,18 @@ pub struct Partial {
     pub vector: PairingVector,
     /// Whether it comes back to its base.
     pub pairing: bool,
+}
+
+impl Partial {
+    /// An equal partial.
+    pub fn copy(&self, alloc: Global) -> Result<Partial, AllocError>
+        ensures { IfOk result (λ partial. partial ≡ self.now) }
+    {
+        Ok(Partial {
+            walk: self.walk.copy(alloc)?,
+            ..*self
+        })
+    }
 }
 
 /// Why partial pairings are not listed.

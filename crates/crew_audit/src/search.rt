@@ -15,9 +15,9 @@ ghost use Rattle.crew_audit.specs.Machinery.Ranges.{IsInRange};
 use crate::chain::{self, keep_within_caps, may_leave, partial_from};
 use crate::legs::{self, LEGS, cannot_begin, duty_from, may_come_next};
 use crate::partial::{AuditFault, Partial};
-use crew_pairing::{Duty, TimedLeg};
 use crew_flights::{Code, Flight};
 use crew_pairing::facts::last_leg;
+use crew_pairing::{Duty, TimedLeg};
 use crew_rules::Settings;
 use std::alloc::Global;
 

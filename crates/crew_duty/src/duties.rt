@@ -11,7 +11,7 @@ ghost use Rattle.crew_duty.specs.Machinery.Plans.{IsPlan, rows};
 ghost use Rattle.crew_pairing.specs.declared.duty.Duty.{Duty};
 
 use crate::search::{DUTIES, DutyFault, Plan, count_from, list_from, next_places};
-use crew_flights::{Timetable, Flight};
+use crew_flights::{Flight, Timetable};
 use crew_pairing::Duty;
 use crew_rules::Settings;
 use rayon::current_num_threads;

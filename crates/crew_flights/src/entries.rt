@@ -2,8 +2,8 @@
 
 ghost use Rattle.std.specs.Prelude.{◌≡◌, ◌∷◌, ◌++◌, [], List, IfOk, OnErr};
 
-use crate::timetable::Timetable;
 use crate::edit::{Edit, Refusal, Verdict};
+use crate::timetable::Timetable;
 use std::alloc::{AllocError, Global};
 use std::marker::Model;
 

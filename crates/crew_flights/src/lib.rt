@@ -6,13 +6,13 @@
 //! an entry that comes out of its seat's turn changes nothing.
 #![tactic(auto)]
 
-mod timetable;
 mod edit;
 mod entries;
 mod flight;
 pub mod laws;
+mod timetable;
 
-pub use timetable::Timetable;
 pub use edit::{Edit, Refusal, Verdict};
 pub use entries::{Entry, Folding, fold};
 pub use flight::{Code, Flight, FlightId};
+pub use timetable::Timetable;

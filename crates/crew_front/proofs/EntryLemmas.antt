@@ -1,6 +1,6 @@
 -- Lists that rise with no element at most another.
 use Rattle.std.proofs.Common.{◌≡◌, ◌≢◌, ℕ, zero, suc, ◌+◌, ◌≤◌, ◌<◌, Bool, true, false, cond, not, List, [], ◌∷◌, ◌++◌, length, take, drop, set, map, get_or, Some, None, inl, inr, refl, sym, ◌∙◌, ap, subst, ⊎_elim, arith, Ordering}
-use Rattle.std.specs.Prelude.{slice_get, unwrap_or}
+use Rattle.std.specs.Prelude.{slice_get, unwrap_or, Result, Ok, Err, OnErr}
 use Rattle.std.specs.List.{filter, insert, position, position_or_len, prefix_len, All, Any, AllByRecursion}
 use Rattle.std.proofs.lemmas.List.Quantifiers.{position-Some}
 use Rattle.std.proofs.lemmas.Option.{slice_get-get_or}
@@ -18,6 +18,11 @@ use Rattle.crew_resource.proofs.Lists.{Member-All, map-slice_set, none_passes, w
 use Rattle.crew_resource.proofs.Members.{Member-filter_out, Member-get, Member-map_in, Member-map_out}
 use Rattle.crew_resource.specs.Resource.{OrderLaws}
 use Rattle.crew_resource.specs.Entries.{Parted, PartedFromAll, IsApart, placed}
+
+-- a fact that holds anyway
+pub on_err : {T E : Type 0} (r : Result T E) (P : Type 0) → P → OnErr r P
+on_err (Ok x) P p = tt
+on_err (Err e) P p = p
 
 -- an insert at the first place that passes
 pub insert-first : {X : Type 0} (p : X → Bool) (x : X) (xs : List X) → insert xs (position_or_len p xs) x ≡ placed p x xs

@@ -83,6 +83,19 @@ module _ {V : Type 0} (cmp : V → V → Ordering) (below : V → V → Bool) (l
   pub none_beats_first : (xs : List (V × List (List Leg))) (v : V) → All (λ e. below e.0 v ≡ false) xs → Any (λ e. Beats below e.0 v) xs → ⊥
   none_beats_first xs v all any = false≢true (sym (Member-All (λ e. below e.0 v ≡ false) xs any.1 all (Member-get_or xs any.0 any.1 any.2 any.3)) ∙ any.4.0)
 
+  -- a vector that no entry is at most isn't there
+  pub never_first : (xs : List (V × List (List Leg))) (v : V) → All (λ e. below e.0 v ≡ false) xs → Any (λ e. e.0 ≡ v) xs → ⊥
+  never_first xs v all any =
+      false≢true (sym (Member-All (λ e. below e.0 v ≡ false) xs any.1 all (Member-get_or xs any.0 any.1 any.2 any.3)) ∙ subst (λ z. below any.1.0 z ≡ true) any.4 (laws.reflexive any.1.0))
+
+  -- nor is one that an entry beats
+  pub never_beaten : (xs : List (V × List (List Leg))) (v : V) → IsApart cmp below (map (λ e. e.0) xs) → Any (λ e. Beats below e.0 v) xs → Any (λ e. e.0 ≡ v) xs → ⊥
+  never_beaten xs v h beaten there =
+      beaten.4.1
+      (apart_pair xs beaten.1 there.1 h (Member-get_or xs beaten.0 beaten.1 beaten.2 beaten.3) (Member-get_or xs there.0 there.1 there.2 there.3)
+      (subst (λ z. below beaten.1.0 z ≡ true) (sym there.4) beaten.4.0)
+      ∙ there.4)
+
   -- after one entry's walk changed
   set_out : (xs : List (V × List (List Leg))) (i : ℕ) (v : V) (was now : List (List Leg)) → IsApart cmp below (map (λ e. e.0) xs) → slice_get xs i ≡ Some (v, was)
       → (x : V) (y : List (List Leg)) → Member (set xs i (v, now)) (x, y) → ((x ≡ v) × (y ≡ now)) ⊎ (Member xs (x, y) × (x ≢ v))

@@ -1,6 +1,6 @@
 //! A front.
 ghost use Rattle.std.specs.Prelude.{◌≡◌, ◌↔◌, [], List, ℕ, length, map, not, slice_get, IsTrue, IfOk, OnErr, ◌≤◌, vec_len, vec_capacity, OnOk, slice_set, ◌<◌, ◌++◌, ◌∷◌, MatchOption, None, Some, false};
-ghost use Rattle.std.specs.List.{position, position_or_len, filter, Any};
+ghost use Rattle.std.specs.List.{position, position_or_len, filter, All, Any};
 ghost use Rattle.std.specs.Ordering.{is_eq, is_lt};
 ghost use Rattle.std.specs.Slice.Iter.{iter_rest};
 ghost use Rattle.crew_pairing.specs.Legs.{Leg};
@@ -120,12 +120,15 @@ impl<R: Resource + Drop> Front<R> {
 
     /// Offers a vector with a walk.
     ///
-    /// `Beaten` exactly where an entry beats it, and nothing changes. `Tied` where the vector is there: the lesser walk
-    /// stays. Else `Kept`: exactly the entries that it beats go, and it joins. If the entries were what a list of
-    /// candidates leaves, they are then what that list leaves with this one after it. On want of memory nothing changes.
+    /// `Beaten` exactly where an entry beats it, and nothing changes. `Tied` exactly where the vector is there: the lesser
+    /// walk stays. Else `Kept`: exactly the entries that it beats go, and it joins. If the entries were what a list of
+    /// candidates leaves, they are then what that list leaves with this one after it. Only a vector that joins takes
+    /// memory; on want of it nothing changes.
     pub fn offer(&mut self, value: R::Value, walk: Walk) -> Result<Offer, AllocError>
         ensures ok { IfOk result (Offered R.below R.Value.cmp self.old value walk self.new) }
         ensures beaten { (result ≡ Ok Offer.Beaten) ↔ Any (λ e. Beats R.below e.0 value) self.old }
+        ensures tied { (result ≡ Ok Offer.Tied) ↔ Any (λ e. e.0 ≡ value) self.old }
+        ensures memory { OnErr result (All (λ e. R.below e.0 value ≡ false) self.old) }
         ensures local { OnOk result ((candidates : List (R.Value × List (List Leg))) → IsLocalOf R.below candidates self.old → IsLocalOf R.below (candidates ++ (value, walk) ∷ []) self.new) }
         ensures err { OnErr result (self.new ≡ self.old) }
     {

@@ -9,9 +9,9 @@ ghost use Rattle.crew_pool.specs.Machinery.Meets.{vectors_of};
 ghost use Rattle.crew_pool.specs.LabelWalks.{IsPoolOf, shown};
 
 use crate::arena::Walks;
+use crate::label_walk::LabelWalk;
 use crate::pool::Pool;
 use crate::workspace::Workspace;
-use crate::label_walk::LabelWalk;
 use crew_resource::{Placed, Resource, Staged};
 use std::alloc::AllocError;
 

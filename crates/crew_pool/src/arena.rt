@@ -6,7 +6,7 @@ ghost use Rattle.crew_pool.specs.Arena.{walk_at};
 ghost use Rattle.crew_pool.specs.Machinery.ArenaLinks.{all_walks, AreLinked};
 ghost use Rattle.crew_pool.specs.LabelWalks.{duty_of, walk_of_label};
 
-use crate::label_walk::{NO_DUTY, LabelWalk};
+use crate::label_walk::{LabelWalk, NO_DUTY};
 use std::alloc::{AllocError, Global};
 use std::cmp::Ordering;
 use std::marker::Model;

@@ -6,17 +6,17 @@
 mod absorb;
 mod arena;
 mod entries;
+mod label_walk;
 pub mod laws;
 mod merge;
 mod pool;
-mod workspace;
-mod label_walk;
 mod view;
+mod workspace;
 
 pub use absorb::absorb_boarding;
 pub use arena::Walks;
 pub use entries::Entries;
-pub use pool::Pool;
-pub use workspace::Workspace;
 pub use label_walk::{LabelWalk, NO_DUTY};
+pub use pool::Pool;
 pub use view::View;
+pub use workspace::Workspace;

@@ -9,9 +9,9 @@ ghost use Rattle.crew_pool.specs.LabelWalks.{AreAlikeWhereSame, IsPoolOf, shown}
 ghost use Rattle.crew_pool.specs.declared.label_walk.LabelWalk.{LabelWalk};
 
 use crate::arena::Walks;
+use crate::label_walk::LabelWalk;
 use crate::merge::merge_labels;
 use crate::workspace::Workspace;
-use crate::label_walk::LabelWalk;
 use crew_resource::Resource;
 use std::alloc::{AllocError, Global};
 use std::marker::Model;

@@ -12,8 +12,8 @@ ghost use Rattle.crew_pool.specs.LabelWalks.{shown};
 ghost use Rattle.crew_pool.specs.declared.label_walk.LabelWalk.{LabelWalk};
 
 use crate::entries::Entries;
-use crate::pool::Pool;
 use crate::label_walk::LabelWalk;
+use crate::pool::Pool;
 use crew_resource::{Placed, Resource, Staged};
 use std::alloc::{AllocError, Global};
 use std::marker::Model;

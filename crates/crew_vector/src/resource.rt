@@ -152,7 +152,12 @@ impl Resource for VectorResource {
     }
 
     #[inline]
-    fn extend(&self, value: &PairingVector, last: &Duty, next: &Duty) -> Result<Option<PairingVector>, AllocError> {
+    fn extend(
+        &self,
+        value: &PairingVector,
+        last: &Duty,
+        next: &Duty,
+    ) -> Result<Option<PairingVector>, AllocError> {
         Ok(
             self.sides()
                 .extend(&numbers_from(value), last, next)?
@@ -218,12 +223,19 @@ impl Staged<Duty> for VectorResource {
     }
 
     #[inline]
-    fn wait(&self, value: &PairingVector, arrival: &Arrival, departure: &Departure) -> PairingVector {
+    fn wait(
+        &self,
+        value: &PairingVector,
+        arrival: &Arrival,
+        departure: &Departure,
+    ) -> PairingVector {
         vector_from(self.sides().wait(&numbers_from(value), arrival, departure))
     }
 
     #[inline]
     fn board(&self, value: &PairingVector, duty: &Duty) -> Option<PairingVector> {
-        self.sides().board(&numbers_from(value), duty).map(vector_from)
+        self.sides()
+            .board(&numbers_from(value), duty)
+            .map(vector_from)
     }
 }

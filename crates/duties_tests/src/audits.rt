@@ -1,49 +1,10 @@
+use crate::rows::{Row, timetable_of};
 use crew_audit::{AuditFault, Partial, Tally, enumerate};
-use crew_flights::{Code, Timetable, Edit, Flight, FlightId};
+use crew_flights::Timetable;
 use crew_pairing::PairingVector;
 use crew_rules::Settings;
-use crew_time::{Minute, Zone, read_minute};
 use std::alloc::Global;
 use std::test::Fail;
-
-type Row<'a> = (u32, &'a [u8; 3], &'a [u8; 3], &'a str, &'a str, i64);
-
-// A flight between airports on the clock of New York.
-fn flight(settings: &Settings, row: Row<'_>) -> Result<Flight, Fail> {
-    let (id, from, to, dep, arr, price) = row;
-    let zone = Zone::read(b"EST5EDT,M3.2.0,M11.1.0")?;
-    let dep = read_minute(dep.as_bytes())?;
-    let report = Minute::new(dep.get() - i64::from(settings.lead)).ok_or("report")?;
-    Ok(Flight {
-        id: FlightId::new(id).ok_or("id")?,
-        from: Code::new(*from).ok_or("from")?,
-        to: Code::new(*to).ok_or("to")?,
-        dep,
-        arr: read_minute(arr.as_bytes())?,
-        report_clock: zone.clock(report),
-        price,
-    })
-}
-
-// A timetable of these bases and flights.
-fn timetable_of(
-    alloc: Global,
-    settings: &Settings,
-    bases: &[(&[u8; 3], i64)],
-    rows: &[Row<'_>],
-) -> Result<Timetable, Fail> {
-    let mut timetable = Timetable::new(alloc);
-    for (code, price) in bases {
-        timetable.apply(&Edit::AddBase {
-            code: Code::new(**code).ok_or("base")?,
-            price: *price,
-        })?;
-    }
-    for row in rows {
-        timetable.apply(&Edit::AddFlight(flight(settings, *row)?))?;
-    }
-    Ok(timetable)
-}
 
 // A partial as text: its base, its duties' ids joined by `-`, with `d` behind a deadheaded one, and
 // whether it is a pairing.
@@ -70,7 +31,12 @@ fn partial_text(alloc: Global, partial: &Partial) -> Result<String, Fail> {
 }
 
 // The partials, one a line.
-fn listing(alloc: Global, settings: &Settings, timetable: &Timetable, limit: usize) -> Result<String, Fail> {
+fn listing(
+    alloc: Global,
+    settings: &Settings,
+    timetable: &Timetable,
+    limit: usize,
+) -> Result<String, Fail> {
     settings.check()?;
     let partials = enumerate(alloc, settings, timetable, limit)?;
     let mut text = String::new(alloc);
@@ -386,5 +352,69 @@ fn a_refused_allocation(rt: HostRuntime) -> Result<(), Fail> {
         Ok(partials) => assert_eq!(rt; partials.len(), 6),
         Err(fault) => assert!(rt; fault == AuditFault::Memory),
     }
+    Ok(())
+}
+
+// A pairing of twelve duties of an hour each, ten hours apart: there and back, six times.
+#[test]
+fn twelve_duties(rt: HostRuntime) -> Result<(), Fail> {
+    let settings = Settings {
+        lead: 0,
+        debrief: 0,
+        max_duties: 12,
+        ..Settings::standard()
+    };
+    let rows: [Row<'_>; 12] = [
+        (1, b"JFK", b"BOS", "2025-07-01T00:00", "2025-07-01T01:00", 0),
+        (2, b"BOS", b"JFK", "2025-07-01T11:00", "2025-07-01T12:00", 0),
+        (3, b"JFK", b"BOS", "2025-07-01T22:00", "2025-07-01T23:00", 0),
+        (4, b"BOS", b"JFK", "2025-07-02T09:00", "2025-07-02T10:00", 0),
+        (5, b"JFK", b"BOS", "2025-07-02T20:00", "2025-07-02T21:00", 0),
+        (6, b"BOS", b"JFK", "2025-07-03T07:00", "2025-07-03T08:00", 0),
+        (7, b"JFK", b"BOS", "2025-07-03T18:00", "2025-07-03T19:00", 0),
+        (8, b"BOS", b"JFK", "2025-07-04T05:00", "2025-07-04T06:00", 0),
+        (9, b"JFK", b"BOS", "2025-07-04T16:00", "2025-07-04T17:00", 0),
+        (
+            10,
+            b"BOS",
+            b"JFK",
+            "2025-07-05T03:00",
+            "2025-07-05T04:00",
+            0,
+        ),
+        (
+            11,
+            b"JFK",
+            b"BOS",
+            "2025-07-05T14:00",
+            "2025-07-05T15:00",
+            0,
+        ),
+        (
+            12,
+            b"BOS",
+            b"JFK",
+            "2025-07-06T01:00",
+            "2025-07-06T02:00",
+            0,
+        ),
+    ];
+    let timetable = timetable_of(rt.alloc(), &settings, &[(b"JFK", 0)], &rows)?;
+    settings.check()?;
+    let partials = enumerate(rt.alloc(), &settings, &timetable, 42)?;
+    let tally = Tally {
+        partials: 42,
+        pairings: 21,
+        cost: Some(8_400),
+    };
+    assert!(rt; Tally::of(&partials) == tally);
+    let most = partials.iter().map(|partial| partial.vector.duties).max();
+    assert!(rt; most == Some(12));
+    assert!(rt;
+        matches!(
+            enumerate(rt.alloc(), &settings, &timetable, 41),
+            Err(AuditFault::OverLimit)
+        )
+    );
     Ok(())
 }

@@ -1,38 +1,12 @@
+use crate::rows::{Row, flight, timetable_of};
 use crew_duty::{DutyFault, list_duties};
-use crew_flights::{Code, Timetable, Edit, Flight, FlightId};
+use crew_flights::{Code, Edit, Flight, FlightId, Timetable};
 use crew_pairing::Duty;
 use crew_rules::Settings;
 use crew_time::{Minute, Zone, read_minute};
 use std::alloc::Global;
 use std::test::Fail;
 use std::thread::Threads;
-
-type Row<'a> = (u32, &'a [u8; 3], &'a [u8; 3], &'a str, &'a str, i64);
-
-// A flight between airports on the clock of New York.
-fn flight(settings: &Settings, row: Row<'_>) -> Result<Flight, Fail> {
-    let (id, from, to, dep, arr, price) = row;
-    let zone = Zone::read(b"EST5EDT,M3.2.0,M11.1.0")?;
-    let dep = read_minute(dep.as_bytes())?;
-    let report = Minute::new(dep.get() - i64::from(settings.lead)).ok_or("report")?;
-    Ok(Flight {
-        id: FlightId::new(id).ok_or("id")?,
-        from: Code::new(*from).ok_or("from")?,
-        to: Code::new(*to).ok_or("to")?,
-        dep,
-        arr: read_minute(arr.as_bytes())?,
-        report_clock: zone.clock(report),
-        price,
-    })
-}
-
-fn timetable_of(alloc: Global, settings: &Settings, rows: &[Row<'_>]) -> Result<Timetable, Fail> {
-    let mut timetable = Timetable::new(alloc);
-    for row in rows {
-        timetable.apply(&Edit::AddFlight(flight(settings, *row)?))?;
-    }
-    Ok(timetable)
-}
 
 // A key as text: ids joined by `-`, with `d` behind a deadheaded one.
 fn key_text(alloc: Global, duty: &Duty) -> Result<String, Fail> {
@@ -56,7 +30,7 @@ fn keys<R: Threads + Sync + AllocGlobal>(
     rows: &[Row<'_>],
 ) -> Result<String, Fail> {
     settings.check()?;
-    let timetable = timetable_of(rt.alloc(), settings, rows)?;
+    let timetable = timetable_of(rt.alloc(), settings, &[], rows)?;
     let duties = list_duties(rt, rt.alloc(), settings, &timetable)?;
     let mut text = String::new(rt.alloc());
     for duty in duties.as_slice() {
@@ -212,7 +186,7 @@ fn facts_of_a_duty(rt: HostRuntime) -> Result<(), Fail> {
         ..Settings::standard()
     };
     settings.check()?;
-    let timetable = timetable_of(rt.alloc(), &settings, &[FIRST, SECOND])?;
+    let timetable = timetable_of(rt.alloc(), &settings, &[], &[FIRST, SECOND])?;
     let duties = list_duties(&rt, rt.alloc(), &settings, &timetable)?;
     assert_eq!(rt; duties.len(), 4);
     let report = read_minute(b"2025-07-01T11:00")?.get();

@@ -5,3 +5,5 @@
 mod audits;
 #[cfg(test)]
 mod duties;
+#[cfg(test)]
+mod rows;

@@ -9,13 +9,12 @@
 
 mod marked;
 
-use crew_pairing::{Key, Leg, Walk};
 use crew_flights::FlightId;
 use crew_front::Front;
-use crew_pool::{Workspace, Walks};
+use crew_pairing::{Key, Leg, PairingVector, Walk};
+use crew_pool::{Walks, Workspace};
 use crew_rules::Settings;
 use crew_vector::VectorResource;
-use crew_pairing::PairingVector;
 use marked::Marked;
 use std::alloc::{AllocError, Global};
 use std::env;

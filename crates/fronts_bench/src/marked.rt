@@ -6,9 +6,9 @@ ghost use Rattle.crew_vector.specs.Dominance.{is_at_most};
 ghost use Rattle.crew_pairing.specs.declared.vector.PairingVector.{PairingVector};
 ghost use Rattle.fronts_bench.specs.Marked.{AreMarked, IsMarked};
 
-use crew_pool::{NO_DUTY, Pool, Workspace, LabelWalk, Walks};
-use crew_vector::VectorResource;
 use crew_pairing::PairingVector;
+use crew_pool::{LabelWalk, NO_DUTY, Pool, Walks, Workspace};
+use crew_vector::VectorResource;
 use std::alloc::{AllocError, Global};
 use std::marker::Model;
 

@@ -147,3 +147,24 @@ fn copied_it_goes_on(rt: HostRuntime) -> Result<(), Fail> {
     assert!(rt; front.len() == 2);
     Ok(())
 }
+
+// Each vector pays more and is away less than the one before it, so none beats another.
+#[test]
+fn holds_hundreds_of_entries(rt: HostRuntime) -> Result<(), Fail> {
+    let alloc = rt.alloc();
+    let mut front = Front::new(alloc, resource());
+    for step in 0..300 {
+        let value = vector([step, 0, 0, 0, 0, 2, 300 - step]);
+        assert!(rt; front.offer(value, walk(alloc, 1, 2)?)? == Offer::Kept);
+    }
+    assert!(rt; front.len() == 300);
+    let beaten = vector([150, 0, 0, 0, 0, 2, 151]);
+    assert!(rt; front.offer(beaten, walk(alloc, 1, 1)?)? == Offer::Beaten);
+    let tied = vector([150, 0, 0, 0, 0, 2, 150]);
+    assert!(rt; front.offer(tied, walk(alloc, 1, 1)?)? == Offer::Tied);
+    assert!(rt; front.len() == 300);
+    let best = vector([0, 0, 0, 0, 0, 2, 0]);
+    assert!(rt; front.offer(best, walk(alloc, 1, 2)?)? == Offer::Kept);
+    assert!(rt; front.len() == 1);
+    Ok(())
+}

@@ -5,7 +5,7 @@ ghost use Rattle.crew_resource.specs.Machinery.SumStages.{still};
 ghost use Rattle.crew_pool.specs.Apart.{AreApart};
 
 use crate::sevens::{resource, vector};
-use crew_pool::{NO_DUTY, Pool, Workspace, LabelWalk, View, Walks, absorb_boarding, laws};
+use crew_pool::{LabelWalk, NO_DUTY, Pool, View, Walks, Workspace, absorb_boarding, laws};
 use crew_resource::{Amount, Both, Count, Placed, Resource, StagedAmount, Sum};
 use crew_vector::VectorResource;
 use std::alloc::{AllocError, Global};
@@ -24,12 +24,30 @@ fn walks_share_their_beginnings(rt: HostRuntime) -> Result<(), Fail> {
     assert!(rt; walks.compare(longer, other) == Ordering::Less);
     assert!(rt; walks.compare(other, longer) == Ordering::Greater);
     assert!(rt; walks.compare(other, other) == Ordering::Equal);
-    let tail = LabelWalk {
+    let label = LabelWalk {
         walk: other,
         duty: 5,
     };
-    let ranks = walks.ranks(rt.alloc(), tail)?;
+    let ranks = walks.ranks(rt.alloc(), label)?;
     assert!(rt; ranks.as_slice() == [7, 4, 5].as_slice());
+    Ok(())
+}
+
+// More walks than 16 bits number.
+#[test]
+fn holds_many_walks(rt: HostRuntime) -> Result<(), Fail> {
+    let mut walks = Walks::new(rt.alloc());
+    for duty in 0..70_000 {
+        assert!(rt; walks.add(0, duty)? == duty + 1);
+    }
+    let last = walks.add(70_000, 7)?;
+    assert!(rt; last == 70_001);
+    assert!(rt; walks.compare(65_536, 65_537) == Ordering::Less);
+    let label = LabelWalk {
+        walk: last,
+        duty: NO_DUTY,
+    };
+    assert!(rt; walks.ranks(rt.alloc(), label)?.as_slice() == [69_999, 7].as_slice());
     Ok(())
 }
 
@@ -38,11 +56,11 @@ fn merges_into_an_empty_pool(rt: HostRuntime) -> Result<(), Fail> {
     let alloc = rt.alloc();
     let walks = Walks::new(alloc);
     let mut labels = Vec::new(alloc);
-    let tail = LabelWalk {
+    let label = LabelWalk {
         walk: 0,
         duty: NO_DUTY,
     };
-    labels.push((vector(SEVEN), tail))?;
+    labels.push((vector(SEVEN), label))?;
     let list = Pool::<VectorResource>::from_apart(labels);
     let mut pool = Pool::new(alloc);
     let mut room = Workspace::new(alloc);

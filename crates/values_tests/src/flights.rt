@@ -1,4 +1,6 @@
-use crew_flights::{Code, Timetable, Edit, Entry, Flight, FlightId, Folding, Refusal, Verdict, fold};
+use crew_flights::{
+    Code, Edit, Entry, Flight, FlightId, Folding, Refusal, Timetable, Verdict, fold,
+};
 use crew_time::{ClockMinute, Minute};
 use std::test::Fail;
 
@@ -138,7 +140,10 @@ fn edits(rt: HostRuntime) -> Result<(), Fail> {
     assert_eq!(rt; held.price, -1_000_000_000);
     assert_eq!(rt; timetable.base_price(jfk), Some(-7));
     let again = timetable.copy(rt.alloc())?;
-    assert_eq!(rt; timetable.apply(&Edit::Cancel(id(101)?))?, Verdict::Accepted);
+    assert_eq!(rt;
+        timetable.apply(&Edit::Cancel(id(101)?))?,
+        Verdict::Accepted
+    );
     assert_eq!(rt; timetable.flight_count(), 0);
     assert_eq!(rt; again.flights().count(), 1);
     assert_eq!(rt; again.bases().count(), again.base_count());

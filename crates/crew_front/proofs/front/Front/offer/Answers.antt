@@ -9,11 +9,11 @@ use Rattle.crew_resource.specs.Entries.{IsApart, placed}
 use Rattle.crew_front.specs.Machinery.Grades.{HoldSame}
 use Rattle.crew_front.specs.Walks.{lesser}
 use Rattle.crew_front.specs.declared.front.Offer.TheVariants.{Kept, Beaten, Tied}
-use Rattle.crew_front.proofs.EntryLemmas.{All-from_members, joined_apart, beaten_by}
-use Rattle.crew_resource.proofs.Members.{Member-map_in}
+use Rattle.crew_front.proofs.EntryLemmas.{All-from_members, Member-Any, joined_apart, beaten_by, on_err}
+use Rattle.crew_resource.proofs.Members.{Member-at, Member-map_in}
 use Rattle.crew_resource.proofs.Lists.{within_some, map-slice_set}
 use Rattle.crew_front.proofs.GradeLemmas.{joined_same}
-use Rattle.crew_front.proofs.OfferLocal.{none_beats_first, none_beats_there, offered_list}
+use Rattle.crew_front.proofs.OfferLocal.{never_beaten, never_first, none_beats_first, none_beats_there, offered_list}
 use Rattle.crew_front.proofs.front.Front.offer.Goals as goal
 
 pub invariant_of-self-in_default : goal.invariant_of-self-in_default
@@ -115,6 +115,39 @@ returns-in_err-join-clause-beaten g c =
       λ e. absurd (let q : ⊥ = (cc) in q),
       λ any. absurd (none_beats_first g.R.Value.Ord.cmp below g.met.R.Resource.order c.args.self.now c.args.value all any),
     )
+
+pub returns-in_err-join-clause-tied : goal.returns-in_err-join-clause-tied
+returns-in_err-join-clause-tied g c =
+    let p = err_from_is_err_and c.from_residual.result c.from_residual.ensures.1 in (
+      λ e. absurd (let q : ⊥ = (cc) in q),
+      λ any. absurd (never_first g.R.Value.Ord.cmp g.R.Resource.below g.met.R.Resource.order c.args.self.now c.args.value (subst (λ (es : List (g.row.R-Value.Denot × List (List Leg))). All (λ e. g.R.Resource.below e.0 c.args.value ≡ false) es) c.self.view_is
+          (All-from_members (λ (e : g.row.R-Value.Denot × List (List Leg)). g.R.Resource.below e.0 c.args.value ≡ false) c.self.inside.entries.items
+          (λ e m. c.in_default.ensures e.0 (c.self.invariant.1.forth e.0 (Member-map_in (λ (e : g.row.R-Value.Denot × List (List Leg)). e.0) c.self.inside.entries.items e m))))) any),
+    )
+
+pub returns-in_err-join-clause-memory : goal.returns-in_err-join-clause-memory
+returns-in_err-join-clause-memory g c = on_err c.from_residual.result (All (λ (e : g.row.R-Value.Denot × List (List Leg)). g.R.Resource.below e.0 c.args.value ≡ false) c.args.self.now) (subst (λ (es : List (g.row.R-Value.Denot × List (List Leg))). All (λ e. g.R.Resource.below e.0 c.args.value ≡ false) es) c.self.view_is
+    (All-from_members (λ (e : g.row.R-Value.Denot × List (List Leg)). g.R.Resource.below e.0 c.args.value ≡ false) c.self.inside.entries.items
+    (λ e m. c.in_default.ensures e.0 (c.self.invariant.1.forth e.0 (Member-map_in (λ (e : g.row.R-Value.Denot × List (List Leg)). e.0) c.self.inside.entries.items e m)))))
+
+pub returns-in_default-clause-tied : goal.returns-in_default-clause-tied
+returns-in_default-clause-tied g c = (
+  λ e. absurd (let q : ⊥ = (cc) in q),
+  λ any. absurd (never_first g.R.Value.Ord.cmp g.R.Resource.below g.met.R.Resource.order c.args.self.now c.args.value (returns-in_default-clause-ok g c).0 any),
+)
+
+pub returns-then-not-at_most-clause-tied : goal.returns-then-not-at_most-clause-tied
+returns-then-not-at_most-clause-tied g c = (
+  λ e. absurd (let q : ⊥ = (cc) in q),
+  λ any. absurd (never_beaten g.R.Value.Ord.cmp g.R.Resource.below g.met.R.Resource.order c.args.self.now c.args.value
+      (subst (λ (es : List (g.row.R-Value.Denot × List (List Leg))). IsApart g.R.Value.Ord.cmp g.R.Resource.below (map (λ e. e.0) es)) c.self.view_is c.self.invariant.0)
+      (returns-then-not-at_most-clause-ok g c).0 any),
+)
+
+pub returns-clause-tied : goal.returns-clause-tied
+returns-clause-tied g c =
+    let tied = returns-clause-ok g c in
+    (λ e. Member-Any (λ (e : g.row.R-Value.Denot × List (List Leg)). e.0 ≡ c.args.value) c.args.self.now (c.args.value, tied.1) (Member-at c.args.self.now tied.0 (c.args.value, tied.1) tied.2) refl, λ any. refl)
 
 pub returns-in_default-clause-beaten : goal.returns-in_default-clause-beaten
 returns-in_default-clause-beaten g c = (
