@@ -1,5 +1,5 @@
 -- All legal duties of a timetable, by key.
-use Rattle.std.specs.Prelude.{◌≡◌, ◌<◌, List, [], ◌∷◌, length}
+use Rattle.std.specs.Prelude.{◌≡◌, ◌<◌, ◌≤◌, List, [], ◌∷◌, length}
 use Rattle.std.specs.declared.cmp.Ordering.TheVariants.{Less}
 use Rattle.std.specs.FinMap as map
 use Rattle.crew_flights.specs.Timetable.{Timetable}
@@ -33,3 +33,7 @@ AreDuties s t ds = AreDutiesOver s (flights_of t) ds
 -- a timetable has more than 200,000 legal duties
 abbrev pub HasTooMany : Settings → Timetable → Type 0
 HasTooMany s t = (ds : List Duty) × AreDuties s t ds × (200_000 < length ds)
+
+-- a timetable has at most 200,000 legal duties
+abbrev pub HasFew : Settings → Timetable → Type 0
+HasFew s t = (ds : List Duty) × AreDuties s t ds × (length ds ≤ 200_000)

@@ -1,5 +1,4 @@
 pub mod LineFacts
-pub mod NumberFacts
 pub mod OfferFacts
 pub mod RowFacts
 pub mod SessionFacts

@@ -4,7 +4,7 @@ use Rattle.std.specs.Prelude.{slice_get}
 use Rattle.std.specs.Io.KnownBytes.{Appends}
 use Rattle.std.proofs.lemmas.List.{append-nil}
 use Rattle.crew_flights.specs.declared.edit.Verdict.{Verdict}
-use Rattle.crew_session.specs.Lines.{refused_lines, verdict_line}
+use Rattle.crew_session.specs.Lines.{refused_lines}
 use Rattle.crew_session.specs.Verdicts.{verdict_text}
 
 pub appends-none : (w : Option (List ℕ)) → Appends w w []

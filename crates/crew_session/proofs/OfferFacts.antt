@@ -1,12 +1,12 @@
 -- The pairings of duties, and the least of them.
-use Rattle.std.proofs.Common.{◌≡◌, ◌≢◌, ◌<◌, ◌≤◌, ◌+◌, ◌*◌, ℕ, ℤ, pos, negsuc, ◌-ℤ◌, ◌*ℤ◌, ◌≤ℤ◌, List, [], ◌∷◌, ◌++◌, Bool, true, false, Option, Some, None, length, refl, sym, ap, subst, ◌∙◌, inl, inr, arith, get_or, zero, suc, if◌then◌else◌}
+use Rattle.std.proofs.Common.{◌≡◌, ◌≢◌, ◌<◌, ◌≤◌, ◌*◌, ℕ, ℤ, pos, negsuc, ◌*ℤ◌, ◌≤ℤ◌, List, [], ◌∷◌, ◌++◌, Bool, true, false, Option, Some, None, length, map, refl, sym, ap, subst, ◌∙◌, inl, inr, arith, get_or, zero, suc, if◌then◌else◌}
 use Rattle.std.specs.FinMap as fin
 use Rattle.std.specs.declared.cmp.Ordering.{Ordering}
 use Rattle.std.specs.declared.cmp.Ordering.TheVariants.{Less, Equal, Greater}
 use Rattle.std.proofs.lemmas.Int.{ints, clamps}
 use Rattle.std.proofs.Math.Nat.{mul-le-mul_left}
 use Rattle.std.proofs.lemmas.Cmp.{tied_itself}
-use Rattle.std.specs.Ordering.{eq_by_cmp, is_eq}
+use Rattle.std.specs.Ordering.{eq_by_cmp, is_eq, nat_cmp}
 use Rattle.std.specs.Int.{int_max}
 use Rattle.std.specs.Prelude.{neg_ℤ, not}
 use Rattle.std.specs.Cmp.{Equal-is}
@@ -16,15 +16,15 @@ use Rattle.crew_rules.specs.declared.settings.Settings.{Settings}
 use Rattle.crew_flights.specs.Codes.{code_cmp, code_cmp_total}
 use Rattle.crew_flights.specs.Timetable.{IsFlight, IsSound, Timetable, empty_timetable}
 use Rattle.crew_flights.specs.declared.flight.Flight.{Flight}
-use Rattle.crew_pairing.specs.Duties.{AreDuties, flights_of}
-use Rattle.crew_pairing.specs.Legality.{AllConnect, IsLegal, duty_of, flight_time, last_of, minutes_flown, price_of, total}
+use Rattle.crew_pairing.specs.Duties.{AreDuties, HasFew, flights_of}
+use Rattle.crew_pairing.specs.Legality.{IsLegal, duty_of, price_of, total}
 use Rattle.crew_resource.specs.Members.{Each, Member}
 use Rattle.crew_pairing.specs.declared.leg.TimedLeg.{TimedLeg}
 use Rattle.crew_pairing.specs.declared.duty.Duty.{Duty}
 use Rattle.crew_pairing.proofs.Times.{AllSound, ends-later, flown-total}
 use Rattle.crew_pairing.proofs.Timetables.{flights-of-timetable}
-use Rattle.crew_session.specs.Bests.{IsBest, IsOffer, IsPairing, away_of, offer_cmp, offer_total, priced}
-use Rattle.crew_session.specs.Offers.{IsBestAmong, IsBounded, IsOfferOf, chosen, least_of, lesser_of}
+use Rattle.crew_session.specs.Bests.{IsBest, IsPairing, away_of, offer_cmp, offer_total, priced}
+use Rattle.crew_session.specs.Offers.{IsBestAmong, IsBounded, IsOfferOf, chosen, least_of}
 use Rattle.crew_session.specs.declared.best.Best.{Best}
 
 -- ---- members
@@ -126,6 +126,21 @@ no-base-held s t e = no-bases s t (λ code. ap (λ (m : fin.FinMap code_cmp ℤ)
 
 pub no-base-at-start : (s : Settings) → IsBest s empty_timetable None
 no-base-at-start s = no-bases s empty_timetable (λ code. fin.get-empty code_cmp code)
+
+-- without a flight there is no duty
+pub no-duties-at-start : (s : Settings) → HasFew s empty_timetable
+no-duties-at-start s =
+    ([], record { sound = λ d m. absurd m; every = λ first others legal. none-known _ (legal.known.0); rising = tt }, omega arith)
+  where
+    no-entries : {E : Type 0} (es : List E) → length es ≡ 0 → es ≡ []
+    no-entries [] e = refl
+    no-entries (x ∷ es) e = absurd (omega (arith, e))
+
+    no-flights : flights_of empty_timetable ≡ []
+    no-flights = ap (map (λ (e : ℕ × Flight). e.1)) (no-entries (fin.entries empty_timetable.flights) (sym (fin.len-entries empty_timetable.flights) ∙ fin.len-empty nat_cmp Flight))
+
+    none-known : {A : Type 0} (flight : Flight) → Member (flights_of empty_timetable) flight → A
+    none-known flight m = absurd (subst (λ (fs : List Flight). Member fs flight) no-flights m)
 
 -- ---- the facts of a legal duty are small
 

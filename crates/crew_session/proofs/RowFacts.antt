@@ -6,7 +6,8 @@ use Rattle.csv.specs.declared.parser.Config.{Config}
 use Rattle.csv.specs.declared.parser.State.{State}
 use Rattle.csv.specs.declared.parser.State.TheVariants as st
 use Rattle.csv.specs.declared.reader.Reader.{Reader}
-use Rattle.crew_session.specs.Rows.{Fields, HasNoRow, TakesRow, rows_left}
+use Rattle.crew_records.specs.Fields.{Fields}
+use Rattle.crew_session.specs.Rows.{HasNoRow, TakesRow, rows_left}
 
 -- a record leaves fewer bytes, or it was the last
 abbrev Shortens : List ℕ → Read → Type 0

@@ -1,6 +1,7 @@
 -- How a session goes on by a record.
-use Rattle.std.proofs.Common.{◌≡◌, ◌<◌, ◌≤◌, ◌+◌, ◌∙◌, ℕ, List, [], ◌∷◌, ◌++◌, length, drop, Option, Some, None, Result, Ok, Err, refl, sym, ap, subst, inl, arith, option_map, append_assoc, length-append}
-use Rattle.std.specs.Prelude.{IfSome, OnOk}
+use Rattle.std.proofs.Common.{◌≡◌, ◌<◌, ◌≤◌, ◌+◌, ◌∙◌, ℕ, zero, suc, Bool, true, false, List, [], ◌∷◌, ◌++◌, length, drop, Option, Some, None, Result, Ok, Err, refl, sym, ap, subst, inl, inr, arith, option_map, if◌then◌else◌, append_assoc, length-append}
+use Rattle.std.specs.Prelude.{IfSome, OnOk, nat_lt}
+use Rattle.std.proofs.lemmas.Bool.Decides.{nat_tests}
 use Rattle.std.specs.FinMap as map
 use Rattle.std.proofs.lemmas.Result.{on_ok_weaker}
 use Rattle.std.specs.Io.KnownBytes.{Appends}
@@ -8,19 +9,24 @@ use Rattle.std.proofs.lemmas.List.{append-nil}
 use Rattle.csv.specs.Reading.{default_config, records_from, strip_bom}
 use Rattle.csv.specs.declared.parser.State.TheVariants as st
 use Rattle.crew_rules.specs.declared.settings.Settings.{Settings}
-use Rattle.crew_session.specs.Commands.{command_of}
-use Rattle.crew_session.specs.Rows.{Fields, HasNoRow, TakesRow, records_of}
+use Rattle.crew_records.specs.Commands.{command_of}
+use Rattle.crew_records.specs.Fields.{Fields}
+use Rattle.crew_session.specs.Rows.{HasNoRow, TakesRow, records_of}
 use Rattle.crew_flights.specs.declared.edit.Edit.{Edit}
 use Rattle.crew_flights.specs.declared.entries.Entry.{Entry}
-use Rattle.crew_session.specs.Engines.{BeginsWith}
-use Rattle.crew_session.specs.Journals.{Came, IsInStep, state_of, zones_of}
-use Rattle.crew_session.specs.Lines.{refused_lines, version_line}
-use Rattle.crew_session.specs.Session.{Does, Obeys, Settles, State, Writes, refuse, start, submit, submit_at}
-use Rattle.crew_session.specs.Versions.{IsRight, Snapshot, opening, verdicts_of}
+use Rattle.crew_pairing.specs.Duties.{HasTooMany}
+use Rattle.crew_session.specs.Engines.{AreTooMany, BeginsWith, IsSubmitFault, engine_number}
+use Rattle.crew_session.specs.declared.engine_fault.EngineFault.{EngineFault}
+use Rattle.crew_session.specs.declared.engine_fault.EngineFault.TheVariants.{TooManyDuties, LastVersion, SeatFull, Gap, OtherLog, NoView, Memory}
+use Rattle.crew_session.specs.Journals.{Came, HasEnded, IsInStep, since, state_of, zones_of}
+use Rattle.crew_session.specs.Lines.{refused_line, refused_lines, version_line}
+use Rattle.crew_session.specs.Session.{Does, Obeys, Settles, State, Writes, entry_count, refuse, start, submit, submit_at, with_entry}
+use Rattle.crew_session.specs.Versions.{IsRight, Snapshot, entry_of, opening, timetable_of, verdicts_of}
 use Rattle.crew_session.specs.declared.journal.Journal.{Journal}
+use Rattle.crew_session.specs.declared.session.Ending.TheVariants.{AtEnd, TooManyRecords}
 use Rattle.crew_session.specs.Audits.{Audits}
-use Rattle.crew_session.specs.declared.command.Command.{Command}
-use Rattle.crew_session.specs.declared.command.Command.TheVariants.{Audit}
+use Rattle.crew_records.specs.declared.command.Command.{Command}
+use Rattle.crew_records.specs.declared.command.Command.TheVariants.{Audit}
 use Rattle.crew_session.proofs.LineFacts.{appends-both, appends-none}
 
 -- a session has come this far: what it wrote, with what the records that are left write, is what all write
@@ -51,18 +57,21 @@ written-more s (Some all) (Some rows) (Some rest) old mid new number first a b r
     )
 
 -- no record is left
-pub written-all : (s : Settings) (all left : Option (List Fields)) (old new : Option (List ℕ)) (number : ℕ) (first a : State)
-    → HasWritten s all left old new number first a → HasNoRow left → IfSome all (λ rows. (text : List ℕ) × Appends old new text × Writes s 0 first rows text)
-written-all s None left old new number first a h e = tt
-written-all s (Some all) None old new number first a h e = absurd h
-written-all s (Some all) (Some rows) old new number first a h e =
-    (h.0, h.1, subst (Writes s 0 first all) (append-nil h.0) (h.2 [] (subst (λ (xs : List Fields). Writes s number a xs []) (sym e) refl)))
+pub written-ended : (s : Settings) (all left : Option (List Fields)) (old new : Option (List ℕ)) (number : ℕ) (first a : State)
+    → HasWritten s all left old new number first a → HasNoRow left → number ≤ 2_000_000 → IfSome all (λ rows. HasEnded s first rows old new AtEnd)
+written-ended s None left old new number first a h e small = tt
+written-ended s (Some all) None old new number first a h e small = absurd h
+written-ended s (Some all) (Some rows) old new number first a h e small =
+    let few : length all ≤ 2_000_000 = omega (arith, ap length e, h.3) in
+    ((h.0, h.1, subst (Writes s 0 first all) (append-nil h.0) (h.2 [] (subst (λ (xs : List Fields). Writes s number a xs []) (sym e) refl))), few)
 
-pub written-count : (s : Settings) (all left : Option (List Fields)) (old new : Option (List ℕ)) (number : ℕ) (first a : State)
-    → HasWritten s all left old new number first a → HasNoRow left → number ≤ 2_000_000 → IfSome all (λ rows. length rows ≤ 2_000_000)
-written-count s None left old new number first a h e small = tt
-written-count s (Some all) None old new number first a h e small = absurd h
-written-count s (Some all) (Some rows) old new number first a h e small = omega (arith, ap length e, h.3)
+-- a record is left after 2,000,000
+pub written-over : (s : Settings) (all before left : Option (List Fields)) (row : Fields) (old new : Option (List ℕ)) (number : ℕ) (first a : State)
+    → HasWritten s all before old new number first a → TakesRow before left row → 2_000_000 ≤ number → IfSome all (λ rows. HasEnded s first rows old new TooManyRecords)
+written-over s None before left row old new number first a h r many = tt
+written-over s (Some all) None left row old new number first a h r many = absurd h
+written-over s (Some all) (Some rows) None row old new number first a h r many = absurd r
+written-over s (Some all) (Some rows) (Some rest) row old new number first a h r many = omega (arith, ap length r, h.3)
 
 -- a reader at the start of known bytes has all of their records left
 pub rows-at-start : (known source : Option (List ℕ)) (P : List Fields → Type 0) → source ≡ option_map strip_bom known
@@ -78,25 +87,49 @@ did (Ok u) old new s number command kind a b p q e f does came =
     (q.1, subst (λ (x : State × List ℕ). Appends old new x.1) f came.0, subst (λ (k : Command). Obeys s number k a b q.1) (sym e) (does q.1 (came.1 ∙ ap (λ (x : State × List ℕ). x.0) f, refl)))
 did (Err x) old new s number command kind a b p q e f does came = tt
 
--- with nothing but a text
-pub wrote : {F : Type 0} (r : Result (Unit {0}) F) (old new : Option (List ℕ)) (s : Settings) (number : ℕ) (command kind : Command) (a : State) (text : List ℕ) (q : State × List ℕ)
-    → command ≡ kind → (a, text) ≡ q → ((t : List ℕ) → Does a t q → Obeys s number kind a a t) → OnOk r (Appends old new text)
-    → OnOk r ((t : List ℕ) × Appends old new t × Obeys s number command a a t)
-wrote r old new s number command kind a text q e f does w =
-    did r old new s number command kind a a (a, text) q e f does (on_ok_weaker r (λ h. (h, refl)) w)
-
-pub no-clock : (o : Option ℕ) (e : ℕ → Edit) (number : ℕ) (a : State) → o ≡ None → refuse number 73 a ≡ submit_at o e number a
-no-clock o e number a h = ap (λ (x : Option ℕ). submit_at x e number a) (sym h)
-
-pub at-clock : (o : Option ℕ) (clock : ℕ) (e : ℕ → Edit) (number : ℕ) (a : State) → o ≡ Some clock → submit number (e clock) a ≡ submit_at o e number a
-at-clock o clock e number a h = ap (λ (x : Option ℕ). submit_at x e number a) (sym h)
-
 -- an audit changes nothing
-pub audited : {F : Type 0} (r : Result (Unit {0}) F) (old new : Option (List ℕ)) (s : Settings) (number limit : ℕ) (command : Command) (j : Journal) (v w : Snapshot) → command ≡ Audit limit → w ≡ v
-    → OnOk r ((text : List ℕ) × Appends old new text × Audits limit number w text) → OnOk r ((text : List ℕ) × Appends old new text × Obeys s number command (state_of j v) (state_of j v) text)
-audited (Ok u) old new s number limit command j v w e f told =
-    (told.0, told.1, subst (λ (k : Command). Obeys s number k (state_of j v) (state_of j v) told.0) (sym e) (refl, subst (λ (x : Snapshot). Audits limit number x told.0) f told.2))
-audited (Err x) old new s number limit command j v w e f told = tt
+pub audited : {F : Type 0} (r : Result (Unit {0}) F) (old new : Option (List ℕ)) (s : Settings) (number limit : ℕ) (command : Command) (j : Journal) (v w : Snapshot) (taken : List Entry) → command ≡ Audit limit → w ≡ v
+    → OnOk r ((text : List ℕ) × Appends old new text × Audits limit number w text) → OnOk r ((text : List ℕ) × Appends old new text × Obeys s number command (state_of j v taken) (state_of j v taken) text)
+audited (Ok u) old new s number limit command j v w taken e f told =
+    (told.0, told.1, subst (λ (k : Command). Obeys s number k (state_of j v taken) (state_of j v taken) told.0) (sym e) (refl, subst (λ (x : Snapshot). Audits limit number x told.0) f told.2))
+audited (Err x) old new s number limit command j v w taken e f told = tt
+
+-- ---- entries since the last version
+
+drop-all : (xs ys : List Entry) → drop (length xs) (xs ++ ys) ≡ ys
+drop-all [] ys = refl
+drop-all (x ∷ xs) ys = drop-all xs ys
+
+since-more : (v : Snapshot) (taken : List Entry) (e : Entry) → taken ≡ v.entries ++ since v taken → since v (taken ++ e ∷ []) ≡ since v taken ++ e ∷ []
+since-more v taken e h =
+    ap (λ (es : List Entry). drop (length v.entries) (es ++ e ∷ [])) h ∙ ap (drop (length v.entries)) (append_assoc v.entries (since v taken) (e ∷ [])) ∙ drop-all v.entries (since v taken ++ e ∷ [])
+
+state-count : (strange : Bool) (j : Journal) (v : Snapshot) (taken : List Entry) → IsInStep strange j v taken → entry_count (state_of j v taken) ≡ length taken
+state-count strange j v taken step = sym (ap length step.goes_on ∙ length-append v.entries (since v taken))
+
+pub seat-full : (strange : Bool) (j : Journal) (v w : Snapshot) (taken taken' : List Entry) (number : ℕ) (e : Edit) (old new : Option (List ℕ)) → IsInStep strange j v taken → length taken ≡ 1_000_000
+    → w ≡ v → taken' ≡ taken → Appends old new (refused_line number 61) → Came old new (state_of j w taken') (submit number e (state_of j v taken))
+seat-full strange j v w taken taken' number e old new step full same kept written =
+    let count = state-count strange j v taken step in
+    let test : nat_lt (entry_count (state_of j v taken)) 1_000_000 ≡ false = rw count (grind (arith, nat_tests)) in
+    let refused : submit number e (state_of j v taken) ≡ refuse number 61 (state_of j v taken) =
+    ap (λ b. if b then (with_entry number e (state_of j v taken), []) else refuse number 61 (state_of j v taken)) test in
+    rw (refused, same, kept) (written, refl)
+
+-- an edit that an engine refuses
+pub refused-edit : {F : Type 0} (r : Result (Unit {0}) F) (strange : Bool) (j : Journal) (v w : Snapshot) (taken taken' : List Entry) (number : ℕ) (e : Edit) (old new : Option (List ℕ)) (fault : EngineFault) → IsInStep strange j v taken
+    → IsSubmitFault taken fault → w ≡ v → taken' ≡ taken → OnOk r ((why : ℕ) × (engine_number fault ≡ Some why) × Appends old new (refused_line number why))
+    → OnOk r (Came old new (state_of j w taken') (submit number e (state_of j v taken)))
+refused-edit (Ok u) strange j v w taken taken' number e old new SeatFull step why same kept told =
+    let is : told.0 ≡ 61 = cc (told.1) in
+    seat-full strange j v w taken taken' number e old new step why same kept (subst (λ (n : ℕ). Appends old new (refused_line number n)) is told.2)
+refused-edit (Ok u) strange j v w taken taken' number e old new Memory step why same kept told = cc (told.1)
+refused-edit (Ok u) strange j v w taken taken' number e old new TooManyDuties step why same kept told = absurd why
+refused-edit (Ok u) strange j v w taken taken' number e old new LastVersion step why same kept told = absurd why
+refused-edit (Ok u) strange j v w taken taken' number e old new (Gap place) step why same kept told = absurd why
+refused-edit (Ok u) strange j v w taken taken' number e old new OtherLog step why same kept told = absurd why
+refused-edit (Ok u) strange j v w taken taken' number e old new NoView step why same kept told = absurd why
+refused-edit (Err x) strange j v w taken taken' number e old new fault step why same kept told = tt
 
 -- ---- a settle
 
@@ -104,47 +137,29 @@ nothing-more : (xs ys zs : List Entry) → ys ≡ xs ++ zs → length ys ≡ len
 nothing-more xs ys [] e n = e ∙ append-nil xs
 nothing-more xs ys (z ∷ zs) e n = absurd (omega (arith, ap length e, length-append xs (z ∷ zs)))
 
--- the version has all entries that were taken
-pub has-all : (j : Journal) (v w : Snapshot) (taken : List Entry) → IsInStep j v taken → BeginsWith w.entries taken → length w.entries ≡ length v.entries + length j.entries.items → taken ≡ w.entries
-has-all j v w taken step begins n =
-    let all = step.taken_so_far in
-    nothing-more w.entries taken begins.0 begins.1 (omega (arith, n, ap length all, length-append v.entries j.entries.items))
+-- a version with as many entries as were taken has all of them
+has-all : (w : Snapshot) (taken : List Entry) → BeginsWith w.entries taken → length w.entries ≡ length taken → taken ≡ w.entries
+has-all w taken begins n = nothing-more w.entries taken begins.0 begins.1 (sym n)
 
-pub published : (j k : Journal) (v w : Snapshot) (taken : List Entry) (number : ℕ) (old mid new : Option (List ℕ)) → IsInStep j v taken → BeginsWith w.entries taken → length w.entries ≡ length v.entries + length j.entries.items
-    → w.number ≡ v.number + 1 → w.settings ≡ v.settings → IsRight w → zones_of k.zones ≡ zones_of j.zones → k.entries.items ≡ [] → k.records.items ≡ []
-    → Appends old mid (refused_lines j.records.items (drop (length v.entries) (verdicts_of w.entries))) → Appends mid new (version_line w)
-    → (text : List ℕ) × Appends old new text × Settles number (state_of j v) (state_of k w) text
-published j k v w taken number old mid new step begins n next settings right zones entries records one two =
-    let all = has-all j v w taken step begins n in (
-      refused_lines j.records.items (drop (length v.entries) (verdicts_of w.entries)) ++ version_line w,
-      appends-both old mid new _ _ one two,
-      inl (record {
-        next = record { number = next; settings = settings; grown = sym all ∙ step.taken_so_far };
-        right = right;
-        after = λ i. record { zones = zones i; version = w; entries = entries i; records = records i };
-        written = refl;
-      }),
-    )
-
-pub in-step-again : (j k : Journal) (v w : Snapshot) (taken taken' : List Entry) → IsInStep j v taken → taken' ≡ taken → BeginsWith w.entries taken' → length w.entries ≡ length v.entries + length j.entries.items
-    → k.entries.items ≡ [] → k.records.items ≡ [] → IsInStep k w taken'
-in-step-again j k v w taken taken' step same begins n entries records =
-    let all = has-all j v w taken' (record { taken_so_far = same ∙ step.taken_so_far; records = step.records; few = step.few }) begins n in
-    record {
-      taken_so_far = all ∙ sym (append-nil w.entries) ∙ ap (λ (es : List Entry). w.entries ++ es) (sym entries);
-      records = ap length records ∙ sym (ap length entries);
-      few = omega (arith, ap length entries, step.few, n);
-    }
+none-since : (w : Snapshot) (taken : List Entry) → taken ≡ w.entries → since w taken ≡ []
+none-since w taken e = ap (λ (es : List Entry). drop (length w.entries) es) (e ∙ sym (append-nil w.entries)) ∙ drop-all w.entries []
 
 -- before any record
-pub at-start : (j : Journal) (v : Snapshot) (s : Settings) → zones_of j.zones ≡ map.empty → j.entries.items ≡ [] → j.records.items ≡ [] → v ≡ opening s → state_of j v ≡ start s
-at-start j v s zones entries records version = λ i. record { zones = zones i; version = version i; entries = entries i; records = records i }
+pub at-start : (j : Journal) (v : Snapshot) (s : Settings) (taken : List Entry) → zones_of j.zones ≡ map.empty → j.records.items ≡ [] → v ≡ opening s → taken ≡ [] → state_of j v taken ≡ start s
+at-start j v s taken zones records version none =
+    let old : since v taken ≡ [] = ap (λ (es : List Entry). drop (length v.entries) es) none ∙ drop-none (length v.entries) in
+    λ i. record { zones = zones i; version = version i; entries = old i; records = records i }
+  where
+    drop-none : (n : ℕ) → drop {A = Entry} n [] ≡ []
+    drop-none zero = refl
+    drop-none (suc n) = refl
 
-pub in-step-at-start : (j : Journal) (v : Snapshot) (s : Settings) (taken : List Entry) → j.entries.items ≡ [] → j.records.items ≡ [] → v ≡ opening s → taken ≡ [] → IsInStep j v taken
-in-step-at-start j v s taken entries records version none =
-    let old : v.entries ≡ [] = ap (λ (x : Snapshot). x.entries) version in
-    record {
-      taken_so_far = none ∙ sym (ap (λ (es : List Entry). es ++ j.entries.items) old ∙ entries);
-      records = ap length records ∙ sym (ap length entries);
-      few = omega (arith, ap length entries, ap length old);
-    }
+pub in-step-at-start : (strange : Bool) (j : Journal) (v : Snapshot) (s : Settings) (taken : List Entry) → j.entries.items ≡ [] → j.records.items ≡ [] → v ≡ opening s → taken ≡ [] → IsInStep strange j v taken
+in-step-at-start strange j v s taken entries records version none =
+    rw (version, none)
+    (record {
+      goes_on = refl;
+      records = ap length records;
+      few = omega arith;
+      kept = λ s. entries;
+    })

@@ -1,12 +1,11 @@
 -- Why a zone is refused.
-use Rattle.std.proofs.Common.{◌≡◌, ◌<◌, ◌≤◌, ℕ, Bool, true, false, List, Option, Some, None, ap, ◌∙◌, arith, if◌then◌else◌, refl}
+use Rattle.std.proofs.Common.{◌≡◌, ◌<◌, ◌≤◌, ℕ, true, false, List, Some, None, ap, ◌∙◌, arith, if◌then◌else◌}
 use Rattle.std.specs.Prelude.{nat_le}
 use Rattle.std.specs.FinMap as map
 use Rattle.std.proofs.lemmas.Bool.Decides.{nat_tests}
 use Rattle.crew_session.specs.Journals.{zone_fault}
 use Rattle.crew_session.specs.Session.{Zones}
-use Rattle.crew_session.specs.declared.fault.RecordFault.{RecordFault}
-use Rattle.crew_session.specs.declared.fault.RecordFault.TheVariants.{ZoneExists, TooManyZones}
+use Rattle.crew_records.specs.declared.fault.RecordFault.TheVariants.{ZoneExists, TooManyZones}
 
 pub fault-exists : (z : Zones) (code : List ℕ) → map.contains_key z code ≡ true → zone_fault z code ≡ Some ZoneExists
 fault-exists z code e = ap (λ b. if b then Some ZoneExists else (if nat_le 2_000 (map.len z) then Some TooManyZones else None)) e

@@ -1,4 +1,5 @@
--- The best pairing of one duty. A pairing leaves a base and comes back to it; its cost is its reduced cost under the prices of the flights that it flies and of its base.
+-- The best pairing of one duty. A pairing leaves a base and comes back to it; its cost is its
+-- reduced cost under the prices of the flights that it flies and of its base.
 use Rattle.std.specs.Prelude.{◌≡◌, ◌≢◌, ◌≤◌, ℤ, pos, ◌-ℤ◌, ◌≤ℤ◌, List, [], ◌∷◌, Option, Some, None}
 use Rattle.std.specs.FinMap as map
 use Rattle.std.specs.declared.cmp.Ordering.{Ordering}
@@ -32,7 +33,13 @@ pub record IsPairing (s : Settings) (t : Timetable) (d : Duty) (price : ℤ) : T
 abbrev pub priced : Settings → Duty → ℤ → Best
 priced s d price =
     let pay : ℤ = pairing_pay s d.pay (away_of d) 1 in
-    record { base = d.from; cost = pay -ℤ d.price -ℤ price; pay = pay; away = away_of d; walk = d.key ∷ [] }
+    record {
+      base = d.from;
+      cost = pay -ℤ d.price -ℤ price;
+      pay = pay;
+      away = away_of d;
+      walk = d.key ∷ [];
+    }
 
 -- a pairing of one legal duty, with what it costs
 pub record IsOffer (s : Settings) (t : Timetable) (b : Best) : Type 0 where
@@ -48,9 +55,12 @@ abbrev pub offer_cmp : Best → Best → Ordering
 offer_cmp = then_cmp (λ a b. int_cmp a.cost b.cost) (λ a b. walk_cmp a.walk b.walk)
 
 pub offer_total : IsTotalOrder offer_cmp
-offer_total = then_total (on_total (λ (b : Best). b.cost) int_cmp_total) (on_total (λ (b : Best). b.walk) walk_total)
+offer_total =
+    then_total (on_total (λ (b : Best). b.cost) int_cmp_total)
+    (on_total (λ (b : Best). b.walk) walk_total)
 
 -- the least of all offers, and none where there is no offer
 abbrev pub IsBest : Settings → Timetable → Option Best → Type 0
 IsBest s t None = (b : Best) → IsOffer s t b → ⊥
-IsBest s t (Some b) = IsOffer s t b × ((other : Best) → IsOffer s t other → offer_cmp other b ≢ Less)
+IsBest s t (Some b) =
+    IsOffer s t b × ((other : Best) → IsOffer s t other → offer_cmp other b ≢ Less)

@@ -1,36 +1,74 @@
 -- What an engine answers.
-use Rattle.std.specs.Prelude.{◌≡◌, ◌++◌, ℕ, List, length}
+use Rattle.std.specs.Prelude.{◌≡◌, ◌⊎◌, ◌+◌, ◌<◌, ◌++◌, ℕ, Bool, IsTrue, List, length, Option, Some, None}
+use Rattle.crew_rules.specs.declared.settings.Settings.{Settings}
+use Rattle.crew_flights.specs.Timetable.{Timetable}
 use Rattle.crew_flights.specs.declared.entries.Entry.{Entry}
-use Rattle.crew_session.specs.declared.fault.EngineFault.{EngineFault}
-use Rattle.crew_session.specs.declared.fault.EngineFault.TheVariants.{TooManyDuties, LastVersion, SeatFull, Gap, NoView, Memory}
+use Rattle.crew_pairing.specs.Duties.{HasTooMany}
+use Rattle.crew_session.specs.Versions.{Snapshot, timetable_of}
+use Rattle.crew_session.specs.declared.engine_fault.EngineFault.{EngineFault}
+use Rattle.crew_session.specs.declared.engine_fault.EngineFault.TheVariants.{TooManyDuties, LastVersion, SeatFull, Gap, OtherLog, NoView, Memory}
 
--- an edit is refused where 1,000,000 edits were taken, or for want of memory
+-- the number of an engine's refusal
+abbrev pub engine_number : EngineFault → Option ℕ
+engine_number TooManyDuties = Some 40
+engine_number LastVersion = Some 57
+engine_number SeatFull = Some 61
+engine_number (Gap place) = Some 62
+engine_number OtherLog = Some 63
+engine_number NoView = Some 65
+engine_number Memory = None
+
+-- an edit is refused where 1,000,000 edits were taken, and below that for want of memory
 abbrev pub IsSubmitFault : List Entry → EngineFault → Type 0
 IsSubmitFault entries SeatFull = length entries ≡ 1_000_000
-IsSubmitFault entries Memory = Unit {0}
+IsSubmitFault entries Memory = length entries < 1_000_000
 IsSubmitFault entries TooManyDuties = ⊥
 IsSubmitFault entries LastVersion = ⊥
 IsSubmitFault entries (Gap place) = ⊥
+IsSubmitFault entries OtherLog = ⊥
 IsSubmitFault entries NoView = ⊥
 
--- a settle is refused for the version's number where it is the greatest
-abbrev pub IsSettleFault : ℕ → EngineFault → Type 0
-IsSettleFault number LastVersion = number ≡ 18_446_744_073_709_551_615
-IsSettleFault number TooManyDuties = Unit {0}
-IsSettleFault number (Gap place) = Unit {0}
-IsSettleFault number NoView = Unit {0}
-IsSettleFault number Memory = Unit {0}
-IsSettleFault number SeatFull = ⊥
+-- the duties of all entries that were taken are too many
+abbrev pub AreTooMany : Snapshot → List Entry → Type 0
+AreTooMany version entries = HasTooMany version.settings (timetable_of entries)
+
+-- a settle is refused where the version has the greatest number, for too many duties, or for want
+-- of memory; by an engine that may be strange also for what it finds in its log
+abbrev pub IsSettleFault : Bool → Snapshot → List Entry → EngineFault → Type 0
+IsSettleFault strange version entries LastVersion = version.number ≡ 18_446_744_073_709_551_615
+IsSettleFault strange version entries TooManyDuties = AreTooMany version entries ⊎ IsTrue strange
+IsSettleFault strange version entries (Gap place) = IsTrue strange
+IsSettleFault strange version entries OtherLog = IsTrue strange
+IsSettleFault strange version entries NoView = IsTrue strange
+IsSettleFault strange version entries Memory = Unit {0}
+IsSettleFault strange version entries SeatFull = ⊥
+
+-- the best isn't found: too many duties, or want of memory
+abbrev pub IsSearchFault : Settings → Timetable → EngineFault → Type 0
+IsSearchFault s t TooManyDuties = HasTooMany s t
+IsSearchFault s t Memory = Unit {0}
+IsSearchFault s t LastVersion = ⊥
+IsSearchFault s t (Gap place) = ⊥
+IsSearchFault s t OtherLog = ⊥
+IsSearchFault s t NoView = ⊥
+IsSearchFault s t SeatFull = ⊥
 
 -- a version can't be followed: too many duties, the greatest number, or want of memory
-abbrev pub IsAdvanceFault : ℕ → EngineFault → Type 0
-IsAdvanceFault number LastVersion = number ≡ 18_446_744_073_709_551_615
-IsAdvanceFault number TooManyDuties = Unit {0}
-IsAdvanceFault number Memory = Unit {0}
-IsAdvanceFault number (Gap place) = ⊥
-IsAdvanceFault number NoView = ⊥
-IsAdvanceFault number SeatFull = ⊥
+abbrev pub IsAdvanceFault : Snapshot → List Entry → EngineFault → Type 0
+IsAdvanceFault version entries LastVersion = version.number ≡ 18_446_744_073_709_551_615
+IsAdvanceFault version entries TooManyDuties = AreTooMany version entries
+IsAdvanceFault version entries Memory = Unit {0}
+IsAdvanceFault version entries (Gap place) = ⊥
+IsAdvanceFault version entries OtherLog = ⊥
+IsAdvanceFault version entries NoView = ⊥
+IsAdvanceFault version entries SeatFull = ⊥
 
 -- the later entries begin with the earlier ones
 abbrev pub BeginsWith : List Entry → List Entry → Type 0
 BeginsWith earlier later = (more : List Entry) × (later ≡ earlier ++ more)
+
+-- the next version, of all entries that were taken
+pub record IsWhole (before : Snapshot) (taken : List Entry) (after : Snapshot) : Type 0 where
+  pub number : after.number ≡ before.number + 1
+  pub settings : after.settings ≡ before.settings
+  pub entries : after.entries ≡ taken

@@ -1,26 +1,53 @@
--- The numbers of refusals.
-use Rattle.std.specs.Prelude.{ℕ, Option, Some, None}
-use Rattle.crew_time.specs.Faults.{fault_number}
-use Rattle.crew_session.specs.declared.fault.RecordFault.{RecordFault}
-use Rattle.crew_session.specs.declared.fault.RecordFault.TheVariants.{Text, UnknownRecord, FieldCount, BadField, NoZone, ZoneExists, TooManyZones}
-use Rattle.crew_session.specs.declared.fault.EngineFault.{EngineFault}
-use Rattle.crew_session.specs.declared.fault.EngineFault.TheVariants.{TooManyDuties, LastVersion, SeatFull, Gap, NoView, Memory}
+-- Why a session stops.
+use Rattle.std.specs.Prelude.{◌≡◌, ◌⊎◌, ℕ, Bool, IsTrue, Option, Some, None}
+use Rattle.crew_session.specs.Engines.{engine_number}
+use Rattle.crew_session.specs.declared.engine_fault.EngineFault.{EngineFault}
+use Rattle.crew_session.specs.declared.fault.SessionFault.{SessionFault}
+use Rattle.crew_session.specs.declared.fault.SessionFault.TheVariants.{Read, Write, Memory, Strange}
 
--- the number by which the refusal of a record is printed
-abbrev pub record_number : RecordFault → ℕ
-record_number (Text fault) = fault_number fault
-record_number UnknownRecord = 70
-record_number FieldCount = 71
-record_number BadField = 72
-record_number NoZone = 73
-record_number ZoneExists = 74
-record_number TooManyZones = 75
+-- the number of what an engine answered
+abbrev pub session_number : SessionFault → Option ℕ
+session_number Read = None
+session_number Write = None
+session_number Memory = None
+session_number (Strange number) = Some number
 
--- the number of an engine's refusal
-abbrev pub engine_number : EngineFault → Option ℕ
-engine_number TooManyDuties = Some 40
-engine_number LastVersion = Some 57
-engine_number SeatFull = Some 61
-engine_number (Gap place) = Some 62
-engine_number NoView = Some 65
-engine_number Memory = None
+-- where an engine refuses: by the number of the refusal, or for want of memory
+abbrev pub stop_by : Option ℕ → SessionFault
+stop_by None = Memory
+stop_by (Some number) = Strange number
+
+abbrev pub stop_of : EngineFault → SessionFault
+stop_of fault = stop_by (engine_number fault)
+
+-- the numbers of what no session brings about
+abbrev pub IsStrange : ℕ → Type 0
+IsStrange number = (number ≡ 62) ⊎ ((number ≡ 63) ⊎ (number ≡ 65))
+
+-- a read stops for the reader, or for want of memory
+abbrev pub IsReadFault : SessionFault → Type 0
+IsReadFault Read = Unit {0}
+IsReadFault Memory = Unit {0}
+IsReadFault Write = ⊥
+IsReadFault (Strange number) = ⊥
+
+-- a line stops for the writer, or for want of memory
+abbrev pub IsLineFault : SessionFault → Type 0
+IsLineFault Write = Unit {0}
+IsLineFault Memory = Unit {0}
+IsLineFault Read = ⊥
+IsLineFault (Strange number) = ⊥
+
+-- a record stops for the writer, for want of memory, or for an engine that may be strange
+abbrev pub IsRecordFault : Bool → SessionFault → Type 0
+IsRecordFault strange Write = Unit {0}
+IsRecordFault strange Memory = Unit {0}
+IsRecordFault strange Read = ⊥
+IsRecordFault strange (Strange number) = IsTrue strange × IsStrange number
+
+-- a session stops for the reader too
+abbrev pub IsSessionFault : Bool → SessionFault → Type 0
+IsSessionFault strange Read = Unit {0}
+IsSessionFault strange Write = Unit {0}
+IsSessionFault strange Memory = Unit {0}
+IsSessionFault strange (Strange number) = IsTrue strange × IsStrange number

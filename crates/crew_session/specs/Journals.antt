@@ -1,14 +1,18 @@
 -- Where a session in memory stands.
-use Rattle.std.specs.Prelude.{◌≡◌, ◌+◌, ◌≤◌, ◌++◌, ℕ, nat_le, List, length, Option, Some, None, if◌then◌else◌}
+use Rattle.std.specs.Prelude.{◌≡◌, ◌<◌, ◌≤◌, ◌++◌, ℕ, nat_le, Bool, true, List, drop, length, Option, Some, None, if◌then◌else◌}
 use Rattle.std.specs.FinMap as map
 use Rattle.std.specs.Io.KnownBytes.{Appends}
 use Rattle.crew_flights.specs.declared.entries.Entry.{Entry}
-use Rattle.crew_session.specs.Session.{State, Zones as ZoneMap}
+use Rattle.crew_rules.specs.declared.settings.Settings.{Settings}
+use Rattle.crew_records.specs.Fields.{Fields}
+use Rattle.crew_session.specs.Session.{State, Writes, Zones as ZoneMap}
 use Rattle.crew_session.specs.Versions.{Snapshot}
-use Rattle.crew_session.specs.declared.fault.RecordFault.{RecordFault}
-use Rattle.crew_session.specs.declared.fault.RecordFault.TheVariants.{ZoneExists, TooManyZones}
+use Rattle.crew_records.specs.declared.fault.RecordFault.{RecordFault}
+use Rattle.crew_records.specs.declared.fault.RecordFault.TheVariants.{ZoneExists, TooManyZones}
 use Rattle.crew_session.specs.declared.zones.Zones.{Zones}
 use Rattle.crew_session.specs.declared.journal.Journal.{Journal}
+use Rattle.crew_session.specs.declared.session.Ending.{Ending}
+use Rattle.crew_session.specs.declared.session.Ending.TheVariants.{AtEnd, TooManyRecords}
 
 -- the zones in memory
 abbrev pub zones_of : Zones → ZoneMap
@@ -16,17 +20,38 @@ zones_of z = map.from_sorted z.by_code.entries
 
 -- why a zone for an airport is refused
 abbrev pub zone_fault : ZoneMap → List ℕ → Option RecordFault
-zone_fault zones code = if map.contains_key zones code then Some ZoneExists else (if nat_le 2_000 (map.len zones) then Some TooManyZones else None)
+zone_fault zones code =
+    if map.contains_key zones code then Some ZoneExists
+    else (if nat_le 2_000 (map.len zones) then Some TooManyZones else None)
 
--- the state of a session that keeps this, with a version
-abbrev pub state_of : Journal → Snapshot → State
-state_of j version = record { zones = zones_of j.zones; version = version; entries = j.entries.items; records = j.records.items }
+-- the entries that were taken after those of a version
+abbrev pub since : Snapshot → List Entry → List Entry
+since version taken = drop (length version.entries) taken
 
--- the engine has taken the entries of its version and those since
-pub record IsInStep (j : Journal) (version : Snapshot) (taken : List Entry) : Type 0 where
-  pub taken_so_far : taken ≡ version.entries ++ j.entries.items
-  pub records : length j.records.items ≡ length j.entries.items
-  pub few : length version.entries + length j.entries.items ≤ 1_000_000
+-- the state of a session that keeps this, beside an engine with a version and entries that it took
+abbrev pub state_of : Journal → Snapshot → List Entry → State
+state_of j version taken = record {
+  zones = zones_of j.zones;
+  version = version;
+  entries = since version taken;
+  records = j.records.items;
+}
+
+-- the engine has taken the entries of its version and one for each record since; these are kept
+-- where it may be strange
+pub record IsInStep (strange : Bool) (j : Journal) (version : Snapshot) (taken : List Entry)
+    : Type 0 where
+  pub goes_on : taken ≡ version.entries ++ since version taken
+  pub records : length j.records.items ≡ length (since version taken)
+  pub few : length taken ≤ 1_000_000
+  pub kept : strange ≡ true → j.entries.items ≡ since version taken
+
+-- how the reading of records ended: they were obeyed and their text is written, or are too many
+abbrev pub HasEnded :
+    Settings → State → List Fields → Option (List ℕ) → Option (List ℕ) → Ending → Type 0
+HasEnded s a rows old new AtEnd =
+    ((text : List ℕ) × Appends old new text × Writes s 0 a rows text) × (length rows ≤ 2_000_000)
+HasEnded s a rows old new TooManyRecords = 2_000_000 < length rows
 
 -- a session came to a state, and wrote a text
 abbrev pub Came : Option (List ℕ) → Option (List ℕ) → State → State × List ℕ → Type 0

@@ -1,9 +1,7 @@
 pub mod Audits
 pub mod Bests
-pub mod Commands
 pub mod Engines
 pub mod Faults
-pub mod Fields
 pub mod Journals
 pub mod Lines
 pub mod Offers

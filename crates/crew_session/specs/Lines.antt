@@ -34,7 +34,8 @@ walk_text keys = joined 32 (map key_text keys)
 -- ---- whole lines, with their ends
 
 abbrev pub refused_line : ℕ → ℕ → List ℕ
-refused_line number why = codes "record " ++ decimal number ++ codes " refused " ++ decimal why ++ codes "\n"
+refused_line number why =
+    codes "record " ++ decimal number ++ codes " refused " ++ decimal why ++ codes "\n"
 
 -- what a verdict on the entry that a record made writes: a line where it is a refusal
 abbrev pub verdict_line : ℕ → Verdict → List ℕ
@@ -45,16 +46,23 @@ verdict_line number (Refused why) = refused_line number (number_of why)
 abbrev pub refused_lines : List ℕ → List Verdict → List ℕ
 refused_lines [] verdicts = []
 refused_lines (number ∷ numbers) [] = []
-refused_lines (number ∷ numbers) (verdict ∷ verdicts) = verdict_line number verdict ++ refused_lines numbers verdicts
+refused_lines (number ∷ numbers) (verdict ∷ verdicts) =
+    verdict_line number verdict ++ refused_lines numbers verdicts
 
 abbrev pub version_line : Snapshot → List ℕ
 version_line v =
-    codes "version " ++ decimal v.number ++ codes " entries " ++ decimal (length v.entries) ++ codes " flights " ++ decimal (fin.len (timetable_of v.entries).flights) ++ codes "\n"
+    codes "version " ++ decimal v.number
+    ++ codes " entries " ++ decimal (length v.entries)
+    ++ codes " flights " ++ decimal (fin.len (timetable_of v.entries).flights) ++ codes "\n"
 
 abbrev pub best_line : Option Best → List ℕ
 best_line None = codes "best none\n"
 best_line (Some b) =
-    codes "best " ++ b.base ++ codes " cost " ++ signed_decimal b.cost ++ codes " pay " ++ signed_decimal b.pay ++ codes " away " ++ signed_decimal b.away ++ codes " " ++ walk_text b.walk ++ codes "\n"
+    codes "best " ++ b.base
+    ++ codes " cost " ++ signed_decimal b.cost
+    ++ codes " pay " ++ signed_decimal b.pay
+    ++ codes " away " ++ signed_decimal b.away
+    ++ codes " " ++ walk_text b.walk ++ codes "\n"
 
 -- the least cost of a pairing, if there is one
 abbrev pub cost_text : Option ℤ → List ℕ
@@ -63,4 +71,6 @@ cost_text (Some cost) = signed_decimal cost
 
 abbrev pub audit_line : Tally → List ℕ
 audit_line tally =
-    codes "audit partials " ++ decimal tally.partials ++ codes " pairings " ++ decimal tally.pairings ++ codes " cost " ++ cost_text tally.cost ++ codes "\n"
+    codes "audit partials " ++ decimal tally.partials
+    ++ codes " pairings " ++ decimal tally.pairings
+    ++ codes " cost " ++ cost_text tally.cost ++ codes "\n"

@@ -12,7 +12,8 @@ use Rattle.crew_session.specs.declared.best.Best.{Best}
 -- a duty whose cost fits
 pub record IsBounded (d : Duty) : Type 0 where
   pub away : pos 0 ≤ℤ away_of d
-  pub pay : away_of d ≤ℤ pos 8_280 → d.fly ≤ℤ pos 6_000 → (pos 0 ≤ℤ d.pay) × (d.pay ≤ℤ pos 1_000_000)
+  pub pay :
+      away_of d ≤ℤ pos 8_280 → d.fly ≤ℤ pos 6_000 → (pos 0 ≤ℤ d.pay) × (d.pay ≤ℤ pos 1_000_000)
   pub least_price : negsuc 7_999_999_999 ≤ℤ d.price
   pub most_price : d.price ≤ℤ pos 8_000_000_000
 
@@ -40,4 +41,5 @@ abbrev pub IsBestAmong : Settings → Timetable → List Duty → Option Best �
 IsBestAmong s t ds None = (d : Duty) (price : ℤ) → Member ds d → IsPairing s t d price → ⊥
 IsBestAmong s t ds (Some b) =
     ((d : Duty) × (price : ℤ) × Member ds d × IsPairing s t d price × (b ≡ priced s d price))
-    × ((d : Duty) (price : ℤ) → Member ds d → IsPairing s t d price → offer_cmp (priced s d price) b ≢ Less)
+    × ((d : Duty) (price : ℤ) → Member ds d → IsPairing s t d price
+    → offer_cmp (priced s d price) b ≢ Less)

@@ -1,5 +1,5 @@
 -- What the engine without workers holds.
-use Rattle.std.specs.Prelude.{◌≡◌, ◌+◌, ◌++◌, List}
+use Rattle.std.specs.Prelude.{◌++◌, List}
 use Rattle.crew_flights.specs.declared.entries.Entry.{Entry}
 use Rattle.crew_session.specs.Versions.{Snapshot}
 use Rattle.crew_session.specs.declared.plain.Plain.{Plain}
@@ -11,9 +11,3 @@ shown_by e = e.version
 -- the entries of its version, and those since
 abbrev pub taken_by : Plain → List Entry
 taken_by e = e.version.entries ++ e.pending.items
-
--- the next version, of all entries that were taken
-pub record IsWhole (before : Snapshot) (taken : List Entry) (after : Snapshot) : Type 0 where
-  pub number : after.number ≡ before.number + 1
-  pub settings : after.settings ≡ before.settings
-  pub entries : after.entries ≡ taken

@@ -8,22 +8,22 @@ use Rattle.crew_flights.specs.Codes.{code_cmp}
 use Rattle.crew_flights.specs.declared.edit.Edit.{Edit}
 use Rattle.crew_flights.specs.declared.edit.Edit.TheVariants as edit
 use Rattle.crew_flights.specs.declared.entries.Entry.{Entry}
-use Rattle.crew_flights.specs.declared.flight.Flight.{Flight}
 use Rattle.crew_pairing.specs.Duties.{HasTooMany}
 use Rattle.crew_session.specs.Audits.{Audits}
-use Rattle.crew_session.specs.Commands.{command_of}
-use Rattle.crew_session.specs.Faults.{record_number}
+use Rattle.crew_records.specs.Commands.{command_of}
+use Rattle.crew_records.specs.Faults.{record_number}
 use Rattle.crew_session.specs.Lines.{best_line, refused_line, refused_lines, version_line}
-use Rattle.crew_session.specs.Rows.{Fields, records_of}
+use Rattle.crew_records.specs.Fields.{Fields}
+use Rattle.crew_session.specs.Rows.{records_of}
 use Rattle.crew_session.specs.Versions.{IsNext, IsRight, Snapshot, entry_of, opening, timetable_of, verdicts_of}
-use Rattle.crew_session.specs.declared.command.Command.{Command}
-use Rattle.crew_session.specs.declared.command.Command.TheVariants.{AddZone, Submit, AddFlight, Retime, Settle, Best, Audit, Refuse}
+use Rattle.crew_records.specs.declared.command.Command.{Command}
+use Rattle.crew_records.specs.declared.command.Command.TheVariants.{AddZone, Submit, AddFlight, Retime, Settle, Best, Audit, Refuse}
 
 -- the zones of airports
 abbrev pub Zones : Type 0
 Zones = map.FinMap code_cmp TzText
 
--- where a session stands: the zones, the last version, the entries since it, and the records that made them
+-- where a session stands: the zones, the last version, the entries since, and the records of these
 pub record State : Type 0 where
   pub zones : Zones
   pub version : Snapshot
@@ -44,10 +44,14 @@ entry_count a = length a.version.entries + length a.entries
 
 -- an edit becomes an entry, up to 1,000,000 of them
 abbrev pub with_entry : ℕ → Edit → State → State
-with_entry number e a = record a { entries = a.entries ++ entry_of (entry_count a) e ∷ []; records = a.records ++ number ∷ [] }
+with_entry number e a = record a {
+  entries = a.entries ++ entry_of (entry_count a) e ∷ [];
+  records = a.records ++ number ∷ [];
+}
 
 abbrev pub submit : ℕ → Edit → State → State × List ℕ
-submit number e a = if nat_lt (entry_count a) 1_000_000 then (with_entry number e a, []) else refuse number 61 a
+submit number e a =
+    if nat_lt (entry_count a) 1_000_000 then (with_entry number e a, []) else refuse number 61 a
 
 -- an airport has one zone, and 2,000 airports have one
 abbrev pub with_zone : List ℕ → TzText → State → State
@@ -56,7 +60,8 @@ with_zone code zone a = record a { zones = map.insert a.zones code zone }
 abbrev pub add_zone : ℕ → List ℕ → TzText → State → State × List ℕ
 add_zone number code zone a =
     if map.contains_key a.zones code then refuse number 74 a
-    else (if nat_le 2_000 (map.len a.zones) then refuse number 75 a else (with_zone code zone a, []))
+    else (if nat_le 2_000 (map.len a.zones) then refuse number 75 a
+    else (with_zone code zone a, []))
 
 -- the clock, in a zone, at the report of a duty that begins with this departure
 abbrev pub report_clock : Settings → ℤ → TzText → ℕ
@@ -72,7 +77,15 @@ submit_at None e number a = refuse number 73 a
 submit_at (Some clock) e number a = submit number (e clock) a
 
 abbrev pub flight_with : ℕ → List ℕ → List ℕ → ℤ → ℤ → ℤ → ℕ → Edit
-flight_with id from to dep arr price clock = edit.AddFlight (record { id = id; from = from; to = to; dep = dep; arr = arr; report_clock = clock; price = price })
+flight_with id from to dep arr price clock = edit.AddFlight (record {
+  id = id;
+  from = from;
+  to = to;
+  dep = dep;
+  arr = arr;
+  report_clock = clock;
+  price = price;
+})
 
 -- ---- what a settle does
 
@@ -81,7 +94,9 @@ pub record Publishes (a b : State) (text : List ℕ) : Type 0 where
   pub next : IsNext a.version a.entries b.version
   pub right : IsRight b.version
   pub after : b ≡ record { zones = a.zones; version = b.version; entries = []; records = [] }
-  pub written : text ≡ refused_lines a.records (drop (length a.version.entries) (verdicts_of b.version.entries)) ++ version_line b.version
+  pub written : text
+      ≡ refused_lines a.records (drop (length a.version.entries) (verdicts_of b.version.entries))
+      ++ version_line b.version
 
 -- or there are too many legal duties: the entries stay, and belong to the next settle
 pub record Declines (number : ℕ) (a b : State) (text : List ℕ) : Type 0 where
@@ -101,8 +116,11 @@ Does b text p = (b ≡ p.0) × (text ≡ p.1)
 abbrev pub Obeys : Settings → ℕ → Command → State → State → List ℕ → Type 0
 Obeys s number (AddZone code zone) a b text = Does b text (add_zone number code zone a)
 Obeys s number (Submit e) a b text = Does b text (submit number e a)
-Obeys s number (AddFlight id from to dep arr price) a b text = Does b text (submit_at (clock_at s a.zones from dep) (flight_with id from to dep arr price) number a)
-Obeys s number (Retime id from dep arr) a b text = Does b text (submit_at (clock_at s a.zones from dep) (edit.Retime id from dep arr) number a)
+Obeys s number (AddFlight id from to dep arr price) a b text =
+    Does b text (submit_at (clock_at s a.zones from dep)
+    (flight_with id from to dep arr price) number a)
+Obeys s number (Retime id from dep arr) a b text =
+    Does b text (submit_at (clock_at s a.zones from dep) (edit.Retime id from dep arr) number a)
 Obeys s number Settle a b text = Settles number a b text
 Obeys s number Best a b text = Does b text (a, best_line a.version.best)
 Obeys s number (Audit limit) a b text = (b ≡ a) × Audits limit number a.version text
@@ -112,7 +130,9 @@ Obeys s number (Refuse fault) a b text = Does b text (refuse number (record_numb
 abbrev pub Writes : Settings → ℕ → State → List Fields → List ℕ → Type 0
 Writes s number a [] text = text ≡ []
 Writes s number a (row ∷ rows) text =
-    (b : State) × (line : List ℕ) × (rest : List ℕ) × Obeys s (number + 1) (command_of row) a b line × Writes s (number + 1) b rows rest × (text ≡ line ++ rest)
+    (b : State) × (line : List ℕ) × (rest : List ℕ)
+    × Obeys s (number + 1) (command_of row) a b line
+    × Writes s (number + 1) b rows rest × (text ≡ line ++ rest)
 
 -- what a session of these bytes writes
 abbrev pub IsSessionText : Settings → List ℕ → List ℕ → Type 0

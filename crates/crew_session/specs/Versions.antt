@@ -1,5 +1,5 @@
 -- Versions: what the entries of a log come to.
-use Rattle.std.specs.Prelude.{◌≡◌, ◌+◌, ℕ, List, [], ◌∷◌, ◌++◌, Option, None, reverse, Vec}
+use Rattle.std.specs.Prelude.{◌≡◌, ◌+◌, ℕ, List, [], ◌++◌, Option, None, Vec}
 use Rattle.std.specs.Global.{Global}
 use Rattle.crew_rules.specs.Settings.{IsChecked}
 use Rattle.crew_rules.specs.declared.settings.Settings.{Settings}
@@ -8,6 +8,7 @@ use Rattle.crew_flights.specs.Timetable.{Timetable}
 use Rattle.crew_flights.specs.declared.edit.Edit.{Edit}
 use Rattle.crew_flights.specs.declared.edit.Verdict.{Verdict}
 use Rattle.crew_flights.specs.declared.entries.Entry.{Entry}
+use Rattle.crew_pairing.specs.Duties.{HasFew}
 use Rattle.crew_session.specs.Bests.{IsBest}
 use Rattle.crew_session.specs.declared.best.Best.{Best}
 
@@ -39,18 +40,23 @@ pub record IsNext (before : Snapshot) (entries : List Entry) (after : Snapshot) 
   pub settings : after.settings ≡ before.settings
   pub grown : after.entries ≡ before.entries ++ entries
 
--- a version whose best is that of its entries
-abbrev pub IsRight : Snapshot → Type 0
-IsRight v = IsBest v.settings (timetable_of v.entries) v.best
+-- a version whose entries come to at most 200,000 legal duties, and whose best is the least pairing
+pub record IsRight (v : Snapshot) : Type 0 where
+  pub few : HasFew v.settings (timetable_of v.entries)
+  pub least : IsBest v.settings (timetable_of v.entries) v.best
 
 -- what the parts of a version in memory have in common
-pub record IsKept (s : Settings) (entries : List Entry) (verdicts : List Verdict) (standing : Standing) (best : Option Best) : Type 0 where
+pub record IsKept (s : Settings) (entries : List Entry) (verdicts : List Verdict)
+    (standing : Standing) (best : Option Best) : Type 0 where
   pub checked : IsChecked s
   pub judged : verdicts ≡ verdicts_of entries
   pub taken : HasTaken entries standing
+  pub few : HasFew s (timetable_of entries)
   pub least : IsBest s (timetable_of entries) best
 
 -- a fold gone on with these entries, and their verdicts
 abbrev pub FoldsOn : Standing → List Entry → Standing × Vec Verdict Global → Type 0
 FoldsOn before entries after =
-    (earlier : List Entry) → HasTaken earlier before → HasTaken (earlier ++ entries) after.0 × (verdicts_of (earlier ++ entries) ≡ verdicts_of earlier ++ after.1.items)
+    (earlier : List Entry) → HasTaken earlier before
+    → HasTaken (earlier ++ entries) after.0
+    × (verdicts_of (earlier ++ entries) ≡ verdicts_of earlier ++ after.1.items)

@@ -1,8 +1,9 @@
 //! The answer to an audit.
 
-ghost use Rattle.std.specs.Prelude.{◌≡◌, List, ℕ, OnOk};
+ghost use Rattle.std.specs.Prelude.{◌≡◌, List, ℕ, IfErr, OnOk};
 ghost use Rattle.std.specs.Io.KnownBytes.{Appends};
 ghost use Rattle.crew_session.specs.Audits.{Audits};
+ghost use Rattle.crew_session.specs.Faults.{IsLineFault};
 
 use crate::fault::SessionFault;
 use crate::lines::{write_audit, write_refused};
@@ -11,8 +12,11 @@ use crew_audit::{AuditFault, Tally, enumerate};
 use std::alloc::Global;
 use std::io::Write;
 
-/// Lists the partial pairings of a version's data, and writes how many there are, or that there
-/// are more than `limit`.
+// The number by which an audit is refused where there are more partial pairings than its limit.
+const OVER_LIMIT: u8 = 45;
+
+/// Lists the partial pairings of a version's timetable, and writes how many there are, or that
+/// there are more than `limit`.
 pub(crate) fn answer_audit<W: Write>(
     alloc: Global,
     number: u32,
@@ -20,11 +24,19 @@ pub(crate) fn answer_audit<W: Write>(
     writer: &mut W,
     version: &Version,
 ) -> Result<(), SessionFault>
-    ensures { OnOk result ((text : List ℕ) × Appends (W.contents writer.old) (W.contents writer.new) text × Audits limit number version.now text) }
+    ensures answered { OnOk result ((text : List ℕ)
+        × Appends (W.contents writer.old) (W.contents writer.new) text
+        × Audits limit number version.now text) }
+    ensures fault { IfErr result IsLineFault }
 {
-    match enumerate(alloc, version.settings(), version.timetable(), limit as usize) {
+    match enumerate(
+        alloc,
+        version.settings(),
+        version.timetable(),
+        limit as usize,
+    ) {
         Ok(partials) => write_audit(alloc, writer, &Tally::of(&partials)),
-        Err(AuditFault::OverLimit) => write_refused(alloc, writer, number, 45),
+        Err(AuditFault::OverLimit) => write_refused(alloc, writer, number, OVER_LIMIT),
         Err(AuditFault::Memory) => Err(SessionFault::Memory),
     }
 }

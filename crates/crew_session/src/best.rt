@@ -1,7 +1,10 @@
 //! The best pairing of a version.
 
+ghost use Rattle.std.specs.Prelude.{◌≡◌, IfOk};
+
 use crew_pairing::Walk;
 use crew_flights::Code;
+use std::alloc::{AllocError, Global};
 
 /// A pairing with its cost. Money is in points.
 #[derive(Debug, Drop)]
@@ -16,4 +19,19 @@ pub struct Best {
     pub away: i64,
     /// The keys of its duties.
     pub walk: Walk,
+}
+
+impl Best {
+    /// An equal pairing.
+    pub fn copy(&self, alloc: Global) -> Result<Best, AllocError>
+        ensures { IfOk result (λ best. best ≡ self.now) }
+    {
+        Ok(Best {
+            base: self.base,
+            cost: self.cost,
+            pay: self.pay,
+            away: self.away,
+            walk: self.walk.copy(alloc)?,
+        })
+    }
 }

@@ -1,18 +1,19 @@
-//! Sessions: records of comma-separated fields in, lines out. A session keeps the zones of airports,
-//! hands edits to an engine behind the trait `Engine`, and shows the versions that the engine makes of
-//! them. The crate promises that what `run` writes is the text of the session, for any reader, any
-//! writer and any engine: each refusal is named by its record, nothing that was taken is lost, the best
-//! that a version shows is the least of all its pairings of one duty, and an audit counts the partial
-//! pairings of its data by their definition.
+//! Sessions: records in, lines out. A session keeps the zones of airports, hands edits to an engine
+//! behind the trait `Engine`, and shows the versions that the engine makes of them. The crate
+//! promises that what `run` writes is the text of the session, for any reader, any writer and any
+//! engine: each refusal is named by its record, nothing that was taken is lost, a settle makes a
+//! version exactly where there are no more than 200,000 legal duties, the best that a version shows
+//! is the least of all its pairings of one duty, and an audit counts the partial pairings of its
+//! timetable by their definition. Where it ends otherwise, only an engine that may be strange is
+//! called strange.
 #![tactic(auto)]
 
 mod audit;
 mod best;
-mod command;
 mod engine;
+mod engine_fault;
 mod entry;
 mod fault;
-mod fields;
 mod journal;
 mod lines;
 mod offers;
@@ -23,12 +24,9 @@ mod version;
 mod zones;
 
 pub use best::Best;
-pub use command::{Command, read_command};
 pub use engine::Engine;
-pub use fault::{EngineFault, RecordFault, SessionFault};
+pub use engine_fault::EngineFault;
+pub use fault::SessionFault;
 pub use plain::Plain;
 pub use session::run;
 pub use version::Version;
-
-#[cfg(test)]
-mod tests;

@@ -1,8 +1,9 @@
 //! The lines that a session writes.
 
-ghost use Rattle.std.specs.Prelude.{◌≡◌, ◌++◌, ◌+◌, ◌≤◌, IfOk, OnOk, Some, decimal, drop, length};
+ghost use Rattle.std.specs.Prelude.{◌≡◌, ◌++◌, ◌+◌, ◌≤◌, IfErr, IfOk, OnOk, Some, decimal, drop, length};
 ghost use Rattle.std.specs.Fmt.{signed_decimal};
 ghost use Rattle.std.specs.Io.KnownBytes.{Appends};
+ghost use Rattle.crew_session.specs.Faults.{IsLineFault};
 ghost use Rattle.crew_session.specs.Lines as Spec;
 ghost use Rattle.crew_session.specs.Verdicts.{verdict_text};
 ghost use Rattle.crew_session.specs.Versions.{verdicts_of};
@@ -16,24 +17,20 @@ use crew_flights::Verdict;
 use std::alloc::{AllocError, Global};
 use std::io::Write;
 
-// Writes a whole line.
+// Writes a whole line, at once.
 pub(crate) fn write_line<W: Write>(writer: &mut W, line: &[u8]) -> Result<(), SessionFault>
-    ensures { OnOk result (Appends (W.contents writer.old) (W.contents writer.new) line.now) }
+    ensures written { OnOk result
+        (Appends (W.contents writer.old) (W.contents writer.new) line.now) }
+    ensures fault { IfErr result (λ why. why ≡ SessionFault.Write) }
 {
-    match writer.write_all(line) {
-        Ok(()) => Ok(()),
-        Err(_) => Err(SessionFault::Write),
-    }
+    writer.write_all(line).map_err(|_| SessionFault::Write)
 }
 
 // Appends a number.
 fn put_number(line: &mut Vec<u8>, number: usize) -> Result<(), AllocError>
     ensures { OnOk result (line.new.items ≡ line.old.items ++ decimal number) }
 {
-    match write!(line, "{number}") {
-        Ok(()) => Ok(()),
-        Err(_) => Err(AllocError),
-    }
+    write!(line, "{number}").map_err(|_| AllocError)
 }
 
 // Appends a leg.
@@ -81,10 +78,7 @@ fn put_walk(line: &mut Vec<u8>, walk: &Walk) -> Result<(), AllocError>
 fn put_signed(line: &mut Vec<u8>, number: i64) -> Result<(), AllocError>
     ensures { OnOk result (line.new.items ≡ line.old.items ++ signed_decimal number) }
 {
-    match write!(line, "{number}") {
-        Ok(()) => Ok(()),
-        Err(_) => Err(AllocError),
-    }
+    write!(line, "{number}").map_err(|_| AllocError)
 }
 
 // The line of a pairing.
@@ -113,12 +107,12 @@ pub(crate) fn write_refused<W: Write>(
     number: u32,
     why: u8,
 ) -> Result<(), SessionFault>
-    ensures { OnOk result (Appends (W.contents writer.old) (W.contents writer.new) (Spec.refused_line number why)) }
+    ensures written { OnOk result (Appends (W.contents writer.old) (W.contents writer.new)
+        (Spec.refused_line number why)) }
+    ensures fault { IfErr result IsLineFault }
 {
-    match format!(in alloc; "record {number} refused {why}\n") {
-        Ok(line) => write_line(writer, line.as_bytes()),
-        Err(_) => Err(SessionFault::Memory),
-    }
+    let line = format!(in alloc; "record {number} refused {why}\n")?;
+    write_line(writer, line.as_bytes())
 }
 
 // Writes what a verdict on the entry that a record made writes.
@@ -128,7 +122,9 @@ fn write_verdict<W: Write>(
     number: u32,
     verdict: Option<Verdict>,
 ) -> Result<(), SessionFault>
-    ensures { OnOk result (Appends (W.contents writer.old) (W.contents writer.new) (verdict_text number verdict)) }
+    ensures written { OnOk result (Appends (W.contents writer.old) (W.contents writer.new)
+        (verdict_text number verdict)) }
+    ensures fault { IfErr result IsLineFault }
 {
     match verdict {
         Some(Verdict::Refused(why)) => write_refused(alloc, writer, number, why.number()),
@@ -145,8 +141,9 @@ pub(crate) fn write_refusals<W: Write>(
     first: usize,
 ) -> Result<(), SessionFault>
     requires { first + length numbers.now ≤ 1_000_000 }
-    ensures { OnOk result (Appends (W.contents writer.old) (W.contents writer.new)
+    ensures written { OnOk result (Appends (W.contents writer.old) (W.contents writer.new)
         (Spec.refused_lines numbers.now (drop first (verdicts_of version.now.entries)))) }
+    ensures fault { IfErr result IsLineFault }
 {
     for (i, number) in numbers.iter().enumerate() {
         write_verdict(alloc, writer, *number, version.verdict(first + i))?;
@@ -160,15 +157,15 @@ pub(crate) fn write_version<W: Write>(
     writer: &mut W,
     version: &Version,
 ) -> Result<(), SessionFault>
-    ensures { OnOk result (Appends (W.contents writer.old) (W.contents writer.new) (Spec.version_line version.now)) }
+    ensures written { OnOk result (Appends (W.contents writer.old) (W.contents writer.new)
+        (Spec.version_line version.now)) }
+    ensures fault { IfErr result IsLineFault }
 {
     let number = version.number();
     let entries = version.count();
     let flights = version.flights();
-    match format!(in alloc; "version {number} entries {entries} flights {flights}\n") {
-        Ok(line) => write_line(writer, line.as_bytes()),
-        Err(_) => Err(SessionFault::Memory),
-    }
+    let line = format!(in alloc; "version {number} entries {entries} flights {flights}\n")?;
+    write_line(writer, line.as_bytes())
 }
 
 // Writes the best pairing of a version, if it has one.
@@ -177,14 +174,13 @@ pub(crate) fn write_best<W: Write>(
     writer: &mut W,
     version: &Version,
 ) -> Result<(), SessionFault>
-    ensures { OnOk result (Appends (W.contents writer.old) (W.contents writer.new) (Spec.best_line version.now.best)) }
+    ensures written { OnOk result (Appends (W.contents writer.old) (W.contents writer.new)
+        (Spec.best_line version.now.best)) }
+    ensures fault { IfErr result IsLineFault }
 {
     match version.best() {
         None => write_line(writer, b"best none\n"),
-        Some(best) => match pairing_line(alloc, best) {
-            Ok(line) => write_line(writer, &line),
-            Err(_) => Err(SessionFault::Memory),
-        },
+        Some(best) => write_line(writer, &pairing_line(alloc, best)?),
     }
 }
 
@@ -219,10 +215,9 @@ pub(crate) fn write_audit<W: Write>(
     writer: &mut W,
     tally: &Tally,
 ) -> Result<(), SessionFault>
-    ensures { OnOk result (Appends (W.contents writer.old) (W.contents writer.new) (Spec.audit_line tally.now)) }
+    ensures written { OnOk result (Appends (W.contents writer.old) (W.contents writer.new)
+        (Spec.audit_line tally.now)) }
+    ensures fault { IfErr result IsLineFault }
 {
-    match counts_line(alloc, tally) {
-        Ok(line) => write_line(writer, &line),
-        Err(_) => Err(SessionFault::Memory),
-    }
+    write_line(writer, &counts_line(alloc, tally)?)
 }

@@ -1,14 +1,14 @@
 //! The search for the best pairing of one duty.
 
-ghost use Rattle.std.specs.Prelude.{◌≡◌, ◌-ℤ◌, ◌≤ℤ◌, pos, negsuc, ℕ, Err, IfErr, IfOk};
+ghost use Rattle.std.specs.Prelude.{◌≡◌, ◌-ℤ◌, ◌≤ℤ◌, pos, negsuc, IfErr, IfOk, OnOk};
 ghost use Rattle.crew_rules.specs.Settings.{IsChecked};
-ghost use Rattle.crew_pairing.specs.Duties.{AreDuties, HasTooMany};
+ghost use Rattle.crew_pairing.specs.Duties.{AreDuties, HasFew};
 ghost use Rattle.crew_session.specs.Bests.{IsBest, offer_cmp};
-ghost use Rattle.crew_session.specs.Engines.{IsAdvanceFault};
+ghost use Rattle.crew_session.specs.Engines.{IsSearchFault};
 ghost use Rattle.crew_session.specs.Offers.{IsBounded, IsOfferOf, least_of, lesser_of};
 
 use crate::best::Best;
-use crate::fault::EngineFault;
+use crate::engine_fault::EngineFault;
 use crew_pairing::{Duty, Walk};
 use crew_duty::{DutyFault, list_duties};
 use crew_flights::Timetable;
@@ -115,8 +115,8 @@ fn best_of(
     Ok(best)
 }
 
-/// The best of all pairings of one duty. `TooManyDuties` only where there are more than 200,000
-/// legal duties, or `Memory`.
+/// The best of all pairings of one duty, where there are at most 200,000 legal duties.
+/// `TooManyDuties` exactly where there are more, or `Memory`.
 pub(crate) fn find_best<R: Threads + Sync>(
     rt: &R,
     alloc: Global,
@@ -125,14 +125,11 @@ pub(crate) fn find_best<R: Threads + Sync>(
 ) -> Result<Option<Best>, EngineFault>
     requires { IsChecked settings.now }
     ensures ok { IfOk result (IsBest settings.now timetable.now) }
-    ensures many { result ≡ Err EngineFault.TooManyDuties → HasTooMany settings.now timetable.now }
-    ensures fault { (number : ℕ) → IfErr result (IsAdvanceFault number) }
+    ensures few { OnOk result (HasFew settings.now timetable.now) }
+    ensures fault { IfErr result (IsSearchFault settings.now timetable.now) }
 {
     match list_duties(rt, alloc, settings, timetable) {
-        Ok(duties) => match best_of(alloc, settings, timetable, duties.as_slice()) {
-            Ok(best) => Ok(best),
-            Err(_) => Err(EngineFault::Memory),
-        },
+        Ok(duties) => Ok(best_of(alloc, settings, timetable, duties.as_slice())?),
         Err(DutyFault::TooManyDuties) => Err(EngineFault::TooManyDuties),
         Err(DutyFault::Memory) => Err(EngineFault::Memory),
     }

@@ -1,12 +1,12 @@
 //! The engine without workers.
 
-ghost use Rattle.std.specs.Prelude.{◌≡◌, ◌+◌, ◌≤◌, [], length, vec_len};
+ghost use Rattle.std.specs.Prelude.{◌≡◌, ◌+◌, ◌≤◌, [], false, length, vec_len};
 ghost use Rattle.crew_rules.specs.Settings.{IsChecked};
 ghost use Rattle.crew_session.specs.Versions.{opening};
 
 use crate::engine::Engine;
+use crate::engine_fault::EngineFault;
 use crate::entry::make_entry;
-use crate::fault::EngineFault;
 use crate::version::Version;
 use crew_flights::{Edit, Entry};
 use crew_rules::Settings;
@@ -14,7 +14,8 @@ use std::alloc::Global;
 use std::thread::Threads;
 
 /// The engine without workers: a settle works on the thread that calls it, and goes on from the
-/// fold of the version before.
+/// fold of the version before. It is never strange. An entry waits in a list until a settle moves
+/// it to its version, so each is kept once.
 #[derive(Drop)]
 pub struct Plain {
     version: Version,
@@ -42,13 +43,15 @@ impl Plain {
 const EDITS: usize = 1_000_000;
 
 impl Engine for Plain {
-    ghost use Rattle.crew_session.specs.Plains.{IsWhole, shown_by, taken_by};
+    ghost use Rattle.crew_session.specs.Plains.{shown_by, taken_by};
 
     ghost entries = { taken_by };
 
     ghost shown = { shown_by };
 
-    ghost settles = { IsWhole };
+    ghost MAY_BE_STRANGE = { false };
+
+    const MAY_BE_STRANGE: bool = false;
 
     fn submit(&mut self, edit: Edit) -> Result<(), (Edit, EngineFault)> {
         let number = self.version.count() + self.pending.len();
@@ -63,9 +66,7 @@ impl Engine for Plain {
 
     fn settle<R: Threads + Sync>(&mut self, rt: &R) -> Result<(), EngineFault> {
         let alloc = *self.pending.allocator();
-        self.version.advance(rt, alloc, &self.pending)?;
-        self.pending.clear();
-        Ok(())
+        self.version.advance(rt, alloc, &mut self.pending)
     }
 
     fn version(&self) -> &Version {

@@ -1,44 +1,43 @@
 //! A session: records to commands, and commands to lines.
 
-ghost use Rattle.std.specs.Prelude.{◌≡◌, ◌+◌, ◌<◌, ◌≤◌, ◌-ℤ◌, [], ℕ, List, pos, length, IfSome, OnOk};
-ghost use Rattle.std.specs.Io.KnownBytes.{Appends, IsAtEnd};
+ghost use Rattle.std.specs.Prelude.{◌≡◌, ◌⊎◌, ◌↔◌, ◌+◌, ◌++◌, ◌<◌, ◌≤◌, ◌-ℤ◌, [], ℕ, List, IsTrue, pos, true, drop, length, IfErr, IfOk, IfSome, OnOk, Some};
+ghost use Rattle.std.specs.Io.KnownBytes.{Appends, IsAtEnd, Keeps};
 ghost use Rattle.csv.specs.Records.{fields_of};
 ghost use Rattle.crew_time.specs.Instant.{IsInYears};
+ghost use Rattle.crew_flights.specs.declared.entries.Entry.{Entry as EntryOf};
 ghost use Rattle.crew_rules.specs.Settings.{IsChecked};
-ghost use Rattle.crew_session.specs.Commands.{IsDated};
-ghost use Rattle.crew_session.specs.Journals.{Came, IsInStep, state_of, zones_of};
+ghost use Rattle.crew_records.specs.Commands.{IsDated};
+ghost use Rattle.crew_pairing.specs.Duties.{HasTooMany};
+ghost use Rattle.crew_session.specs.Engines.{AreTooMany, engine_number};
+ghost use Rattle.crew_session.specs.Faults.{IsLineFault, IsRecordFault, IsSessionFault};
+ghost use Rattle.crew_session.specs.Journals.{Came, HasEnded, IsInStep, state_of, zones_of};
+ghost use Rattle.crew_session.specs.Lines.{refused_line, refused_lines, version_line};
 ghost use Rattle.crew_session.specs.Rows.{IsOpen, records_of, rows_left};
 ghost use Rattle.crew_session.specs.Session.{IsSessionText, Obeys, Writes};
 ghost use Rattle.crew_session.specs.Session as Spec;
-ghost use Rattle.crew_session.specs.Versions.{Snapshot, opening};
+ghost use Rattle.crew_session.specs.Versions.{Snapshot, opening, timetable_of, verdicts_of};
 
 use crate::audit::answer_audit;
-use crate::command::{Command, read_command};
 use crate::engine::Engine;
-use crate::entry::make_entry;
-use crate::fault::{EngineFault, RecordFault, SessionFault};
+use crate::engine_fault::EngineFault;
+use crate::fault::{SessionFault, stop};
 use crate::journal::Journal;
 use crate::lines::{write_best, write_refusals, write_refused, write_version};
 use crate::rows::next_row;
+use crate::version::Version;
 use crate::zones::Zones;
-use crew_flights::{Code, Edit, Flight};
+use crew_duty::{DutyFault, list_duties};
+use crew_flights::{Code, Edit, Entry, Flight};
+use crew_records::{Command, RecordFault, read_command};
 use crew_rules::Settings;
 use crew_time::{ClockMinute, Minute, Zone};
 use csv::{ByteRecord, Reader, ReaderBuilder};
-use std::alloc::Global;
+use std::alloc::{AllocError, Global};
 use std::io::{Read, Write};
 use std::thread::Threads;
 
 // The most records that a session takes.
 const RECORDS: u32 = 2_000_000;
-
-// Why a session stops where an engine refuses.
-fn stop(fault: EngineFault) -> SessionFault {
-    match fault.number() {
-        Some(number) => SessionFault::Strange(number),
-        None => SessionFault::Memory,
-    }
-}
 
 // What a clock in the zone shows `lead` minutes before a departure.
 fn report_clock(settings: &Settings, zone: &Zone, dep: Minute) -> ClockMinute
@@ -64,6 +63,23 @@ fn clock_at(settings: &Settings, zones: &Zones, from: Code, dep: Minute) -> Opti
     }
 }
 
+// Writes the refusal of an engine, or stops for want of memory.
+fn refuse<W: Write>(
+    alloc: Global,
+    writer: &mut W,
+    number: u32,
+    fault: EngineFault,
+) -> Result<(), SessionFault>
+    ensures written { OnOk result ((why : ℕ) × (engine_number fault ≡ Some why)
+        × Appends (W.contents writer.old) (W.contents writer.new) (refused_line number why)) }
+    ensures fault { IfErr result IsLineFault }
+{
+    match fault.number() {
+        Some(why) => write_refused(alloc, writer, number, why),
+        None => Err(SessionFault::Memory),
+    }
+}
+
 // Hands an edit to the engine.
 fn submit<W: Write, E: Engine>(
     alloc: Global,
@@ -73,20 +89,20 @@ fn submit<W: Write, E: Engine>(
     writer: &mut W,
     engine: &mut E,
 ) -> Result<(), SessionFault>
-    requires { IsInStep journal.old (E.shown engine.old) (E.entries engine.old) }
-    ensures came { OnOk result (Came (W.contents writer.old) (W.contents writer.new) (state_of journal.new (E.shown engine.new))
-        (Spec.submit number edit (state_of journal.old (E.shown engine.old)))) }
-    ensures in_step { OnOk result (IsInStep journal.new (E.shown engine.new) (E.entries engine.new)) }
+    requires { IsInStep E.MAY_BE_STRANGE journal.old (E.shown engine.old) (E.entries engine.old) }
+    ensures came { OnOk result (Came (W.contents writer.old) (W.contents writer.new)
+        (state_of journal.new (E.shown engine.new) (E.entries engine.new))
+        (Spec.submit number edit
+        (state_of journal.old (E.shown engine.old) (E.entries engine.old)))) }
+    ensures in_step { OnOk result
+        (IsInStep E.MAY_BE_STRANGE journal.new (E.shown engine.new) (E.entries engine.new)) }
+    ensures shown { E.shown engine.new ≡ E.shown engine.old }
+    ensures fault { IfErr result IsLineFault }
 {
-    let place = engine.version().count() + journal.entries.len();
-    let entry = make_entry(place as u32, edit);
-    match engine.submit(entry.edit) {
-        Ok(()) => match journal.add(entry.number, entry.edit, number) {
-            Ok(()) => Ok(()),
-            Err(_) => Err(SessionFault::Memory),
-        },
-        Err((_, EngineFault::SeatFull)) => write_refused(alloc, writer, number, 61),
-        Err((_, fault)) => Err(stop(fault)),
+    let place = engine.version().count() + journal.records.len();
+    match engine.submit(edit) {
+        Ok(()) => Ok(journal.add(number, E::MAY_BE_STRANGE, place as u32, edit)?),
+        Err((_, fault)) => refuse(alloc, writer, number, fault),
     }
 }
 
@@ -99,18 +115,88 @@ fn add_zone<W: Write>(
     journal: &mut Journal,
     writer: &mut W,
 ) -> Result<(), SessionFault>
-    ensures came { (version : Snapshot) → OnOk result (Came (W.contents writer.old) (W.contents writer.new) (state_of journal.new version)
-        (Spec.add_zone number code zone (state_of journal.old version))) }
-    ensures entries { journal.new.entries ≡ journal.old.entries }
+    ensures came { (version : Snapshot) (taken : List EntryOf)
+        → OnOk result (Came (W.contents writer.old) (W.contents writer.new)
+        (state_of journal.new version taken)
+        (Spec.add_zone number code zone (state_of journal.old version taken))) }
     ensures records { journal.new.records ≡ journal.old.records }
+    ensures entries { journal.new.entries ≡ journal.old.entries }
+    ensures fault { IfErr result IsLineFault }
 {
     if let Some(fault) = journal.zones.refusal(code) {
         return write_refused(alloc, writer, number, fault.number());
     }
-    match journal.zones.add(code, zone) {
-        Ok(()) => Ok(()),
-        Err(_) => Err(SessionFault::Memory),
+    Ok(journal.zones.add(code, zone)?)
+}
+
+// Whether the entries of a version and these come to more duties than may be listed.
+fn has_too_many<R: Threads + Sync>(
+    rt: &R,
+    alloc: Global,
+    version: &Version,
+    entries: &[Entry],
+) -> Result<bool, AllocError>
+    ensures { IfOk result (λ many. many ≡ true
+        → HasTooMany version.now.settings (timetable_of (version.now.entries ++ entries.now))) }
+{
+    let timetable = version.timetable_with(alloc, entries)?;
+    match list_duties(rt, alloc, version.settings(), &timetable) {
+        Ok(_) => Ok(false),
+        Err(DutyFault::TooManyDuties) => Ok(true),
+        Err(DutyFault::Memory) => Err(AllocError),
     }
+}
+
+// Writes that there are too many duties for a version. Of an engine that may be strange it is
+// believed only where the entries that were sent come to too many.
+fn decline<R: Threads + Sync, W: Write, E: Engine>(
+    rt: &R,
+    alloc: Global,
+    number: u32,
+    journal: &Journal,
+    writer: &mut W,
+    engine: &E,
+) -> Result<(), SessionFault>
+    requires in_step { IsInStep E.MAY_BE_STRANGE journal.now
+        (E.shown engine.now) (E.entries engine.now) }
+    requires many { AreTooMany (E.shown engine.now) (E.entries engine.now)
+        ⊎ IsTrue E.MAY_BE_STRANGE }
+    ensures written { OnOk result
+        (Appends (W.contents writer.old) (W.contents writer.new) (refused_line number 40)) }
+    ensures many { OnOk result (AreTooMany (E.shown engine.now) (E.entries engine.now)) }
+    ensures fault { IfErr result (IsRecordFault E.MAY_BE_STRANGE) }
+{
+    if E::MAY_BE_STRANGE && !has_too_many(rt, alloc, engine.version(), &journal.entries)? {
+        return Err(stop(EngineFault::OtherLog));
+    }
+    refuse(alloc, writer, number, EngineFault::TooManyDuties)
+}
+
+// Whether a version is the next after this number, and has so many entries.
+fn is_next(version: &Version, before: u64, count: usize) -> bool
+    requires { before < 4_294_967_296 }
+    ensures next { IsTrue result
+        ↔ (version.now.number ≡ before + 1) × (length version.now.entries ≡ count) }
+{
+    version.number() == before + 1 && version.count() == count
+}
+
+// Writes the refusals among the entries of a new version, and the version.
+fn publish<W: Write>(
+    alloc: Global,
+    writer: &mut W,
+    records: &[u32],
+    version: &Version,
+    first: usize,
+) -> Result<(), SessionFault>
+    requires { first + length records.now ≤ 1_000_000 }
+    ensures written { OnOk result (Appends (W.contents writer.old) (W.contents writer.new)
+        (refused_lines records.now (drop first (verdicts_of version.now.entries))
+        ++ version_line version.now)) }
+    ensures fault { IfErr result IsLineFault }
+{
+    write_refusals(alloc, writer, records, version, first)?;
+    write_version(alloc, writer, version)
 }
 
 // Makes a version of all entries so far, and writes what it came to.
@@ -122,27 +208,31 @@ fn settle<R: Threads + Sync, W: Write, E: Engine>(
     writer: &mut W,
     engine: &mut E,
 ) -> Result<(), SessionFault>
-    requires { IsInStep journal.old (E.shown engine.old) (E.entries engine.old) }
-    ensures settles { OnOk result ((text : List ℕ) × Appends (W.contents writer.old) (W.contents writer.new) text
-        × Spec.Settles number (state_of journal.old (E.shown engine.old)) (state_of journal.new (E.shown engine.new)) text) }
-    ensures in_step { OnOk result (IsInStep journal.new (E.shown engine.new) (E.entries engine.new)) }
+    requires in_step { IsInStep E.MAY_BE_STRANGE journal.old
+        (E.shown engine.old) (E.entries engine.old) }
+    requires early { (E.shown engine.old).number < number }
+    ensures settles { OnOk result ((text : List ℕ)
+        × Appends (W.contents writer.old) (W.contents writer.new) text
+        × Spec.Settles number (state_of journal.old (E.shown engine.old) (E.entries engine.old))
+        (state_of journal.new (E.shown engine.new) (E.entries engine.new)) text) }
+    ensures in_step { OnOk result
+        (IsInStep E.MAY_BE_STRANGE journal.new (E.shown engine.new) (E.entries engine.new)) }
+    ensures late { OnOk result ((E.shown engine.new).number ≤ number) }
+    ensures fault { IfErr result (IsRecordFault E.MAY_BE_STRANGE) }
 {
     let before = engine.version().number();
     let first = engine.version().count();
     match engine.settle(rt) {
         Ok(()) => {}
-        Err(EngineFault::TooManyDuties) => return write_refused(alloc, writer, number, 40),
+        Err(EngineFault::TooManyDuties) => {
+            return decline(rt, alloc, number, journal, writer, engine);
+        }
         Err(fault) => return Err(stop(fault)),
     }
-    let version = engine.version();
-    if before == u64::MAX || version.number() != before + 1 {
-        return Err(SessionFault::Strange(63));
+    if !is_next(engine.version(), before, first + journal.records.len()) {
+        return Err(stop(EngineFault::OtherLog));
     }
-    if version.count() != first + journal.entries.len() {
-        return Err(SessionFault::Strange(63));
-    }
-    write_refusals(alloc, writer, &journal.records, version, first)?;
-    write_version(alloc, writer, version)?;
+    publish(alloc, writer, &journal.records, engine.version(), first)?;
     journal.clear();
     Ok(())
 }
@@ -160,10 +250,18 @@ fn obey<R: Threads + Sync, W: Write, E: Engine>(
 ) -> Result<(), SessionFault>
     requires checked { IsChecked settings.now }
     requires dated { IsDated command }
-    requires in_step { IsInStep journal.old (E.shown engine.old) (E.entries engine.old) }
-    ensures obeys { OnOk result ((text : List ℕ) × Appends (W.contents writer.old) (W.contents writer.new) text
-        × Obeys settings.now number command (state_of journal.old (E.shown engine.old)) (state_of journal.new (E.shown engine.new)) text) }
-    ensures in_step { OnOk result (IsInStep journal.new (E.shown engine.new) (E.entries engine.new)) }
+    requires in_step { IsInStep E.MAY_BE_STRANGE journal.old
+        (E.shown engine.old) (E.entries engine.old) }
+    requires early { (E.shown engine.old).number < number }
+    ensures obeys { OnOk result ((text : List ℕ)
+        × Appends (W.contents writer.old) (W.contents writer.new) text
+        × Obeys settings.now number command
+        (state_of journal.old (E.shown engine.old) (E.entries engine.old))
+        (state_of journal.new (E.shown engine.new) (E.entries engine.new)) text) }
+    ensures in_step { OnOk result
+        (IsInStep E.MAY_BE_STRANGE journal.new (E.shown engine.new) (E.entries engine.new)) }
+    ensures late { OnOk result ((E.shown engine.new).number ≤ number) }
+    ensures fault { IfErr result (IsRecordFault E.MAY_BE_STRANGE) }
 {
     match command {
         Command::AddZone { code, zone } => add_zone(alloc, number, code, zone, journal, writer),
@@ -219,6 +317,15 @@ fn obey<R: Threads + Sync, W: Write, E: Engine>(
     }
 }
 
+// How the reading of records ends.
+#[derive(Clone, Copy)]
+enum Ending {
+    // The reader is at its end.
+    AtEnd,
+    // There are more than 2,000,000 records.
+    TooManyRecords,
+}
+
 // Obeys each record that the reader has left.
 fn obey_all<T: Threads + Sync, R: Read, W: Write, E: Engine>(
     rt: &T,
@@ -229,18 +336,21 @@ fn obey_all<T: Threads + Sync, R: Read, W: Write, E: Engine>(
     journal: &mut Journal,
     writer: &mut W,
     engine: &mut E,
-) -> Result<(), SessionFault>
+) -> Result<Ending, SessionFault>
     requires checked { IsChecked settings.now }
     requires is_open { IsOpen records.old }
-    requires in_step { IsInStep journal.old (E.shown engine.old) (E.entries engine.old) }
-    ensures output { OnOk result (IfSome (rows_left R.remaining records.old) (λ rows.
-        (text : List ℕ) × Appends (W.contents writer.old) (W.contents writer.new) text
-        × Writes settings.now 0 (state_of journal.old (E.shown engine.old)) rows text)) }
-    ensures limit { OnOk result (IfSome (rows_left R.remaining records.old) (λ rows. length rows ≤ 2_000_000)) }
+    requires in_step { IsInStep E.MAY_BE_STRANGE journal.old
+        (E.shown engine.old) (E.entries engine.old) }
+    requires opening { (E.shown engine.old).number ≡ 0 }
+    ensures ended { IfOk result (λ ending. IfSome (rows_left R.remaining records.old) (λ rows.
+        HasEnded settings.now
+        (state_of journal.old (E.shown engine.old) (E.entries engine.old)) rows
+        (W.contents writer.old) (W.contents writer.new) ending)) }
+    ensures fault { IfErr result (IsSessionFault E.MAY_BE_STRANGE) }
 {
     'records: for number in 0..RECORDS {
         if !next_row(records, row)? {
-            return Ok(());
+            return Ok(Ending::AtEnd);
         }
         obey(
             rt,
@@ -254,9 +364,10 @@ fn obey_all<T: Threads + Sync, R: Read, W: Write, E: Engine>(
         )?;
     }
     if next_row(records, row)? {
-        return Err(SessionFault::Read);
+        Ok(Ending::TooManyRecords)
+    } else {
+        Ok(Ending::AtEnd)
     }
-    Ok(())
 }
 
 // The same, of a reader's bytes.
@@ -267,13 +378,14 @@ fn read_all<T: Threads + Sync, R: Read + Drop, W: Write, E: Engine>(
     reader: R,
     writer: &mut W,
     engine: &mut E,
-) -> Result<(), SessionFault>
+) -> Result<Ending, SessionFault>
     requires checked { IsChecked settings.now }
     requires entries { E.entries engine.old ≡ [] }
     requires version { E.shown engine.old ≡ opening settings.now }
-    ensures output { OnOk result (IfSome (R.remaining reader) (λ bytes.
-        (text : List ℕ) × Appends (W.contents writer.old) (W.contents writer.new) text × IsSessionText settings.now bytes text)) }
-    ensures limit { OnOk result (IfSome (R.remaining reader) (λ bytes. length (records_of bytes) ≤ 2_000_000)) }
+    ensures ended { IfOk result (λ ending. IfSome (R.remaining reader) (λ bytes.
+        HasEnded settings.now (Spec.start settings.now) (records_of bytes)
+        (W.contents writer.old) (W.contents writer.new) ending)) }
+    ensures fault { IfErr result (IsSessionFault E.MAY_BE_STRANGE) }
 {
     let mut records = ReaderBuilder::new()
         .has_headers(false)
@@ -293,16 +405,40 @@ fn read_all<T: Threads + Sync, R: Read + Drop, W: Write, E: Engine>(
     )
 }
 
+// That the reader is at its end.
+fn check_end<R: Read>(reader: &mut R) -> Result<(), SessionFault>
+    ensures end { OnOk result (IsAtEnd (R.remaining reader.new)) }
+    ensures fault { IfErr result (λ why. why ≡ SessionFault.Read) }
+{
+    let Ok(0) = reader.read(&mut [0]) else {
+        return Err(SessionFault::Read);
+    };
+    Ok(())
+}
+
+// That all that was written has gone out.
+fn check_written<W: Write>(writer: &mut W) -> Result<(), SessionFault>
+    ensures kept { Keeps (W.contents writer.old) (W.contents writer.new) }
+    ensures fault { IfErr result (λ why. why ≡ SessionFault.Write) }
+{
+    writer.flush().map_err(|_| SessionFault::Write)
+}
+
 /// Plays a session: reads records to the end of the input, and writes a line for each refusal,
 /// version and answer.
 ///
 /// The engine is new: it has taken no edit, and its version is number 0 under these settings. Where
 /// the answer is `Ok`, what is written is the text of a session of the bytes that were read, there
-/// were at most 2,000,000 records, and the input is at its end. After a fault the engine is not
-/// used again, and nothing is said of the last line.
+/// were at most 2,000,000 records, and the input is at its end.
+///
+/// Each line goes out by one `write_all` of the whole line, before the next record is read, and one
+/// `flush` comes before `Ok`: a writer that is to show lines while the input is open flushes
+/// them itself.
 ///
 /// `Read` where the reader fails or gives more records, `Write` where the writer fails, `Memory`
-/// where there is none, and `Strange` where the engine answers what no session brings about.
+/// where there is none, and `Strange` only of an engine that may be strange: where it answers what
+/// no session brings about. After a fault the engine is not used again, and it isn't promised
+/// what was written.
 pub fn run<T: Threads + Sync, R: Read, W: Write, E: Engine>(
     rt: &T,
     alloc: Global,
@@ -315,16 +451,17 @@ pub fn run<T: Threads + Sync, R: Read, W: Write, E: Engine>(
     requires entries { E.entries engine.old ≡ [] }
     requires version { E.shown engine.old ≡ opening settings.now }
     ensures output { OnOk result (IfSome (R.remaining reader.old) (λ bytes.
-        (text : List ℕ) × Appends (W.contents writer.old) (W.contents writer.new) text × IsSessionText settings.now bytes text)) }
-    ensures limit { OnOk result (IfSome (R.remaining reader.old) (λ bytes. length (records_of bytes) ≤ 2_000_000)) }
+        (text : List ℕ) × Appends (W.contents writer.old) (W.contents writer.new) text
+        × IsSessionText settings.now bytes text)) }
+    ensures limit { OnOk result (IfSome (R.remaining reader.old)
+        (λ bytes. length (records_of bytes) ≤ 2_000_000)) }
     ensures end { OnOk result (IsAtEnd (R.remaining reader.new)) }
+    ensures fault { IfErr result (IsSessionFault E.MAY_BE_STRANGE) }
 {
-    read_all(rt, alloc, settings, &mut *reader, writer, engine)?;
-    let Ok(0) = reader.read(&mut [0]) else {
-        return Err(SessionFault::Read);
-    };
-    match writer.flush() {
-        Ok(()) => Ok(()),
-        Err(_) => Err(SessionFault::Write),
+    match read_all(rt, alloc, settings, &mut *reader, writer, engine)? {
+        Ending::AtEnd => {}
+        Ending::TooManyRecords => return Err(SessionFault::Read),
     }
+    check_end(reader)?;
+    check_written(writer)
 }

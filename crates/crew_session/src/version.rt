@@ -1,6 +1,6 @@
 //! Versions.
 
-ghost use Rattle.std.specs.Prelude.{◌≡◌, ◌+◌, ◌++◌, ◌≤◌, Err, List, IfOk, IfErr, OnOk, OnErr, length, slice_get, vec_capacity, vec_len};
+ghost use Rattle.std.specs.Prelude.{◌≡◌, ◌+◌, ◌++◌, ◌≤◌, [], IfOk, IfErr, OnOk, OnErr, length, slice_get, vec_capacity, vec_len};
 ghost use Rattle.std.specs.Option.{option_copied};
 ghost use Rattle.std.specs.FinMap as map;
 ghost use Rattle.crew_rules.specs.Settings.{IsChecked};
@@ -8,18 +8,20 @@ ghost use Rattle.crew_session.specs.Engines.{IsAdvanceFault};
 ghost use Rattle.crew_session.specs.Versions.{FoldsOn};
 
 use crate::best::Best;
-use crate::fault::EngineFault;
+use crate::engine_fault::EngineFault;
 use crate::offers::find_best;
 use crew_flights::{Timetable, Entry, Folding, Verdict};
 use crew_rules::Settings;
 use std::alloc::{AllocError, Global};
 use std::marker::Model;
+use std::mem::swap;
 use std::thread::Threads;
 
 /// A version: what the entries of a log come to under some settings.
 ///
 /// A contract sees its number, settings, entries and best. Its verdicts and timetable are those of
-/// its entries, and its best is the least of all pairings of one duty.
+/// its entries, they come to at most 200,000 legal duties, and its best is the least of all
+/// pairings of one duty.
 #[derive(Drop)]
 pub struct Version {
     number: u64,
@@ -35,7 +37,12 @@ impl Model for Version {
 
     ghost Value = { Snapshot };
 
-    ghost view = { λ v. record { number = v.number; settings = v.settings; entries = v.entries.items; best = v.best } };
+    ghost view = { λ v. record {
+      number = v.number;
+      settings = v.settings;
+      entries = v.entries.items;
+      best = v.best;
+    } };
 
     ghost invariant = { λ v. IsKept v.settings v.entries.items v.verdicts.items v.fold v.best };
 }
@@ -56,6 +63,33 @@ fn fold_on(
     Ok((fold, verdicts))
 }
 
+// A list with the same items.
+fn copied<T: Copy>(alloc: Global, items: &[T]) -> Result<Vec<T>, AllocError>
+    ensures { IfOk result (λ copy. copy.items ≡ items.now) }
+{
+    let mut copy = Vec::new(alloc);
+    copy.extend_from_slice(items)?;
+    Ok(copy)
+}
+
+// Moves the items of a list to the end of another; for want of memory both keep theirs. The longer
+// list takes in the other.
+fn move_all<T: Copy>(to: &mut Vec<T>, from: &mut Vec<T>) -> Result<(), AllocError>
+    ensures ok { OnOk result (to.new.items ≡ to.old.items ++ from.old.items) }
+    ensures moved { OnOk result (from.new.items ≡ []) }
+    ensures err { OnErr result (to.new.items ≡ to.old.items) }
+    ensures kept { OnErr result (from.new.items ≡ from.old.items) }
+{
+    if from.len() <= to.len() {
+        return to.append(from);
+    }
+    let count = from.len();
+    from.append(to)?;
+    from.rotate_left(count);
+    swap(to, from);
+    Ok(())
+}
+
 // Appends items for which there is room.
 fn append<T: Copy>(vec: &mut Vec<T>, items: &[T])
     requires { vec_len vec.old + length items.now ≤ vec_capacity vec.old }
@@ -70,7 +104,6 @@ fn append<T: Copy>(vec: &mut Vec<T>, items: &[T])
 impl Version {
     ghost use Rattle.crew_session.specs.Versions.{IsNext, IsRight};
     ghost use Rattle.crew_session.specs.Versions as Spec;
-    ghost use Rattle.crew_pairing.specs.Duties.{HasTooMany};
 
     /// The version before any entry, number 0.
     pub fn opening(alloc: Global, settings: &Settings) -> Self
@@ -146,28 +179,57 @@ impl Version {
         self.best.as_ref()
     }
 
-    /// Becomes the next version, with these entries more. `TooManyDuties` only where they come to
-    /// more than 200,000 legal duties, `LastVersion` where the number is the greatest, or
-    /// `Memory`; it is then unchanged.
+    /// The timetable that its entries come to with these entries more.
+    pub fn timetable_with(&self, alloc: Global, entries: &[Entry]) -> Result<Timetable, AllocError>
+        ensures { IfOk result
+            (λ timetable. timetable ≡ Spec.timetable_of (self.now.entries ++ entries.now)) }
+    {
+        let (fold, _) = fold_on(alloc, &self.fold, entries)?;
+        Ok(fold.into_timetable())
+    }
+
+    /// An equal version.
+    pub fn copy(&self, alloc: Global) -> Result<Version, AllocError>
+        ensures { IfOk result (λ version. version ≡ self.now) }
+    {
+        let best = match &self.best {
+            Some(best) => Some(best.copy(alloc)?),
+            None => None,
+        };
+        Ok(Version {
+            number: self.number,
+            settings: self.settings,
+            entries: copied(alloc, &self.entries)?,
+            verdicts: copied(alloc, &self.verdicts)?,
+            fold: self.fold.copy(alloc)?,
+            best,
+        })
+    }
+
+    /// Becomes the next version, and takes these entries in. `LastVersion` where the number is the
+    /// greatest, `TooManyDuties` exactly where all entries come to more than 200,000 legal duties,
+    /// or `Memory`; it is then unchanged, and the entries stay.
     pub fn advance<R: Threads + Sync>(
         &mut self,
         rt: &R,
         alloc: Global,
-        entries: &[Entry],
+        entries: &mut Vec<Entry>,
     ) -> Result<(), EngineFault>
-        ensures ok { OnOk result (IsNext self.old entries.now self.new) }
+        ensures ok { OnOk result (IsNext self.old entries.old.items self.new) }
+        ensures right { OnOk result (IsRight self.new) }
+        ensures moved { OnOk result (entries.new.items ≡ []) }
         ensures err { OnErr result (self.new ≡ self.old) }
-        ensures fault { IfErr result (IsAdvanceFault self.old.number) }
-        ensures many { result ≡ Err EngineFault.TooManyDuties → HasTooMany self.old.settings (Spec.timetable_of (self.old.entries ++ entries.now)) }
+        ensures kept { OnErr result (entries.new.items ≡ entries.old.items) }
+        ensures fault { IfErr result
+            (IsAdvanceFault self.old (self.old.entries ++ entries.old.items)) }
     {
         let Some(number) = self.number.checked_add(1) else {
             return Err(EngineFault::LastVersion);
         };
         let (fold, verdicts) = fold_on(alloc, &self.fold, entries)?;
         let best = find_best(rt, alloc, &self.settings, fold.timetable())?;
-        self.entries.reserve(entries.len())?;
         self.verdicts.reserve(verdicts.len())?;
-        append(&mut self.entries, entries);
+        move_all(&mut self.entries, entries)?;
         append(&mut self.verdicts, &verdicts);
         self.number = number;
         self.fold = fold;

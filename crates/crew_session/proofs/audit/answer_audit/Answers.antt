@@ -3,8 +3,8 @@ use Rattle.std.proofs.lemmas.Result.{on_ok_weaker}
 use Rattle.crew_session.specs.Lines.{audit_line, refused_line}
 use Rattle.crew_session.proofs.audit.answer_audit.Goals as goal
 
-pub returns-in-Ok : goal.returns-in-Ok
-returns-in-Ok g c =
+pub returns-in-Ok-clause-answered : goal.returns-in-Ok-clause-answered
+returns-in-Ok-clause-answered g c =
     let listed = c.in-Ok.ensures.listed in
     on_ok_weaker c.write_audit.result
     (λ w. (
@@ -19,10 +19,10 @@ returns-in-Ok g c =
         written = refl;
       }),
     ))
-    c.write_audit.ensures
+    c.write_audit.ensures.written
 
-pub returns-in-Err-OverLimit : goal.returns-in-Err-OverLimit
-returns-in-Err-OverLimit g c =
+pub returns-in-Err-OverLimit-clause-answered : goal.returns-in-Err-OverLimit-clause-answered
+returns-in-Err-OverLimit-clause-answered g c =
     on_ok_weaker c.write_refused.result
     (λ w. (refused_line c.args.number 45, w, inr (record { more = rw (c.settings.ensures.value, c.timetable.ensures) at (c.in-Err-OverLimit.ensures.over (cc)); written = refl })))
-    c.write_refused.ensures
+    c.write_refused.ensures.written

@@ -6,4 +6,4 @@ pub loop-i-preserved : goal.loop-i-preserved
 loop-i-preserved g c =
     let so_far = c.loop-i.invariant in
     let more = refused-more c.args.numbers.now _ c.args.first c.loop-i.i (omega arith) in
-    (so_far.0 ++ _, appends-both _ _ _ so_far.0 _ so_far.1 (rw c.verdict.ensures at c.in_ok-write_verdict.ensures), append_assoc so_far.0 _ _ ∙ ap (λ (t : List ℕ). so_far.0 ++ t) (sym more) ∙ so_far.2)
+    (so_far.0 ++ _, appends-both _ _ _ so_far.0 _ so_far.1 (rw c.verdict.ensures at c.in_ok-write_verdict.ensures.written), append_assoc so_far.0 _ _ ∙ ap (λ (t : List ℕ). so_far.0 ++ t) (sym more) ∙ so_far.2)

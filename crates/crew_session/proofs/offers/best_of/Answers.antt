@@ -1,4 +1,4 @@
-use Rattle.std.proofs.Common.{◌≡◌, ◌∙◌, sym, subst, arith, take, get_or, List, length}
+use Rattle.std.proofs.Common.{◌≡◌, ◌∙◌, sym, subst, take, List}
 use Rattle.std.proofs.lemmas.List.{take_more, take_all}
 use Rattle.crew_pairing.specs.declared.duty.Duty.{Duty}
 use Rattle.crew_resource.specs.Members.{Member}

@@ -1,10 +1,10 @@
-use Rattle.std.proofs.Common.{◌≡◌, ◌∙◌, sym, ap, refl, subst}
-use Rattle.crew_session.proofs.SessionFacts.{at-clock, audited, did, no-clock, wrote}
+use Rattle.std.proofs.Common.{refl}
+use Rattle.crew_session.proofs.SessionFacts.{audited, did}
 use Rattle.crew_session.proofs.session.obey.Goals as goal
 
 pub returns-in-AddZone-clause-obeys : goal.returns-in-AddZone-clause-obeys
-returns-in-AddZone-clause-obeys g c = did c.add_zone.result _ _ c.args.settings.now c.args.number _ _ _ _ _ _ c.in-AddZone.is refl (λ text d. d) (c.add_zone.ensures.came (g.E.Engine.shown c.args.engine.now))
+returns-in-AddZone-clause-obeys g c = did c.add_zone.result _ _ c.args.settings.now c.args.number _ _ _ _ _ _ c.in-AddZone.is refl (λ text d. d) (c.add_zone.ensures.came (g.E.Engine.shown c.args.engine.now) (g.E.Engine.entries c.args.engine.now))
 
 pub returns-in-Audit-clause-obeys : goal.returns-in-Audit-clause-obeys
 returns-in-Audit-clause-obeys g c =
-    audited c.answer_audit.result _ _ c.args.settings.now c.args.number _ _ c.args.journal.now _ _ c.in-Audit.is c.version-in-Audit.ensures c.answer_audit.ensures
+    audited c.answer_audit.result _ _ c.args.settings.now c.args.number _ _ c.args.journal.now _ _ _ c.in-Audit.is c.version-in-Audit.ensures c.answer_audit.ensures.answered

@@ -1,4 +1,4 @@
-use Rattle.std.proofs.Common.{◌≡◌, ◌+◌, ◌∙◌, sym, subst, ap, arith, take, get_or, ◌++◌, ◌∷◌, [], append_assoc, List}
+use Rattle.std.proofs.Common.{◌≡◌, ◌+◌, ◌∙◌, sym, ap, take, ◌++◌, ◌∷◌, [], append_assoc, List}
 use Rattle.std.proofs.lemmas.List.{take_more, take_all}
 use Rattle.crew_flights.specs.declared.entries.Entry.{Entry}
 use Rattle.crew_flights.specs.declared.edit.Verdict.{Verdict}

@@ -3,4 +3,4 @@ use Rattle.crew_session.specs.Versions.{IsRight}
 use Rattle.crew_session.proofs.version.Version.best.Goals as goal
 
 pub returns-clause-right : goal.returns-clause-right
-returns-clause-right c = subst IsRight c.self.view_is c.self.invariant.least
+returns-clause-right c = subst IsRight c.self.view_is (record { few = c.self.invariant.few; least = c.self.invariant.least })

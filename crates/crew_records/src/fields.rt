@@ -5,7 +5,7 @@ ghost use Rattle.std.specs.Char.{is_ascii_digit};
 ghost use Rattle.std.specs.List.{list_all};
 ghost use Rattle.csv.specs.Records.{fields_of};
 ghost use Rattle.crew_time.specs.Instant.{IsInYears};
-ghost use Rattle.crew_session.specs.Fields as Spec;
+ghost use Rattle.crew_records.specs.Fields as Spec;
 
 use crate::fault::RecordFault;
 use crew_flights::{Code, FlightId};
@@ -124,18 +124,12 @@ pub(crate) fn read_time(field: &[u8]) -> Result<Minute, RecordFault>
     ensures value { result ≡ Spec.time_field field.now }
     ensures years { IfOk result IsInYears }
 {
-    match crew_time::read_minute(field) {
-        Ok(minute) => Ok(minute),
-        Err(fault) => Err(RecordFault::Text(fault)),
-    }
+    Ok(crew_time::read_minute(field)?)
 }
 
 // A zone.
 pub(crate) fn read_zone(field: &[u8]) -> Result<Zone, RecordFault>
     ensures { result ≡ Spec.zone_field field.now }
 {
-    match Zone::read(field) {
-        Ok(zone) => Ok(zone),
-        Err(fault) => Err(RecordFault::Text(fault)),
-    }
+    Ok(Zone::read(field)?)
 }

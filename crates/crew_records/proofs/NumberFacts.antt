@@ -5,7 +5,7 @@ use Rattle.std.specs.List.{list_all}
 use Rattle.std.proofs.lemmas.Bool.Decides.{nat_tests}
 use Rattle.std.proofs.lemmas.Grind.{common_steps}
 use Rattle.std.proofs.lemmas.Str.Parse.{IsNumeralModel, numerals_by_fold, digits_value_short, digit_at}
-use Rattle.crew_session.specs.Fields.{read_on}
+use Rattle.crew_records.specs.Fields.{read_on}
 
 own : IsNumeralModel (λ ds. list_all is_ascii_digit ds ≡ true) (read_on 0)
 own = numerals_by_fold _ (search rules) read_on (search rules)

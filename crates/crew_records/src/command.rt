@@ -2,8 +2,8 @@
 
 ghost use Rattle.std.specs.Prelude.{◌≡◌, IfOk};
 ghost use Rattle.csv.specs.Records.{fields_of};
-ghost use Rattle.crew_session.specs.Commands.{IsDated, command_of};
-ghost use Rattle.crew_session.specs.Commands as Spec;
+ghost use Rattle.crew_records.specs.Commands.{IsDated, command_of};
+ghost use Rattle.crew_records.specs.Commands as Spec;
 
 use crate::fault::RecordFault;
 use crate::fields::{

@@ -3,12 +3,11 @@ use Rattle.std.specs.Prelude.{ℕ, List, Result, Ok, Err, codes, if◌then◌els
 use Rattle.std.specs.Str.{bytes_eq}
 use Rattle.crew_time.specs.Instant.{IsInYears}
 use Rattle.crew_flights.specs.declared.edit.Edit.TheVariants as edit
-use Rattle.crew_session.specs.Rows.{Fields}
-use Rattle.crew_session.specs.Fields.{◌>>=◌, count_field, field_of, code_field, id_field, limit_field, price_field, time_field, zone_field}
-use Rattle.crew_session.specs.declared.fault.RecordFault.{RecordFault}
-use Rattle.crew_session.specs.declared.fault.RecordFault.TheVariants.{UnknownRecord}
-use Rattle.crew_session.specs.declared.command.Command.{Command}
-use Rattle.crew_session.specs.declared.command.Command.TheVariants.{AddZone, Submit, AddFlight, Retime, Settle, Best, Audit, Refuse}
+use Rattle.crew_records.specs.Fields.{Fields, ◌>>=◌, count_field, field_of, code_field, id_field, limit_field, price_field, time_field, zone_field}
+use Rattle.crew_records.specs.declared.fault.RecordFault.{RecordFault}
+use Rattle.crew_records.specs.declared.fault.RecordFault.TheVariants.{UnknownRecord}
+use Rattle.crew_records.specs.declared.command.Command.{Command}
+use Rattle.crew_records.specs.declared.command.Command.TheVariants.{AddZone, Submit, AddFlight, Retime, Settle, Best, Audit, Refuse}
 
 -- ---- each kind of record: its number of fields, then its fields from left to right
 

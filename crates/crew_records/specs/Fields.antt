@@ -9,9 +9,12 @@ use Rattle.jiff_tz.specs.PosixText.{TzText}
 use Rattle.crew_time.specs.Civil.{text_minute}
 use Rattle.crew_time.specs.Zone.{text_zone}
 use Rattle.crew_flights.specs.Codes.{is_code}
-use Rattle.crew_session.specs.Rows.{Fields}
-use Rattle.crew_session.specs.declared.fault.RecordFault.{RecordFault}
-use Rattle.crew_session.specs.declared.fault.RecordFault.TheVariants.{Text, BadField, FieldCount}
+use Rattle.crew_records.specs.declared.fault.RecordFault.{RecordFault}
+use Rattle.crew_records.specs.declared.fault.RecordFault.TheVariants.{Text, BadField, FieldCount}
+
+-- a record: its fields
+abbrev pub Fields : Type 0
+Fields = List (List ℕ)
 
 -- one step after another, up to the first that fails
 infixl 10 ◌>>=◌

@@ -1,0 +1,3 @@
+pub mod Commands
+pub mod Faults
+pub mod Fields

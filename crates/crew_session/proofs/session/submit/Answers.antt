@@ -1,0 +1,7 @@
+use Rattle.crew_session.proofs.SessionFacts.{refused-edit}
+use Rattle.crew_session.proofs.session.submit.Goals as goal
+
+pub returns-in-Err-clause-came : goal.returns-in-Err-clause-came
+returns-in-Err-clause-came g c =
+    let told = c.in-Err.ensures in
+    refused-edit c.refuse.result g.E.Engine.MAY_BE_STRANGE c.args.journal.now _ _ _ _ c.args.number c.args.edit _ _ c.in-Err.fault c.requires told.fault.1 told.version told.err c.refuse.ensures.written

@@ -1,0 +1,12 @@
+//! Tests of records, sessions and the engine without workers, over their public items. They stand
+//! in a crate of their own so that the libraries are proved once; it promises nothing to others.
+#![tactic(auto)]
+
+#[cfg(test)]
+mod engines;
+#[cfg(test)]
+mod sessions;
+#[cfg(test)]
+mod strange;
+#[cfg(test)]
+mod streams;
