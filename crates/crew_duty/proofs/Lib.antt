@@ -1,5 +1,9 @@
+pub mod Counts
+pub mod Filling
+pub mod InPlace
+pub mod Leads
 pub mod Parts
 pub mod Places
-pub mod InPlace
 pub mod Running
 pub mod Slots
+pub mod Steps

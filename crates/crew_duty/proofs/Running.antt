@@ -5,7 +5,7 @@ use Rattle.std.proofs.lemmas.Int.{ints}
 use Rattle.std.proofs.lemmas.List.Sums.{count_by-le-length, sum_by-cons}
 use Rattle.crew_flights.specs.Timetable.{IsFlight}
 use Rattle.crew_flights.specs.declared.flight.Flight.{Flight}
-use Rattle.crew_pairing.specs.Legality.{price_of, total}
+use Rattle.crew_pairing.specs.Legality.{price_of, segments, total}
 use Rattle.crew_resource.specs.Members.{Each, Member}
 use Rattle.crew_duty.specs.Machinery.Running.{AreTotals, StayBounded}
 use Rattle.crew_pairing.specs.declared.leg.TimedLeg.{TimedLeg}
@@ -55,3 +55,7 @@ bounded legs totals are few sound =
 pub sound-legs : (flights : List Flight) (legs : List TimedLeg) → Each (λ (f : Flight). IsFlight f.id f) flights → Each (λ (l : TimedLeg). Member flights l.flight) legs → AllSound legs
 sound-legs flights legs each known =
     Each-map (λ (l : TimedLeg). Member flights l.flight) (λ (l : TimedLeg). IsFlight l.flight.id l.flight) legs (λ l m. Each-member (λ (f : Flight). IsFlight f.id f) flights l.flight each m) known
+
+-- one leg more is no fewer flight segments
+pub segments-more : (legs : List TimedLeg) (l : TimedLeg) → segments legs ≤ segments (legs ++ l ∷ [])
+segments-more legs l = omega (arith, count_by-push (λ (x : TimedLeg). not x.deadhead) legs l)

@@ -1,5 +1,5 @@
 -- The slots between two moments are those of the flights that may follow, and in order of place they are theirs.
-use Rattle.std.proofs.Common.{◌≡◌, ◌≤◌, ◌<◌, ◌+◌, ◌*◌, ℕ, zero, suc, ℤ, pos, ◌≤ℤ◌, ◌+ℤ◌, ◌-ℤ◌, List, [], ◌∷◌, ◌++◌, Bool, true, false, ◌&&◌, length, refl, sym, ap, subst, ◌∙◌, arith, take, drop, get_or, filter, int_le}
+use Rattle.std.proofs.Common.{◌≡◌, ◌≤◌, ◌<◌, ◌+◌, ◌*◌, ℕ, zero, suc, ℤ, pos, ◌≤ℤ◌, ◌+ℤ◌, ◌-ℤ◌, List, [], ◌∷◌, ◌++◌, Bool, true, false, ◌&&◌, length, refl, sym, ap, subst, ◌∙◌, arith, take, drop, get_or, filter, int_le, if◌then◌else◌}
 use Rattle.std.specs.Prelude.{◌==◌, int_lt}
 use Rattle.std.specs.List.Sorted.{IsPartitionPoint, IsPartitionedBy}
 use Rattle.std.specs.List.{list_all}
@@ -21,7 +21,7 @@ use Rattle.crew_flights.specs.declared.flight.Flight.{Flight}
 use Rattle.crew_rules.specs.Settings.{IsChecked}
 use Rattle.crew_rules.specs.declared.settings.Settings.{Settings}
 use Rattle.crew_pairing.specs.Legality.{may_follow}
-use Rattle.crew_duty.specs.Machinery.Slots.{Ascend, IsNamed, is_between, code_number, moment, slot_of, slots_from}
+use Rattle.crew_duty.specs.Machinery.Slots.{Ascend, IsNamed, earlier, follows_by, is_between, code_number, moment, slot_of, slots_from}
 use Rattle.crew_duty.specs.declared.departures.Slot.{Slot}
 
 -- what passes a test, where that is what stands from one place up to another
@@ -112,36 +112,84 @@ both-ways true false f g = sym (f refl)
 both-ways false true f g = g refl
 both-ways false false f g = refl
 
-pub between-follows : (s : Settings) (before f : Flight) (place : ℕ) → IsChecked s → IsNamed f → is_code before.to ≡ true → IsInstant before.arr
-    → is_between (moment before.to (before.arr +ℤ pos s.connect)) (moment before.to (before.arr +ℤ pos s.sit)) (slot_of place f) ≡ may_follow s before f
-between-follows s before f place checked named code time =
-    both-ways (is_between (moment before.to (before.arr +ℤ pos s.connect)) (moment before.to (before.arr +ℤ pos s.sit)) (slot_of place f)) (may_follow s before f) forth back
+int-le-of : (a b : ℤ) → int_le a b ≡ true → a ≤ℤ b
+int-le-of a b h = grind (arith, ints, h)
+
+of-int-le : (a b : ℤ) → a ≤ℤ b → int_le a b ≡ true
+of-int-le a b h = grind (arith, ints, h)
+
+int-lt-cases : (a b : ℤ) (r : Bool) → int_lt a b ≡ r → ((if r then a else b) ≤ℤ a) × ((if r then a else b) ≤ℤ b)
+int-lt-cases a b true e = (omega (arith, ints), grind (arith, ints, e))
+int-lt-cases a b false e = (grind (arith, ints, e), omega (arith, ints))
+
+-- the earlier of two is no later than either, and is one of them
+pub earlier-most : (a b : ℤ) → (earlier a b ≤ℤ a) × (earlier a b ≤ℤ b)
+earlier-most a b = int-lt-cases a b (int_lt a b) refl
+
+earlier-by : (a b c : ℤ) (r : Bool) → c ≤ℤ a → c ≤ℤ b → c ≤ℤ (if r then a else b)
+earlier-by a b c true h k = h
+earlier-by a b c false h k = k
+
+pub earlier-least : (a b c : ℤ) → c ≤ℤ a → c ≤ℤ b → c ≤ℤ earlier a b
+earlier-least a b c h k = earlier-by a b c (int_lt a b) h k
+
+pub between-follows : (s : Settings) (before f : Flight) (place : ℕ) (latest : ℤ) → IsChecked s → IsNamed f → is_code before.to ≡ true → IsInstant before.arr → latest ≤ℤ pos 100_000_000
+    → is_between (moment before.to (before.arr +ℤ pos s.connect)) (moment before.to (earlier (before.arr +ℤ pos s.sit) latest)) (slot_of place f) ≡ follows_by s latest before f
+between-follows s before f place latest checked named code time far =
+    both-ways (is_between low high (slot_of place f)) (follows_by s latest before f) forth back
   where
-    forth : is_between (moment before.to (before.arr +ℤ pos s.connect)) (moment before.to (before.arr +ℤ pos s.sit)) (slot_of place f) ≡ true → may_follow s before f ≡ true
+    low : ℤ
+    low = moment before.to (before.arr +ℤ pos s.connect)
+
+    last : ℤ
+    last = earlier (before.arr +ℤ pos s.sit) latest
+
+    high : ℤ
+    high = moment before.to last
+
+    forth : is_between low high (slot_of place f) ≡ true → follows_by s latest before f ≡ true
     forth h =
-        let low = moment before.to (before.arr +ℤ pos s.connect) in
-        let high = moment before.to (before.arr +ℤ pos s.sit) in
         let p = and_parts (int_le low (moment f.from f.dep)) (int_le (moment f.from f.dep) high) h in
-        let a : low ≤ℤ moment f.from f.dep = grind (arith, ints, p.0) in
-        let b : moment f.from f.dep ≤ℤ high = grind (arith, ints, p.1) in
-        let lo = time.from in let hi = time.to in
-        let c = checked.sit_most in
-        let q = moments-in (code_number before.to) (code_number f.from) f.dep (before.arr +ℤ pos s.connect) (before.arr +ℤ pos s.sit) named.time (omega (arith, ints, lo)) (omega (arith, ints, hi, c)) a b in
+        let a : low ≤ℤ moment f.from f.dep = int-le-of low (moment f.from f.dep) p.0 in
+        let b : moment f.from f.dep ≤ℤ high = int-le-of (moment f.from f.dep) high p.1 in
+        let lo = time.from in
+        let most = earlier-most (before.arr +ℤ pos s.sit) latest in
+        let q = moments-in (code_number before.to) (code_number f.from) f.dep (before.arr +ℤ pos s.connect) last named.time (omega (arith, ints, lo)) (omega (arith, ints, most.1, far)) a b in
         let same : before.to ≡ f.from = sym (code-same f.from before.to named.code code q.0) in
         let equal : eq_by_cmp code_cmp before.to f.from ≡ true = subst (λ (x : List ℕ). eq_by_cmp code_cmp before.to x ≡ true) same ((eq_by_cmp_equiv code_cmp_total).refl before.to) in
-        let least : int_le (pos s.connect) (f.dep -ℤ before.arr) ≡ true = grind (arith, ints, q.1) in
-        let most : int_le (f.dep -ℤ before.arr) (pos s.sit) ≡ true = grind (arith, ints, q.2) in
-        and_from _ _ equal (and_from _ _ least most)
+        let least : int_le (pos s.connect) (f.dep -ℤ before.arr) ≡ true = of-int-le (pos s.connect) (f.dep -ℤ before.arr) (omega (arith, ints, q.1)) in
+        let sat : f.dep ≤ℤ (before.arr +ℤ pos s.sit) = omega (arith, ints, q.2, most.0) in
+        let most-gap : int_le (f.dep -ℤ before.arr) (pos s.sit) ≡ true = of-int-le (f.dep -ℤ before.arr) (pos s.sit) (omega (arith, ints, sat)) in
+        let by : f.dep ≤ℤ latest = omega (arith, ints, q.2, most.1) in
+        let by-latest : int_le f.dep latest ≡ true = of-int-le f.dep latest by in
+        and_from _ _ (and_from _ _ equal (and_from _ _ least most-gap)) by-latest
 
-    back : may_follow s before f ≡ true → is_between (moment before.to (before.arr +ℤ pos s.connect)) (moment before.to (before.arr +ℤ pos s.sit)) (slot_of place f) ≡ true
+    back : follows_by s latest before f ≡ true → is_between low high (slot_of place f) ≡ true
     back h =
         let gap = f.dep -ℤ before.arr in
-        let p = and_parts (eq_by_cmp code_cmp before.to f.from) (int_le (pos s.connect) gap && int_le gap (pos s.sit)) h in
+        let r = and_parts (may_follow s before f) (int_le f.dep latest) h in
+        let p = and_parts (eq_by_cmp code_cmp before.to f.from) (int_le (pos s.connect) gap && int_le gap (pos s.sit)) r.0 in
         let q = and_parts (int_le (pos s.connect) gap) (int_le gap (pos s.sit)) p.1 in
         let same : before.to ≡ f.from = code-equal before.to f.from p.0 in
-        let least : int_le (moment f.from (before.arr +ℤ pos s.connect)) (moment f.from f.dep) ≡ true = grind (arith, ints, q.0) in
-        let most : int_le (moment f.from f.dep) (moment f.from (before.arr +ℤ pos s.sit)) ≡ true = grind (arith, ints, q.1) in
-        subst (λ (x : List ℕ). is_between (moment x (before.arr +ℤ pos s.connect)) (moment x (before.arr +ℤ pos s.sit)) (slot_of place f) ≡ true) (sym same) (and_from _ _ least most)
+        let gap-least = int-le-of (pos s.connect) gap q.0 in
+        let gap-most = int-le-of gap (pos s.sit) q.1 in
+        let least : int_le (moment f.from (before.arr +ℤ pos s.connect)) (moment f.from f.dep) ≡ true = of-int-le (moment f.from (before.arr +ℤ pos s.connect)) (moment f.from f.dep) (omega (arith, ints, gap-least)) in
+        let sat : f.dep ≤ℤ (before.arr +ℤ pos s.sit) = omega (arith, ints, gap-most) in
+        let by : f.dep ≤ℤ latest = int-le-of f.dep latest r.1 in
+        let end : f.dep ≤ℤ last = earlier-least (before.arr +ℤ pos s.sit) latest f.dep sat by in
+        let most : int_le (moment f.from f.dep) (moment f.from last) ≡ true = of-int-le (moment f.from f.dep) (moment f.from last) (omega (arith, ints, end)) in
+        subst (λ (x : List ℕ). is_between (moment x (before.arr +ℤ pos s.connect)) (moment x last) (slot_of place f) ≡ true) (sym same) (and_from _ _ least most)
+
+-- no flight departs so late
+pub follows-ever : (s : Settings) (before f : Flight) → IsNamed f → follows_by s (pos 100_000_000) before f ≡ may_follow s before f
+follows-ever s before f named =
+    let end = named.time.to in
+    let never : int_le f.dep (pos 100_000_000) ≡ true = grind (arith, ints, end) in
+    by (may_follow s before f) (int_le f.dep (pos 100_000_000)) never
+  where
+    by : (a b : Bool) → b ≡ true → (a && b) ≡ a
+    by true b e = e
+    by false b e = refl
 
 -- one slot more
 pub slots-more : (i : ℕ) (fs : List Flight) (k : ℕ) (d : Flight) → k < length fs → slots_from i (take (k + 1) fs) ≡ slots_from i (take k fs) ++ slot_of (i + k) (get_or fs k d) ∷ []
@@ -167,10 +215,15 @@ later-at x y h = by (int_cmp y.at x.at) (nat_cmp y.place x.place) refl h
     by Equal s e h = let r = int_ranked y.at x.at Equal (sym e) in omega (arith, ints, r)
     by Greater s e h = let r = int_ranked y.at x.at Greater (sym e) in omega (arith, ints, r)
 
-pub each-follows : (s : Settings) (before : Flight) (fs : List Flight) (place : ℕ) → IsChecked s → Each IsNamed fs → is_code before.to ≡ true → IsInstant before.arr
-    → Each (λ f. is_between (moment before.to (before.arr +ℤ pos s.connect)) (moment before.to (before.arr +ℤ pos s.sit)) (slot_of place f) ≡ may_follow s before f) fs
-each-follows s before [] place c n code time = tt
-each-follows s before (f ∷ fs) place c n code time = (between-follows s before f place c n.0 code time, each-follows s before fs place c n.1 code time)
+pub each-follows : (s : Settings) (before : Flight) (fs : List Flight) (place : ℕ) (latest : ℤ) → IsChecked s → Each IsNamed fs → is_code before.to ≡ true → IsInstant before.arr → latest ≤ℤ pos 100_000_000
+    → Each (λ f. is_between (moment before.to (before.arr +ℤ pos s.connect)) (moment before.to (earlier (before.arr +ℤ pos s.sit) latest)) (slot_of place f) ≡ follows_by s latest before f) fs
+each-follows s before [] place latest c n code time far = tt
+each-follows s before (f ∷ fs) place latest c n code time far = (between-follows s before f place latest c n.0 code time far, each-follows s before fs place latest c n.1 code time far)
+
+-- with no end in time, they are all that may follow
+pub each-ever : (s : Settings) (before : Flight) (fs : List Flight) → Each IsNamed fs → filter (follows_by s (pos 100_000_000) before) fs ≡ filter (may_follow s before) fs
+each-ever s before [] n = refl
+each-ever s before (f ∷ fs) n = rw (follows-ever s before f n.0, each-ever s before fs n.1) refl
 
 pub early-parted : (slots : List Slot) (m : ℤ) → Ascend slots → IsPartitionedBy (λ s. int_lt s.at m) slots
 early-parted slots m up i j d a b h = let k = up i j d a b in grind (arith, ints)

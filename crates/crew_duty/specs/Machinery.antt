@@ -1,4 +1,7 @@
 -- What the search works with.
+pub mod Counts
+pub mod Filling
+pub mod Followers
 pub mod Limits
 pub mod Plans
 pub mod Running

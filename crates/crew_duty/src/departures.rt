@@ -1,29 +1,29 @@
 //! Departures by airport and time: which flights may follow one, by binary search.
 
-ghost use Rattle.std.specs.Prelude.{◌≡◌, ◌≤◌, ◌<◌, ◌≤ℤ◌, pos, true, IfOk, filter, length, map};
+ghost use Rattle.std.specs.Prelude.{◌≡◌, ◌≤◌, ◌<◌, ◌≤ℤ◌, ◌+ℤ◌, pos, true, IfOk, List, IsPermutation, IsSorted, filter, length, map};
+ghost use Rattle.std.specs.Ordering.{nat_cmp};
 ghost use Rattle.crew_flights.specs.Codes.{is_code};
+ghost use Rattle.crew_flights.specs.declared.flight.Flight.{Flight};
 ghost use Rattle.crew_rules.specs.Settings.{IsChecked};
-ghost use Rattle.crew_pairing.specs.Legality.{may_follow};
-ghost use Rattle.crew_duty.specs.Machinery.Plans.{StandAt};
+ghost use Rattle.crew_duty.specs.Machinery.Plans.{Knows, StandAt};
 ghost use Rattle.crew_duty.specs.Machinery.Slots as Spec;
-ghost use Rattle.crew_duty.specs.Machinery.Slots.{Ascend, IsIndex, IsNamed, is_between};
+ghost use Rattle.crew_duty.specs.Machinery.Slots.{Ascend, IsIndex, IsNamed, earlier, follows_by, is_between};
 
 use crew_flights::{Code, Flight};
 use crew_rules::Settings;
 use std::alloc::{AllocError, Global};
+
+/// The most followers of a flight that are put in order once for all.
+const FEW: usize = 32;
+
+/// Later than any departure.
+const NEVER: i64 = 100_000_000;
 
 /// A departure: where and when as one number, and the place of its flight among all.
 #[derive(Clone, Copy, Debug, PartialEq, Eq, PartialOrd, Ord)]
 pub(crate) struct Slot {
     pub(crate) at: i64,
     pub(crate) place: u32,
-}
-
-/// The departures of some flights, by airport and time.
-#[derive(Drop)]
-pub(crate) struct Departures<'a> {
-    pub(crate) flights: &'a [Flight],
-    pub(crate) slots: Vec<Slot>,
 }
 
 // The letters of an airport as one number.
@@ -74,38 +74,89 @@ fn places_of_slots(alloc: Global, slots: &[Slot]) -> Result<Vec<u32>, AllocError
     slots.iter().map(|slot| slot.place).collect(alloc)
 }
 
-impl<'a> Departures<'a> {
-    /// An index of these flights.
-    pub(crate) fn new(alloc: Global, flights: &'a [Flight]) -> Result<Self, AllocError>
-        requires { length flights.now ≤ 5_000 }
-        ensures same { IfOk result (λ departures. departures.flights.now ≡ flights.now) }
-        ensures index { IfOk result (λ departures. IsIndex flights.now departures.slots.items) }
-    {
-        let mut slots = Vec::with_capacity(alloc, flights.len())?;
-        for (place, flight) in flights.iter().enumerate() {
-            slots.push(slot_of(place as u32, flight))?;
-        }
-        slots.sort_unstable();
-        Ok(Departures { flights, slots })
+/// The departures of these flights, by airport and time.
+pub(crate) fn index_of(alloc: Global, flights: &[Flight]) -> Result<Vec<Slot>, AllocError>
+    requires { length flights.now ≤ 5_000 }
+    ensures { IfOk result (λ slots. IsIndex flights.now slots.items) }
+{
+    let mut slots = Vec::with_capacity(alloc, flights.len())?;
+    for (place, flight) in flights.iter().enumerate() {
+        slots.push(slot_of(place as u32, flight))?;
     }
+    slots.sort_unstable();
+    Ok(slots)
+}
 
-    /// The places of the flights that may follow this one.
-    pub(crate) fn after(
-        &self,
-        alloc: Global,
-        settings: &Settings,
-        before: &Flight,
-    ) -> Result<Vec<u32>, AllocError>
-        requires checked { IsChecked settings.now }
-        requires index { IsIndex self.now.flights.now self.now.slots.items }
-        ensures { IfOk result (λ places. StandAt self.now.flights.now places.items (filter (may_follow settings.now before.now) self.now.flights.now)) }
-    {
-        let arrival = before.arr.get();
-        let earliest = moment(before.to, arrival + i64::from(settings.connect));
-        let latest = moment(before.to, arrival + i64::from(settings.sit));
-        let window = slots_between(&self.slots, earliest, latest);
-        let mut places = places_of_slots(alloc, window)?;
-        places.sort_unstable();
-        Ok(places)
+// The earlier of two minutes.
+fn earlier_of(first: i64, second: i64) -> i64
+    ensures { result ≡ earlier first second }
+{
+    if first < second { first } else { second }
+}
+
+// The slots of the flights that may follow this one and depart by a minute, by time.
+fn slots_after<'a>(
+    slots: &'a [Slot],
+    settings: &Settings,
+    before: &Flight,
+    latest: i64,
+) -> &'a [Slot]
+    requires checked { IsChecked settings.now }
+    requires index { Ascend slots.now }
+    requires least { pos 0 ≤ℤ latest }
+    requires most { latest ≤ℤ pos 100_000_000 }
+    ensures slots { result.now ≡ filter (is_between (Spec.moment before.now.to (before.now.arr +ℤ pos settings.now.connect)) (Spec.moment before.now.to (earlier (before.now.arr +ℤ pos settings.now.sit) latest))) slots.now }
+    ensures code { is_code before.now.to ≡ true }
+    ensures time { Spec.IsTime before.now.arr }
+{
+    let arrival = before.arr.get();
+    let earliest = moment(before.to, arrival + i64::from(settings.connect));
+    let last = earlier_of(arrival + i64::from(settings.sit), latest);
+    slots_between(slots, earliest, moment(before.to, last))
+}
+
+// The places of these slots' flights, in order.
+fn places_in_order(alloc: Global, slots: &[Slot]) -> Result<Vec<u32>, AllocError>
+    ensures same { IfOk result (λ places. IsPermutation (map (λ s. s.place) slots.now) places.items) }
+    ensures sorted { IfOk result (λ places. IsSorted nat_cmp places.items) }
+{
+    let mut places = places_of_slots(alloc, slots)?;
+    places.sort_unstable();
+    Ok(places)
+}
+
+/// The places of the flights that may follow this one, and `None` where they are many.
+pub(crate) fn few_after(
+    alloc: Global,
+    slots: &[Slot],
+    settings: &Settings,
+    before: &Flight,
+) -> Result<Option<Vec<u32>>, AllocError>
+    requires checked { IsChecked settings.now }
+    requires index { Ascend slots.now }
+    ensures { IfOk result (λ known. (flights : List Flight) → IsIndex flights slots.now → Knows settings.now flights before.now known) }
+{
+    let after = slots_after(slots, settings, before, NEVER);
+    if after.len() > FEW {
+        return Ok(None);
     }
+    Ok(Some(places_in_order(alloc, after)?))
+}
+
+/// The places of the flights that may follow this one and depart by a minute.
+pub(crate) fn places_by(
+    alloc: Global,
+    slots: &[Slot],
+    settings: &Settings,
+    before: &Flight,
+    latest: i64,
+) -> Result<Vec<u32>, AllocError>
+    requires checked { IsChecked settings.now }
+    requires index { Ascend slots.now }
+    requires least { pos 0 ≤ℤ latest }
+    requires most { latest ≤ℤ pos 100_000_000 }
+    ensures { IfOk result (λ places. (flights : List Flight) → IsIndex flights slots.now
+        → StandAt flights places.items (filter (follows_by settings.now latest before.now) flights)) }
+{
+    places_in_order(alloc, slots_after(slots, settings, before, latest))
 }

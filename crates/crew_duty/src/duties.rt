@@ -1,37 +1,21 @@
 //! All legal duties of a timetable.
 
-ghost use Rattle.std.specs.Prelude.{◌≡◌, ◌++◌, ◌≤◌, ◌<◌, ◌↔◌, [], List, Some, IsTrue, IfOk, length, min, slice_get, sum};
-ghost use Rattle.std.specs.List.{flat_map};
-ghost use Rattle.crew_flights.specs.declared.flight.Flight.{Flight};
+ghost use Rattle.std.specs.Prelude.{◌≡◌, ◌≤◌, ◌↔◌, [], List, IsTrue, IfOk, length};
 ghost use Rattle.crew_flights.specs.Timetable.{IsSound};
 ghost use Rattle.crew_rules.specs.Settings.{IsChecked};
 ghost use Rattle.crew_pairing.specs.Duties.{AreDuties, HasTooMany, flights_of};
-ghost use Rattle.crew_pairing.specs.Machinery.Listing.{IsOkAnd, all_duties, from_flight, from_place};
-ghost use Rattle.crew_duty.specs.Machinery.Plans.{IsPlan, rows};
 ghost use Rattle.crew_pairing.specs.declared.duty.Duty.{Duty};
 
-use crate::search::{DUTIES, DutyFault, Plan, count_from, list_from, next_places};
+use crate::departures::index_of;
+use crate::pieces::{count_all, list_all, total_of};
+use crate::plan::{Plan, next_places};
+use crate::search::{DUTIES, DutyFault};
 use crew_flights::{Flight, Timetable};
 use crew_pairing::Duty;
 use crew_rules::Settings;
-use rayon::current_num_threads;
-use rayon::prelude::*;
 use std::alloc::{AllocError, Global};
 use std::marker::Model;
 use std::thread::Threads;
-
-// The fewest first flights that a thread of their own is started for.
-const PIECE: usize = 256;
-
-// The fewest first flights of a piece. Where one thread does all the work there is one piece, since
-// pieces are copied together.
-fn piece_len<R: Threads>(rt: &R, flights: usize) -> usize {
-    if current_num_threads(rt) == 1 {
-        flights
-    } else {
-        PIECE
-    }
-}
 
 /// The legal duties of a timetable, by key.
 ///
@@ -78,79 +62,6 @@ fn held_flights(alloc: Global, timetable: &Timetable) -> Result<Vec<Flight>, All
     timetable.flights().copied().collect(alloc)
 }
 
-// The lists one after another: the first takes in the others.
-fn join_parts(alloc: Global, parts: Vec<Vec<Duty>>) -> Result<Vec<Duty>, AllocError>
-    ensures { IfOk result (λ found. found.items ≡ flat_map (λ part. part.items) parts.items) }
-{
-    let mut parts = parts.into_iter();
-    let Some(mut found) = parts.next() else {
-        return Ok(Vec::new(alloc));
-    };
-    for mut part in parts {
-        found.append(&mut part)?;
-    }
-    Ok(found)
-}
-
-// Whether these numbers come to more than may be listed.
-fn come_to_more(counts: &[usize]) -> bool
-    ensures { IsTrue result ↔ (200_000 < sum counts.now) }
-{
-    let mut total: usize = 0;
-    for count in counts {
-        total = total.saturating_add(*count);
-    }
-    total > DUTIES
-}
-
-// Whether there are more duties than may be listed.
-fn are_too_many<R: Threads + Sync>(
-    rt: &R,
-    alloc: Global,
-    plan: &Plan<'_>,
-) -> Result<bool, AllocError>
-    requires { IsPlan plan.now.settings.now plan.now.flights.now (rows plan.now.next.now) }
-    ensures { IfOk result (λ many. IsTrue many ↔ (200_000 < length (all_duties plan.now.settings.now plan.now.flights.now))) }
-{
-    let counts = (0..plan.flights.len())
-        .into_par_iter()
-        .with_min_len(piece_len(rt, plan.flights.len()))
-        .map(
-            |place: usize| -> Result<usize, AllocError>
-                requires { IsPlan plan.now.settings.now plan.now.flights.now (rows plan.now.next.now) × (place < length plan.now.flights.now) }
-                ensures { IfOk result (λ n. (flight : Flight) → slice_get plan.entry.now.flights.now place ≡ Some flight
-                    → n ≡ min (length (from_flight plan.entry.now.settings.now plan.entry.now.flights.now flight)) 200_001) }
-            { count_from(alloc, plan, place) },
-        )
-        .collect::<Result<Vec<usize>, AllocError>>(rt, alloc)??;
-    Ok(come_to_more(&counts))
-}
-
-// All duties, those of each first flight after those of the flights before it.
-fn list_all<R: Threads + Sync>(
-    rt: &R,
-    alloc: Global,
-    plan: &Plan<'_>,
-) -> Result<Vec<Duty>, AllocError>
-    requires { IsPlan plan.now.settings.now plan.now.flights.now (rows plan.now.next.now) }
-    ensures { IfOk result (λ found. found.items ≡ all_duties plan.now.settings.now plan.now.flights.now) }
-{
-    let parts = (0..plan.flights.len())
-        .into_par_iter()
-        .with_min_len(piece_len(rt, plan.flights.len()))
-        .fold(
-            || -> Result<Vec<Duty>, AllocError>
-                ensures { IfOk result (λ found. found.items ≡ []) }
-            { Ok(Vec::new(alloc)) },
-            |found: Result<Vec<Duty>, AllocError>, place: usize| -> Result<Vec<Duty>, AllocError>
-                requires { IsPlan plan.now.settings.now plan.now.flights.now (rows plan.now.next.now) × (place < length plan.now.flights.now) }
-                ensures { IfOk result (λ longer. IsOkAnd found (λ before. longer.items ≡ before.items ++ from_place plan.entry.now.settings.now plan.entry.now.flights.now place)) }
-            { list_from(alloc, found, plan, place) },
-        )
-        .collect::<Result<Vec<Vec<Duty>>, AllocError>>(rt, alloc)??;
-    join_parts(alloc, parts)
-}
-
 /// The legal duties of a timetable: exactly those, by key. `TooManyDuties` where there are more
 /// than 200,000, and `Memory` only where a growth was refused.
 ///
@@ -168,15 +79,19 @@ pub fn list_duties<R: Threads + Sync>(
     ensures too_many { result ≡ Err DutyFault.TooManyDuties → HasTooMany settings.now timetable.now }
 {
     let flights = held_flights(alloc, timetable)?;
-    let next = next_places(alloc, settings, &flights)?;
+    let slots = index_of(alloc, &flights)?;
+    let next = next_places(alloc, settings, &flights, &slots)?;
     let plan = Plan {
         settings,
         flights: &flights,
+        slots: &slots,
         next: &next,
     };
-    if are_too_many(rt, alloc, &plan)? {
+    let counts = count_all(rt, alloc, &plan)?;
+    let total = total_of(&counts);
+    if total > DUTIES {
         return Err(DutyFault::TooManyDuties);
     }
-    let list = list_all(rt, alloc, &plan)?;
+    let list = list_all(rt, alloc, &plan, &counts, total)?;
     Ok(Duties { list })
 }

@@ -1,12 +1,14 @@
-//! Legal duties: what a crew may fly between two rests, under 14 CFR part 117 for unaugmented
-//! operations. The crate has legs, keys, walks and duties with their orders, and promises that the
-//! duties that it lists are exactly the legal ones of a timetable, by key.
+//! The search for legal duties: all that a timetable's flights make. The crate promises that the
+//! duties that it lists are exactly the legal ones, by key, that it refuses exactly where there are
+//! more than 200,000, and that as many threads as there are change nothing of what it answers.
 #![tactic(auto)]
 
 mod departures;
 mod duties;
 pub mod laws;
 mod limits;
+mod pieces;
+mod plan;
 mod search;
 mod totals;
 

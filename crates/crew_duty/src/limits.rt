@@ -1,10 +1,10 @@
 //! What no beginning of a duty may pass.
 
-ghost use Rattle.std.specs.Prelude.{◌≡◌, ◌∷◌, List};
+ghost use Rattle.std.specs.Prelude.{◌≡◌, ◌≤ℤ◌, ◌∷◌, List, pos};
 ghost use Rattle.crew_rules.specs.Settings.{IsChecked};
 ghost use Rattle.crew_rules.specs.declared.settings.Settings.{Settings};
 ghost use Rattle.crew_pairing.specs.Legality.{last_of};
-ghost use Rattle.crew_duty.specs.Machinery.Limits.{AreLimits};
+ghost use Rattle.crew_duty.specs.Machinery.Limits.{AreLimits, latest_departure};
 ghost use Rattle.crew_pairing.specs.Machinery.Listing.{is_hopeless};
 ghost use Rattle.crew_duty.specs.Machinery.Running.{AreTotals};
 
@@ -51,5 +51,16 @@ impl Limits {
         }
         let most = self.periods[totals.segments.clamp(1, 7) - 1];
         totals.fly > i64::from(self.fly) || last.flight.arr.get() - self.report > i64::from(most)
+    }
+
+    /// The latest departure of a leg that goes on from these.
+    pub(crate) fn latest(&self, totals: Totals) -> i64
+        requires { (s : Settings) × (first : TimedLeg) × AreLimits s first self.now }
+        ensures value { (s : Settings) (first : TimedLeg) (legs : List TimedLeg) → AreLimits s first self.now → AreTotals legs totals → result ≡ latest_departure s first legs }
+        ensures least { pos 0 ≤ℤ result }
+        ensures most { result ≤ℤ pos 100_000_000 }
+    {
+        let most = self.periods[totals.segments.clamp(1, 7) - 1];
+        self.report + i64::from(most)
     }
 }

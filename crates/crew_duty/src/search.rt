@@ -1,20 +1,20 @@
 //! The search for legal duties: a tree for each first leg, with the next legs in order.
 
-ghost use Rattle.std.specs.Prelude.{◌≡◌, false, ◌+◌, ◌-◌, ◌<◌, ◌≤◌, min, ◌++◌, ◌∷◌, [], Some, OnOk, IfOk, length, slice_get, filter};
+ghost use Rattle.std.specs.Prelude.{◌≡◌, ◌-◌, ◌<◌, ◌≤◌, ◌++◌, ◌∷◌, [], Some, OnOk, IfOk, false, true, length, slice_get};
 ghost use Rattle.crew_flights.specs.declared.flight.Flight.{Flight};
 ghost use Rattle.crew_flights.specs.Timetable.{IsFlight};
 ghost use Rattle.crew_rules.specs.Settings.{IsChecked};
-ghost use Rattle.crew_rules.specs.declared.settings.Settings.{Settings};
+ghost use Rattle.crew_duty.specs.Machinery.Filling.{Goes};
 ghost use Rattle.crew_pairing.specs.Legality.{AllConnect, duty_of, last_of, may_follow};
 ghost use Rattle.crew_duty.specs.Machinery.Limits.{AreLimits};
-ghost use Rattle.crew_pairing.specs.Machinery.Listing.{IsOkAnd, from_flight, from_place, is_hopeless, listing, own, timed};
+ghost use Rattle.crew_pairing.specs.Machinery.Listing.{from_place, is_hopeless, listing, own, timed};
 ghost use Rattle.crew_resource.specs.Members.{Each};
 ghost use Rattle.crew_duty.specs.Machinery.Running.{AreTotals};
-ghost use Rattle.crew_duty.specs.Machinery.Plans.{AreNext, IsPlan, StandAt, rows};
 ghost use Rattle.crew_pairing.specs.Machinery.Beginnings.{IsBeginning};
+ghost use Rattle.crew_duty.specs.Machinery.Plans.{IsPlan};
 
-use crate::departures::Departures;
 use crate::limits::Limits;
+use crate::plan::{Plan, follow_on};
 use crate::totals::Totals;
 use crew_flights::Flight;
 use crew_pairing::facts::{flight_duty_period, last_leg, release, report};
@@ -48,33 +48,6 @@ impl From<AllocError> for DutyFault {
     }
 }
 
-// What the search works with: the flights by number, and for each the places of those that may
-// follow it.
-#[derive(Drop)]
-pub(crate) struct Plan<'a> {
-    pub(crate) settings: &'a Settings,
-    pub(crate) flights: &'a [Flight],
-    pub(crate) next: &'a [Vec<u32>],
-}
-
-// The places of the flights that may follow each flight.
-pub(crate) fn next_places(
-    alloc: Global,
-    settings: &Settings,
-    flights: &[Flight],
-) -> Result<Vec<Vec<u32>>, AllocError>
-    requires checked { IsChecked settings.now }
-    requires few { length flights.now ≤ 5_000 }
-    ensures { IfOk result (λ next. AreNext settings.now flights.now flights.now (rows next.items)) }
-{
-    let departures = Departures::new(alloc, flights)?;
-    let mut next = Vec::with_capacity(alloc, flights.len())?;
-    for flight in flights {
-        next.push(departures.after(alloc, settings, flight)?)?;
-    }
-    Ok(next)
-}
-
 // The duty of these legs.
 fn duty_from(settings: &Settings, first: &TimedLeg, others: &[TimedLeg], totals: Totals) -> Duty
     requires checked { IsChecked settings.now }
@@ -103,39 +76,36 @@ fn duty_from(settings: &Settings, first: &TimedLeg, others: &[TimedLeg], totals:
     }
 }
 
-// Lists the duty of these legs themselves, which a deadhead doesn't end.
-fn list_own(
-    found: &mut Vec<Duty>,
+// Puts the duty of these legs themselves in its place, where there is one, and counts it. A deadhead
+// ends no duty.
+#[inline(always)]
+fn put_own(
+    found: &mut [Duty],
     settings: &Settings,
     first: &TimedLeg,
     others: &[TimedLeg],
     totals: Totals,
-) -> Result<(), AllocError>
+    so_far: usize,
+) -> usize
     requires checked { IsChecked settings.now }
     requires few { length others.now ≤ 7 }
     requires totals { AreTotals (first.now ∷ others.now) totals }
     requires sound { Each (λ l. IsFlight l.flight.id l.flight) (first.now ∷ others.now) }
     requires connected { AllConnect settings.now first.now others.now }
-    ensures { OnOk result (found.new.items ≡ found.old.items ++ own settings.now first.now others.now) }
-{
-    if !last_leg(first, others).deadhead {
-        found.push(duty_from(settings, first, others, totals))?;
-    }
-    Ok(())
-}
-
-// How many duties have just these legs: none where the last is deadheaded.
-fn count_own(first: &TimedLeg, others: &[TimedLeg]) -> usize
-    ensures { (s : Settings) → result ≡ length (own s first.now others.now) }
+    requires so_far { so_far ≤ 200_000 }
+    ensures { Goes so_far (own settings.now first.now others.now) found.old result found.new }
 {
     if last_leg(first, others).deadhead {
-        0
-    } else {
-        1
+        return so_far;
     }
+    if so_far < found.len() {
+        found[so_far] = duty_from(settings, first, others, totals);
+    }
+    so_far + 1
 }
 
 // A flight as a leg.
+#[inline(always)]
 fn timed_leg(flight: &Flight, deadhead: bool) -> TimedLeg
     ensures { result ≡ timed deadhead flight.now }
 {
@@ -145,66 +115,13 @@ fn timed_leg(flight: &Flight, deadhead: bool) -> TimedLeg
     }
 }
 
-// The places of the flights that may follow the one at a place.
-fn places_of<'a>(plan: &Plan<'a>, place: usize) -> &'a [u32]
-    requires plan { IsPlan plan.now.settings.now plan.now.flights.now (rows plan.now.next.now) }
-    requires place { place < length plan.now.flights.now }
-    ensures { (flight : Flight) → slice_get plan.now.flights.now place ≡ Some flight
-        → StandAt plan.now.flights.now result.now (filter (may_follow plan.now.settings.now flight) plan.now.flights.now) }
-{
-    &plan.next[place]
-}
-
-// Lists the duties that begin with these legs, which may begin one; the last is of the flight that
-// stands at `last`.
-fn list(
-    found: &mut Vec<Duty>,
-    plan: &Plan<'_>,
-    first: &TimedLeg,
-    limits: &Limits,
-    others: &mut Vec<TimedLeg>,
-    last: usize,
-    totals: Totals,
-) -> Result<(), AllocError>
-    requires plan { IsPlan plan.now.settings.now plan.now.flights.now (rows plan.now.next.now) }
-    requires limits { AreLimits plan.now.settings.now first.now limits.now }
-    requires beginning { IsBeginning plan.now.settings.now plan.now.flights.now first.now others.old.items }
-    requires few { length others.old.items ≤ 7 }
-    requires hope { is_hopeless plan.now.settings.now first.now others.old.items ≡ false }
-    requires last { slice_get plan.now.flights.now last ≡ Some (last_of first.now others.old.items).flight }
-    requires totals { AreTotals (first.now ∷ others.old.items) totals }
-    ensures listed { OnOk result (found.new.items ≡ found.old.items
-        ++ listing (8 - length others.old.items) plan.now.settings.now plan.now.flights.now first.now others.old.items) }
-    ensures kept { OnOk result (others.new.items ≡ others.old.items) }
-{
-    list_own(found, plan.settings, first, others, totals)?;
-    if others.len() >= LEGS - 1 {
-        return Ok(());
-    }
-    for place in places_of(plan, last) {
-        let place = *place as usize;
-        let flight = &plan.flights[place];
-        let flown = timed_leg(flight, false);
-        let come = totals.after(&flown);
-        if !limits.forbid(&flown, come) {
-            others.push(flown)?;
-            list(found, plan, first, limits, others, place, come)?;
-            others.pop();
-        }
-        let ridden = timed_leg(flight, true);
-        let gone = totals.after(&ridden);
-        if !limits.forbid(&ridden, gone) {
-            others.push(ridden)?;
-            list(found, plan, first, limits, others, place, gone)?;
-            others.pop();
-        }
-    }
-    Ok(())
-}
-
-// Adds how many duties begin with these legs, which may begin one, to those so far, and ends at one
-// more than may be listed.
-fn count(
+// Counts the duties that begin with these legs, which may begin one, and puts those in their places
+// that there is room for: they stand behind `so_far` others. The last leg is of the flight that
+// stands at `last`. The count ends at one more than may be listed.
+#[cycle(tree)]
+fn walk(
+    alloc: Global,
+    found: &mut [Duty],
     plan: &Plan<'_>,
     first: &TimedLeg,
     limits: &Limits,
@@ -213,7 +130,7 @@ fn count(
     totals: Totals,
     so_far: usize,
 ) -> Result<usize, AllocError>
-    requires plan { IsPlan plan.now.settings.now plan.now.flights.now (rows plan.now.next.now) }
+    requires plan { IsPlan plan.now.settings.now plan.now.flights.now plan.now.slots.now plan.now.next.now }
     requires limits { AreLimits plan.now.settings.now first.now limits.now }
     requires beginning { IsBeginning plan.now.settings.now plan.now.flights.now first.now others.old.items }
     requires few { length others.old.items ≤ 7 }
@@ -221,111 +138,124 @@ fn count(
     requires last { slice_get plan.now.flights.now last ≡ Some (last_of first.now others.old.items).flight }
     requires totals { AreTotals (first.now ∷ others.old.items) totals }
     requires so_far { so_far ≤ 200_001 }
-    ensures counted { IfOk result (λ n. n ≡ min (so_far
-        + length (listing (8 - length others.old.items) plan.now.settings.now plan.now.flights.now first.now others.old.items)) 200_001) }
+    requires room { length found.old ≤ 200_000 }
+    ensures goes { IfOk result (λ n. Goes so_far (listing (8 - length others.old.items) plan.now.settings.now plan.now.flights.now first.now others.old.items) found.old n found.new) }
     ensures kept { OnOk result (others.new.items ≡ others.old.items) }
 {
     if so_far > DUTIES {
         return Ok(so_far);
     }
-    let mut counted = so_far + count_own(first, others);
+    let mut counted = put_own(found, plan.settings, first, others, totals, so_far);
     if others.len() >= LEGS - 1 {
         return Ok(counted);
     }
-    for place in places_of(plan, last) {
+    let next = follow_on(alloc, plan, limits, last, totals)?;
+    for place in next.as_slice() {
         let place = *place as usize;
-        let flight = &plan.flights[place];
-        let flown = timed_leg(flight, false);
-        let come = totals.after(&flown);
-        if !limits.forbid(&flown, come) {
-            others.push(flown)?;
-            counted = count(plan, first, limits, others, place, come, counted)?;
-            others.pop();
-        }
-        let ridden = timed_leg(flight, true);
-        let gone = totals.after(&ridden);
-        if !limits.forbid(&ridden, gone) {
-            others.push(ridden)?;
-            counted = count(plan, first, limits, others, place, gone, counted)?;
-            others.pop();
-        }
+        counted = step(
+            alloc, found, plan, first, limits, others, place, false, totals, counted,
+        )?;
+        counted = step(
+            alloc, found, plan, first, limits, others, place, true, totals, counted,
+        )?;
     }
     Ok(counted)
 }
 
-// Lists the duties that begin with the flight at a place, flown or deadheaded.
-fn list_first(
+// The same of the duties that begin with these legs and then the flight at a place.
+#[cycle(tree)]
+#[inline(always)]
+fn step(
     alloc: Global,
-    found: &mut Vec<Duty>,
+    found: &mut [Duty],
     plan: &Plan<'_>,
+    first: &TimedLeg,
+    limits: &Limits,
+    others: &mut Vec<TimedLeg>,
     place: usize,
     deadhead: bool,
-) -> Result<(), AllocError>
-    requires plan { IsPlan plan.now.settings.now plan.now.flights.now (rows plan.now.next.now) }
-    requires place { place < length plan.now.flights.now }
-    ensures { OnOk result ((flight : Flight) → slice_get plan.now.flights.now place ≡ Some flight
-        → found.new.items ≡ found.old.items ++ listing 8 plan.now.settings.now plan.now.flights.now (timed deadhead flight) []) }
-{
-    let first = timed_leg(&plan.flights[place], deadhead);
-    let limits = Limits::of(plan.settings, &first);
-    let totals = Totals::of(&first);
-    if limits.forbid(&first, totals) {
-        return Ok(());
-    }
-    let mut others = Vec::with_capacity(alloc, LEGS)?;
-    list(found, plan, &first, &limits, &mut others, place, totals)?;
-    Ok(())
-}
-
-// Counts the duties that begin with the flight at a place, flown or deadheaded.
-fn count_first(
-    alloc: Global,
-    plan: &Plan<'_>,
-    place: usize,
-    deadhead: bool,
-    counted: usize,
+    totals: Totals,
+    so_far: usize,
 ) -> Result<usize, AllocError>
-    requires plan { IsPlan plan.now.settings.now plan.now.flights.now (rows plan.now.next.now) }
+    requires plan { IsPlan plan.now.settings.now plan.now.flights.now plan.now.slots.now plan.now.next.now }
+    requires limits { AreLimits plan.now.settings.now first.now limits.now }
+    requires beginning { IsBeginning plan.now.settings.now plan.now.flights.now first.now others.old.items }
+    requires few { length others.old.items < 7 }
+    requires place { (g : Flight) × (slice_get plan.now.flights.now place ≡ Some g) × (may_follow plan.now.settings.now (last_of first.now others.old.items).flight g ≡ true) }
+    requires totals { AreTotals (first.now ∷ others.old.items) totals }
+    requires so_far { so_far ≤ 200_001 }
+    requires room { length found.old ≤ 200_000 }
+    ensures goes { IfOk result (λ n. (g : Flight) → slice_get plan.now.flights.now place ≡ Some g
+        → Goes so_far (listing (7 - length others.old.items) plan.now.settings.now plan.now.flights.now first.now (others.old.items ++ timed deadhead g ∷ [])) found.old n found.new) }
+    ensures kept { OnOk result (others.new.items ≡ others.old.items) }
+{
+    if deadhead && totals.deadheads >= limits.deadheads {
+        return Ok(so_far);
+    }
+    let leg = timed_leg(&plan.flights[place], deadhead);
+    let longer = totals.after(&leg);
+    if limits.forbid(&leg, longer) {
+        return Ok(so_far);
+    }
+    others.push(leg)?;
+    let counted = walk(
+        alloc, found, plan, first, limits, others, place, longer, so_far,
+    )?;
+    others.pop();
+    Ok(counted)
+}
+
+// The same of the duties that begin with the flight at a place, flown or deadheaded.
+fn walk_first(
+    alloc: Global,
+    found: &mut [Duty],
+    plan: &Plan<'_>,
+    place: usize,
+    deadhead: bool,
+    so_far: usize,
+) -> Result<usize, AllocError>
+    requires plan { IsPlan plan.now.settings.now plan.now.flights.now plan.now.slots.now plan.now.next.now }
     requires place { place < length plan.now.flights.now }
-    requires counted { counted ≤ 200_001 }
-    ensures counted { IfOk result (λ n. (flight : Flight) → slice_get plan.now.flights.now place ≡ Some flight
-        → n ≡ min (counted + length (listing 8 plan.now.settings.now plan.now.flights.now (timed deadhead flight) [])) 200_001) }
-    ensures bound { IfOk result (λ n. n ≤ 200_001) }
+    requires so_far { so_far ≤ 200_001 }
+    requires room { length found.old ≤ 200_000 }
+    ensures { IfOk result (λ n. (flight : Flight) → slice_get plan.now.flights.now place ≡ Some flight
+        → Goes so_far (listing 8 plan.now.settings.now plan.now.flights.now (timed deadhead flight) []) found.old n found.new) }
 {
     let first = timed_leg(&plan.flights[place], deadhead);
     let limits = Limits::of(plan.settings, &first);
     let totals = Totals::of(&first);
     if limits.forbid(&first, totals) {
-        return Ok(counted);
+        return Ok(so_far);
     }
     let mut others = Vec::with_capacity(alloc, LEGS)?;
-    count(plan, &first, &limits, &mut others, place, totals, counted)
+    walk(
+        alloc,
+        found,
+        plan,
+        &first,
+        &limits,
+        &mut others,
+        place,
+        totals,
+        so_far,
+    )
 }
 
-/// A list of duties with those after it that begin with the flight at a place.
-pub(crate) fn list_from(
+/// Counts the duties that begin with the flight at a place, to one more than may be listed, and
+/// puts those in their places that there is room for: they stand behind `so_far` others.
+pub(crate) fn walk_from(
     alloc: Global,
-    found: Result<Vec<Duty>, AllocError>,
+    found: &mut [Duty],
     plan: &Plan<'_>,
     place: usize,
-) -> Result<Vec<Duty>, AllocError>
-    requires plan { IsPlan plan.now.settings.now plan.now.flights.now (rows plan.now.next.now) }
+    so_far: usize,
+) -> Result<usize, AllocError>
+    requires plan { IsPlan plan.now.settings.now plan.now.flights.now plan.now.slots.now plan.now.next.now }
     requires place { place < length plan.now.flights.now }
-    ensures { IfOk result (λ longer. IsOkAnd found (λ before. longer.items ≡ before.items ++ from_place plan.now.settings.now plan.now.flights.now place)) }
+    requires so_far { so_far ≤ 200_001 }
+    requires room { length found.old ≤ 200_000 }
+    ensures { IfOk result (λ n. Goes so_far (from_place plan.now.settings.now plan.now.flights.now place) found.old n found.new) }
 {
-    let mut found = found?;
-    list_first(alloc, &mut found, plan, place, false)?;
-    list_first(alloc, &mut found, plan, place, true)?;
-    Ok(found)
-}
-
-/// How many duties begin with the flight at a place; more than may be listed are one more.
-pub(crate) fn count_from(alloc: Global, plan: &Plan<'_>, place: usize) -> Result<usize, AllocError>
-    requires plan { IsPlan plan.now.settings.now plan.now.flights.now (rows plan.now.next.now) }
-    requires place { place < length plan.now.flights.now }
-    ensures { IfOk result (λ n. (flight : Flight) → slice_get plan.now.flights.now place ≡ Some flight
-        → n ≡ min (length (from_flight plan.now.settings.now plan.now.flights.now flight)) 200_001) }
-{
-    let flown = count_first(alloc, plan, place, false, 0)?;
-    count_first(alloc, plan, place, true, flown)
+    let flown = walk_first(alloc, found, plan, place, false, so_far)?;
+    walk_first(alloc, found, plan, place, true, flown)
 }

@@ -2,8 +2,8 @@
 
 ghost use Rattle.std.specs.Prelude.{◌≡◌, IfOk};
 
-use crew_pairing::Walk;
 use crew_flights::Code;
+use crew_pairing::Walk;
 use std::alloc::{AllocError, Global};
 
 /// A pairing with its cost. Money is in points.

@@ -12,8 +12,8 @@ use crate::best::Best;
 use crate::fault::SessionFault;
 use crate::version::Version;
 use crew_audit::Tally;
-use crew_pairing::{Key, Leg, Walk};
 use crew_flights::Verdict;
+use crew_pairing::{Key, Leg, Walk};
 use std::alloc::{AllocError, Global};
 use std::io::Write;
 

@@ -9,9 +9,9 @@ ghost use Rattle.crew_session.specs.Offers.{IsBounded, IsOfferOf, least_of, less
 
 use crate::best::Best;
 use crate::engine_fault::EngineFault;
-use crew_pairing::{Duty, Walk};
 use crew_duty::{DutyFault, list_duties};
 use crew_flights::Timetable;
+use crew_pairing::{Duty, Walk};
 use crew_rules::{Settings, pairing_pay};
 use std::alloc::{AllocError, Global};
 use std::cmp::Ordering;

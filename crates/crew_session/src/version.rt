@@ -10,7 +10,7 @@ ghost use Rattle.crew_session.specs.Versions.{FoldsOn};
 use crate::best::Best;
 use crate::engine_fault::EngineFault;
 use crate::offers::find_best;
-use crew_flights::{Timetable, Entry, Folding, Verdict};
+use crew_flights::{Entry, Folding, Timetable, Verdict};
 use crew_rules::Settings;
 use std::alloc::{AllocError, Global};
 use std::marker::Model;

@@ -1,3 +1,4 @@
 pub mod Faults
 pub mod Options
 pub mod Program
+pub mod Words

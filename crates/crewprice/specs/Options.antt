@@ -1,33 +1,40 @@
--- What the options of the command line stand for.
-use Rattle.std.specs.Prelude.{◌≡◌, ℕ, ◌<◌, ◌^◌, List, Option, Some, None, codes}
-use Rattle.std.specs.Str.Parse.{IsNumeral, digits_value, without_leading_plus}
-use Rattle.clap.specs.declared.parser.matches.Found.{Found}
-use Rattle.clap.specs.Words.{one_text}
+-- What the options of `run` stand for.
+use Rattle.std.specs.Prelude.{ℕ, ◌^◌, ◌&&◌, Bool, nat_lt, List, length, Option, Some, None, codes, if◌then◌else◌}
+use Rattle.std.specs.Char.{digit_value}
+use Rattle.std.specs.List.{list_all}
+use Rattle.std.specs.Str.Parse.{digits_value, without_leading_plus}
+use Rattle.clap.specs.Words.{Row, one_of}
 use Rattle.crew_rules.specs.declared.settings.Settings.{Settings}
 use Rattle.crew_rules.specs.Settings.{standard}
 
--- a text is a numeral of a 32-bit number
-abbrev pub IsWord : List ℕ → Type 0
-IsWord text = IsNumeral 10 (without_leading_plus text) × (digits_value 10 (without_leading_plus text) < 2 ^ 32)
+-- one decimal digit or more, and nothing else
+abbrev pub is_numeral : List ℕ → Bool
+is_numeral digits = nat_lt 0 (length digits) && list_all (λ c. nat_lt (digit_value c) 10) digits
+
+-- a numeral of a 32-bit number
+abbrev pub is_number : List ℕ → Bool
+is_number digits = is_numeral digits && nat_lt (digits_value 10 digits) (2 ^ 32)
 
 -- the number of an option, by its text, or its default where it isn't given
-abbrev pub IsNumber : Option (List ℕ) → ℕ → ℕ → Type 0
-IsNumber None default value = value ≡ default
-IsNumber (Some text) default value = IsWord text → value ≡ digits_value 10 (without_leading_plus text)
+abbrev pub number_in : Option (List ℕ) → ℕ → ℕ
+number_in None default = default
+number_in (Some text) default = if is_number (without_leading_plus text) then digits_value 10 (without_leading_plus text) else default
 
 -- each setting is the number of the option of its name
-pub record AreSettings (found : Found) (s : Settings) : Type 0 where
-  pub lead : IsNumber (one_text found (codes "lead")) standard.lead s.lead
-  pub debrief : IsNumber (one_text found (codes "debrief")) standard.debrief s.debrief
-  pub connect : IsNumber (one_text found (codes "connect")) standard.connect s.connect
-  pub sit : IsNumber (one_text found (codes "sit")) standard.sit s.sit
-  pub max_rest : IsNumber (one_text found (codes "max-rest")) standard.max_rest s.max_rest
-  pub max_duties : IsNumber (one_text found (codes "max-duties")) standard.max_duties s.max_duties
-  pub fdp_cap : IsNumber (one_text found (codes "fdp-cap")) standard.fdp_cap s.fdp_cap
-  pub fly_cap : IsNumber (one_text found (codes "fly-cap")) standard.fly_cap s.fly_cap
-  pub away_cap : IsNumber (one_text found (codes "away-cap")) standard.away_cap s.away_cap
-  pub duty_rig : IsNumber (one_text found (codes "duty-rig")) standard.duty_rig s.duty_rig
-  pub trip_rig : IsNumber (one_text found (codes "trip-rig")) standard.trip_rig s.trip_rig
-  pub duty_min : IsNumber (one_text found (codes "duty-min")) standard.duty_min s.duty_min
-  pub guarantee : IsNumber (one_text found (codes "guarantee")) standard.guarantee s.guarantee
-  pub deadheads : IsNumber (one_text found (codes "deadheads")) standard.deadheads s.deadheads
+unfoldable pub settings_in : List Row → Settings
+settings_in rows = record {
+  lead = number_in (one_of (codes "lead") rows) standard.lead;
+  debrief = number_in (one_of (codes "debrief") rows) standard.debrief;
+  connect = number_in (one_of (codes "connect") rows) standard.connect;
+  sit = number_in (one_of (codes "sit") rows) standard.sit;
+  max_rest = number_in (one_of (codes "max-rest") rows) standard.max_rest;
+  max_duties = number_in (one_of (codes "max-duties") rows) standard.max_duties;
+  fdp_cap = number_in (one_of (codes "fdp-cap") rows) standard.fdp_cap;
+  fly_cap = number_in (one_of (codes "fly-cap") rows) standard.fly_cap;
+  away_cap = number_in (one_of (codes "away-cap") rows) standard.away_cap;
+  duty_rig = number_in (one_of (codes "duty-rig") rows) standard.duty_rig;
+  trip_rig = number_in (one_of (codes "trip-rig") rows) standard.trip_rig;
+  duty_min = number_in (one_of (codes "duty-min") rows) standard.duty_min;
+  guarantee = number_in (one_of (codes "guarantee") rows) standard.guarantee;
+  deadheads = number_in (one_of (codes "deadheads") rows) standard.deadheads;
+}

@@ -1,7 +1,8 @@
 -- How a run of the program ends.
-use Rattle.std.specs.Prelude.{◌≡◌, ◌⊎◌, ℕ, List, Option, Result, Ok, Err, IfSome}
+use Rattle.std.specs.Prelude.{◌≡◌, ◌⊎◌, ◌∷◌, [], ℕ, List, Option, Result, Ok, Err, IfSome}
 use Rattle.std.specs.Io.KnownBytes.{Appends, Keeps}
-use Rattle.clap.specs.Words.{kind_of}
+use Rattle.clap.specs.Kinds.{IsAmong, Kinds}
+use Rattle.clap.specs.Words.{Text, kind_of}
 use Rattle.clap.specs.declared.error.Error.{Error}
 use Rattle.clap.specs.declared.error.kind.ErrorKind.{ErrorKind}
 use Rattle.clap.specs.declared.error.kind.ErrorKind.TheVariants as kind
@@ -10,11 +11,10 @@ use Rattle.crew_rules.specs.declared.settings.Settings.{Settings}
 use Rattle.crew_rules.specs.declared.settings.BadSetting.{BadSetting}
 use Rattle.crew_session.specs.Session.{IsSessionText}
 use Rattle.crew_session.specs.declared.fault.SessionFault.{SessionFault}
-use Rattle.crewprice.specs.Faults.{fault_of, status_of}
+use Rattle.crewprice.specs.Faults.{AppendsBeginning, fault_of, line_of, status_of}
 use Rattle.crewprice.specs.declared.fault.Fault.{Fault}
 use Rattle.crewprice.specs.declared.fault.Fault.TheVariants.{Write, Usage, Memory, Setting}
-use Rattle.crewprice.specs.declared.options.Plan.{Plan}
-use Rattle.crewprice.specs.declared.options.Plan.TheVariants.{Run}
+use Rattle.crewprice.specs.Words.{faults_in, settings_of}
 
 -- what a run comes to
 abbrev pub Outcome : Type 0
@@ -42,7 +42,18 @@ abbrev pub Plays : Settings → Result (Unit {0}) BadSetting → Option (List �
 Plays s (Err bad) input before after r = (r ≡ Err (Setting bad)) × Keeps before after
 Plays s (Ok checked) input before after r = Played s input before after r
 
--- what a run comes to, by what its words were read as, the bytes that it may read, and the bytes that its writer held and holds
-abbrev pub Ends : Result Plan Error → Option (List ℕ) → Option (List ℕ) → Option (List ℕ) → Outcome → Type 0
-Ends (Err error) input before after r = Answers (kind_of error) error before after r
-Ends (Ok (Run settings)) input before after r = Plays settings (check_of settings) input before after r
+-- what a run comes to by the kinds of fault in its words, the settings that they ask for, the bytes that it may read, and the bytes
+-- that its writer held and holds: a session where there is no fault, and else what is answered to an error of one of these kinds
+abbrev pub ComesBy : Kinds → Settings → Option (List ℕ) → Option (List ℕ) → Option (List ℕ) → Outcome → Type 0
+ComesBy [] s input before after r = Plays s (check_of s) input before after r
+ComesBy (k ∷ ks) s input before after r = (error : Error) × IsAmong (kind_of error) (k ∷ ks) × Answers (kind_of error) error before after r
+
+-- what a run comes to by its words, or there was no memory to read them
+abbrev pub Comes : List Text → Option (List ℕ) → Option (List ℕ) → Option (List ℕ) → Outcome → Type 0
+Comes words input before after r = ((r ≡ Err Memory) × Keeps before after) ⊎ ComesBy (faults_in words) (settings_of words) input before after r
+
+-- what a run tells where faults go: nothing where it is done, and else a beginning of the one line of its fault; the text of a
+-- fault in the words is the parser's own
+abbrev pub Tells : Outcome → Option (List ℕ) → Option (List ℕ) → Type 0
+Tells (Ok done) before after = Keeps before after
+Tells (Err fault) before after = IfSome (line_of fault) (AppendsBeginning before after)

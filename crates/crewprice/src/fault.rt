@@ -1,11 +1,12 @@
 //! Why a run of the program fails.
 
-ghost use Rattle.std.specs.Prelude.{◌≡◌, ◌≤◌, OnOk, IfSome};
+ghost use Rattle.std.specs.Prelude.{◌≡◌, ◌≤◌, IfOk, IfSome, OnOk, string_bytes};
 ghost use Rattle.std.specs.Io.KnownBytes.{Appends};
-ghost use Rattle.crewprice.specs.Faults.{fault_of, line_of, status_of, text_of};
+ghost use Rattle.crewprice.specs.Faults.{AppendsBeginning, fault_of, line_of, status_of, text_of};
 
 use crew_rules::BadSetting;
 use crew_session::SessionFault;
+use std::alloc::{AllocError, Global};
 use std::error::Error;
 use std::io::Write;
 use std::{fmt, io};
@@ -19,6 +20,8 @@ pub enum Fault {
     Write,
     /// The words ask for nothing that there is.
     Usage(clap::Error),
+    /// A word isn't text.
+    Word,
     /// There is no memory.
     Memory,
     /// A setting is out of its range.
@@ -35,6 +38,7 @@ impl fmt::Display for Fault {
             Fault::Read => write!(f, "read fault"),
             Fault::Write => write!(f, "write fault"),
             Fault::Usage(error) => write!(f, "{error}"),
+            Fault::Word => write!(f, "a word is not UTF-8"),
             Fault::Memory => write!(f, "out of memory"),
             Fault::Setting(bad) => write!(f, "{bad}"),
             Fault::Strange => write!(f, "strange log"),
@@ -43,6 +47,24 @@ impl fmt::Display for Fault {
 }
 
 impl Error for Fault {}
+
+// The line of want of memory, which takes none.
+static NO_MEMORY: &[u8] = b"crewprice: out of memory\n";
+
+// Writes a text, as far as the writer takes it.
+fn write_text<W: Write>(writer: &mut W, text: &[u8]) -> io::Result<()>
+    ensures whole { OnOk result (Appends (W.contents writer.old) (W.contents writer.new) text.now) }
+    ensures beginning { AppendsBeginning (W.contents writer.old) (W.contents writer.new) text.now }
+{
+    let mut rest = text;
+    while !rest.is_empty() {
+        match writer.write(rest)? {
+            0 => return Err(io::Error::from(io::ErrorKind::WriteZero)),
+            taken => rest = &rest[taken..],
+        }
+    }
+    Ok(())
+}
 
 impl Fault {
     /// The fault that a session's fault is.
@@ -64,20 +86,33 @@ impl Fault {
     {
         match self {
             Fault::Read | Fault::Write => 1,
-            Fault::Usage(_) => 2,
+            Fault::Usage(_) | Fault::Word => 2,
             Fault::Memory => 3,
             Fault::Setting(_) => 4,
             Fault::Strange => 5,
         }
     }
 
-    /// Writes the line of the fault, or the text of the command line's own fault as it stands.
-    pub fn tell<W: Write>(&self, writer: &mut W) -> io::Result<()>
-        ensures { OnOk result (IfSome (line_of self.now) (Appends (W.contents writer.old) (W.contents writer.new))) }
+    // The line of the fault, but not of one in the words.
+    fn line(&self, alloc: Global) -> Result<String, AllocError>
+        ensures { IfOk result (λ line. IfSome (line_of self.now) (λ text. string_bytes line ≡ text)) }
+    {
+        match format!(in alloc; "crewprice: {self}\n") {
+            Ok(line) => Ok(line),
+            Err(_) => Err(AllocError),
+        }
+    }
+
+    /// Writes the line of the fault, or the text of the command line's own fault as it stands. Where
+    /// that fails, the writer has got a beginning of the line, and nothing else.
+    pub fn tell<W: Write>(&self, alloc: Global, writer: &mut W) -> io::Result<()>
+        ensures whole { OnOk result (IfSome (line_of self.now) (Appends (W.contents writer.old) (W.contents writer.new))) }
+        ensures beginning { IfSome (line_of self.now) (AppendsBeginning (W.contents writer.old) (W.contents writer.new)) }
     {
         match self {
             Fault::Usage(error) => write!(writer, "{error}"),
-            fault => writeln!(writer, "crewprice: {fault}"),
+            Fault::Memory => write_text(writer, NO_MEMORY),
+            fault => write_text(writer, fault.line(alloc)?.as_bytes()),
         }
     }
 }

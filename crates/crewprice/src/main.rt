@@ -5,21 +5,29 @@
 //! whole run over any reader and writers and gives the status.
 #![tactic(auto)]
 
+ghost use Rattle.std.specs.Prelude.{◌≡◌, ◌≢◌};
+ghost use Rattle.std.specs.IoError.{error_kind};
+
 mod fault;
 mod options;
 mod program;
+mod streams;
+mod words;
 
 use fault::Fault;
 use program::command;
-use std::env;
-use std::io::{self, BufWriter};
+use std::io::ErrorKind;
 use std::process::ExitCode;
 use std::rt::Env;
+use std::{env, io};
+use streams::Outlet;
 
 #[cfg(test)]
 mod sessions;
 #[cfg(test)]
 mod tests;
+#[cfg(test)]
+mod texts;
 
 // The words of the command line, the program's own name first.
 fn words_of<R: Env + AllocGlobal>(rt: &R) -> io::Result<Vec<String>> {
@@ -30,21 +38,37 @@ fn words_of<R: Env + AllocGlobal>(rt: &R) -> io::Result<Vec<String>> {
     Ok(words)
 }
 
+// The fault of words that can't be had: one is no text, or there is no memory.
+fn fault_in_words(error: &io::Error) -> Fault
+    ensures word { error_kind error.now ≡ ErrorKind.InvalidData → result ≡ Fault.Word }
+    ensures memory { error_kind error.now ≢ ErrorKind.InvalidData → result ≡ Fault.Memory }
+{
+    match error.kind() {
+        ErrorKind::InvalidData => Fault::Word,
+        _ => Fault::Memory,
+    }
+}
+
 fn main(rt: HostRuntime) -> ExitCode {
-    let mut faults = rt.stderr();
-    let (Ok(words), Ok(mut writer)) = (words_of(&rt), BufWriter::new(rt.alloc(), io::writer(&rt)))
-    else {
-        let _ = Fault::Memory.tell(&mut faults);
+    let words = match words_of(&rt) {
+        Ok(words) => words,
+        Err(error) => {
+            let fault = fault_in_words(&error);
+            let _ = fault.tell(rt.alloc(), &mut rt.stderr());
+            return ExitCode::from(fault.status());
+        }
+    };
+    let Ok(outlet) = Outlet::new(rt.alloc(), io::writer(&rt)) else {
+        let _ = Fault::Memory.tell(rt.alloc(), &mut rt.stderr());
         return ExitCode::from(Fault::Memory.status());
     };
-    let mut reader = rt.reader();
     let status = command(
         &rt,
         rt.alloc(),
         words.as_slice(),
-        &mut reader,
-        &mut writer,
-        &mut faults,
+        &mut outlet.before(rt.reader()),
+        &mut outlet.writer(),
+        &mut rt.stderr(),
     );
     ExitCode::from(status)
 }

@@ -1,15 +1,12 @@
 //! The whole run, over any reader and writers.
 
-ghost use Rattle.std.specs.Prelude.{◌≡◌, ◌≤◌, Result, ⊤};
-ghost use Rattle.std.specs.Io.KnownBytes.{Keeps};
+ghost use Rattle.std.specs.Prelude.{◌≡◌, ◌≤◌, map};
 ghost use Rattle.clap.specs.Words.{kind_of};
-ghost use Rattle.clap.specs.declared.error.Error.{Error};
 ghost use Rattle.crew_rules.specs.Settings.{check_of};
-ghost use Rattle.crewprice.specs.Program.{Answers, Ends, Outcome, Plays, status_after};
-ghost use Rattle.crewprice.specs.declared.options.Plan.{Plan as PlanOf};
+ghost use Rattle.crewprice.specs.Program.{Answers, Comes, Outcome, Plays, Tells, status_after};
 
 use crate::fault::Fault;
-use crate::options::{Plan, read_words};
+use crate::words::read_words;
 use clap::error::ErrorKind;
 use crew_rules::Settings;
 use crew_session::{Plain, run};
@@ -67,17 +64,18 @@ fn run_words<T: Threads + Sync, S: AsStr, R: Read, W: Write>(
     reader: &mut R,
     writer: &mut W,
 ) -> Result<(), Fault>
-    ensures { (read : Result PlanOf Error) × Ends read (R.remaining reader.old) (W.contents writer.old) (W.contents writer.new) result }
+    ensures { Comes (map S.text words.now) (R.remaining reader.old) (W.contents writer.old) (W.contents writer.new) result }
 {
     match read_words(alloc, words) {
-        Ok(Plan::Run { settings }) => run_session(rt, alloc, &settings, reader, writer),
+        Ok(settings) => run_session(rt, alloc, &settings, reader, writer),
         Err(error) => answer(error, writer),
     }
 }
 
-/// Does what the words ask for, and gives the status: 0 done, or help was asked for; 1 a read or
-/// write fault; 2 a fault in the words; 3 no memory; 4 a bad setting; 5 a strange log. The line of
-/// a fault goes to `faults`, all else to `writer`; a fault in writing to `faults` changes nothing.
+/// Does what the words ask for, and gives the status: 0 done, or help or the version was asked for;
+/// 1 a read or write fault; 2 a fault in the words; 3 no memory; 4 a bad setting; 5 a strange log.
+/// The line of a fault goes to `faults`, all else to `writer`; a fault in writing to `faults` changes
+/// nothing. The first word is the program's own name.
 pub fn command<T: Threads + Sync, S: AsStr, R: Read, W: Write, F: Write>(
     rt: &T,
     alloc: Global,
@@ -86,14 +84,15 @@ pub fn command<T: Threads + Sync, S: AsStr, R: Read, W: Write, F: Write>(
     writer: &mut W,
     faults: &mut F,
 ) -> u8
-    // For what the words were read as, the run comes to the outcome whose status this is.
-    ensures status { (read : Result PlanOf Error) × (r : Outcome) × Ends read (R.remaining reader.old) (W.contents writer.old) (W.contents writer.new) r × (result ≡ status_after r) }
+    // The words come to an outcome; this is its status, and its line is told.
+    ensures ends { (r : Outcome) × Comes (map S.text words.now) (R.remaining reader.old) (W.contents writer.old) (W.contents writer.new) r
+        × (result ≡ status_after r) × Tells r (F.contents faults.old) (F.contents faults.new) }
     ensures most { result ≤ 5 }
 {
     match run_words(rt, alloc, words, reader, writer) {
         Ok(()) => 0,
         Err(fault) => {
-            let _ = fault.tell(faults);
+            let _ = fault.tell(alloc, faults);
             fault.status()
         }
     }

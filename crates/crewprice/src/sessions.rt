@@ -96,3 +96,36 @@ best none\n\
 record 14 refused 70\n\
 ",
 );
+
+// One duty with four hours on the ground: 450 minutes from report to release, 120 of flight.
+pub const LONG_SIT: &[u8] = b"\
+zone,JFK,\"EST5EDT,M3.2.0,M11.1.0\"\n\
+zone,BOS,\"EST5EDT,M3.2.0,M11.1.0\"\n\
+base,JFK,0\n\
+flight,201,JFK,BOS,2025-07-01T12:00,2025-07-01T13:00,0\n\
+flight,202,BOS,JFK,2025-07-01T17:00,2025-07-01T18:00,0\n\
+settle\n\
+best\n\
+";
+
+// Two duties with a rest of 1,290 minutes between them, and no pairing of one duty.
+pub const TWO_DUTIES: &[u8] = b"\
+zone,JFK,\"EST5EDT,M3.2.0,M11.1.0\"\n\
+zone,BOS,\"EST5EDT,M3.2.0,M11.1.0\"\n\
+base,JFK,0\n\
+flight,301,JFK,BOS,2025-07-01T12:00,2025-07-01T13:00,0\n\
+flight,302,BOS,JFK,2025-07-02T12:00,2025-07-02T13:00,0\n\
+settle\n\
+audit,10\n\
+";
+
+// Ten hours of flight, of which a crew may fly nine: five of them are deadheaded or not at all.
+pub const TEN_HOURS: &[u8] = b"\
+zone,JFK,\"EST5EDT,M3.2.0,M11.1.0\"\n\
+zone,BOS,\"EST5EDT,M3.2.0,M11.1.0\"\n\
+base,JFK,0\n\
+flight,911,JFK,BOS,2025-07-01T12:00,2025-07-01T17:00,0\n\
+flight,912,BOS,JFK,2025-07-01T17:40,2025-07-01T22:40,0\n\
+settle\n\
+best\n\
+";

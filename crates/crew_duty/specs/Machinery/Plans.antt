@@ -1,10 +1,17 @@
 -- What the search for duties works with.
-use Rattle.std.specs.Prelude.{◌≡◌, ◌≤◌, ℕ, List, length, [], ◌∷◌, Some, filter, slice_get, Vec}
+use Rattle.std.specs.Prelude.{◌≡◌, ◌≤◌, ℕ, List, length, [], ◌∷◌, None, Option, Some, drop, filter, slice_get, take, true, Vec}
+use Rattle.std.specs.List.{flat_map}
 use Rattle.crew_flights.specs.declared.flight.Flight.{Flight}
 use Rattle.crew_rules.specs.Settings.{IsChecked}
 use Rattle.crew_rules.specs.declared.settings.Settings.{Settings}
 use Rattle.std.specs.Global.{Global}
-use Rattle.crew_pairing.specs.Legality.{may_follow}
+use Rattle.crew_pairing.specs.Legality.{last_of, may_follow}
+use Rattle.crew_pairing.specs.Machinery.Listing.{below}
+use Rattle.crew_duty.specs.Machinery.Slots.{IsIndex}
+use Rattle.crew_duty.specs.declared.departures.Slot.{Slot}
+use Rattle.crew_pairing.specs.declared.duty.Duty.{Duty}
+use Rattle.crew_resource.specs.Members.{Each}
+use Rattle.crew_pairing.specs.declared.leg.TimedLeg.{TimedLeg}
 use Rattle.crew_pairing.specs.Machinery.Beginnings.{AreFlights}
 
 -- the flights that stand at these places
@@ -14,21 +21,31 @@ StandAt flights [] (g ∷ gs) = ⊥
 StandAt flights (place ∷ places) [] = ⊥
 StandAt flights (place ∷ places) (g ∷ gs) = (slice_get flights place ≡ Some g) × StandAt flights places gs
 
--- for each flight the places of those that may follow it, in order
-abbrev pub AreNext : Settings → List Flight → List Flight → List (List ℕ) → Type 0
+-- the places of the flights that may follow one, in order, where they are known
+abbrev pub Knows : Settings → List Flight → Flight → Option (Vec ℕ Global) → Type 0
+Knows s flights f None = Unit {0}
+Knows s flights f (Some places) = StandAt flights places.items (filter (may_follow s f) flights)
+
+-- what is known of each flight
+abbrev pub AreNext : Settings → List Flight → List Flight → List (Option (Vec ℕ Global)) → Type 0
 AreNext s flights [] [] = Unit {0}
-AreNext s flights [] (places ∷ others) = ⊥
+AreNext s flights [] (known ∷ others) = ⊥
 AreNext s flights (f ∷ fs) [] = ⊥
-AreNext s flights (f ∷ fs) (places ∷ others) = StandAt flights places (filter (may_follow s f) flights) × AreNext s flights fs others
+AreNext s flights (f ∷ fs) (known ∷ others) = Knows s flights f known × AreNext s flights fs others
 
--- the numbers in vectors
-abbrev pub rows : List (Vec ℕ Global) → List (List ℕ)
-rows [] = []
-rows (v ∷ vs) = v.items ∷ rows vs
-
--- what the search works with: checked settings, the flights of a timetable, and for each the places of those that may follow it
-pub record IsPlan (s : Settings) (flights : List Flight) (next : List (List ℕ)) : Type 0 where
+-- what the search works with: checked settings, the flights of a timetable, their departures, and what is known of the flights that may follow each
+pub record IsPlan (s : Settings) (flights : List Flight) (slots : List Slot) (next : List (Option (Vec ℕ Global))) : Type 0 where
   pub checked : IsChecked s
   pub are_flights : AreFlights flights
   pub few : length flights ≤ 5_000
+  pub index : IsIndex flights slots
   pub are_next : AreNext s flights flights next
+
+-- the duties that begin with these legs and then the flight at a place, and none where there is no flight
+abbrev pub below_place : ℕ → Settings → List Flight → TimedLeg → List TimedLeg → ℕ → List Duty
+below_place room s flights first others place = flat_map (below room s flights first others) (take 1 (drop place flights))
+
+-- places of flights that may follow the last leg; below all others that may, nothing stands
+pub record LeadOn (s : Settings) (flights : List Flight) (first : TimedLeg) (others : List TimedLeg) (places : List ℕ) : Type 0 where
+  pub follow : Each (λ place. (g : Flight) × (slice_get flights place ≡ Some g) × (may_follow s (last_of first others).flight g ≡ true)) places
+  pub all : (room : ℕ) → flat_map (below_place room s flights first others) places ≡ flat_map (below room s flights first others) (filter (may_follow s (last_of first others).flight) flights)

@@ -1,8 +1,10 @@
 -- The departures of a timetable as slots: where and when, as one number, and which flight.
-use Rattle.std.specs.Prelude.{◌≡◌, Bool, true, ◌&&◌, int_le, ℕ, suc, ◌+◌, ◌*◌, ◌≤◌, ◌<◌, ℤ, pos, ◌+ℤ◌, ◌≤ℤ◌, List, [], ◌∷◌, length, get_or, IsPermutation}
+use Rattle.std.specs.Prelude.{◌≡◌, Bool, true, ◌&&◌, int_le, int_lt, if◌then◌else◌, ℕ, suc, ◌+◌, ◌*◌, ◌≤◌, ◌<◌, ℤ, pos, ◌+ℤ◌, ◌≤ℤ◌, List, [], ◌∷◌, length, get_or, IsPermutation}
 use Rattle.crew_time.specs.Instant.{IsInstant}
 use Rattle.crew_flights.specs.Codes.{is_code}
 use Rattle.crew_flights.specs.declared.flight.Flight.{Flight}
+use Rattle.crew_rules.specs.declared.settings.Settings.{Settings}
+use Rattle.crew_pairing.specs.Legality.{may_follow}
 use Rattle.crew_resource.specs.Members.{Each}
 use Rattle.crew_duty.specs.declared.departures.Slot.{Slot}
 
@@ -40,3 +42,14 @@ pub record IsIndex (flights : List Flight) (slots : List Slot) : Type 0 where
   pub named : Each IsNamed flights
   pub all : IsPermutation (slots_from 0 flights) slots
   pub ascending : Ascend slots
+
+-- a flight that may follow another, and departs by a minute
+abbrev pub follows_by : Settings → ℤ → Flight → Flight → Bool
+follows_by s latest before next = may_follow s before next && int_le next.dep latest
+
+abbrev pub earlier : ℤ → ℤ → ℤ
+earlier a b = if int_lt a b then a else b
+
+-- a minute of an instant
+abbrev pub IsTime : ℤ → Type 0
+IsTime = IsInstant

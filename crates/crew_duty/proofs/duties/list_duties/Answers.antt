@@ -1,69 +1,78 @@
-use Rattle.std.proofs.Common.{◌≡◌, ◌≤◌, ◌<◌, ◌∙◌, List, ap, length, subst}
+use Rattle.std.proofs.Common.{◌≡◌, ◌≤◌, ◌<◌, ◌∙◌, List, ap, length, subst, sum, arith}
 use Rattle.crew_flights.specs.declared.flight.Flight.{Flight}
 use Rattle.crew_pairing.specs.Duties.{flights_of}
 use Rattle.crew_pairing.specs.Machinery.Listing.{all_duties}
-use Rattle.crew_duty.specs.Machinery.Plans.{AreNext, rows}
+use Rattle.crew_duty.specs.Machinery.Plans.{AreNext}
+use Rattle.crew_duty.specs.Machinery.Slots.{IsIndex}
+use Rattle.crew_duty.proofs.Counts.{counts-few, counts-over}
 use Rattle.crew_pairing.proofs.InOrder.{all-duties}
-use Rattle.crew_duty.proofs.Parts.{no-more}
 use Rattle.crew_pairing.proofs.Timetables.{flights-few, flights-of-timetable}
 use Rattle.crew_duty.proofs.duties.list_duties.Goals as goal
 
-pub next_places-requires-clause-few : goal.next_places-requires-clause-few
-next_places-requires-clause-few g c = rw (c.deref.ensures.value, c.in_ok-flights.ensures.held) (flights-few c.args.timetable.now c.held_flights.ensures.sound)
+pub index_of-requires : goal.index_of-requires
+index_of-requires g c = rw (c.deref.ensures.value, c.in_ok-flights.ensures.held) (flights-few c.args.timetable.now c.held_flights.ensures.sound)
 
-pub are_too_many-requires-after_bounds : goal.are_too_many-requires-after_bounds
-are_too_many-requires-after_bounds g c =
+pub count_all-requires-after_bounds : goal.count_all-requires-after_bounds
+count_all-requires-after_bounds g c =
     let s = c.args.settings.now in
     let t = c.args.timetable.now in
     let held = c.in_ok-flights.ensures.held in
-    let fs = c.deref-2.ensures.value ∙ held in
+    let fs = c.deref-4.ensures.value ∙ held in
+    let index = c.in_ok-slots.ensures in
     let next = c.in_ok-next.ensures in
-    let same : c.deref.result.now ≡ flights_of t = c.deref.ensures.value ∙ held in
+    let first : c.deref.result.now ≡ flights_of t = c.deref.ensures.value ∙ held in
+    let second : c.deref-2.result.now ≡ flights_of t = c.deref-2.ensures.value ∙ held in
     λ κs q. record {
       checked = c.requires;
       are_flights = rw fs (flights-of-timetable t c.held_flights.ensures.sound);
       few = rw fs (flights-few t c.held_flights.ensures.sound);
-      are_next = rw (fs, c.deref-3.ensures.value) (subst (λ (l : List Flight). AreNext s l l (rows c.in_ok-next.next.items)) same next);
+      index = rw (fs, c.deref-5.ensures.value) (subst (λ (l : List Flight). IsIndex l c.in_ok-slots.slots.items) first index);
+      are_next = rw (fs, c.deref-6.ensures.value) (subst (λ (l : List Flight). AreNext s l l c.in_ok-next.next.items) second next);
     }
 
-pub list_all-requires-after_bounds : goal.list_all-requires-after_bounds
-list_all-requires-after_bounds g c =
+pub returns-then-total-gt-DUTIES-clause-too_many : goal.returns-then-total-gt-DUTIES-clause-too_many
+returns-then-total-gt-DUTIES-clause-too_many g c =
     let s = c.args.settings.now in
     let t = c.args.timetable.now in
-    let held = c.in_ok-flights.ensures.held in
-    let fs = c.deref-2.ensures.value ∙ held in
-    let next = c.in_ok-next.ensures in
-    let same : c.deref.result.now ≡ flights_of t = c.deref.ensures.value ∙ held in
-    λ κs q. record {
-      checked = c.requires;
-      are_flights = rw fs (flights-of-timetable t c.held_flights.ensures.sound);
-      few = rw fs (flights-few t c.held_flights.ensures.sound);
-      are_next = rw (fs, c.deref-3.ensures.value) (subst (λ (l : List Flight). AreNext s l l (rows c.in_ok-next.next.items)) same next);
-    }
-
-pub returns-then-branch-clause-too_many : goal.returns-then-branch-clause-too_many
-returns-then-branch-clause-too_many g c =
-    let s = c.args.settings.now in
-    let t = c.args.timetable.now in
-    let same : c.deref-2.result.now ≡ flights_of t = c.deref-2.ensures.value ∙ c.in_ok-flights.ensures.held in
-    let many = c.in_ok-are_too_many.ensures.0 c.if-branch.true in
+    let same : c.deref-4.result.now ≡ flights_of t = c.deref-4.ensures.value ∙ c.in_ok-flights.ensures.held in
+    let more : 200_000 < sum c.in_ok-counts.counts.items = omega (arith, ap sum c.deref-7.ensures.value, c.total_of-total.ensures, c.if-total-gt-DUTIES.true) in
+    let many = counts-over s c.deref-4.result.now c.in_ok-counts.counts.items c.in_ok-counts.ensures more in
     λ e. (
       all_duties s (flights_of t),
       all-duties s (flights_of t) (flights-of-timetable t c.held_flights.ensures.sound),
       subst (λ (fs : List Flight). 200_000 < length (all_duties s fs)) same many,
     )
 
+pub list_all-requires-clause-plan : goal.list_all-requires-clause-plan
+list_all-requires-clause-plan g c =
+    let s = c.args.settings.now in
+    let t = c.args.timetable.now in
+    let held = c.in_ok-flights.ensures.held in
+    let fs = c.deref-4.ensures.value ∙ held in
+    let index = c.in_ok-slots.ensures in
+    let next = c.in_ok-next.ensures in
+    let first : c.deref.result.now ≡ flights_of t = c.deref.ensures.value ∙ held in
+    let second : c.deref-2.result.now ≡ flights_of t = c.deref-2.ensures.value ∙ held in
+    λ κs q. record {
+      checked = c.requires;
+      are_flights = rw fs (flights-of-timetable t c.held_flights.ensures.sound);
+      few = rw fs (flights-few t c.held_flights.ensures.sound);
+      index = rw (fs, c.deref-5.ensures.value) (subst (λ (l : List Flight). IsIndex l c.in_ok-slots.slots.items) first index);
+      are_next = rw (fs, c.deref-6.ensures.value) (subst (λ (l : List Flight). AreNext s l l c.in_ok-next.next.items) second next);
+    }
+
 pub returns-clause-listed : goal.returns-clause-listed
 returns-clause-listed g c =
     let s = c.args.settings.now in
     let t = c.args.timetable.now in
-    let same : c.deref-2.result.now ≡ flights_of t = c.deref-2.ensures.value ∙ c.in_ok-flights.ensures.held in
+    let same : c.deref-4.result.now ≡ flights_of t = c.deref-4.ensures.value ∙ c.in_ok-flights.ensures.held in
     let listed : c.in_ok-list.list.items ≡ all_duties s (flights_of t) = c.in_ok-list.ensures ∙ ap (λ (fs : List Flight). all_duties s fs) same in
     rw listed (all-duties s (flights_of t) (flights-of-timetable t c.held_flights.ensures.sound))
 
 pub returns-clause-few : goal.returns-clause-few
 returns-clause-few g c =
-    let s = c.args.settings.now in
-    let n = length (all_duties s c.deref-2.result.now) in
-    let few : n ≤ 200_000 = no-more n c.in_ok-are_too_many.field-0 c.if-branch.false c.in_ok-are_too_many.ensures.1 in
-    rw c.in_ok-list.ensures few
+    let counts = c.in_ok-counts.counts.items in
+    let seen = ap sum c.deref-7.ensures.value in
+    let few : sum counts ≤ 200_000 = omega (arith, seen, c.total_of-total.ensures, c.if-total-gt-DUTIES.false) in
+    let all = counts-few c.args.settings.now c.deref-4.result.now counts c.in_ok-counts.ensures few in
+    omega (arith, ap length c.in_ok-list.ensures, all, few)

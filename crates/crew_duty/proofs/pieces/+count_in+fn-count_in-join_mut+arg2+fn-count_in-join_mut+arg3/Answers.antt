@@ -1,0 +1,17 @@
+use Rattle.std.proofs.Common.{rules, ◌≡◌, ◌+◌, ◌/◌, ◌++◌, length, subst, ℕ}
+use Rattle.crew_duty.specs.Machinery.Counts.{AreCounts}
+use Rattle.crew_pairing.specs.Machinery.Listing.{from_place}
+use Rattle.crew_duty.proofs.Counts.{counts-append}
+use Rattle.crew_duty.proofs.pieces.+count_in+fn-count_in-join_mut+arg2+fn-count_in-join_mut+arg3.Goals as goal
+
+pub returns : goal.returns
+returns g t c =
+    let F = from_place c.args.plan.now.settings.now c.args.plan.now.flights.now in
+    let from = c.args.from in
+    let m = length c.split_at_mut-front.result.0.now in
+    let n = length c.split_at_mut-front.result.1.now in
+    let front : AreCounts F from m c.front-1.given.0 = search rules in
+    let middle : m ≡ length c.args.counts.now / 2 = search rules in
+    let back : AreCounts F (from + length c.args.counts.now / 2) n c.back-1.given.0 = search rules in
+    let whole : m + n ≡ length c.args.counts.now = search rules in
+    subst (λ (k : ℕ). AreCounts F from k (c.front-1.given.0 ++ c.back-1.given.0)) whole (counts-append F from m n c.front-1.given.0 c.back-1.given.0 front (rw middle back))

@@ -1,6 +1,0 @@
-use Rattle.std.proofs.Common.{take}
-use Rattle.crew_duty.specs.Machinery.Plans.{AreNext, rows}
-use Rattle.crew_duty.proofs.search.next_places.Given as goal
-
-abbrev pub invariant-loop-flight : goal.invariant-loop-flight
-invariant-loop-flight l = AreNext l.settings l.flights (take l.flight-index l.flights) (rows l.next.items)

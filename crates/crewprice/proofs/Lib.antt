@@ -1,0 +1,2 @@
+pub mod CommandFacts
+pub mod OptionFacts

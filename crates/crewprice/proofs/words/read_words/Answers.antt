@@ -1,0 +1,56 @@
+use Rattle.std.proofs.Common.{◌≡◌, ◌∙◌, [], List, true, map, ap, refl, sym, subst, inl, Ok, Err, Result}
+use Rattle.std.specs.Result.{IsErrAnd}
+use Rattle.std.specs.Option.{option_map_or}
+use Rattle.clap.specs.Faults.{fault_of, is_simple_and_free}
+use Rattle.clap.specs.Kinds.{HasKind, Kinds}
+use Rattle.clap.specs.Words.{App, FailsBy, Row, Text, is_simple, subcommand_of}
+use Rattle.clap.specs.declared.error.Error.{Error}
+use Rattle.clap.proofs.OnLiterals.{clap_on_literals}
+use Rattle.crew_rules.specs.declared.settings.Settings.{Settings}
+use Rattle.crewprice.specs.Options.{settings_in}
+use Rattle.crewprice.specs.Words.{faults_in, option_rule, options_in, program, run_up_to}
+use Rattle.crewprice.proofs.words.read_words.Goals as goal
+
+simple : is_simple program ≡ true
+unfolding program run_up_to option_rule clap_on_literals
+simple = refl
+
+free : is_simple_and_free program ≡ true
+unfolding program run_up_to option_rule clap_on_literals
+free = refl
+
+-- an error that is handed on is of the same kinds
+handed : (kinds : Kinds) (r : Result Settings Error) (e : Error) → IsErrAnd r (λ x. x ≡ e) → HasKind kinds e → FailsBy kinds r
+handed kinds (Ok s) e is has = absurd is
+handed kinds (Err x) e is has = subst (HasKind kinds) (sym is) has
+
+-- what the parser says of a command that is `program`
+kinds-at : (a : App) (words : List Text) (e : Error) → a ≡ program → (is_simple_and_free a ≡ true → HasKind (fault_of a words) e) → HasKind (faults_in words) e
+unfolding faults_in
+kinds-at a words e is has = subst (λ (b : App). HasKind (fault_of b words) e) is (has (ap is_simple_and_free is ∙ free))
+
+none-at : (a : App) (words : List Text) → a ≡ program → (is_simple_and_free a ≡ true → fault_of a words ≡ []) → faults_in words ≡ []
+unfolding faults_in
+none-at a words is has = sym (ap (λ (b : App). fault_of b words) is) ∙ has (ap is_simple_and_free is ∙ free)
+
+options-at : (a : App) (words : List Text) → a ≡ program → option_map_or (λ (p : Text × List Row). p.1) (subcommand_of a words) [] ≡ options_in words
+unfolding options_in
+options-at a words is = ap (λ (b : App). option_map_or (λ (p : Text × List Row). p.1) (subcommand_of b words) []) is
+
+pub returns-in_err-program-clause-fails : goal.returns-in_err-program-clause-fails
+returns-in_err-program-clause-fails g c = handed _ c.from_residual-in_err-program.result c.in_err-program.field-0.0 c.from_residual-in_err-program.ensures.1
+    (inl c.in_err-program.ensures.memory)
+
+pub returns-in_err-matches-clause-fails : goal.returns-in_err-matches-clause-fails
+returns-in_err-matches-clause-fails g c = handed _ c.from_residual-in_err-matches.result c.in_err-matches.field-0.0 c.from_residual-in_err-matches.ensures.1
+    (kinds-at _ (map g.S.AsStr.text c.args.words.now) c.in_err-matches.field-0.0 c.in_ok-program.ensures.shape c.in_err-matches.ensures.kinds)
+
+pub returns-clause-settings : goal.returns-clause-settings
+returns-clause-settings g c =
+    let words = map g.S.AsStr.text c.args.words.now in
+    let is = c.in_ok-program.ensures.shape in
+    let rows = (c.in_ok-matches.ensures.matches (ap is_simple is ∙ simple)).1 in
+    c.settings_found.ensures ∙ ap settings_in (ap (λ o. option_map_or (λ (p : Text × List Row). p.1) o []) rows ∙ options-at _ words is)
+
+pub returns-clause-fails : goal.returns-clause-fails
+returns-clause-fails g c = none-at _ (map g.S.AsStr.text c.args.words.now) c.in_ok-program.ensures.shape c.in_ok-matches.ensures.kinds

@@ -1,0 +1,6 @@
+use Rattle.crewprice.specs.Words.{run_up_to}
+use Rattle.crewprice.proofs.words.run_command.Goals as goal
+
+pub with_options-requires-clause-bare : goal.with_options-requires-clause-bare
+unfolding run_up_to
+with_options-requires-clause-bare c = rw c.next_line_help-run.ensures (rw c.after_help.ensures (rw c.about.ensures c.new.ensures.app))

@@ -1,0 +1,10 @@
+use Rattle.std.proofs.Common.{arith}
+use Rattle.crewprice.proofs.CommandFacts.{command-more, globals-none}
+use Rattle.crewprice.proofs.words.with_options.Goals as goal
+
+pub loop-i-preserved : goal.loop-i-preserved
+loop-i-preserved c = (
+  command-more c.args.options.now c.loop-i.i _ c.loop-i.command c.in_ok-command.command c.arg_of.result c.arg_of.ensures.rule c.arg_of.ensures.local
+      c.in_ok-command.ensures c.loop-i.invariant.0 (omega arith) c.requires.named,
+  globals-none c.loop-i.command c.in_ok-command.command c.arg_of.result c.loop-i.invariant.1 c.arg_of.ensures.local c.in_ok-command.ensures,
+)

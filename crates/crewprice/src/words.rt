@@ -1,0 +1,113 @@
+//! What the words of the command line ask for.
+
+ghost use Rattle.std.specs.Prelude.{◌≡◌, [], false, map, IfErr, IfOk, length};
+ghost use Rattle.std.specs.Option.{option_map_or};
+ghost use Rattle.clap.specs.Words.{FailsBy, app_of, kind_of, rule_of, subcommand_rows_of};
+ghost use Rattle.clap.specs.declared.builder.command.Command.TheViews.{out-Command as fields_of};
+ghost use Rattle.crewprice.specs.Options.{settings_in};
+ghost use Rattle.crewprice.specs.Words as Spec;
+
+use crate::options::{OPTIONS, SettingOption, help_texts, settings_from};
+use clap::error::ErrorKind;
+use clap::{Arg, ArgAction, ArgMatches, Command, Error};
+use crew_rules::Settings;
+use std::alloc::Global;
+use std::convert::AsStr;
+
+/// The version of the program.
+pub static VERSION: &str = "1.0.0";
+
+// What holds of each duty whatever the settings are, what pay is counted in, and how a run ends.
+static RULES: &str =
+    "A duty has at most 8 legs. By the local clock of its first airport at report, Table A limits its flight time and Table B its flight duty period, for a crew of two pilots (14 CFR 117.11, 117.13).\nPay is counted in points: a minute of flight pays 14, so 840 points are a paid hour.\nSettings are tested in the order of their numbers; 'bad setting N' names the first that is out of its range.\nStatus: 0 done, 1 read or write fault, 2 fault in these words, 3 out of memory, 4 a setting out of its range, 5 strange log.";
+
+// An option of a setting: a whole number from 0 to 1,000,000.
+fn arg_of<'a>(alloc: Global, option: &SettingOption, help: &'a str) -> Arg<'a>
+    ensures rule { rule_of result ≡ Spec.option_rule option.now.name.now }
+    ensures local { result.global ≡ false }
+{
+    Arg::new(alloc, option.name)
+        .long(option.name)
+        .value_name(option.unit)
+        .help(help)
+        .action(ArgAction::Set)
+        .value_parser(clap::value_parser!(u32).range(0..=1_000_000))
+}
+
+// `run` with these options, which have every name.
+fn with_options<'a>(
+    alloc: Global,
+    run: Command<'a>,
+    options: &[SettingOption],
+    texts: &'a [String],
+) -> Result<Command<'a>, Error>
+    requires bare { app_of run ≡ Spec.run_up_to 0 }
+    requires local { (fields_of run).has_globals ≡ false }
+    requires named { map (λ o. o.name.now) options.now ≡ Spec.names }
+    requires texts { length texts.now ≡ length options.now }
+    ensures shape { IfOk result (λ r. app_of r ≡ Spec.run_up_to (length options.now)) }
+    ensures local { IfOk result (λ r. (fields_of r).has_globals ≡ false) }
+    ensures memory { IfErr result (λ e. kind_of e ≡ ErrorKind.OutOfMemory) }
+{
+    let mut command = run;
+    for (i, option) in options.iter().enumerate() {
+        command = command.arg(arg_of(alloc, option, texts[i].as_str()))?;
+    }
+    Ok(command)
+}
+
+// The subcommand `run`, with each setting as an option.
+fn run_command<'a>(alloc: Global, texts: &'a [String]) -> Result<Command<'a>, Error>
+    requires { length texts.now ≡ 14 }
+    ensures shape { IfOk result (λ r. app_of r ≡ Spec.run_up_to 14) }
+    ensures local { IfOk result (λ r. (fields_of r).has_globals ≡ false) }
+    ensures memory { IfErr result (λ e. kind_of e ≡ ErrorKind.OutOfMemory) }
+{
+    let run = Command::new(alloc, "run")
+        .about(
+            "Prices a session: reads records on standard input, one a line, and writes answers to standard output",
+        )
+        .after_help(RULES)
+        .next_line_help(true);
+    with_options(alloc, run, &OPTIONS, texts)
+}
+
+// The whole command line.
+fn program<'a>(alloc: Global, texts: &'a [String]) -> Result<Command<'a>, Error>
+    requires { length texts.now ≡ 14 }
+    ensures shape { IfOk result (λ r. app_of r ≡ Spec.program) }
+    ensures memory { IfErr result (λ e. kind_of e ≡ ErrorKind.OutOfMemory) }
+{
+    Ok(
+        Command::new(alloc, "crewprice")
+            .about(
+                "Finds the legal crew pairing of least reduced cost, again after each change of flights and prices",
+            )
+            .version(VERSION)
+            .subcommand_required(true)
+            .disable_help_subcommand(true)
+            .subcommand(run_command(alloc, texts)?)?,
+    )
+}
+
+// The settings of the subcommand that was found.
+fn settings_found(matches: &ArgMatches<'_>) -> Settings
+    ensures { result ≡ settings_in (option_map_or (λ p. p.1) (subcommand_rows_of matches.now) []) }
+{
+    match matches.subcommand() {
+        Some((_, found)) => settings_from(found),
+        None => Settings::standard(),
+    }
+}
+
+/// The settings that these words ask for, of which the first is the program's own name; or the
+/// parser's error, which is a fault in the words, their request for help or the version, or want of
+/// memory.
+pub fn read_words<S: AsStr>(alloc: Global, words: &[S]) -> Result<Settings, Error>
+    ensures settings { IfOk result (λ s. s ≡ Spec.settings_of (map S.text words.now)) }
+    ensures fails { FailsBy (Spec.faults_in (map S.text words.now)) result }
+{
+    let texts = help_texts(alloc)?;
+    let matches = program(alloc, texts.as_slice())?.try_get_matches_from(words)?;
+    Ok(settings_found(&matches))
+}
