@@ -1,5 +1,5 @@
 -- Partial pairings of a base, and pairings, over lists of legal duties: 14 CFR 117.25(e) (10 consecutive hours of rest before a
--- flight duty period, measured from release), 117.25(b) (30 consecutive hours free from duty), 117.23(b)(1) and (c) (limits on
+-- flight duty period, measured from release), 117.25(b) (30 consecutive hours free from duty, on the premise stated at the caps), 117.23(b)(1) and (c) (limits on
 -- flight time and flight duty periods within consecutive hours).
 -- A list of duties stands here as its first duty and the list of the others.
 use Rattle.std.specs.Prelude.{◌≡◌, ℕ, Bool, true, ◌&&◌, int_le, ℤ, pos, ◌-ℤ◌, List, [], ◌∷◌, length}
@@ -41,8 +41,11 @@ abbrev pub minutes_away : List Duty → ℤ
 minutes_away [] = pos 0
 minutes_away (first ∷ others) = (last_duty first others).release -ℤ first.report
 
--- the caps on totals. A pairing spans at most 138 hours, so that one window of 168 consecutive hours covers it: 117.23(c) caps
--- its flight duty minutes and 117.23(b)(1) its flight minutes; and it ends before the 30 hours of 117.25(b) are due
+-- the caps on totals. A pairing spans at most 138 hours, so one window of 168 consecutive hours covers it, and one of 672. For a crew
+-- that has done no other work in these windows, 117.23(c) caps its flight duty minutes and 117.23(b)(1) its flight minutes.
+-- 117.25(b) wants 30 consecutive hours free from all duty within the 168 hours before each report. It holds for a crew that comes to
+-- the pairing off 30 such hours which end at its first report: they lie within the 168 hours before a report that is at most 138
+-- hours later. That premise is the planner's, and no clause tests it
 abbrev pub is_within_caps : Settings → List Duty → Bool
 is_within_caps s duties =
     int_le (total (λ d. d.fdp) duties) (pos s.fdp_cap)

@@ -24,7 +24,7 @@ use Rattle.crew_pairing.specs.declared.duty.Duty.{Duty}
 use Rattle.crew_pairing.proofs.Times.{AllSound, ends-later, flown-total}
 use Rattle.crew_pairing.proofs.Timetables.{flights-of-timetable}
 use Rattle.crew_session.specs.Bests.{IsBest, IsPairing, away_of, offer_cmp, offer_total, priced}
-use Rattle.crew_session.specs.Offers.{IsBestAmong, IsBounded, IsOfferOf, chosen, least_of}
+use Rattle.crew_session.specs.Machinery.Offers.{IsBestAmong, IsBounded, IsOfferOf, chosen, least_of}
 use Rattle.crew_session.specs.declared.best.Best.{Best}
 
 -- ---- members

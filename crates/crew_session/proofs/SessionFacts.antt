@@ -18,7 +18,7 @@ use Rattle.crew_pairing.specs.Duties.{HasTooMany}
 use Rattle.crew_session.specs.Engines.{AreTooMany, BeginsWith, IsSubmitFault, engine_number}
 use Rattle.crew_session.specs.declared.engine_fault.EngineFault.{EngineFault}
 use Rattle.crew_session.specs.declared.engine_fault.EngineFault.TheVariants.{TooManyDuties, LastVersion, SeatFull, Gap, OtherLog, NoView, Memory}
-use Rattle.crew_session.specs.Journals.{Came, HasEnded, IsInStep, since, state_of, zones_of}
+use Rattle.crew_session.specs.Machinery.Journals.{Came, HasEnded, IsInStep, since, state_of, zones_of}
 use Rattle.crew_session.specs.Lines.{refused_line, refused_lines, version_line}
 use Rattle.crew_session.specs.Session.{Does, Obeys, Settles, State, Writes, entry_count, refuse, start, submit, submit_at, with_entry}
 use Rattle.crew_session.specs.Versions.{IsRight, Snapshot, entry_of, opening, timetable_of, verdicts_of}

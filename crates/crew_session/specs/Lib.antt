@@ -2,11 +2,9 @@ pub mod Audits
 pub mod Bests
 pub mod Engines
 pub mod Faults
-pub mod Journals
 pub mod Lines
-pub mod Offers
-pub mod Plains
 pub mod Rows
 pub mod Session
 pub mod Verdicts
 pub mod Versions
+pub mod Machinery

@@ -5,7 +5,7 @@ ghost use Rattle.crew_rules.specs.Settings.{IsChecked};
 ghost use Rattle.crew_pairing.specs.Duties.{AreDuties, HasFew};
 ghost use Rattle.crew_session.specs.Bests.{IsBest, offer_cmp};
 ghost use Rattle.crew_session.specs.Engines.{IsSearchFault};
-ghost use Rattle.crew_session.specs.Offers.{IsBounded, IsOfferOf, least_of, lesser_of};
+ghost use Rattle.crew_session.specs.Machinery.Offers.{IsBounded, IsOfferOf, least_of, lesser_of};
 
 use crate::best::Best;
 use crate::engine_fault::EngineFault;

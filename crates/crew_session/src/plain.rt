@@ -24,7 +24,7 @@ pub struct Plain {
 }
 
 impl Plain {
-    ghost use Rattle.crew_session.specs.Plains.{shown_by, taken_by};
+    ghost use Rattle.crew_session.specs.Machinery.Plains.{shown_by, taken_by};
 
     /// An engine that has taken no edit, with version 0 under these settings.
     pub fn new(alloc: Global, settings: &Settings) -> Self
@@ -43,7 +43,7 @@ impl Plain {
 const EDITS: usize = 1_000_000;
 
 impl Engine for Plain {
-    ghost use Rattle.crew_session.specs.Plains.{shown_by, taken_by};
+    ghost use Rattle.crew_session.specs.Machinery.Plains.{shown_by, taken_by};
 
     ghost entries = { taken_by };
 

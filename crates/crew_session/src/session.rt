@@ -10,7 +10,7 @@ ghost use Rattle.crew_records.specs.Commands.{IsDated};
 ghost use Rattle.crew_pairing.specs.Duties.{HasTooMany};
 ghost use Rattle.crew_session.specs.Engines.{AreTooMany, engine_number};
 ghost use Rattle.crew_session.specs.Faults.{IsLineFault, IsRecordFault, IsSessionFault};
-ghost use Rattle.crew_session.specs.Journals.{Came, HasEnded, IsInStep, state_of, zones_of};
+ghost use Rattle.crew_session.specs.Machinery.Journals.{Came, HasEnded, IsInStep, state_of, zones_of};
 ghost use Rattle.crew_session.specs.Lines.{refused_line, refused_lines, version_line};
 ghost use Rattle.crew_session.specs.Rows.{IsOpen, records_of, rows_left};
 ghost use Rattle.crew_session.specs.Session.{IsSessionText, Obeys, Writes};

@@ -24,7 +24,7 @@ pub(crate) struct Zones {
 
 impl Zones {
     ghost use Rattle.std.specs.FinMap as map;
-    ghost use Rattle.crew_session.specs.Journals.{zone_fault, zones_of};
+    ghost use Rattle.crew_session.specs.Machinery.Journals.{zone_fault, zones_of};
 
     // No zones.
     pub(crate) fn new(alloc: Global) -> Self

@@ -3,21 +3,17 @@
 use crew_flights::{Code, Edit, Flight, FlightId, Verdict};
 use crew_rules::Settings;
 use crew_session::{Engine, EngineFault, Plain, Version};
-use crew_time::{ClockMinute, Minute};
+use crew_time::{ClockMinute, read_minute};
 use std::test::Fail;
 
-// A flight of some minutes, after midday of July 1st 2025 in UTC.
-fn flight(id: u32, from: Code, to: Code, after: i64) -> Result<Flight, Fail> {
-    let minutes = if id == 101 { 70 } else { 75 };
-    let midday = crew_time::read_minute(b"2025-07-01T12:00")?;
-    let dep = Minute::new(midday.get() + after).ok_or("a departure")?;
-    let arr = Minute::new(midday.get() + after + minutes).ok_or("an arrival")?;
+// A flight between two instants.
+fn flight(id: u32, from: Code, to: Code, dep: &[u8], arr: &[u8]) -> Result<Flight, Fail> {
     Ok(Flight {
         id: FlightId::new(id).ok_or("a number")?,
         from,
         to,
-        dep,
-        arr,
+        dep: read_minute(dep)?,
+        arr: read_minute(arr)?,
         report_clock: ClockMinute::new(420).ok_or("a clock")?,
         price: 0,
     })
@@ -60,8 +56,8 @@ fn copies(rt: HostRuntime) -> Result<(), Fail> {
     let jfk = Code::new(*b"JFK").ok_or("a code")?;
     let bos = Code::new(*b"BOS").ok_or("a code")?;
     assert_eq!(rt; refusal(&mut engine, jfk), None);
-    let out = flight(101, jfk, bos, 0)?;
-    let back = flight(102, bos, jfk, 120)?;
+    let out = flight(101, jfk, bos, b"2025-07-01T12:00", b"2025-07-01T13:10")?;
+    let back = flight(102, bos, jfk, b"2025-07-01T14:00", b"2025-07-01T15:15")?;
     assert!(rt; engine.submit(Edit::AddFlight(out)).is_ok());
     engine.settle(&rt)?;
     assert!(rt; engine.submit(Edit::AddFlight(back)).is_ok());

@@ -2,7 +2,7 @@ use Rattle.std.proofs.Common.{◌≡◌, ◌∙◌, sym, subst, take, List}
 use Rattle.std.proofs.lemmas.List.{take_more, take_all}
 use Rattle.crew_pairing.specs.declared.duty.Duty.{Duty}
 use Rattle.crew_resource.specs.Members.{Member}
-use Rattle.crew_session.specs.Offers.{IsBestAmong}
+use Rattle.crew_session.specs.Machinery.Offers.{IsBestAmong}
 use Rattle.crew_session.proofs.OfferFacts.{among-more, best-of-all, bounded-member, member-at, no-base-held}
 use Rattle.crew_session.proofs.offers.best_of.Goals as goal
 

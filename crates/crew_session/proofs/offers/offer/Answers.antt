@@ -1,4 +1,4 @@
-use Rattle.std.proofs.Common.{◌≡◌, ◌≤◌, ◌≤ℤ◌, ◌-ℤ◌, ◌++◌, ◌∷◌, [], ℕ, List, ℤ, pos, negsuc, ap, sym, ◌∙◌, arith}
+use Rattle.std.proofs.Common.{◌≡◌, ◌≤◌, ◌≤ℤ◌, ◌-ℤ◌, ◌++◌, ◌∷◌, [], ℕ, List, ℤ, pos, negsuc, ap, sym, ◌∙◌, arith, rules}
 use Rattle.std.specs.Prelude.{false, int_lt, not}
 use mir.Val.{of_z, to_z}
 use Rattle.std.specs.Int.{w32, w64}
@@ -30,8 +30,8 @@ price-kept p a b = (omega (arith, ints), omega (arith, ints))
 pub returns-then-away-from : goal.returns-then-away-from
 returns-then-away-from c = λ price p.
     let d = c.args.duty.now in
-    let release : c.from.result ≡ d.release = grind (arith, ints, to_z-of_z, c.from.ensures) in
-    let report : c.from-2.result ≡ d.report = grind (arith, ints, to_z-of_z, c.from-2.ensures) in
+    let release : c.from.result ≡ d.release = c.from.ensures ∙ to_z-of_z w32 d.release (search rules) in
+    let report : c.from-2.result ≡ d.report = c.from-2.ensures ∙ to_z-of_z w32 d.report (search rules) in
     let away : to_z w64 (of_z w64 (to_z w64 (of_z w64 c.from.result) -ℤ to_z w64 (of_z w64 c.from-2.result))) ≡ away_of d = away-kept c.from.result c.from-2.result d.release d.report c.from.ensures c.from-2.ensures release report in
     let most = p.away in
     let cap : c.from-7.result ≡ pos c.args.settings.now.away_cap = c.from-7.ensures in
@@ -40,8 +40,8 @@ returns-then-away-from c = λ price p.
 pub pairing_pay-pay-requires-clause-away : goal.pairing_pay-pay-requires-clause-away
 pairing_pay-pay-requires-clause-away c =
     let d = c.args.duty.now in
-    let release : c.from.result ≡ d.release = grind (arith, ints, to_z-of_z, c.from.ensures) in
-    let report : c.from-2.result ≡ d.report = grind (arith, ints, to_z-of_z, c.from-2.ensures) in
+    let release : c.from.result ≡ d.release = c.from.ensures ∙ to_z-of_z w32 d.release (search rules) in
+    let report : c.from-2.result ≡ d.report = c.from-2.ensures ∙ to_z-of_z w32 d.report (search rules) in
     let away : to_z w64 (of_z w64 (to_z w64 (of_z w64 c.from.result) -ℤ to_z w64 (of_z w64 c.from-2.result))) ≡ away_of d = away-kept c.from.result c.from-2.result d.release d.report c.from.ensures c.from-2.ensures release report in
     let close = capped c.args.settings.now.away_cap c.from-7.result _ (away_of d) c.from-7.ensures away (omega (arith, c.requires.checked.away_cap_most)) c.if-away-from.false in
     record { from = omega (arith, ints, away, c.requires.bounded.away); to = omega (arith, ints, away, close, c.requires.checked.away_cap_most) }
@@ -50,11 +50,14 @@ pub cost_of-requires-clause-pay : goal.cost_of-requires-clause-pay
 cost_of-requires-clause-pay c =
     let s = c.args.settings.now in
     let d = c.args.duty.now in
-    let release : c.from.result ≡ d.release = grind (arith, ints, to_z-of_z, c.from.ensures) in
-    let report : c.from-2.result ≡ d.report = grind (arith, ints, to_z-of_z, c.from-2.ensures) in
+    let release : c.from.result ≡ d.release = c.from.ensures ∙ to_z-of_z w32 d.release (search rules) in
+    let report : c.from-2.result ≡ d.report = c.from-2.ensures ∙ to_z-of_z w32 d.report (search rules) in
     let away : to_z w64 (of_z w64 (to_z w64 (of_z w64 c.from.result) -ℤ to_z w64 (of_z w64 c.from-2.result))) ≡ away_of d = away-kept c.from.result c.from-2.result d.release d.report c.from.ensures c.from-2.ensures release report in
-    let close : away_of d ≤ℤ pos 8_280 = grind (arith, ints, to_z-of_z, c.from-7.ensures, c.if-away-from.false, away) in
-    let short : d.fly ≤ℤ pos 6_000 = grind (arith, ints, to_z-of_z, c.from-5.ensures, c.from-6.ensures, c.if-from-2.false) in
+    let within = capped s.away_cap c.from-7.result _ (away_of d) c.from-7.ensures away (omega (arith, c.requires.checked.away_cap_most)) c.if-away-from.false in
+    let close : away_of d ≤ℤ pos 8_280 = omega (arith, ints, within, c.requires.checked.away_cap_most) in
+    let fly : to_z w64 (of_z w64 c.from-5.result) ≡ d.fly = grind (arith, ints, to_z-of_z, c.from-5.ensures) in
+    let flown = capped s.fly_cap c.from-6.result _ d.fly c.from-6.ensures fly (omega (arith, c.requires.checked.fly_cap_most)) c.if-from-2.false in
+    let short : d.fly ≤ℤ pos 6_000 = omega (arith, ints, flown, c.requires.checked.fly_cap_most) in
     let small = c.requires.bounded.pay close short in
     let pay : c.from-8.result ≡ d.pay = grind (arith, ints, to_z-of_z, c.from-8.ensures) in
     let paid : c.pairing_pay-pay.result ≡ pairing_pay s d.pay (away_of d) 1 = grind (arith, to_z-of_z, c.pairing_pay-pay.ensures, away, pay) in
@@ -73,8 +76,8 @@ returns c =
     let price = c.in-Some.price in
     let fdp : to_z w64 (of_z w64 c.from-3.result) ≡ d.fdp = grind (arith, ints, to_z-of_z, c.from-3.ensures) in
     let fly : to_z w64 (of_z w64 c.from-5.result) ≡ d.fly = grind (arith, ints, to_z-of_z, c.from-5.ensures) in
-    let release : c.from.result ≡ d.release = grind (arith, ints, to_z-of_z, c.from.ensures) in
-    let report : c.from-2.result ≡ d.report = grind (arith, ints, to_z-of_z, c.from-2.ensures) in
+    let release : c.from.result ≡ d.release = c.from.ensures ∙ to_z-of_z w32 d.release (search rules) in
+    let report : c.from-2.result ≡ d.report = c.from-2.ensures ∙ to_z-of_z w32 d.report (search rules) in
     let away : to_z w64 (of_z w64 (to_z w64 (of_z w64 c.from.result) -ℤ to_z w64 (of_z w64 c.from-2.result))) ≡ away_of d = away-kept c.from.result c.from-2.result d.release d.report c.from.ensures c.from-2.ensures release report in
     let pay : c.from-8.result ≡ d.pay = grind (arith, ints, to_z-of_z, c.from-8.ensures) in
     let paid : c.pairing_pay-pay.result ≡ pairing_pay s d.pay (away_of d) 1 = grind (arith, to_z-of_z, c.pairing_pay-pay.ensures, away, pay) in

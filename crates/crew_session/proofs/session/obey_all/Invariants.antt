@@ -1,5 +1,5 @@
 use Rattle.std.proofs.Common.{◌≤◌}
-use Rattle.crew_session.specs.Journals.{IsInStep, state_of}
+use Rattle.crew_session.specs.Machinery.Journals.{IsInStep, state_of}
 use Rattle.crew_session.specs.Rows.{IsOpen, rows_left}
 use Rattle.crew_session.proofs.SessionFacts.{HasWritten}
 use Rattle.crew_session.proofs.session.obey_all.Given as goal
