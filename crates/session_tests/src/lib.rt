@@ -5,6 +5,8 @@
 #[cfg(test)]
 mod engines;
 #[cfg(test)]
+mod limits;
+#[cfg(test)]
 mod sessions;
 #[cfg(test)]
 mod strange;

@@ -7,8 +7,8 @@ use std::io::Write;
 use std::test::Fail;
 use std::thread::Threads;
 
-// What a session of these bytes writes.
-fn played<R: Threads + Sync>(
+/// What a session of these bytes writes.
+pub fn played<R: Threads + Sync>(
     rt: &R,
     alloc: Global,
     settings: &Settings,
