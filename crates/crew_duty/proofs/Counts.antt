@@ -1,7 +1,7 @@
 -- Counts of one flight more, and of more flights.
-use Rattle.std.proofs.Common.{Some, ◌≡◌, ◌≤◌, ◌<◌, ◌+◌, ◌-◌, min, ℕ, zero, suc, List, [], ◌∷◌, ◌++◌, length, refl, sym, ap, ◌∙◌, subst, arith, sum, append-nil, length-append, Bool, true, false, nat_lt, ◌⊎◌, inl, inr}
+use Rattle.std.proofs.Common.{Some, ◌≡◌, ◌≤◌, ◌<◌, ◌+◌, ◌-◌, min, ℕ, zero, suc, List, [], ◌∷◌, ◌++◌, length, refl, sym, ap, ◌∙◌, subst, arith, sum, get_or, append-nil, length-append, Bool, true, false, nat_lt, ◌⊎◌, inl, inr}
 use Rattle.std.proofs.lemmas.Bool.Decides.{nat_tests}
-use Rattle.std.specs.List.{AllZip, flat_map, range_with_len}
+use Rattle.std.specs.List.{flat_map, range_with_len}
 use Rattle.std.proofs.lemmas.Grind.{flat_map-append}
 use Rattle.std.proofs.lemmas.List.Sums.{sum_by-cons}
 use Rattle.std.specs.Prelude.{slice_get}
@@ -146,3 +146,15 @@ counts-few s flights counts are few =
     let total = exact-total (from_place s flights) 0 counts (are.exact few) in
     let all = are.all in
     sym (total ∙ ap (λ (n : ℕ). length (flat_map (from_place s flights) (range_with_len 0 n))) all ∙ ap length (all-listed s flights))
+
+-- the count of one flight, and what stands before it
+pub exact-at : (F : ℕ → List Duty) (from : ℕ) (ns : List ℕ) (i d : ℕ) → i < length ns → AreExact F from ns
+    → (get_or ns i d ≡ length (F (from + i))) × (length (flat_map F (range_with_len from i)) + get_or ns i d ≤ sum ns)
+exact-at F from [] i d h e = absurd (omega (arith, h))
+exact-at F from (n ∷ ns) zero d h e =
+    let z : from + 0 ≡ from = omega arith in
+    (rw z e.0, omega (arith, sum-cons n ns))
+exact-at F from (n ∷ ns) (suc i) d h e =
+    let r = exact-at F (from + 1) ns i d (omega (arith, h)) e.1 in
+    let on : from + suc i ≡ (from + 1) + i = omega arith in
+    (rw on r.0, omega (arith, r.1, e.0, sum-cons n ns, length-append (F from) (flat_map F (range_with_len (from + 1) i))))

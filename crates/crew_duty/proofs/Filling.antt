@@ -1,8 +1,8 @@
 -- A list that is filled in place, step by step.
-use Rattle.std.proofs.Common.{◌≡◌, ◌≤◌, ◌<◌, ◌+◌, min, ℕ, zero, suc, List, [], ◌∷◌, ◌++◌, length, refl, sym, ap, ◌∙◌, arith, take, append_assoc, append-nil, length-append}
+use Rattle.std.proofs.Common.{◌≡◌, ◌≤◌, ◌<◌, ◌+◌, ℕ, zero, suc, List, [], ◌∷◌, ◌++◌, length, refl, sym, ap, ◌∙◌, arith, take, append_assoc, append-nil, length-append}
 use Rattle.std.proofs.Math.ListN.{set}
 use Rattle.std.proofs.lemmas.List.{take_all}
-use Rattle.crew_duty.specs.Machinery.Filling.{Fills, Goes}
+use Rattle.crew_duty.specs.Machinery.Filling.{Goes}
 
 -- nothing more
 pub goes-none : {X : Type 0} (at : ℕ) (before : List X) → at ≤ 200_001 → Goes at [] before at before

@@ -1,5 +1,5 @@
 -- What flights go on from some legs: those that depart too late begin no duty.
-use Rattle.std.proofs.Common.{◌≡◌, ◌≤◌, ◌<◌, ◌+◌, ◌-ℤ◌, ◌+ℤ◌, ◌≤ℤ◌, ℤ, pos, ℕ, zero, suc, List, [], ◌∷◌, ◌++◌, ◌&&◌, ◌||◌, Some, Bool, true, false, cond, length, nat_lt, max, refl, sym, ap, ◌∙◌, subst, arith, filter, drop, take, int_le, inl, inr}
+use Rattle.std.proofs.Common.{◌≡◌, ◌≤◌, ◌<◌, ◌+ℤ◌, ◌≤ℤ◌, ℤ, pos, ℕ, zero, suc, List, [], ◌∷◌, ◌++◌, ◌&&◌, ◌||◌, Some, Bool, true, false, cond, nat_lt, max, refl, ap, ◌∙◌, subst, arith, filter, drop, take, int_le}
 use Rattle.std.specs.Prelude.{int_lt, slice_get}
 use Rattle.std.specs.List.{flat_map}
 use Rattle.std.proofs.lemmas.Bool.{and_parts}
@@ -9,12 +9,12 @@ use Rattle.crew_flights.specs.Timetable.{IsFlight}
 use Rattle.crew_flights.specs.declared.flight.Flight.{Flight}
 use Rattle.crew_rules.specs.Tables.{table_a, table_b}
 use Rattle.crew_rules.specs.declared.settings.Settings.{Settings}
-use Rattle.crew_pairing.specs.Legality.{deadheads, flight_duty_period, flight_time, last_of, may_follow, report, segments}
+use Rattle.crew_pairing.specs.Legality.{deadheads, flight_duty_period, flight_time, last_of, may_follow, segments}
 use Rattle.crew_duty.specs.Machinery.Limits.{latest_departure}
-use Rattle.crew_pairing.specs.Machinery.Listing.{below, is_hopeless, listing, timed}
-use Rattle.crew_resource.specs.Members.{Each, Member}
+use Rattle.crew_pairing.specs.Machinery.Listing.{below, is_hopeless, timed}
+use Rattle.crew_resource.specs.Members.{Each}
 use Rattle.crew_pairing.specs.Machinery.Beginnings.{AreFlights}
-use Rattle.crew_duty.specs.Machinery.Plans.{LeadOn, StandAt, below_place}
+use Rattle.crew_duty.specs.Machinery.Plans.{LeadOn, StandAt}
 use Rattle.crew_duty.specs.Machinery.Slots.{follows_by}
 use Rattle.crew_pairing.specs.declared.leg.TimedLeg.{TimedLeg}
 use Rattle.crew_pairing.specs.declared.duty.Duty.{Duty}
@@ -22,7 +22,7 @@ use Rattle.crew_pairing.proofs.Falling.{table_b-falls}
 use Rattle.crew_duty.proofs.Parts.{place-gives}
 use Rattle.crew_duty.proofs.Running.{counted, segments-more}
 use Rattle.crew_pairing.proofs.Sums.{last_of-push}
-use Rattle.crew_pairing.proofs.Tree.{Each-member, filter-member, listing-closed}
+use Rattle.crew_pairing.proofs.Tree.{listing-closed}
 
 -- the places of flights give what the flights give
 places-give : (F : Flight → List Duty) (flights : List Flight) (places : List ℕ) (gs : List Flight) → StandAt flights places gs → flat_map (λ place. flat_map F (take 1 (drop place flights))) places ≡ flat_map F gs

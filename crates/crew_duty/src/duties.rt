@@ -7,9 +7,10 @@ ghost use Rattle.crew_pairing.specs.Duties.{AreDuties, HasTooMany, flights_of};
 ghost use Rattle.crew_pairing.specs.declared.duty.Duty.{Duty};
 
 use crate::departures::index_of;
+use crate::fault::DutyFault;
 use crate::pieces::{count_all, list_all, total_of};
 use crate::plan::{Plan, next_places};
-use crate::search::{DUTIES, DutyFault};
+use crate::search::DUTIES;
 use crew_flights::{Flight, Timetable};
 use crew_pairing::Duty;
 use crew_rules::Settings;
@@ -46,6 +47,17 @@ impl Duties {
         self.list.is_empty()
     }
 
+    /// Equal duties.
+    pub fn copy(&self, alloc: Global) -> Result<Duties, AllocError>
+        ensures { IfOk result (λ duties. duties ≡ self.now) }
+    {
+        let mut list = Vec::with_capacity(alloc, self.len())?;
+        for duty in &self.list {
+            list.push(duty.copy())?;
+        }
+        Ok(Duties { list })
+    }
+
     /// The duties, by key.
     pub fn as_slice(&self) -> &[Duty]
         ensures { result.now ≡ self.now }
@@ -65,7 +77,7 @@ fn held_flights(alloc: Global, timetable: &Timetable) -> Result<Vec<Flight>, All
 /// The legal duties of a timetable: exactly those, by key. `TooManyDuties` where there are more
 /// than 200,000, and `Memory` only where a growth was refused.
 ///
-/// They are counted first and then listed, from as many first flights at once as `rayon` has
+/// They are counted first and then listed, in as many pieces at once as `rayon` has
 /// threads for.
 pub fn list_duties<R: Threads + Sync>(
     rt: &R,

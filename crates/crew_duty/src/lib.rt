@@ -5,6 +5,7 @@
 
 mod departures;
 mod duties;
+mod fault;
 pub mod laws;
 mod limits;
 mod pieces;
@@ -13,4 +14,4 @@ mod search;
 mod totals;
 
 pub use duties::{Duties, list_duties};
-pub use search::DutyFault;
+pub use fault::DutyFault;

@@ -198,16 +198,12 @@ fn fill_in<R: Threads + Sync>(
     Ok(())
 }
 
-// A list of so many duties, which others will replace.
-fn blank_list(alloc: Global, flights: &[Flight], total: usize) -> Result<Vec<Duty>, AllocError>
-    requires { flights.now ≡ [] → total ≡ 0 }
-    ensures { IfOk result (λ list. length list.items ≡ total) }
+// Appends so many duties, which others will replace.
+fn grow(list: &mut Vec<Duty>, flight: &Flight, many: usize) -> Result<(), AllocError>
+    ensures longer { OnOk result (length list.new.items ≡ length list.old.items + many) }
+    ensures kept { OnOk result (take (length list.old.items) list.new.items ≡ list.old.items) }
 {
-    let Some(flight) = flights.first() else {
-        return Ok(Vec::new(alloc));
-    };
-    let mut list = Vec::with_capacity(alloc, total)?;
-    for made in 0..total {
+    for made in 0..many {
         list.push(Duty {
             key: Key::of(Leg::new(flight.id, false)),
             from: flight.from,
@@ -219,6 +215,41 @@ fn blank_list(alloc: Global, flights: &[Flight], total: usize) -> Result<Vec<Dut
             pay: 0,
             price: 0,
         })?;
+    }
+    Ok(())
+}
+
+// A list of so many duties, which others will replace.
+fn blank_list(alloc: Global, flights: &[Flight], total: usize) -> Result<Vec<Duty>, AllocError>
+    requires { flights.now ≡ [] → total ≡ 0 }
+    ensures { IfOk result (λ list. length list.items ≡ total) }
+{
+    let Some(flight) = flights.first() else {
+        return Ok(Vec::new(alloc));
+    };
+    let mut list = Vec::with_capacity(alloc, total)?;
+    grow(&mut list, flight, total)?;
+    Ok(list)
+}
+
+// All duties, by one thread: what it writes twice is still at hand the second time.
+fn list_in_turn(
+    alloc: Global,
+    plan: &Plan<'_>,
+    counts: &[usize],
+    total: usize,
+) -> Result<Vec<Duty>, AllocError>
+    requires plan { IsPlan plan.now.settings.now plan.now.flights.now plan.now.slots.now plan.now.next.now }
+    requires all { length counts.now ≡ length plan.now.flights.now }
+    requires counts { AreExact (from_place plan.now.settings.now plan.now.flights.now) 0 counts.now }
+    requires few { sum counts.now ≤ 200_000 }
+    ensures { IfOk result (λ found. found.items ≡ flat_map (from_place plan.now.settings.now plan.now.flights.now) (range_with_len 0 (length counts.now))) }
+{
+    let mut list = Vec::with_capacity(alloc, total)?;
+    for place in 0..counts.len() {
+        let start = list.len();
+        grow(&mut list, &plan.flights[place], counts[place])?;
+        walk_from(alloc, &mut list, plan, place, start)?;
     }
     Ok(list)
 }
@@ -237,8 +268,11 @@ pub(crate) fn list_all<R: Threads + Sync>(
     requires few { total ≤ 200_000 }
     ensures { IfOk result (λ found. found.items ≡ all_duties plan.now.settings.now plan.now.flights.now) }
 {
-    let mut found = blank_list(alloc, plan.flights, total)?;
     let pieces = pieces_of(rt, total, LISTED);
+    if pieces < 2 {
+        return list_in_turn(alloc, plan, counts, total);
+    }
+    let mut found = blank_list(alloc, plan.flights, total)?;
     fill_in(rt, alloc, plan, 0, pieces, counts, &mut found)?;
     Ok(found)
 }

@@ -28,26 +28,6 @@ const LEGS: usize = 8;
 /// The most duties that are listed.
 pub(crate) const DUTIES: usize = 200_000;
 
-/// Why duties are not listed.
-#[derive(Clone, Copy, Debug, PartialEq, Eq)]
-pub enum DutyFault {
-    /// There are more than 200,000 legal duties.
-    TooManyDuties,
-    /// Memory ran out.
-    Memory,
-}
-
-impl From<AllocError> for DutyFault {
-    ghost use Rattle.std.specs.Prelude.{◌≡◌};
-    ghost use Rattle.crew_duty.specs.declared.search.DutyFault.TheVariants.{Memory};
-
-    ghost from_gives = { λ _ fault. fault ≡ Memory };
-
-    fn from(_: AllocError) -> DutyFault {
-        DutyFault::Memory
-    }
-}
-
 // The duty of these legs.
 fn duty_from(settings: &Settings, first: &TimedLeg, others: &[TimedLeg], totals: Totals) -> Duty
     requires checked { IsChecked settings.now }

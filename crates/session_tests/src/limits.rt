@@ -13,10 +13,10 @@ fn write_flight(
     id: u32,
     ends: &[u8],
     first: Minute,
-    after: i64,
+    after: u32,
 ) -> Result<(), Fail> {
-    let dep = Minute::new(first.get() + after).ok_or("a departure")?;
-    let arr = Minute::new(first.get() + after + 60).ok_or("an arrival")?;
+    let dep = Minute::new(first.get() + i64::from(after)).ok_or("a departure")?;
+    let arr = Minute::new(first.get() + i64::from(after) + 60).ok_or("an arrival")?;
     write!(input, "flight,{id},")?;
     input.extend_from_slice(ends)?;
     input.push(b',')?;
@@ -41,7 +41,7 @@ fn sixteen_bases_and_5_000_flights(rt: HostRuntime) -> Result<(), Fail> {
     }
     let first = read_minute(b"2025-01-01T12:00")?;
     for day in 0..2_500u32 {
-        let after = i64::from(day) * 1_440;
+        let after = day * 1_440;
         write_flight(&mut input, 2 * day + 1, b"AAA,AAB", first, after)?;
         write_flight(&mut input, 2 * day + 2, b"AAB,AAA", first, after + 120)?;
     }

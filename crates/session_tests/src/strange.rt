@@ -26,7 +26,7 @@ struct Strange {
 }
 
 impl Engine for Strange {
-    ghost use Rattle.crew_session.specs.Plains.{shown_by, taken_by};
+    ghost use Rattle.crew_session.specs.Machinery.Plains.{shown_by, taken_by};
 
     ghost entries = { λ e. taken_by e.plain };
 

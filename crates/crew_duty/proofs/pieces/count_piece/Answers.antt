@@ -1,6 +1,4 @@
-use Rattle.std.proofs.Common.{◌≡◌, ◌≤◌, ◌<◌, ◌+◌, ◌-◌, ◌++◌, ◌∷◌, [], ◌∙◌, min, sym, ap, subst, arith, length, sum, take, List, ℕ}
-use Rattle.std.specs.List.{flat_map, range_with_len}
-use Rattle.crew_duty.specs.Machinery.Counts.{AreCounts}
+use Rattle.std.proofs.Common.{◌<◌, ◌-◌, ◌∙◌, arith, length, take}
 use Rattle.crew_pairing.specs.Machinery.Listing.{from_place}
 use Rattle.crew_duty.proofs.Counts.{counts-more, sum-more, total-more}
 use Rattle.crew_duty.proofs.Filling.{length-set, take-set}

@@ -1,4 +1,4 @@
-use Rattle.std.proofs.Common.{◌≡◌, ◌≤◌, min, length, sum, take}
+use Rattle.std.proofs.Common.{◌≡◌, min, length, sum, take}
 use Rattle.std.specs.List.{flat_map, range_with_len}
 use Rattle.crew_duty.specs.Machinery.Counts.{AreCounts}
 use Rattle.crew_pairing.specs.Machinery.Listing.{from_place}

@@ -1,4 +1,4 @@
-use Rattle.std.proofs.Common.{◌≡◌, ◌+◌, ◌++◌, [], ◌∙◌, sym, ap, subst, arith, length, take, List, ℕ}
+use Rattle.std.proofs.Common.{◌≡◌, ◌+◌, ◌∙◌, sym, ap, subst, arith, List, ℕ}
 use Rattle.std.specs.List.{flat_map, range_with_len}
 use Rattle.crew_duty.specs.Machinery.Filling.{Goes}
 use Rattle.crew_pairing.specs.Machinery.Listing.{from_place}

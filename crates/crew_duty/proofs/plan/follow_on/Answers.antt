@@ -1,8 +1,8 @@
-use Rattle.std.proofs.Common.{◌≡◌, ◌<◌, ◌∷◌, Some, arith, filter, length, get_or, subst, List, ℤ, to_z, of_z, w64}
+use Rattle.std.proofs.Common.{◌≡◌, ◌<◌, ◌∷◌, arith, filter, length, get_or, subst, ℤ, to_z, of_z, w64}
 use Rattle.std.proofs.lemmas.Option.{get_or_from_slice_get, slice_get-get_or}
 use Rattle.std.proofs.lemmas.Int.{ints}
 use Rattle.crew_flights.specs.declared.flight.Flight.{Flight}
-use Rattle.crew_pairing.specs.Legality.{last_of, may_follow}
+use Rattle.crew_pairing.specs.Legality.{last_of}
 use Rattle.crew_duty.specs.Machinery.Plans.{Knows, StandAt}
 use Rattle.crew_duty.specs.Machinery.Slots.{follows_by}
 use Rattle.crew_duty.proofs.Leads.{leads-all, leads-early}

@@ -1,6 +1,4 @@
-use Rattle.std.proofs.Common.{◌≡◌, ◌+◌, ◌-◌, ◌++◌, ◌∷◌, [], ◌∙◌, true, false, sym, ap, arith, append-nil, filter, get_or, length, length-append, take, refl, ◌<◌, List, ℕ, subst, inl, inr}
-use Rattle.std.specs.Prelude.{vec_len, Vec, slice_get}
-use Rattle.std.specs.Global.{Global}
+use Rattle.std.proofs.Common.{◌≡◌, ◌+◌, ◌-◌, ◌++◌, ◌∷◌, [], ◌∙◌, true, false, sym, ap, arith, append-nil, filter, get_or, length, length-append, take, refl, ◌<◌, List, ℕ, subst}
 use Rattle.std.specs.List.{flat_map}
 use Rattle.std.proofs.lemmas.List.{take_all}
 use Rattle.std.proofs.lemmas.Option.{get_or_from_slice_get, slice_get-get_or}
@@ -10,7 +8,7 @@ use Rattle.crew_duty.specs.Machinery.Filling.{Goes}
 use Rattle.crew_pairing.specs.Legality.{last_of, may_follow}
 use Rattle.crew_pairing.specs.Machinery.Listing.{below, is_hopeless, listing, own, timed}
 use Rattle.crew_resource.specs.Members.{Member}
-use Rattle.crew_duty.specs.Machinery.Plans.{LeadOn, below_place}
+use Rattle.crew_duty.specs.Machinery.Plans.{below_place}
 use Rattle.crew_pairing.specs.declared.duty.Duty.{Duty}
 use Rattle.crew_pairing.specs.declared.leg.TimedLeg.{TimedLeg}
 use Rattle.crew_duty.proofs.Filling.{goes-none}
@@ -18,7 +16,7 @@ use Rattle.crew_duty.proofs.Leads.{leads-at, ridden-closed}
 use Rattle.crew_duty.proofs.Running.{bounded, sound-legs}
 use Rattle.crew_duty.proofs.Steps.{goes-on}
 use Rattle.crew_pairing.proofs.Sums.{last_of-push}
-use Rattle.crew_pairing.proofs.Tree.{Each-map, Each-member, IsBeginning-more, listing-at, listing-closed, listing-last, listing-longer, pop-back, slice_get-Member, slice_get-within}
+use Rattle.crew_pairing.proofs.Tree.{Each-map, Each-member, IsBeginning-more, listing-at, listing-closed, listing-last, listing-longer, slice_get-Member, slice_get-within}
 use Rattle.crew_duty.proofs.search.+tree.Goals as goal
 
 pub step-returns-then-totals-limits-clause-goes : goal.step-returns-then-totals-limits-clause-goes

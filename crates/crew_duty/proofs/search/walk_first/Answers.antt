@@ -1,7 +1,6 @@
-use Rattle.std.proofs.Common.{◌≡◌, ◌-◌, [], ◌∙◌, ap, sym, get_or, length, refl}
+use Rattle.std.proofs.Common.{◌≡◌, [], ◌∙◌, ap, sym, get_or, refl}
 use Rattle.std.proofs.lemmas.Option.{get_or_from_slice_get, slice_get-get_or}
 use Rattle.rayon.proofs.ListFacts.{IfOk-then}
-use Rattle.crew_duty.specs.Machinery.Filling.{Goes}
 use Rattle.crew_pairing.specs.Machinery.Listing.{is_hopeless, listing, timed}
 use Rattle.crew_pairing.specs.Machinery.Beginnings.{IsBeginning}
 use Rattle.crew_duty.proofs.Filling.{goes-none}

@@ -1,4 +1,4 @@
-use Rattle.std.proofs.Common.{◌≡◌, ◌++◌, [], ◌∙◌, false, true, sym, subst, arith, List}
+use Rattle.std.proofs.Common.{[], false, true, sym, subst, arith, List}
 use Rattle.rayon.proofs.ListFacts.{IfOk-then}
 use Rattle.crew_duty.specs.Machinery.Filling.{Goes}
 use Rattle.crew_pairing.specs.Machinery.Listing.{from_flight, listing, timed}

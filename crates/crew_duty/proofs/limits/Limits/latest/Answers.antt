@@ -1,8 +1,8 @@
-use Rattle.std.proofs.Common.{◌≡◌, ◌-◌, ◌+ℤ◌, pos, to_z, of_z, w64, ◌∙◌, arith, max, min}
+use Rattle.std.proofs.Common.{◌≡◌, ◌-◌, pos, ◌∙◌, arith, max, min}
 use Rattle.std.specs.Prelude.{slice_index}
 use Rattle.std.proofs.lemmas.Int.{ints}
 use Rattle.crew_rules.specs.Tables.{table_b}
-use Rattle.crew_pairing.specs.Legality.{report, segments}
+use Rattle.crew_pairing.specs.Legality.{segments}
 use Rattle.crew_duty.proofs.limits.Limits.latest.Goals as goal
 
 pub returns-clause-value : goal.returns-clause-value
