@@ -24,7 +24,8 @@ partial_of s base price first others = record {
   pairing = is_pairing base first others;
 }
 
--- a partial pairing of a base of the timetable, with its walk and its vector, and whether it is a pairing
+-- a partial pairing of a base of the timetable, with its walk and its vector, and whether it is a
+-- pairing
 pub record IsPartialOf (s : Settings) (t : Timetable) (p : Partial) : Type 0 where
   pub base : List ℕ
   pub price : ℤ

@@ -1,4 +1,5 @@
--- How many partial pairings there are, how many of them are pairings, and the least cost of a pairing.
+-- How many partial pairings there are, how many of them are pairings, and the least cost of a
+-- pairing.
 use Rattle.std.specs.Prelude.{◌≡◌, ℤ, ◌≤ℤ◌, true, List, Option, Some, None, length, count_by, if◌then◌else◌}
 use Rattle.std.specs.Int.{int_min}
 use Rattle.crew_resource.specs.Members.{Member}
@@ -13,7 +14,8 @@ cost_in p = reduced_cost p.vector
 -- the least cost of the pairings among these, and none where there is no pairing
 abbrev pub IsLeast : List Partial → Option ℤ → Type 0
 IsLeast ps None = (p : Partial) → Member ps p → p.pairing ≡ true → ⊥
-IsLeast ps (Some cost) = ((p : Partial) × Member ps p × (p.pairing ≡ true) × (cost_in p ≡ cost)) × ((p : Partial) → Member ps p → p.pairing ≡ true → cost ≤ℤ cost_in p)
+IsLeast ps (Some cost) = ((p : Partial) × Member ps p × (p.pairing ≡ true) × (cost_in p ≡ cost))
+    × ((p : Partial) → Member ps p → p.pairing ≡ true → cost ≤ℤ cost_in p)
 
 -- the least so far, and with this partial
 abbrev pub least_with : Option ℤ → Partial → Option ℤ

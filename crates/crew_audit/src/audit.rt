@@ -47,9 +47,11 @@ fn list_all(
     requires checked { IsChecked settings.now }
     requires flights { AreFlights flights.now }
     requires prices { Each (λ (b : List ℕ × ℤ). IsBasePrice b.1) bases.now }
-    ensures ok { IfOk result (λ found. found.items ≡ flat_map (of_base settings.now flights.now) bases.now) }
+    ensures ok { IfOk result (λ found. found.items ≡ flat_map (of_base settings.now flights.now)
+        bases.now) }
     ensures few { IfOk result (λ found. length found.items ≤ limit) }
-    ensures over { result ≡ Err AuditFault.OverLimit → limit < length (flat_map (of_base settings.now flights.now) bases.now) }
+    ensures over { result ≡ Err AuditFault.OverLimit
+        → limit < length (flat_map (of_base settings.now flights.now) bases.now) }
 {
     let mut found = Vec::new(alloc);
     for &(base, base_price) in bases {
@@ -75,9 +77,11 @@ pub fn enumerate(
     limit: usize,
 ) -> Result<Vec<Partial>, AuditFault>
     requires { IsChecked settings.now }
-    ensures listed { IfOk result (λ partials. ArePartials settings.now timetable.now partials.items) }
+    ensures listed { IfOk result (λ partials. ArePartials settings.now timetable.now
+        partials.items) }
     ensures few { IfOk result (λ partials. length partials.items ≤ limit) }
-    ensures over { result ≡ Err AuditFault.OverLimit → HasMoreThan settings.now timetable.now limit }
+    ensures over { result ≡ Err AuditFault.OverLimit
+        → HasMoreThan settings.now timetable.now limit }
 {
     let flights = held_flights(alloc, timetable)?;
     let bases = held_bases(alloc, timetable)?;

@@ -35,7 +35,8 @@ fn rest_before(settings: &Settings, last: &Duty, flight: &Flight) -> i64
 fn may_rest(settings: &Settings, last: &Duty, flight: &Flight) -> bool
     requires checked { IsChecked settings.now }
     requires range { IsInRange last.now }
-    ensures { result ≡ may_stand_after settings.now last.now (duty_of settings.now (timed false flight.now) []) }
+    ensures { result ≡ may_stand_after settings.now last.now
+        (duty_of settings.now (timed false flight.now) []) }
 {
     if last.to != flight.from {
         return false;
@@ -48,7 +49,8 @@ fn may_rest(settings: &Settings, last: &Duty, flight: &Flight) -> bool
 pub(crate) fn may_leave(settings: &Settings, base: Code, before: &[Duty], flight: &Flight) -> bool
     requires checked { IsChecked settings.now }
     requires ranges { Each IsInRange before.now }
-    ensures { result ≡ may_join base settings.now before.now (duty_of settings.now (timed false flight.now) []) }
+    ensures { result ≡ may_join base settings.now before.now
+        (duty_of settings.now (timed false flight.now) []) }
 {
     match before.last() {
         None => flight.from == base,
@@ -72,10 +74,14 @@ fn add_up(duties: &[Duty]) -> Sums
     ensures fly { result.fly ≡ total (λ d. d.fly) duties.now }
     ensures pay { result.pay ≡ total (λ d. d.pay) duties.now }
     ensures price { result.price ≡ total (λ d. d.price) duties.now }
-    ensures bound_fdp { ((pos 0 -ℤ pos 200_000_000_000) ≤ℤ result.fdp) × (result.fdp ≤ℤ pos 200_000_000_000) }
-    ensures bound_fly { ((pos 0 -ℤ pos 200_000_000_000) ≤ℤ result.fly) × (result.fly ≤ℤ pos 200_000_000_000) }
-    ensures bound_pay { ((pos 0 -ℤ pos 200_000_000_000) ≤ℤ result.pay) × (result.pay ≤ℤ pos 200_000_000_000) }
-    ensures bound_price { ((pos 0 -ℤ pos 200_000_000_000) ≤ℤ result.price) × (result.price ≤ℤ pos 200_000_000_000) }
+    ensures bound_fdp { ((pos 0 -ℤ pos 200_000_000_000) ≤ℤ result.fdp)
+        × (result.fdp ≤ℤ pos 200_000_000_000) }
+    ensures bound_fly { ((pos 0 -ℤ pos 200_000_000_000) ≤ℤ result.fly)
+        × (result.fly ≤ℤ pos 200_000_000_000) }
+    ensures bound_pay { ((pos 0 -ℤ pos 200_000_000_000) ≤ℤ result.pay)
+        × (result.pay ≤ℤ pos 200_000_000_000) }
+    ensures bound_price { ((pos 0 -ℤ pos 200_000_000_000) ≤ℤ result.price)
+        × (result.price ≤ℤ pos 200_000_000_000) }
 {
     let mut sums = Sums {
         fdp: 0,

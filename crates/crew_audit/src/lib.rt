@@ -1,8 +1,8 @@
 //! The audit: every partial pairing of every base, listed plainly from the flights. It is the
 //! reference for what finds pairings faster: slow, short, and right by the definition of a partial
 //! pairing alone. The crate promises that `enumerate` lists exactly the partial pairings of a
-//! timetable, each once, by base and walk, each with its vector and whether it is a pairing; that it
-//! refuses exactly where there are more than a limit; and that `Tally` counts them.
+//! timetable, each once, by base and walk, each with its vector and whether it is a pairing; that
+//! it refuses exactly where there are more than a limit; and that `Tally` counts them.
 #![tactic(auto)]
 
 mod audit;

@@ -44,9 +44,11 @@ fn list_one(
     requires few { length duties.now ≤ 13 }
     requires ranges { Each IsInRange duties.now }
     requires room { length found.old.items ≤ scope.now.limit }
-    ensures ok { OnOk result (found.new.items ≡ found.old.items ++ listed scope.now.settings.now scope.now.base scope.now.base_price duties.now ∷ []) }
+    ensures ok { OnOk result (found.new.items ≡ found.old.items
+        ++ listed scope.now.settings.now scope.now.base scope.now.base_price duties.now ∷ []) }
     ensures room { OnOk result (length found.new.items ≤ scope.now.limit) }
-    ensures over { result ≡ Err AuditFault.OverLimit → scope.now.limit < length found.old.items + 1 }
+    ensures over { result ≡ Err AuditFault.OverLimit
+        → scope.now.limit < length found.old.items + 1 }
 {
     if found.len() >= scope.limit {
         return Err(AuditFault::OverLimit);
@@ -71,7 +73,8 @@ pub(crate) fn list_after(
     requires ranges { Each IsInRange before.now }
     requires room { length found.old.items ≤ scope.now.limit }
     ensures ok { OnOk result (found.new.items ≡ found.old.items
-        ++ after (scope.now.settings.now.max_duties - length before.now) scope.now.settings.now scope.now.flights.now scope.now.base scope.now.base_price before.now) }
+        ++ after (scope.now.settings.now.max_duties - length before.now) scope.now.settings.now
+        scope.now.flights.now scope.now.base scope.now.base_price before.now) }
     ensures room { OnOk result (length found.new.items ≤ scope.now.limit) }
     ensures over { result ≡ Err AuditFault.OverLimit → scope.now.limit < length found.old.items
         + length (after (scope.now.settings.now.max_duties - length before.now) scope.now.settings.now scope.now.flights.now scope.now.base scope.now.base_price before.now) }
@@ -102,10 +105,13 @@ fn list_from(
     requires few { length before.now < scope.now.settings.now.max_duties }
     requires ranges { Each IsInRange before.now }
     requires known { Member scope.now.flights.now flight.now }
-    requires joins { may_join scope.now.base scope.now.settings.now before.now (duty_of scope.now.settings.now (timed false flight.now) []) ≡ true }
+    requires joins { may_join scope.now.base scope.now.settings.now before.now
+        (duty_of scope.now.settings.now (timed false flight.now) []) ≡ true }
     requires room { length found.old.items ≤ scope.now.limit }
     ensures ok { OnOk result (found.new.items ≡ found.old.items
-        ++ flat_map (with_next (scope.now.settings.now.max_duties - (length before.now + 1)) scope.now.settings.now scope.now.flights.now scope.now.base scope.now.base_price before.now)
+        ++ flat_map (with_next (scope.now.settings.now.max_duties - (length before.now + 1))
+        scope.now.settings.now scope.now.flights.now scope.now.base scope.now.base_price
+        before.now)
         (from_flight scope.now.settings.now scope.now.flights.now flight.now)) }
     ensures room { OnOk result (length found.new.items ≤ scope.now.limit) }
     ensures over { result ≡ Err AuditFault.OverLimit → scope.now.limit < length found.old.items
@@ -139,17 +145,23 @@ fn list_legs(
     requires price { IsBasePrice scope.now.base_price }
     requires few { length before.now < scope.now.settings.now.max_duties }
     requires ranges { Each IsInRange before.now }
-    requires joins { may_join scope.now.base scope.now.settings.now before.now (duty_of scope.now.settings.now first.now others.now) ≡ true }
-    requires beginning { IsBeginning scope.now.settings.now scope.now.flights.now first.now others.now }
+    requires joins { may_join scope.now.base scope.now.settings.now before.now
+        (duty_of scope.now.settings.now first.now others.now) ≡ true }
+    requires beginning { IsBeginning scope.now.settings.now scope.now.flights.now first.now
+        others.now }
     requires legs { length others.now ≤ 8 }
     requires room { length found.old.items ≤ scope.now.limit }
     ensures ok { OnOk result (found.new.items ≡ found.old.items
-        ++ flat_map (with_next (scope.now.settings.now.max_duties - (length before.now + 1)) scope.now.settings.now scope.now.flights.now scope.now.base scope.now.base_price before.now)
-        (listing (8 - length others.now) scope.now.settings.now scope.now.flights.now first.now others.now)) }
+        ++ flat_map (with_next (scope.now.settings.now.max_duties - (length before.now + 1))
+        scope.now.settings.now scope.now.flights.now scope.now.base scope.now.base_price
+        before.now)
+        (listing (8 - length others.now) scope.now.settings.now scope.now.flights.now first.now
+        others.now)) }
     ensures room { OnOk result (length found.new.items ≤ scope.now.limit) }
     ensures over { result ≡ Err AuditFault.OverLimit → scope.now.limit < length found.old.items
         + length (flat_map (with_next (scope.now.settings.now.max_duties - (length before.now + 1)) scope.now.settings.now scope.now.flights.now scope.now.base scope.now.base_price before.now)
-        (listing (8 - length others.now) scope.now.settings.now scope.now.flights.now first.now others.now)) }
+        (listing (8 - length others.now) scope.now.settings.now scope.now.flights.now first.now
+        others.now)) }
 {
     if others.len() >= LEGS || cannot_begin(scope.settings, first, others) {
         return Ok(());
@@ -185,12 +197,16 @@ fn list_own(
     requires few { length duties.now ≤ scope.now.settings.now.max_duties }
     requires ranges { Each IsInRange duties.now }
     requires room { length found.old.items ≤ scope.now.limit }
-    ensures ok { OnOk result (found.new.items ≡ found.old.items ++ (if deadhead then [] else listed scope.now.settings.now scope.now.base scope.now.base_price duties.now
-        ∷ after (scope.now.settings.now.max_duties - length duties.now) scope.now.settings.now scope.now.flights.now scope.now.base scope.now.base_price duties.now)) }
+    ensures ok { OnOk result (found.new.items ≡ found.old.items
+        ++ (if deadhead then [] else listed scope.now.settings.now scope.now.base
+        scope.now.base_price duties.now
+        ∷ after (scope.now.settings.now.max_duties - length duties.now) scope.now.settings.now
+        scope.now.flights.now scope.now.base scope.now.base_price duties.now)) }
     ensures room { OnOk result (length found.new.items ≤ scope.now.limit) }
     ensures over { result ≡ Err AuditFault.OverLimit → scope.now.limit < length found.old.items
         + length (if deadhead then [] else listed scope.now.settings.now scope.now.base scope.now.base_price duties.now
-        ∷ after (scope.now.settings.now.max_duties - length duties.now) scope.now.settings.now scope.now.flights.now scope.now.base scope.now.base_price duties.now) }
+        ∷ after (scope.now.settings.now.max_duties - length duties.now) scope.now.settings.now
+        scope.now.flights.now scope.now.base scope.now.base_price duties.now) }
 {
     if deadhead {
         return Ok(());
@@ -216,19 +232,26 @@ fn list_below(
     requires price { IsBasePrice scope.now.base_price }
     requires few { length before.now < scope.now.settings.now.max_duties }
     requires ranges { Each IsInRange before.now }
-    requires joins { may_join scope.now.base scope.now.settings.now before.now (duty_of scope.now.settings.now first.now others.now) ≡ true }
-    requires beginning { IsBeginning scope.now.settings.now scope.now.flights.now first.now others.now }
+    requires joins { may_join scope.now.base scope.now.settings.now before.now
+        (duty_of scope.now.settings.now first.now others.now) ≡ true }
+    requires beginning { IsBeginning scope.now.settings.now scope.now.flights.now first.now
+        others.now }
     requires legs { length others.now < 8 }
     requires known { Member scope.now.flights.now flight.now }
-    requires follows { may_follow scope.now.settings.now (last_of first.now others.now).flight flight.now ≡ true }
+    requires follows { may_follow scope.now.settings.now (last_of first.now others.now).flight
+        flight.now ≡ true }
     requires room { length found.old.items ≤ scope.now.limit }
     ensures ok { OnOk result (found.new.items ≡ found.old.items
-        ++ flat_map (with_next (scope.now.settings.now.max_duties - (length before.now + 1)) scope.now.settings.now scope.now.flights.now scope.now.base scope.now.base_price before.now)
-        (below (7 - length others.now) scope.now.settings.now scope.now.flights.now first.now others.now flight.now)) }
+        ++ flat_map (with_next (scope.now.settings.now.max_duties - (length before.now + 1))
+        scope.now.settings.now scope.now.flights.now scope.now.base scope.now.base_price
+        before.now)
+        (below (7 - length others.now) scope.now.settings.now scope.now.flights.now first.now
+        others.now flight.now)) }
     ensures room { OnOk result (length found.new.items ≤ scope.now.limit) }
     ensures over { result ≡ Err AuditFault.OverLimit → scope.now.limit < length found.old.items
         + length (flat_map (with_next (scope.now.settings.now.max_duties - (length before.now + 1)) scope.now.settings.now scope.now.flights.now scope.now.base scope.now.base_price before.now)
-        (below (7 - length others.now) scope.now.settings.now scope.now.flights.now first.now others.now flight.now)) }
+        (below (7 - length others.now) scope.now.settings.now scope.now.flights.now first.now
+        others.now flight.now)) }
 {
     let flown = legs::followed_by(alloc, others, flight, false)?;
     list_legs(alloc, found, scope, before, first, &flown)?;

@@ -105,7 +105,10 @@ fn slots_after<'a>(
     requires index { Ascend slots.now }
     requires least { pos 0 ≤ℤ latest }
     requires most { latest ≤ℤ pos 100_000_000 }
-    ensures slots { result.now ≡ filter (is_between (Spec.moment before.now.to (before.now.arr +ℤ pos settings.now.connect)) (Spec.moment before.now.to (earlier (before.now.arr +ℤ pos settings.now.sit) latest))) slots.now }
+    ensures slots { result.now ≡ filter
+        (is_between (Spec.moment before.now.to (before.now.arr +ℤ pos settings.now.connect))
+        (Spec.moment before.now.to (earlier (before.now.arr +ℤ pos settings.now.sit) latest)))
+        slots.now }
     ensures code { is_code before.now.to ≡ true }
     ensures time { Spec.IsTime before.now.arr }
 {
@@ -117,7 +120,8 @@ fn slots_after<'a>(
 
 // The places of these slots' flights, in order.
 fn places_in_order(alloc: Global, slots: &[Slot]) -> Result<Vec<u32>, AllocError>
-    ensures same { IfOk result (λ places. IsPermutation (map (λ s. s.place) slots.now) places.items) }
+    ensures same { IfOk result (λ places. IsPermutation (map (λ s. s.place) slots.now)
+        places.items) }
     ensures sorted { IfOk result (λ places. IsSorted nat_cmp places.items) }
 {
     let mut places = places_of_slots(alloc, slots)?;
@@ -134,7 +138,8 @@ pub(crate) fn few_after(
 ) -> Result<Option<Vec<u32>>, AllocError>
     requires checked { IsChecked settings.now }
     requires index { Ascend slots.now }
-    ensures { IfOk result (λ known. (flights : List Flight) → IsIndex flights slots.now → Knows settings.now flights before.now known) }
+    ensures { IfOk result (λ known. (flights : List Flight) → IsIndex flights slots.now
+        → Knows settings.now flights before.now known) }
 {
     let after = slots_after(slots, settings, before, NEVER);
     if after.len() > FEW {
@@ -156,7 +161,8 @@ pub(crate) fn places_by(
     requires least { pos 0 ≤ℤ latest }
     requires most { latest ≤ℤ pos 100_000_000 }
     ensures { IfOk result (λ places. (flights : List Flight) → IsIndex flights slots.now
-        → StandAt flights places.items (filter (follows_by settings.now latest before.now) flights)) }
+        → StandAt flights places.items
+        (filter (follows_by settings.now latest before.now) flights)) }
 {
     places_in_order(alloc, slots_after(slots, settings, before, latest))
 }

@@ -88,7 +88,8 @@ pub fn list_duties<R: Threads + Sync>(
     requires { IsChecked settings.now }
     ensures listed { IfOk result (λ duties. AreDuties settings.now timetable.now duties) }
     ensures few { IfOk result (λ duties. length duties ≤ 200_000) }
-    ensures too_many { result ≡ Err DutyFault.TooManyDuties → HasTooMany settings.now timetable.now }
+    ensures too_many { result ≡ Err DutyFault.TooManyDuties
+        → HasTooMany settings.now timetable.now }
 {
     let flights = held_flights(alloc, timetable)?;
     let slots = index_of(alloc, &flights)?;

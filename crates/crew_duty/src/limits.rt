@@ -44,7 +44,9 @@ impl Limits {
     /// Whether no duty can begin with these legs, of which this is the last.
     pub(crate) fn forbid(&self, last: &TimedLeg, totals: Totals) -> bool
         requires { (s : Settings) × (first : TimedLeg) × AreLimits s first self.now }
-        ensures { (s : Settings) (first : TimedLeg) (others : List TimedLeg) → AreLimits s first self.now → AreTotals (first ∷ others) totals → last_of first others ≡ last.now → result ≡ is_hopeless s first others }
+        ensures { (s : Settings) (first : TimedLeg) (others : List TimedLeg)
+            → AreLimits s first self.now → AreTotals (first ∷ others) totals
+            → last_of first others ≡ last.now → result ≡ is_hopeless s first others }
     {
         if totals.deadheads > self.deadheads {
             return true;
@@ -56,7 +58,9 @@ impl Limits {
     /// The latest departure of a leg that goes on from these.
     pub(crate) fn latest(&self, totals: Totals) -> i64
         requires { (s : Settings) × (first : TimedLeg) × AreLimits s first self.now }
-        ensures value { (s : Settings) (first : TimedLeg) (legs : List TimedLeg) → AreLimits s first self.now → AreTotals legs totals → result ≡ latest_departure s first legs }
+        ensures value { (s : Settings) (first : TimedLeg) (legs : List TimedLeg)
+            → AreLimits s first self.now → AreTotals legs totals
+            → result ≡ latest_departure s first legs }
         ensures least { pos 0 ≤ℤ result }
         ensures most { result ≤ℤ pos 100_000_000 }
     {

@@ -39,9 +39,11 @@ fn count_piece(
     from: usize,
     counts: &mut [usize],
 ) -> Result<(), AllocError>
-    requires plan { IsPlan plan.now.settings.now plan.now.flights.now plan.now.slots.now plan.now.next.now }
+    requires plan { IsPlan plan.now.settings.now plan.now.flights.now plan.now.slots.now
+        plan.now.next.now }
     requires within { from + length counts.old ≤ length plan.now.flights.now }
-    ensures { OnOk result (AreCounts (from_place plan.now.settings.now plan.now.flights.now) from (length counts.old) counts.new) }
+    ensures { OnOk result (AreCounts (from_place plan.now.settings.now plan.now.flights.now) from
+        (length counts.old) counts.new) }
 {
     let mut total = 0;
     for place in 0..counts.len() {
@@ -61,9 +63,11 @@ fn count_in<R: Threads + Sync>(
     pieces: usize,
     counts: &mut [usize],
 ) -> Result<(), AllocError>
-    requires plan { IsPlan plan.now.settings.now plan.now.flights.now plan.now.slots.now plan.now.next.now }
+    requires plan { IsPlan plan.now.settings.now plan.now.flights.now plan.now.slots.now
+        plan.now.next.now }
     requires within { from + length counts.old ≤ length plan.now.flights.now }
-    ensures { OnOk result (AreCounts (from_place plan.now.settings.now plan.now.flights.now) from (length counts.old) counts.new) }
+    ensures { OnOk result (AreCounts (from_place plan.now.settings.now plan.now.flights.now) from
+        (length counts.old) counts.new) }
 {
     if pieces < 2 || counts.len() < 2 {
         return count_piece(alloc, plan, from, counts);
@@ -75,12 +79,20 @@ fn count_in<R: Threads + Sync>(
     let (these, those) = join_mut(
         rt,
         &mut || -> Result<(), AllocError>
-            requires { IsSync R.row × IsPlan plan.now.settings.now plan.now.flights.now plan.now.slots.now plan.now.next.now × (from + length front.now ≤ length plan.now.flights.now) }
-            ensures { OnOk result (AreCounts (from_place plan.entry.now.settings.now plan.entry.now.flights.now) from (length front.entry.now) front.exit.now) }
+            requires { IsSync R.row × IsPlan plan.now.settings.now plan.now.flights.now
+                plan.now.slots.now plan.now.next.now
+                × (from + length front.now ≤ length plan.now.flights.now) }
+            ensures { OnOk result (AreCounts
+                (from_place plan.entry.now.settings.now plan.entry.now.flights.now) from
+                (length front.entry.now) front.exit.now) }
         { count_in(rt, alloc, plan, from, half, front) },
         &mut || -> Result<(), AllocError>
-            requires { IsSync R.row × IsPlan plan.now.settings.now plan.now.flights.now plan.now.slots.now plan.now.next.now × (from + middle + length back.now ≤ length plan.now.flights.now) }
-            ensures { OnOk result (AreCounts (from_place plan.entry.now.settings.now plan.entry.now.flights.now) (from + middle) (length back.entry.now) back.exit.now) }
+            requires { IsSync R.row × IsPlan plan.now.settings.now plan.now.flights.now
+                plan.now.slots.now plan.now.next.now
+                × (from + middle + length back.now ≤ length plan.now.flights.now) }
+            ensures { OnOk result (AreCounts
+                (from_place plan.entry.now.settings.now plan.entry.now.flights.now)
+                (from + middle) (length back.entry.now) back.exit.now) }
         { count_in(rt, alloc, plan, from + middle, others, back) },
     );
     these?;
@@ -95,8 +107,11 @@ pub(crate) fn count_all<R: Threads + Sync>(
     alloc: Global,
     plan: &Plan<'_>,
 ) -> Result<Vec<usize>, AllocError>
-    requires { IsPlan plan.now.settings.now plan.now.flights.now plan.now.slots.now plan.now.next.now }
-    ensures { IfOk result (λ counts. AreCounts (from_place plan.now.settings.now plan.now.flights.now) 0 (length plan.now.flights.now) counts.items) }
+    requires { IsPlan plan.now.settings.now plan.now.flights.now plan.now.slots.now
+        plan.now.next.now }
+    ensures { IfOk result (λ counts. AreCounts
+        (from_place plan.now.settings.now plan.now.flights.now) 0 (length plan.now.flights.now)
+        counts.items) }
 {
     let mut counts = vec![in alloc; 0usize; plan.flights.len()]?;
     let pieces = pieces_of(rt, plan.flights.len(), FLIGHTS);
@@ -123,11 +138,16 @@ fn fill_piece(
     flights: usize,
     found: &mut [Duty],
 ) -> Result<(), AllocError>
-    requires plan { IsPlan plan.now.settings.now plan.now.flights.now plan.now.slots.now plan.now.next.now }
+    requires plan { IsPlan plan.now.settings.now plan.now.flights.now plan.now.slots.now
+        plan.now.next.now }
     requires within { from + flights ≤ length plan.now.flights.now }
-    requires size { length found.old ≡ length (flat_map (from_place plan.now.settings.now plan.now.flights.now) (range_with_len from flights)) }
+    requires size { length found.old
+        ≡ length (flat_map (from_place plan.now.settings.now plan.now.flights.now)
+        (range_with_len from flights)) }
     requires room { length found.old ≤ 200_000 }
-    ensures { OnOk result (found.new ≡ flat_map (from_place plan.now.settings.now plan.now.flights.now) (range_with_len from flights)) }
+    ensures { OnOk result (found.new
+        ≡ flat_map (from_place plan.now.settings.now plan.now.flights.now)
+        (range_with_len from flights)) }
 {
     let mut total = 0;
     for place in 0..flights {
@@ -165,12 +185,16 @@ fn fill_in<R: Threads + Sync>(
     counts: &[usize],
     found: &mut [Duty],
 ) -> Result<(), AllocError>
-    requires plan { IsPlan plan.now.settings.now plan.now.flights.now plan.now.slots.now plan.now.next.now }
+    requires plan { IsPlan plan.now.settings.now plan.now.flights.now plan.now.slots.now
+        plan.now.next.now }
     requires within { from + length counts.now ≤ length plan.now.flights.now }
-    requires counts { AreExact (from_place plan.now.settings.now plan.now.flights.now) from counts.now }
+    requires counts { AreExact (from_place plan.now.settings.now plan.now.flights.now) from
+        counts.now }
     requires size { length found.old ≡ sum counts.now }
     requires room { length found.old ≤ 200_000 }
-    ensures { OnOk result (found.new ≡ flat_map (from_place plan.now.settings.now plan.now.flights.now) (range_with_len from (length counts.now))) }
+    ensures { OnOk result (found.new
+        ≡ flat_map (from_place plan.now.settings.now plan.now.flights.now)
+        (range_with_len from (length counts.now))) }
 {
     if pieces < 2 || counts.len() < 2 {
         return fill_piece(alloc, plan, from, counts.len(), found);
@@ -183,14 +207,24 @@ fn fill_in<R: Threads + Sync>(
     let (early, late) = join_mut(
         rt,
         &mut || -> Result<(), AllocError>
-            requires { IsSync R.row × IsPlan plan.now.settings.now plan.now.flights.now plan.now.slots.now plan.now.next.now × (from + length these.now ≤ length plan.now.flights.now)
-                × AreExact (from_place plan.now.settings.now plan.now.flights.now) from these.now × (length front.now ≡ sum these.now) × (length front.now ≤ 200_000) }
-            ensures { OnOk result (front.exit.now ≡ flat_map (from_place plan.entry.now.settings.now plan.entry.now.flights.now) (range_with_len from (length these.entry.now))) }
+            requires { IsSync R.row × IsPlan plan.now.settings.now plan.now.flights.now
+                plan.now.slots.now plan.now.next.now
+                × (from + length these.now ≤ length plan.now.flights.now)
+                × AreExact (from_place plan.now.settings.now plan.now.flights.now) from
+                these.now × (length front.now ≡ sum these.now) × (length front.now ≤ 200_000) }
+            ensures { OnOk result (front.exit.now
+                ≡ flat_map (from_place plan.entry.now.settings.now plan.entry.now.flights.now)
+                (range_with_len from (length these.entry.now))) }
         { fill_in(rt, alloc, plan, from, half, these, front) },
         &mut || -> Result<(), AllocError>
-            requires { IsSync R.row × IsPlan plan.now.settings.now plan.now.flights.now plan.now.slots.now plan.now.next.now × (from + middle + length those.now ≤ length plan.now.flights.now)
-                × AreExact (from_place plan.now.settings.now plan.now.flights.now) (from + middle) those.now × (length back.now ≡ sum those.now) × (length back.now ≤ 200_000) }
-            ensures { OnOk result (back.exit.now ≡ flat_map (from_place plan.entry.now.settings.now plan.entry.now.flights.now) (range_with_len (from + middle) (length those.entry.now))) }
+            requires { IsSync R.row × IsPlan plan.now.settings.now plan.now.flights.now
+                plan.now.slots.now plan.now.next.now
+                × (from + middle + length those.now ≤ length plan.now.flights.now)
+                × AreExact (from_place plan.now.settings.now plan.now.flights.now) (from + middle)
+                those.now × (length back.now ≡ sum those.now) × (length back.now ≤ 200_000) }
+            ensures { OnOk result (back.exit.now
+                ≡ flat_map (from_place plan.entry.now.settings.now plan.entry.now.flights.now)
+                (range_with_len (from + middle) (length those.entry.now))) }
         { fill_in(rt, alloc, plan, from + middle, others, those, back) },
     );
     early?;
@@ -239,11 +273,15 @@ fn list_in_turn(
     counts: &[usize],
     total: usize,
 ) -> Result<Vec<Duty>, AllocError>
-    requires plan { IsPlan plan.now.settings.now plan.now.flights.now plan.now.slots.now plan.now.next.now }
+    requires plan { IsPlan plan.now.settings.now plan.now.flights.now plan.now.slots.now
+        plan.now.next.now }
     requires all { length counts.now ≡ length plan.now.flights.now }
-    requires counts { AreExact (from_place plan.now.settings.now plan.now.flights.now) 0 counts.now }
+    requires counts { AreExact (from_place plan.now.settings.now plan.now.flights.now) 0
+        counts.now }
     requires few { sum counts.now ≤ 200_000 }
-    ensures { IfOk result (λ found. found.items ≡ flat_map (from_place plan.now.settings.now plan.now.flights.now) (range_with_len 0 (length counts.now))) }
+    ensures { IfOk result (λ found. found.items
+        ≡ flat_map (from_place plan.now.settings.now plan.now.flights.now)
+        (range_with_len 0 (length counts.now))) }
 {
     let mut list = Vec::with_capacity(alloc, total)?;
     for place in 0..counts.len() {
@@ -262,11 +300,14 @@ pub(crate) fn list_all<R: Threads + Sync>(
     counts: &[usize],
     total: usize,
 ) -> Result<Vec<Duty>, AllocError>
-    requires plan { IsPlan plan.now.settings.now plan.now.flights.now plan.now.slots.now plan.now.next.now }
-    requires counts { AreCounts (from_place plan.now.settings.now plan.now.flights.now) 0 (length plan.now.flights.now) counts.now }
+    requires plan { IsPlan plan.now.settings.now plan.now.flights.now plan.now.slots.now
+        plan.now.next.now }
+    requires counts { AreCounts (from_place plan.now.settings.now plan.now.flights.now) 0
+        (length plan.now.flights.now) counts.now }
     requires total { total ≡ sum counts.now }
     requires few { total ≤ 200_000 }
-    ensures { IfOk result (λ found. found.items ≡ all_duties plan.now.settings.now plan.now.flights.now) }
+    ensures { IfOk result (λ found. found.items
+        ≡ all_duties plan.now.settings.now plan.now.flights.now) }
 {
     let pieces = pieces_of(rt, total, LISTED);
     if pieces < 2 {

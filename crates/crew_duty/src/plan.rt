@@ -75,11 +75,14 @@ pub(crate) fn follow_on<'a>(
     last: usize,
     totals: Totals,
 ) -> Result<Followers<'a>, AllocError>
-    requires plan { IsPlan plan.now.settings.now plan.now.flights.now plan.now.slots.now plan.now.next.now }
+    requires plan { IsPlan plan.now.settings.now plan.now.flights.now plan.now.slots.now
+        plan.now.next.now }
     requires limits { (first : TimedLeg) × AreLimits plan.now.settings.now first limits.now }
     requires last { last < length plan.now.flights.now }
-    ensures { IfOk result (λ found. (first : TimedLeg) (others : List TimedLeg) → AreLimits plan.now.settings.now first limits.now
-        → slice_get plan.now.flights.now last ≡ Some (last_of first others).flight → AreTotals (first ∷ others) totals
+    ensures { IfOk result (λ found. (first : TimedLeg) (others : List TimedLeg)
+        → AreLimits plan.now.settings.now first limits.now
+        → slice_get plan.now.flights.now last ≡ Some (last_of first others).flight
+        → AreTotals (first ∷ others) totals
         → LeadOn plan.now.settings.now plan.now.flights.now first others (places_of found)) }
 {
     if let Some(places) = &plan.next[last] {

@@ -56,8 +56,8 @@ fn duty_from(settings: &Settings, first: &TimedLeg, others: &[TimedLeg], totals:
     }
 }
 
-// Puts the duty of these legs themselves in its place, where there is one, and counts it. A deadhead
-// ends no duty.
+// Puts the duty of these legs themselves in its place, where there is one, and counts it. A
+// deadhead ends no duty.
 #[inline(always)]
 fn put_own(
     found: &mut [Duty],
@@ -110,16 +110,21 @@ fn walk(
     totals: Totals,
     so_far: usize,
 ) -> Result<usize, AllocError>
-    requires plan { IsPlan plan.now.settings.now plan.now.flights.now plan.now.slots.now plan.now.next.now }
+    requires plan { IsPlan plan.now.settings.now plan.now.flights.now plan.now.slots.now
+        plan.now.next.now }
     requires limits { AreLimits plan.now.settings.now first.now limits.now }
-    requires beginning { IsBeginning plan.now.settings.now plan.now.flights.now first.now others.old.items }
+    requires beginning { IsBeginning plan.now.settings.now plan.now.flights.now first.now
+        others.old.items }
     requires few { length others.old.items ≤ 7 }
     requires hope { is_hopeless plan.now.settings.now first.now others.old.items ≡ false }
-    requires last { slice_get plan.now.flights.now last ≡ Some (last_of first.now others.old.items).flight }
+    requires last { slice_get plan.now.flights.now last
+        ≡ Some (last_of first.now others.old.items).flight }
     requires totals { AreTotals (first.now ∷ others.old.items) totals }
     requires so_far { so_far ≤ 200_001 }
     requires room { length found.old ≤ 200_000 }
-    ensures goes { IfOk result (λ n. Goes so_far (listing (8 - length others.old.items) plan.now.settings.now plan.now.flights.now first.now others.old.items) found.old n found.new) }
+    ensures goes { IfOk result (λ n. Goes so_far
+        (listing (8 - length others.old.items) plan.now.settings.now plan.now.flights.now
+        first.now others.old.items) found.old n found.new) }
     ensures kept { OnOk result (others.new.items ≡ others.old.items) }
 {
     if so_far > DUTIES {
@@ -157,16 +162,21 @@ fn step(
     totals: Totals,
     so_far: usize,
 ) -> Result<usize, AllocError>
-    requires plan { IsPlan plan.now.settings.now plan.now.flights.now plan.now.slots.now plan.now.next.now }
+    requires plan { IsPlan plan.now.settings.now plan.now.flights.now plan.now.slots.now
+        plan.now.next.now }
     requires limits { AreLimits plan.now.settings.now first.now limits.now }
-    requires beginning { IsBeginning plan.now.settings.now plan.now.flights.now first.now others.old.items }
+    requires beginning { IsBeginning plan.now.settings.now plan.now.flights.now first.now
+        others.old.items }
     requires few { length others.old.items < 7 }
-    requires place { (g : Flight) × (slice_get plan.now.flights.now place ≡ Some g) × (may_follow plan.now.settings.now (last_of first.now others.old.items).flight g ≡ true) }
+    requires place { (g : Flight) × (slice_get plan.now.flights.now place ≡ Some g)
+        × (may_follow plan.now.settings.now (last_of first.now others.old.items).flight g ≡ true) }
     requires totals { AreTotals (first.now ∷ others.old.items) totals }
     requires so_far { so_far ≤ 200_001 }
     requires room { length found.old ≤ 200_000 }
     ensures goes { IfOk result (λ n. (g : Flight) → slice_get plan.now.flights.now place ≡ Some g
-        → Goes so_far (listing (7 - length others.old.items) plan.now.settings.now plan.now.flights.now first.now (others.old.items ++ timed deadhead g ∷ [])) found.old n found.new) }
+        → Goes so_far (listing (7 - length others.old.items) plan.now.settings.now
+        plan.now.flights.now first.now (others.old.items ++ timed deadhead g ∷ [])) found.old
+        n found.new) }
     ensures kept { OnOk result (others.new.items ≡ others.old.items) }
 {
     if deadhead && totals.deadheads >= limits.deadheads {
@@ -194,12 +204,15 @@ fn walk_first(
     deadhead: bool,
     so_far: usize,
 ) -> Result<usize, AllocError>
-    requires plan { IsPlan plan.now.settings.now plan.now.flights.now plan.now.slots.now plan.now.next.now }
+    requires plan { IsPlan plan.now.settings.now plan.now.flights.now plan.now.slots.now
+        plan.now.next.now }
     requires place { place < length plan.now.flights.now }
     requires so_far { so_far ≤ 200_001 }
     requires room { length found.old ≤ 200_000 }
-    ensures { IfOk result (λ n. (flight : Flight) → slice_get plan.now.flights.now place ≡ Some flight
-        → Goes so_far (listing 8 plan.now.settings.now plan.now.flights.now (timed deadhead flight) []) found.old n found.new) }
+    ensures { IfOk result (λ n. (flight : Flight)
+        → slice_get plan.now.flights.now place ≡ Some flight
+        → Goes so_far (listing 8 plan.now.settings.now plan.now.flights.now
+        (timed deadhead flight) []) found.old n found.new) }
 {
     let first = timed_leg(&plan.flights[place], deadhead);
     let limits = Limits::of(plan.settings, &first);
@@ -230,11 +243,13 @@ pub(crate) fn walk_from(
     place: usize,
     so_far: usize,
 ) -> Result<usize, AllocError>
-    requires plan { IsPlan plan.now.settings.now plan.now.flights.now plan.now.slots.now plan.now.next.now }
+    requires plan { IsPlan plan.now.settings.now plan.now.flights.now plan.now.slots.now
+        plan.now.next.now }
     requires place { place < length plan.now.flights.now }
     requires so_far { so_far ≤ 200_001 }
     requires room { length found.old ≤ 200_000 }
-    ensures { IfOk result (λ n. Goes so_far (from_place plan.now.settings.now plan.now.flights.now place) found.old n found.new) }
+    ensures { IfOk result (λ n. Goes so_far
+        (from_place plan.now.settings.now plan.now.flights.now place) found.old n found.new) }
 {
     let flown = walk_first(alloc, found, plan, place, false, so_far)?;
     walk_first(alloc, found, plan, place, true, flown)

@@ -38,7 +38,8 @@ impl Totals {
     pub(crate) fn after(self, leg: &TimedLeg) -> Totals
         requires sound { IsFlight leg.now.flight.id leg.now.flight }
         requires bounded { StayBounded self }
-        ensures { (legs : List TimedLeg) → AreTotals legs self → AreTotals (legs ++ leg.now ∷ []) result }
+        ensures { (legs : List TimedLeg) → AreTotals legs self
+            → AreTotals (legs ++ leg.now ∷ []) result }
     {
         if leg.deadhead {
             return Totals {

@@ -39,12 +39,20 @@ leaves_elsewhere (Some flight) from = not (is_same_code flight.from from)
 -- ---- the refusals that an edit can meet, in the order of their numbers, each where its test holds
 
 abbrev pub refusals : Timetable → Edit → List (Bool × Refusal)
-refusals t (AddBase code price) = (has_base t code, BaseExists) ∷ (not (is_price price), PriceRange) ∷ (nat_le 16 (map.len t.bases), TooManyBases) ∷ []
-refusals t (BasePrice code price) = (not (has_base t code), NoBase) ∷ (not (is_price price), PriceRange) ∷ []
-refusals t (AddFlight flight) = (has_flight t flight.id, FlightExists) ∷ (not (is_block flight.dep flight.arr), BadTimes) ∷ (is_same_code flight.from flight.to, SameAirport) ∷ (not (is_price flight.price), PriceRange) ∷ (nat_le 5_000 (map.len t.flights), TooManyFlights) ∷ []
+refusals t (AddBase code price) = (has_base t code, BaseExists) ∷
+    (not (is_price price), PriceRange) ∷ (nat_le 16 (map.len t.bases), TooManyBases) ∷ []
+refusals t (BasePrice code price) = (not (has_base t code), NoBase) ∷
+    (not (is_price price), PriceRange) ∷ []
+refusals t (AddFlight flight) = (has_flight t flight.id, FlightExists) ∷
+    (not (is_block flight.dep flight.arr), BadTimes) ∷
+    (is_same_code flight.from flight.to, SameAirport) ∷ (not (is_price flight.price), PriceRange)
+    ∷ (nat_le 5_000 (map.len t.flights), TooManyFlights) ∷ []
 refusals t (Cancel id) = (not (has_flight t id), NoFlight) ∷ []
-refusals t (Retime id from dep arr report_clock) = (not (has_flight t id), NoFlight) ∷ (not (is_block dep arr), BadTimes) ∷ (leaves_elsewhere (map.get t.flights id) from, WrongOrigin) ∷ []
-refusals t (Price id price) = (not (has_flight t id), NoFlight) ∷ (not (is_price price), PriceRange) ∷ []
+refusals t (Retime id from dep arr report_clock) = (not (has_flight t id), NoFlight) ∷
+    (not (is_block dep arr), BadTimes) ∷
+    (leaves_elsewhere (map.get t.flights id) from, WrongOrigin) ∷ []
+refusals t (Price id price) = (not (has_flight t id), NoFlight) ∷
+    (not (is_price price), PriceRange) ∷ []
 
 abbrev pub first_of : List (Bool × Refusal) → Option Refusal
 first_of [] = None
@@ -71,7 +79,8 @@ with_changed t number None change = t
 with_changed t number (Some flight) change = with_flight t number (change flight)
 
 abbrev pub retimed : ℤ → ℤ → ℕ → Flight → Flight
-retimed dep arr report_clock flight = record flight { dep = dep; arr = arr; report_clock = report_clock }
+retimed dep arr report_clock flight = record flight
+    { dep = dep; arr = arr; report_clock = report_clock }
 
 abbrev pub repriced : ℤ → Flight → Flight
 repriced price flight = record flight { price = price }
@@ -81,7 +90,8 @@ changed t (AddBase code price) = with_base t code price
 changed t (BasePrice code price) = with_base t code price
 changed t (AddFlight flight) = with_flight t flight.id flight
 changed t (Cancel id) = without_flight t id
-changed t (Retime id from dep arr report_clock) = with_changed t id (map.get t.flights id) (retimed dep arr report_clock)
+changed t (Retime id from dep arr report_clock) = with_changed t id (map.get t.flights id)
+    (retimed dep arr report_clock)
 changed t (Price id price) = with_changed t id (map.get t.flights id) (repriced price)
 
 -- ---- an edit: refused with no change, or accepted

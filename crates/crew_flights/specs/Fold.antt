@@ -8,10 +8,12 @@ use Rattle.crew_flights.specs.declared.edit.Refusal.TheVariants.{OutOfTurn}
 use Rattle.crew_flights.specs.declared.edit.Verdict.{Verdict}
 use Rattle.crew_flights.specs.declared.edit.Verdict.TheVariants.{Refused}
 
--- how many of a seat's entries were in turn: those with the number of the seat's entries in turn before them
+-- how many of a seat's entries were in turn: those with the number of the seat's entries in turn
+-- before them
 abbrev pub turns : List Entry → ℕ → ℕ
 turns [] seat = 0
-turns (e ∷ earlier) seat = turns earlier seat + cond ((e.seat == seat) && (e.number == turns earlier seat)) 1 0
+turns (e ∷ earlier) seat = turns earlier seat + cond
+    ((e.seat == seat) && (e.number == turns earlier seat)) 1 0
 
 abbrev pub is_in_turn : List Entry → Entry → Bool
 is_in_turn earlier e = e.number == turns earlier e.seat
@@ -19,10 +21,12 @@ is_in_turn earlier e = e.number == turns earlier e.seat
 -- the timetable after entries: those in turn applied, the others not
 abbrev pub data_after : List Entry → Timetable
 data_after [] = empty_timetable
-data_after (e ∷ earlier) = cond (is_in_turn earlier e) (apply_of (data_after earlier) e.edit).0 (data_after earlier)
+data_after (e ∷ earlier) = cond (is_in_turn earlier e) (apply_of (data_after earlier) e.edit).0
+    (data_after earlier)
 
 abbrev pub verdict_after : List Entry → Entry → Verdict
-verdict_after earlier e = cond (is_in_turn earlier e) (apply_of (data_after earlier) e.edit).1 (Refused OutOfTurn)
+verdict_after earlier e = cond (is_in_turn earlier e) (apply_of (data_after earlier) e.edit).1
+    (Refused OutOfTurn)
 
 abbrev pub verdicts_after : List Entry → List Verdict
 verdicts_after [] = []
@@ -38,7 +42,8 @@ pub record Standing : Type 0 where
   pub turns : List ℕ
 
 abbrev pub standing_code : Coded Standing
-standing_code = code_by (Timetable × List ℕ) (coded× timetable_code (coded_list coded_ℕ)) (λ s. (s.timetable, s.turns)) (λ p. record { timetable = p.0; turns = p.1 }) (λ _. refl)
+standing_code = code_by (Timetable × List ℕ) (coded× timetable_code (coded_list coded_ℕ))
+    (λ s. (s.timetable, s.turns)) (λ p. record { timetable = p.0; turns = p.1 }) (λ _. refl)
 
 -- where the entries lead, the latest first
 pub record IsAfter (earlier : List Entry) (s : Standing) : Type 0 where

@@ -32,14 +32,16 @@ pub record IsBasePrice (price : ℤ) : Type 0 where
 
 -- what edits keep
 pub record IsSound (t : Timetable) : Type 0 where
-  pub flights : (number : ℕ) (flight : Flight) → map.get t.flights number ≡ Some flight → IsFlight number flight
+  pub flights : (number : ℕ) (flight : Flight) → map.get t.flights number ≡ Some flight
+      → IsFlight number flight
   pub bases : (code : List ℕ) (price : ℤ) → map.get t.bases code ≡ Some price → IsBasePrice price
   pub few_flights : map.len t.flights ≤ 5_000
   pub few_bases : map.len t.bases ≤ 16
 
 -- what two maps in memory hold
 abbrev pub timetable_of : BTreeMap ℕ Flight → BTreeMap (List ℕ) ℤ → Timetable
-timetable_of flights bases = record { flights = map.from_sorted flights.entries; bases = map.from_sorted bases.entries }
+timetable_of flights bases = record
+    { flights = map.from_sorted flights.entries; bases = map.from_sorted bases.entries }
 
 -- what a type keeps of them
 pub record IsKept (flights : BTreeMap ℕ Flight) (bases : BTreeMap (List ℕ) ℤ) : Type 0 where
@@ -51,9 +53,18 @@ pub record IsKept (flights : BTreeMap ℕ Flight) (bases : BTreeMap (List ℕ) �
 abbrev pub flight_code : Coded Flight
 flight_code =
     code_by ((ℕ × (ℕ × ℤ)) × ((List ℕ × List ℕ) × (ℤ × ℤ)))
-    (coded× (coded× coded_ℕ (coded× coded_ℕ coded_ℤ)) (coded× (coded× (coded_list coded_ℕ) (coded_list coded_ℕ)) (coded× coded_ℤ coded_ℤ)))
+    (coded× (coded× coded_ℕ (coded× coded_ℕ coded_ℤ))
+    (coded× (coded× (coded_list coded_ℕ) (coded_list coded_ℕ)) (coded× coded_ℤ coded_ℤ)))
     (λ f. ((f.id, (f.report_clock, f.price)), ((f.from, f.to), (f.dep, f.arr))))
-    (λ p. record { id = p.0.0; from = p.1.0.0; to = p.1.0.1; dep = p.1.1.0; arr = p.1.1.1; report_clock = p.0.1.0; price = p.0.1.1 })
+    (λ p. record {
+      id = p.0.0;
+      from = p.1.0.0;
+      to = p.1.0.1;
+      dep = p.1.1.0;
+      arr = p.1.1.1;
+      report_clock = p.0.1.0;
+      price = p.0.1.1;
+    })
     (λ _. refl)
 
 -- a timetable is stored as its two maps

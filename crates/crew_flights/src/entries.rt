@@ -55,7 +55,9 @@ impl Folding {
     /// of its seat's earlier entries that were in turn, and else that of its edit. On want of
     /// memory nothing changes.
     pub fn take(&mut self, entry: &Entry) -> Result<Verdict, AllocError>
-        ensures ok { IfOk result (λ verdict. (entries : List Entry) → HasTaken entries self.old → HasTaken (entries ++ entry.now ∷ []) self.new × ((fold_of (entries ++ entry.now ∷ [])).1 ≡ (fold_of entries).1 ++ verdict ∷ [])) }
+        ensures ok { IfOk result (λ verdict. (entries : List Entry) → HasTaken entries self.old
+            → HasTaken (entries ++ entry.now ∷ []) self.new
+            × ((fold_of (entries ++ entry.now ∷ [])).1 ≡ (fold_of entries).1 ++ verdict ∷ [])) }
         ensures err { OnErr result (self.new ≡ self.old) }
     {
         let turn = self.turns[entry.seat as usize];

@@ -16,10 +16,11 @@ struct Graded<V> {
     value: V,
 }
 
-/// Values in a bucket for each grade: what is at most a value lies in no bucket of a greater grade, and what it is at
-/// most in none of a lesser.
+/// Values in a bucket for each grade: what is at most a value lies in no bucket of a greater grade,
+/// and what it is at most in none of a lesser.
 ///
-/// The buckets stand one after another in one list, by rising grade. A contract sees the list of the values.
+/// The buckets stand one after another in one list, by rising grade. A contract sees the list of
+/// the values.
 #[derive(Drop)]
 pub struct Buckets<R: Resource + Drop> {
     values: Vec<Graded<R::Value>>,
@@ -30,7 +31,8 @@ impl<R: Resource + Drop> Model for Buckets<R> {
 
     ghost view = { λ b. map (λ g. g.value) b.values.items };
 
-    ghost invariant = { λ b. AreRising (λ g. g.grade) b.values.items × AreGraded (λ g. g.grade) (λ g. g.value) R.grade_of b.values.items };
+    ghost invariant = { λ b. AreRising (λ g. g.grade) b.values.items
+        × AreGraded (λ g. g.grade) (λ g. g.value) R.grade_of b.values.items };
 }
 
 impl<R: Resource + Drop> Buckets<R> {
@@ -43,9 +45,12 @@ impl<R: Resource + Drop> Buckets<R> {
         }
     }
 
-    /// A value that is at most this one, or none where there is none. It lies in no bucket of a greater grade.
+    /// A value that is at most this one, or none where there is none. It lies in no bucket of a
+    /// greater grade.
     pub fn find_at_most(&self, resource: &R, value: &R::Value) -> Option<&R::Value>
-        ensures { MatchOption result ((w : R.Value) → Member self.now w → R.below w value.now ≡ false) (λ w. Member self.now w.now × (R.below w.now value.now ≡ true)) }
+        ensures { MatchOption result ((w : R.Value) → Member self.now w
+            → R.below w value.now ≡ false)
+            (λ w. Member self.now w.now × (R.below w.now value.now ≡ true)) }
     {
         let end = end_of(&self.values, resource.grade(value));
         let Some(place) = first_at_most(resource, &self.values[..end], value) else {
@@ -54,11 +59,12 @@ impl<R: Resource + Drop> Buckets<R> {
         Some(&self.values[place].value)
     }
 
-    /// Puts a value into its bucket, and lets go of those that it is at most: they lie in no bucket of a lesser grade.
-    /// The answer is whether there were any. On want of memory nothing changes.
+    /// Puts a value into its bucket, and lets go of those that it is at most: they lie in no bucket
+    /// of a lesser grade. The answer is whether there were any. On want of memory nothing changes.
     pub fn admit(&mut self, resource: &R, value: R::Value) -> Result<bool, AllocError>
         ensures ok { OnOk result (Admitted R.below value self.old self.new) }
-        ensures none { IfOk result (λ any. any ≡ false → (w : R.Value) → Member self.old w → R.below value w ≡ false) }
+        ensures none { IfOk result (λ any. any ≡ false → (w : R.Value) → Member self.old w
+            → R.below value w ≡ false) }
         ensures err { OnErr result (self.new ≡ self.old) }
     {
         self.values.reserve(1)?;
@@ -84,7 +90,8 @@ impl<R: Resource + Drop> Buckets<R> {
 // Puts a value at the end of its bucket.
 fn file<V: Drop>(values: &mut Vec<Graded<V>>, grade: u32, value: V) -> Result<(), AllocError>
     requires { AreRising (λ g. g.grade) values.old.items }
-    ensures ok { OnOk result (values.new.items ≡ placed (λ g. ltb grade g.grade) (record { grade = grade; value = value }) values.old.items) }
+    ensures ok { OnOk result (values.new.items ≡ placed (λ g. ltb grade g.grade)
+        (record { grade = grade; value = value }) values.old.items) }
     ensures err { OnErr result (values.new.items ≡ values.old.items) }
     ensures succeeds { vec_len values.old < vec_capacity values.old → IsOk result }
 {
@@ -123,7 +130,8 @@ fn drop_beaten<R: Resource>(
 )
     requires own { grade ≡ R.grade_of value.now }
     requires graded { AreGraded (λ g. g.grade) (λ g. g.value) R.grade_of values.old.items }
-    ensures kept { values.new.items ≡ filter (λ g. not (R.below value.now g.value)) values.old.items }
+    ensures kept { values.new.items ≡ filter (λ g. not (R.below value.now g.value))
+        values.old.items }
     ensures fewer { vec_len values.new ≤ vec_len values.old }
     ensures capacity { vec_capacity values.new ≡ vec_capacity values.old }
 {

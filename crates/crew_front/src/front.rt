@@ -33,8 +33,9 @@ pub enum Offer {
 ///
 /// A contract sees the list of the vectors with their walks.
 ///
-/// Callers read the entries in order of vector, so they stand in one list. An offer searches the vectors alone, in a
-/// bucket for each grade, and goes through the entries only where it changes them.
+/// Callers read the entries in order of vector, so they stand in one list. An offer searches the
+/// vectors alone, in a bucket for each grade, and goes through the entries only where it changes
+/// them.
 #[derive(Drop)]
 pub struct Front<R: Resource + Drop> {
     resource: R,
@@ -47,7 +48,8 @@ impl<R: Resource + Drop> Model for Front<R> {
 
     ghost view = { λ f. f.entries.items };
 
-    ghost invariant = { λ f. IsApart R.Value.cmp R.below (map (λ e. e.0) f.entries.items) × HoldSame (map (λ e. e.0) f.entries.items) f.buckets };
+    ghost invariant = { λ f. IsApart R.Value.cmp R.below (map (λ e. e.0) f.entries.items)
+        × HoldSame (map (λ e. e.0) f.entries.items) f.buckets };
 }
 
 impl<R: Resource + Drop> Front<R> {
@@ -64,7 +66,8 @@ impl<R: Resource + Drop> Front<R> {
         }
     }
 
-    /// The front that has these entries, as a pool's view lists them: rising by vector, and none at most another.
+    /// The front that has these entries, as a pool's view lists them: rising by vector, and none at
+    /// most another.
     pub fn of_rising(
         alloc: Global,
         resource: R,
@@ -113,23 +116,27 @@ impl<R: Resource + Drop> Front<R> {
 
     /// The entry at a place, from 0, in order of vector.
     pub fn get(&self, place: usize) -> Option<&(R::Value, Walk)>
-        ensures { MatchOption result (slice_get self.now place ≡ None) (λ entry. slice_get self.now place ≡ Some entry.now) }
+        ensures { MatchOption result (slice_get self.now place ≡ None)
+            (λ entry. slice_get self.now place ≡ Some entry.now) }
     {
         self.entries.get(place)
     }
 
     /// Offers a vector with a walk.
     ///
-    /// `Beaten` exactly where an entry beats it, and nothing changes. `Tied` exactly where the vector is there: the lesser
-    /// walk stays. Else `Kept`: exactly the entries that it beats go, and it joins. If the entries were what a list of
-    /// candidates leaves, they are then what that list leaves with this one after it. Only a vector that joins takes
-    /// memory; on want of it nothing changes.
+    /// `Beaten` exactly where an entry beats it, and nothing changes. `Tied` exactly where the
+    /// vector is there: the lesser walk stays. Else `Kept`: exactly the entries that it beats go,
+    /// and it joins. If the entries were what a list of candidates leaves, they are then what that
+    /// list leaves with this one after it. Only a vector that joins takes memory; on want of it
+    /// nothing changes.
     pub fn offer(&mut self, value: R::Value, walk: Walk) -> Result<Offer, AllocError>
         ensures ok { IfOk result (Offered R.below R.Value.cmp self.old value walk self.new) }
         ensures beaten { (result ≡ Ok Offer.Beaten) ↔ Any (λ e. Beats R.below e.0 value) self.old }
         ensures tied { (result ≡ Ok Offer.Tied) ↔ Any (λ e. e.0 ≡ value) self.old }
         ensures memory { OnErr result (All (λ e. R.below e.0 value ≡ false) self.old) }
-        ensures local { OnOk result ((candidates : List (R.Value × List (List Leg))) → IsLocalOf R.below candidates self.old → IsLocalOf R.below (candidates ++ (value, walk) ∷ []) self.new) }
+        ensures local { OnOk result ((candidates : List (R.Value × List (List Leg)))
+            → IsLocalOf R.below candidates self.old
+            → IsLocalOf R.below (candidates ++ (value, walk) ∷ []) self.new) }
         ensures err { OnErr result (self.new ≡ self.old) }
     {
         let Some(found) = self.buckets.find_at_most(&self.resource, &value) else {
@@ -185,7 +192,9 @@ fn bucketed<R: Resource + Drop>(
 // Puts the lesser of its walk and this one into an entry.
 fn lower<V: Drop>(entries: &mut Vec<(V, Walk)>, place: usize, walk: Walk)
     requires { place < vec_len entries.old }
-    ensures { (value : V) (was : List (List Leg)) → slice_get entries.old.items place ≡ Some (value, was) → entries.new.items ≡ slice_set entries.old.items place (value, lesser was walk) }
+    ensures { (value : V) (was : List (List Leg))
+        → slice_get entries.old.items place ≡ Some (value, was)
+        → entries.new.items ≡ slice_set entries.old.items place (value, lesser was walk) }
 {
     let entry = &mut entries[place];
     if walk < entry.1 {
@@ -202,9 +211,11 @@ fn join<R: Resource + Drop>(
     walk: Walk,
 ) -> Result<(), AllocError>
     requires same { HoldSame (map (λ e. e.0) entries.old.items) buckets.old }
-    ensures ok { OnOk result (entries.new.items ≡ placed (λ e. is_lt (R.Value.cmp value e.0)) (value, walk) (filter (λ e. not (R.below value e.0)) entries.old.items)) }
+    ensures ok { OnOk result (entries.new.items ≡ placed (λ e. is_lt (R.Value.cmp value e.0))
+        (value, walk) (filter (λ e. not (R.below value e.0)) entries.old.items)) }
     ensures buckets { OnOk result (Admitted R.below value buckets.old buckets.new) }
-    ensures err { OnErr result ((entries.new.items ≡ entries.old.items) × (buckets.new ≡ buckets.old)) }
+    ensures err { OnErr result ((entries.new.items ≡ entries.old.items)
+        × (buckets.new ≡ buckets.old)) }
 {
     entries.reserve(1)?;
     let twin = resource.copy(&value)?;
@@ -222,7 +233,8 @@ fn drop_beaten<R: Resource>(
     value: &R::Value,
     any: bool,
 )
-    requires { any ≡ false → (e : R.Value × List (List Leg)) → Member entries.old.items e → R.below value.now e.0 ≡ false }
+    requires { any ≡ false → (e : R.Value × List (List Leg)) → Member entries.old.items e
+        → R.below value.now e.0 ≡ false }
     ensures kept { entries.new.items ≡ filter (λ e. not (R.below value.now e.0)) entries.old.items }
     ensures fewer { vec_len entries.new ≤ vec_len entries.old }
     ensures capacity { vec_capacity entries.new ≡ vec_capacity entries.old }

@@ -22,8 +22,10 @@ RiseByKey (d ∷ ds) = Each (λ e. key_cmp d.key e.key ≡ Less) ds × RiseByKey
 
 -- exactly the legal duties over some flights, by key
 pub record AreDutiesOver (s : Settings) (flights : List Flight) (ds : List Duty) : Type 0 where
-  pub sound : (d : Duty) → Member ds d → (first : TimedLeg) × (others : List TimedLeg) × IsLegal s flights first others × (d ≡ duty_of s first others)
-  pub every : (first : TimedLeg) (others : List TimedLeg) → IsLegal s flights first others → Member ds (duty_of s first others)
+  pub sound : (d : Duty) → Member ds d → (first : TimedLeg) × (others : List TimedLeg)
+      × IsLegal s flights first others × (d ≡ duty_of s first others)
+  pub every : (first : TimedLeg) (others : List TimedLeg) → IsLegal s flights first others
+      → Member ds (duty_of s first others)
   pub rising : RiseByKey ds
 
 -- exactly the legal duties of a timetable, by key

@@ -21,8 +21,9 @@ pub record IsSound (d : Duty) : Type 0 where
   pub price : negsuc 7_999_999_999 ≤ℤ d.price
   pub price_most : d.price ≤ℤ pos 8_000_000_000
 
--- a duty that leaves at the departure may stand just after one that ends at the arrival: it leaves from there, after
--- a rest of 10 consecutive hours (117.25(e)) or more, and no more than any settings allow
+-- a duty that leaves at the departure may stand just after one that ends at the arrival: it leaves
+-- from there, after a rest of 10 consecutive hours (117.25(e)) or more, and no more than any
+-- settings allow
 pub record MayFollow (x : Arrival) (g : Departure) : Type 0 where
   pub airport : x.airport ≡ g.airport
   pub rest : pos 600 ≤ℤ (g.report -ℤ x.release)

@@ -11,7 +11,8 @@ abbrev pub leg_cmp : Leg → Leg → Ordering
 leg_cmp = then_cmp (λ a b. nat_cmp a.flight b.flight) (λ a b. bool_cmp a.deadhead b.deadhead)
 
 pub leg_total : IsTotalOrder leg_cmp
-leg_total = then_total (on_total (λ l. l.flight) nat_cmp_total) (on_total (λ l. l.deadhead) bool_cmp_total)
+leg_total = then_total (on_total (λ l. l.flight) nat_cmp_total)
+    (on_total (λ l. l.deadhead) bool_cmp_total)
 
 -- keys leg by leg, a proper beginning first
 abbrev pub key_cmp : List Leg → List Leg → Ordering

@@ -1,5 +1,6 @@
--- Legal duties of unaugmented crews: 14 CFR 117.3 (flight duty period, deadhead transportation), 117.11 with Table A and 117.13 with Table B.
--- A duty is a nonempty list of legs; here it stands as its first leg and the list of the others.
+-- Legal duties of unaugmented crews: 14 CFR 117.3 (flight duty period, deadhead transportation),
+-- 117.11 with Table A and 117.13 with Table B. A duty is a nonempty list of legs; here it stands as
+-- its first leg and the list of the others.
 use Rattle.std.specs.Prelude.{◌≡◌, ◌≤◌, ℕ, ℤ, pos, ◌+ℤ◌, ◌-ℤ◌, ◌≤ℤ◌, ◌&&◌, int_le, not, Bool, true, false, List, [], ◌∷◌, length, map, count_by, if◌then◌else◌}
 use Rattle.std.specs.Ordering.{eq_by_cmp}
 use Rattle.crew_flights.specs.Codes.{code_cmp}
@@ -22,7 +23,8 @@ abbrev pub last_of : TimedLeg → List TimedLeg → TimedLeg
 last_of first [] = first
 last_of first (next ∷ others) = last_of next others
 
--- the minutes that the crew flies on a leg: from departure to arrival, and none where it rides as passengers
+-- the minutes that the crew flies on a leg: from departure to arrival, and none where it rides as
+-- passengers
 abbrev pub minutes_flown : TimedLeg → ℤ
 minutes_flown l = if l.deadhead then pos 0 else l.flight.arr -ℤ l.flight.dep
 
@@ -30,14 +32,16 @@ minutes_flown l = if l.deadhead then pos 0 else l.flight.arr -ℤ l.flight.dep
 abbrev pub price_of : TimedLeg → ℤ
 price_of l = if l.deadhead then pos 0 else l.flight.price
 
--- flight segments: the legs that the crew flies (117.3: deadhead transportation is no flight segment)
+-- flight segments: the legs that the crew flies (117.3: deadhead transportation is no flight
+-- segment)
 abbrev pub segments : List TimedLeg → ℕ
 segments legs = count_by (λ l. not l.deadhead) legs
 
 abbrev pub deadheads : List TimedLeg → ℕ
 deadheads legs = count_by (λ l. l.deadhead) legs
 
--- report is `lead` minutes before the first departure, release `debrief` minutes after the last arrival
+-- report is `lead` minutes before the first departure, release `debrief` minutes after the last
+-- arrival
 abbrev pub report : Settings → TimedLeg → ℤ
 report s first = first.flight.dep -ℤ pos s.lead
 
@@ -55,15 +59,18 @@ flight_time first others = total minutes_flown (first ∷ others)
 abbrev pub may_follow : Settings → Flight → Flight → Bool
 may_follow s before next =
     eq_by_cmp code_cmp before.to next.from
-    && (int_le (pos s.connect) (next.dep -ℤ before.arr) && int_le (next.dep -ℤ before.arr) (pos s.sit))
+    && (int_le (pos s.connect) (next.dep -ℤ before.arr) && int_le (next.dep -ℤ before.arr)
+    (pos s.sit))
 
 -- of each two neighbours the second may follow the first
 abbrev pub AllConnect : Settings → TimedLeg → List TimedLeg → Type 0
 AllConnect s first [] = Unit {0}
-AllConnect s first (next ∷ others) = (may_follow s first.flight next.flight ≡ true) × AllConnect s next others
+AllConnect s first (next ∷ others) = (may_follow s first.flight next.flight ≡ true)
+    × AllConnect s next others
 
 -- a legal duty over these flights
-pub record IsLegal (s : Settings) (flights : List Flight) (first : TimedLeg) (others : List TimedLeg) : Type 0 where
+pub record IsLegal (s : Settings) (flights : List Flight) (first : TimedLeg)
+    (others : List TimedLeg) : Type 0 where
   -- each leg is a flight of the timetable
   pub known : Each (λ l. Member flights l.flight) (first ∷ others)
   pub legs : length (first ∷ others) ≤ 8
@@ -74,7 +81,8 @@ pub record IsLegal (s : Settings) (flights : List Flight) (first : TimedLeg) (ot
   -- 117.11, Table A, by the clock at report
   pub table_a : flight_time first others ≤ℤ pos (table_a first.flight.report_clock)
   -- 117.13, Table B, by the clock at report and the number of flight segments
-  pub table_b : flight_duty_period s first others ≤ℤ pos (table_b first.flight.report_clock (segments (first ∷ others)))
+  pub table_b : flight_duty_period s first others ≤ℤ pos
+      (table_b first.flight.report_clock (segments (first ∷ others)))
 
 abbrev pub leg_of : TimedLeg → Leg
 leg_of l = record { flight = l.flight.id; deadhead = l.deadhead }

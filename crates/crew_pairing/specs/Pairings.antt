@@ -1,7 +1,8 @@
--- Partial pairings of a base, and pairings, over lists of legal duties: 14 CFR 117.25(e) (10 consecutive hours of rest before a
--- flight duty period, measured from release), 117.25(b) (30 consecutive hours free from duty, on the premise stated at the caps), 117.23(b)(1) and (c) (limits on
--- flight time and flight duty periods within consecutive hours).
--- A list of duties stands here as its first duty and the list of the others.
+-- Partial pairings of a base, and pairings, over lists of legal duties: 14 CFR 117.25(e) (10
+-- consecutive hours of rest before a flight duty period, measured from release), 117.25(b) (30
+-- consecutive hours free from duty, on the premise stated at the caps), 117.23(b)(1) and (c)
+-- (limits on flight time and flight duty periods within consecutive hours). A list of duties stands
+-- here as its first duty and the list of the others.
 use Rattle.std.specs.Prelude.{◌≡◌, ℕ, Bool, true, ◌&&◌, int_le, ℤ, pos, ◌-ℤ◌, List, [], ◌∷◌, length}
 use Rattle.std.specs.Ordering.{eq_by_cmp}
 use Rattle.crew_flights.specs.Codes.{code_cmp}
@@ -14,7 +15,8 @@ use Rattle.crew_pairing.specs.declared.duty.Duty.{Duty}
 
 -- the duty of a legal list of legs over these flights
 abbrev pub IsDuty : Settings → List Flight → Duty → Type 0
-IsDuty s flights d = (first : TimedLeg) × (others : List TimedLeg) × IsLegal s flights first others × (d ≡ duty_of s first others)
+IsDuty s flights d = (first : TimedLeg) × (others : List TimedLeg)
+    × IsLegal s flights first others × (d ≡ duty_of s first others)
 
 -- the last of a first duty and others
 abbrev pub last_duty : Duty → List Duty → Duty
@@ -25,7 +27,8 @@ last_duty first (next ∷ others) = last_duty next others
 abbrev pub rest : Duty → Duty → ℤ
 rest before next = next.report -ℤ before.release
 
--- the next duty departs where the one before arrived, after a rest of 10 hours or more, and at most `max_rest`
+-- the next duty departs where the one before arrived, after a rest of 10 hours or more, and at most
+-- `max_rest`
 abbrev pub may_stand_after : Settings → Duty → Duty → Bool
 may_stand_after s before next =
     eq_by_cmp code_cmp before.to next.from
@@ -41,11 +44,13 @@ abbrev pub minutes_away : List Duty → ℤ
 minutes_away [] = pos 0
 minutes_away (first ∷ others) = (last_duty first others).release -ℤ first.report
 
--- the caps on totals. A pairing spans at most 138 hours, so one window of 168 consecutive hours covers it, and one of 672. For a crew
--- that has done no other work in these windows, 117.23(c) caps its flight duty minutes and 117.23(b)(1) its flight minutes.
--- 117.25(b) wants 30 consecutive hours free from all duty within the 168 hours before each report. It holds for a crew that comes to
--- the pairing off 30 such hours which end at its first report: they lie within the 168 hours before a report that is at most 138
--- hours later. That premise is the planner's, and no clause tests it
+-- the caps on totals. A pairing spans at most 138 hours, so one window of 168 consecutive hours
+-- covers it, and one of 672. For a crew that has done no other work in these windows, 117.23(c)
+-- caps its flight duty minutes and 117.23(b)(1) its flight minutes. 117.25(b) wants 30 consecutive
+-- hours free from all duty within the 168 hours before each report. It holds for a crew that comes
+-- to the pairing off 30 such hours which end at its first report: they lie within the 168 hours
+-- before a report that is at most 138 hours later. That premise is the planner's, and no clause
+-- tests it
 abbrev pub is_within_caps : Settings → List Duty → Bool
 is_within_caps s duties =
     int_le (total (λ d. d.fdp) duties) (pos s.fdp_cap)
@@ -54,7 +59,8 @@ is_within_caps s duties =
     && int_le (minutes_away duties) (pos s.away_cap)))
 
 -- a partial pairing of a base over these flights
-pub record IsPartial (s : Settings) (flights : List Flight) (base : List ℕ) (first : Duty) (others : List Duty) : Type 0 where
+pub record IsPartial (s : Settings) (flights : List Flight) (base : List ℕ) (first : Duty)
+    (others : List Duty) : Type 0 where
   -- each is a legal duty
   pub legal : Each (IsDuty s flights) (first ∷ others)
   -- the first leaves the base
@@ -62,6 +68,7 @@ pub record IsPartial (s : Settings) (flights : List Flight) (base : List ℕ) (f
   pub rested : AllRested s first others
   pub capped : is_within_caps s (first ∷ others) ≡ true
 
--- a partial is a pairing where its last arrival is its base; passing through the base on the way is allowed
+-- a partial is a pairing where its last arrival is its base; passing through the base on the way is
+-- allowed
 abbrev pub is_pairing : List ℕ → Duty → List Duty → Bool
 is_pairing base first others = eq_by_cmp code_cmp (last_duty first others).to base

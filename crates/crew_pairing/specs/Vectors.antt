@@ -1,5 +1,6 @@
--- What a list of duties costs, and its vector: seven parts, each one sum over the whole list. Resource vectors of labels are those of Irnich
--- and Desaulniers 2005, "Shortest path problems with resource constraints"; the pay is that of Barnhart et al. 2003, "Airline crew scheduling".
+-- What a list of duties costs, and its vector: seven parts, each one sum over the whole list.
+-- Resource vectors of labels are those of Irnich and Desaulniers 2005, "Shortest path problems with
+-- resource constraints"; the pay is that of Barnhart et al. 2003, "Airline crew scheduling".
 use Rattle.std.specs.Prelude.{ℤ, pos, ◌+ℤ◌, ◌-ℤ◌, ◌*ℤ◌, List, length}
 use Rattle.std.specs.Int.{int_max}
 use Rattle.crew_rules.specs.Pay.{pairing_pay}

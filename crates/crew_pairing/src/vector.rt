@@ -2,7 +2,8 @@
 ghost use Rattle.std.specs.Prelude.{◌≡◌};
 ghost use Rattle.crew_pairing.specs.Vectors as Spec;
 
-/// The vector of a list of duties. Money is in points, times are minutes. Vectors are listed by their parts in order.
+/// The vector of a list of duties. Money is in points, times are minutes. Vectors are listed by
+/// their parts in order.
 #[derive(Clone, Copy, Debug, PartialEq, Eq, PartialOrd, Ord)]
 pub struct PairingVector {
     /// 1: the sum of the duties' pays, less prices.

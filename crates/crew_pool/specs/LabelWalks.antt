@@ -27,8 +27,10 @@ pub record AreAlike (walks : List (List ℕ)) (a b : LabelWalk) : Type 0 where
   pub long : length (walk_at walks a.walk) ≡ length (walk_at walks b.walk)
 
 -- walks of one vector are as long
-abbrev pub AreAlikeWhereSame : {V : Type 0} → List (List ℕ) → List (V × LabelWalk) → List (V × LabelWalk) → Type 0
-AreAlikeWhereSame {V} walks xs ys = (a b : V × LabelWalk) → Member xs a → Member ys b → a.0 ≡ b.0 → AreAlike walks a.1 b.1
+abbrev pub AreAlikeWhereSame : {V : Type 0} → List (List ℕ) → List (V × LabelWalk)
+    → List (V × LabelWalk) → Type 0
+AreAlikeWhereSame {V} walks xs ys = (a b : V × LabelWalk) → Member xs a → Member ys b
+    → a.0 ≡ b.0 → AreAlike walks a.1 b.1
 
 -- one walk by rank is at most another
 abbrev pub ranks_at_most : List ℕ → List ℕ → Bool
@@ -36,8 +38,10 @@ ranks_at_most a b = is_le (slice_cmp nat_cmp a b)
 
 -- the tail with the lesser walk
 abbrev pub lesser_label_walk : List (List ℕ) → LabelWalk → LabelWalk → LabelWalk
-lesser_label_walk walks was tail = cond (is_lt (slice_cmp nat_cmp (walk_of_label walks tail) (walk_of_label walks was))) tail was
+lesser_label_walk walks was tail = cond
+    (is_lt (slice_cmp nat_cmp (walk_of_label walks tail) (walk_of_label walks was))) tail was
 
 -- the entries are the undominated ones of the candidates, each vector with its least walk
 abbrev pub IsPoolOf : {V : Type 0} → (V → V → Bool) → List (V × List ℕ) → List (V × List ℕ) → Type 0
-IsPoolOf below candidates entries = IsLocal below ranks_at_most (λ v w. Member candidates (v, w)) entries
+IsPoolOf below candidates entries = IsLocal below ranks_at_most (λ v w. Member candidates (v, w))
+    entries

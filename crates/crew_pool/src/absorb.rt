@@ -17,11 +17,12 @@ use std::alloc::AllocError;
 
 /// Boards a duty with each label of a list that can, and merges them into a pool.
 ///
-/// If the pool's labels were what a list of candidates leaves, they are then what that list leaves with those that
-/// boarded after it: each with its vector at the duty's end, and its walk a duty longer. `duty` is the duty's rank.
-/// Walks are told by rank, so they compare as by key where the duties are ranked by key. Vectors count their duties,
-/// so walks of one vector are as long: what a longer walk's order rests on. On want of memory no label has gone or
-/// joined, but lesser walks may already stand at ties.
+/// If the pool's labels were what a list of candidates leaves, they are then what that list leaves
+/// with those that boarded after it: each with its vector at the duty's end, and its walk a duty
+/// longer. `duty` is the duty's rank. Walks are told by rank, so they compare as by key where the
+/// duties are ranked by key. Vectors count their duties, so walks of one vector are as long: what a
+/// longer walk's order rests on. On want of memory no label has gone or joined, but lesser walks
+/// may already stand at ties.
 pub fn absorb_boarding<P: Placed, R: Staged<P>>(
     resource: &R,
     pool: &mut Pool<R>,
@@ -34,10 +35,15 @@ pub fn absorb_boarding<P: Placed, R: Staged<P>>(
     requires shift { R.is_shift resource.now }
     requires counting { (most : ℕ) × (R.most resource.now ≡ Some most) }
     requires duty { duty < 4_294_967_295 }
-    requires can { (l : R.Value × LabelWalk) → Member list.now l → R.can_board resource.now l.0 item.now }
+    requires can { (l : R.Value × LabelWalk) → Member list.now l
+        → R.can_board resource.now l.0 item.now }
     requires pool_counts { AreCounted (R.count_of resource.now) walks.now false pool.old }
     requires list_counts { AreCounted (R.count_of resource.now) walks.now true list.now }
-    ensures local { OnOk result ((candidates : List (R.Value × List ℕ)) → IsPoolOf R.below candidates (map (shown walks.now) pool.old) → IsPoolOf R.below (candidates ++ flat_map (λ e. labelled (R.boards resource.now e.0 item.now) (e.1 ++ duty ∷ [])) (map (shown walks.now) list.now)) (map (shown walks.now) pool.new)) }
+    ensures local { OnOk result ((candidates : List (R.Value × List ℕ))
+        → IsPoolOf R.below candidates (map (shown walks.now) pool.old)
+        → IsPoolOf R.below (candidates
+        ++ flat_map (λ e. labelled (R.boards resource.now e.0 item.now) (e.1 ++ duty ∷ []))
+        (map (shown walks.now) list.now)) (map (shown walks.now) pool.new)) }
     ensures counts { OnOk result (AreCounted (R.count_of resource.now) walks.now false pool.new) }
     ensures err { OnErr result (IsPermutation (vectors_of pool.old) (vectors_of pool.new)) }
 {
@@ -54,8 +60,10 @@ fn board_all<P: Placed, R: Staged<P>>(
     item: &P,
     duty: u32,
 ) -> Result<(), AllocError>
-    requires { (l : R.Value × LabelWalk) → Member list.now l → R.can_board resource.now l.0 item.now }
-    ensures { OnOk result (boarded.new.items ≡ boarded_labels (λ v. R.boards resource.now v item.now) duty list.now) }
+    requires { (l : R.Value × LabelWalk) → Member list.now l
+        → R.can_board resource.now l.0 item.now }
+    ensures { OnOk result (boarded.new.items
+        ≡ boarded_labels (λ v. R.boards resource.now v item.now) duty list.now) }
 {
     boarded.clear();
     for label in list {
@@ -73,7 +81,8 @@ fn board_one<P: Placed, R: Staged<P>>(
     duty: u32,
 ) -> Result<(), AllocError>
     requires { R.can_board resource.now label.now.0 item.now }
-    ensures { OnOk result (boarded.new.items ≡ boarded.old.items ++ boarded_label (λ v. R.boards resource.now v item.now) duty label.now) }
+    ensures { OnOk result (boarded.new.items ≡ boarded.old.items
+        ++ boarded_label (λ v. R.boards resource.now v item.now) duty label.now) }
 {
     let Some(value) = resource.board(&label.0, item) else {
         return Ok(());

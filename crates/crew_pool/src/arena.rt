@@ -53,7 +53,8 @@ impl Walks {
     pub fn add(&mut self, before: u32, duty: u32) -> Result<u32, AllocError>
         requires { before < length self.old }
         ensures ok { IfOk result (λ place. place ≡ length self.old) }
-        ensures added { OnOk result (self.new ≡ self.old ++ (walk_at self.old before ++ duty ∷ []) ∷ []) }
+        ensures added { OnOk result (self.new ≡ self.old
+            ++ (walk_at self.old before ++ duty ∷ []) ∷ []) }
         ensures err { OnErr result (self.new ≡ self.old) }
     {
         let count = self.links.len();
@@ -88,8 +89,10 @@ fn compare_links(links: &[Link], a: u32, b: u32) -> Ordering
     requires linked { AreLinked 0 links.now }
     requires a { a < length (all_walks links.now) }
     requires b { b < length (all_walks links.now) }
-    requires same { length (walk_at (all_walks links.now) a) ≡ length (walk_at (all_walks links.now) b) }
-    ensures { result ≡ slice_cmp nat_cmp (walk_at (all_walks links.now) a) (walk_at (all_walks links.now) b) }
+    requires same { length (walk_at (all_walks links.now) a)
+        ≡ length (walk_at (all_walks links.now) b) }
+    ensures { result ≡ slice_cmp nat_cmp (walk_at (all_walks links.now) a)
+        (walk_at (all_walks links.now) b) }
 {
     let mut x = a;
     let mut y = b;

@@ -26,9 +26,11 @@ pub struct Entries<'a, P: Placed, R: Staged<P>> {
 impl<'a, P: Placed, R: Staged<P>> Model for Entries<'a, P, R> {
     ghost Value = { List (R.Value × LabelWalk) };
 
-    ghost view = { λ e. boarded_labels (λ u. R.boards e.resource.now u e.item.now) e.duty (iter_rest e.labels) };
+    ghost view = { λ e. boarded_labels (λ u. R.boards e.resource.now u e.item.now) e.duty
+        (iter_rest e.labels) };
 
-    ghost invariant = { λ e. (l : R.Value × LabelWalk) → Member (iter_rest e.labels) l → R.can_board e.resource.now l.0 e.item.now };
+    ghost invariant = { λ e. (l : R.Value × LabelWalk) → Member (iter_rest e.labels) l
+        → R.can_board e.resource.now l.0 e.item.now };
 }
 
 impl<'a, P: Placed, R: Staged<P>> Entries<'a, P, R> {
@@ -39,8 +41,10 @@ impl<'a, P: Placed, R: Staged<P>> Entries<'a, P, R> {
         item: &'a P,
         duty: u32,
     ) -> Self
-        requires { (l : R.Value × LabelWalk) → Member (iter_rest labels) l → R.can_board resource.now l.0 item.now }
-        ensures { result ≡ boarded_labels (λ u. R.boards resource.now u item.now) duty (iter_rest labels.entry) }
+        requires { (l : R.Value × LabelWalk) → Member (iter_rest labels) l
+            → R.can_board resource.now l.0 item.now }
+        ensures { result ≡ boarded_labels (λ u. R.boards resource.now u item.now) duty
+            (iter_rest labels.entry) }
     {
         Entries {
             resource,
@@ -70,9 +74,14 @@ fn next_boarding<'a, P: Placed, R: Staged<P>>(
     item: &P,
     duty: u32,
 ) -> Option<(R::Value, LabelWalk)>
-    requires { (l : R.Value × LabelWalk) → Member (iter_rest labels.old) l → R.can_board resource.now l.0 item.now }
-    ensures takes { TakesFirst (λ x. x) (boarded_labels (λ u. R.boards resource.now u item.now) duty (iter_rest labels.old)) result (boarded_labels (λ u. R.boards resource.now u item.now) duty (iter_rest labels.new)) }
-    ensures from { (l : R.Value × LabelWalk) → Member (iter_rest labels.new) l → Member (iter_rest labels.old) l }
+    requires { (l : R.Value × LabelWalk) → Member (iter_rest labels.old) l
+        → R.can_board resource.now l.0 item.now }
+    ensures takes { TakesFirst (λ x. x)
+        (boarded_labels (λ u. R.boards resource.now u item.now) duty (iter_rest labels.old))
+        result (boarded_labels (λ u. R.boards resource.now u item.now) duty
+        (iter_rest labels.new)) }
+    ensures from { (l : R.Value × LabelWalk) → Member (iter_rest labels.new) l
+        → Member (iter_rest labels.old) l }
 {
     while let Some(label) = labels.next() {
         if let Some(value) = resource.board(&label.0, item) {

@@ -1,6 +1,7 @@
-//! Pools: the labels of one event, of which none is at most another. `Pool::merge` and `absorb_boarding` take a whole pool
-//! at once, and leave what all candidates so far leave. A `View` shows what of a departure's pool boards a duty, with no
-//! memory. The walks of labels share their beginnings in `Walks`, and are compared only at equal vectors.
+//! Pools: the labels of one event, of which none is at most another. `Pool::merge` and
+//! `absorb_boarding` take a whole pool at once, and leave what all candidates so far leave. A
+//! `View` shows what of a departure's pool boards a duty, with no memory. The walks of labels share
+//! their beginnings in `Walks`, and are compared only at equal vectors.
 #![tactic(auto)]
 
 mod absorb;

@@ -19,7 +19,8 @@ use std::slice;
 
 /// The labels of one event: vectors, of which none is at most another, each with its walk.
 ///
-/// A contract sees the list of the labels. Their order is free, and statements on pools speak of membership.
+/// A contract sees the list of the labels. Their order is free, and statements on pools speak of
+/// membership.
 #[derive(Drop)]
 pub struct Pool<R: Resource> {
     labels: Vec<(R::Value, LabelWalk)>,
@@ -102,8 +103,9 @@ impl<R: Resource> Pool<R> {
 
     /// Merges another pool into this one.
     ///
-    /// If the labels were what a list of candidates leaves, they are then what that list leaves with the other's labels
-    /// after it. On want of memory no label has gone or joined, but lesser walks may already stand at ties.
+    /// If the labels were what a list of candidates leaves, they are then what that list leaves
+    /// with the other's labels after it. On want of memory no label has gone or joined, but lesser
+    /// walks may already stand at ties.
     pub fn merge(
         &mut self,
         resource: &R,
@@ -113,8 +115,12 @@ impl<R: Resource> Pool<R> {
     ) -> Result<(), AllocError>
         requires between { AreAlikeWhereSame walks.now self.old list.now }
         requires within { AreAlikeWhereSame walks.now list.now list.now }
-        ensures local { OnOk result ((candidates : List (R.Value × List ℕ)) → IsPoolOf R.below candidates (map (shown walks.now) self.old) → IsPoolOf R.below (candidates ++ map (shown walks.now) list.now) (map (shown walks.now) self.new)) }
-        ensures from { (a : R.Value × LabelWalk) → Member self.new a → Member self.old a ⊎ Member list.now a }
+        ensures local { OnOk result ((candidates : List (R.Value × List ℕ))
+            → IsPoolOf R.below candidates (map (shown walks.now) self.old)
+            → IsPoolOf R.below (candidates ++ map (shown walks.now) list.now)
+            (map (shown walks.now) self.new)) }
+        ensures from { (a : R.Value × LabelWalk) → Member self.new a
+            → Member self.old a ⊎ Member list.now a }
         ensures err { OnErr result (IsPermutation (vectors_of self.old) (vectors_of self.new)) }
     {
         self.merge_list(resource, &mut room.free, list.as_slice(), walks)?;
@@ -132,8 +138,12 @@ impl<R: Resource> Pool<R> {
         requires list { AreApart R.below (vectors_of list.now) }
         requires between { AreAlikeWhereSame walks.now self.old list.now }
         requires within { AreAlikeWhereSame walks.now list.now list.now }
-        ensures local { OnOk result ((candidates : List (R.Value × List ℕ)) → IsPoolOf R.below candidates (map (shown walks.now) self.old) → IsPoolOf R.below (candidates ++ map (shown walks.now) list.now) (map (shown walks.now) self.new)) }
-        ensures from { (a : R.Value × LabelWalk) → Member self.new a → Member self.old a ⊎ Member list.now a }
+        ensures local { OnOk result ((candidates : List (R.Value × List ℕ))
+            → IsPoolOf R.below candidates (map (shown walks.now) self.old)
+            → IsPoolOf R.below (candidates ++ map (shown walks.now) list.now)
+            (map (shown walks.now) self.new)) }
+        ensures from { (a : R.Value × LabelWalk) → Member self.new a
+            → Member self.old a ⊎ Member list.now a }
         ensures err { OnErr result (IsPermutation (vectors_of self.old) (vectors_of self.new)) }
     {
         merge_labels(resource, &mut self.labels, room, list, walks)?;

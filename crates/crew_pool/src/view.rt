@@ -18,8 +18,8 @@ use crew_resource::{Placed, Resource, Staged};
 use std::alloc::{AllocError, Global};
 use std::marker::Model;
 
-/// The labels of a departure's pool that board a duty, after it: each with its vector at the duty's end, and its walk a
-/// duty longer.
+/// The labels of a departure's pool that board a duty, after it: each with its vector at the duty's
+/// end, and its walk a duty longer.
 ///
 /// A contract sees the list of these entries, in the pool's order. No call but `list` takes memory.
 #[derive(Drop)]
@@ -33,20 +33,30 @@ pub struct View<'a, P: Placed, R: Staged<P>> {
 impl<'a, P: Placed, R: Staged<P>> Model for View<'a, P, R> {
     ghost Value = { List (R.Value × LabelWalk) };
 
-    ghost view = { λ v. boarded_labels (λ u. R.boards v.resource.now u v.item.now) v.duty v.labels.now };
+    ghost view = { λ v. boarded_labels (λ u. R.boards v.resource.now u v.item.now) v.duty
+        v.labels.now };
 
-    ghost invariant = { λ v. ((l : R.Value × LabelWalk) → Member v.labels.now l → R.can_board v.resource.now l.0 v.item.now) × AreApart R.below (vectors_of (boarded_labels (λ u. R.boards v.resource.now u v.item.now) v.duty v.labels.now)) };
+    ghost invariant = { λ v. ((l : R.Value × LabelWalk) → Member v.labels.now l
+        → R.can_board v.resource.now l.0 v.item.now)
+        × AreApart R.below (vectors_of
+        (boarded_labels (λ u. R.boards v.resource.now u v.item.now) v.duty v.labels.now)) };
 }
 
 impl<'a, P: Placed, R: Staged<P>> View<'a, P, R> {
-    /// The view of a pool at a duty of this rank. The pool's labels stand whole, with no duty after their walks.
+    /// The view of a pool at a duty of this rank. The pool's labels stand whole, with no duty after
+    /// their walks.
     pub fn new(resource: &'a R, pool: &'a Pool<R>, item: &'a P, duty: u32) -> Self
         requires shift { R.is_shift resource.now }
-        requires can { (l : R.Value × LabelWalk) → Member pool.now l → R.can_board resource.now l.0 item.now }
+        requires can { (l : R.Value × LabelWalk) → Member pool.now l
+            → R.can_board resource.now l.0 item.now }
         requires duty { duty < 4_294_967_295 }
         requires whole { AreWhole pool.now }
-        ensures labels { result ≡ boarded_labels (λ v. R.boards resource.now v item.now) duty pool.now }
-        ensures entries { (walks : List (List ℕ)) → map (shown walks) result ≡ flat_map (λ e. labelled (R.boards resource.now e.0 item.now) (e.1 ++ duty ∷ [])) (map (shown walks) pool.now) }
+        ensures labels { result ≡ boarded_labels (λ v. R.boards resource.now v item.now) duty
+            pool.now }
+        ensures entries { (walks : List (List ℕ))
+            → map (shown walks) result ≡ flat_map
+            (λ e. labelled (R.boards resource.now e.0 item.now) (e.1 ++ duty ∷ []))
+            (map (shown walks) pool.now) }
     {
         View {
             resource,
@@ -98,8 +108,10 @@ fn count_boarding<P: Placed, R: Staged<P>>(
     labels: &[(R::Value, LabelWalk)],
     item: &P,
 ) -> usize
-    requires { (l : R.Value × LabelWalk) → Member labels.now l → R.can_board resource.now l.0 item.now }
-    ensures { (duty : ℕ) → result ≡ length (boarded_labels (λ v. R.boards resource.now v item.now) duty labels.now) }
+    requires { (l : R.Value × LabelWalk) → Member labels.now l
+        → R.can_board resource.now l.0 item.now }
+    ensures { (duty : ℕ) → result ≡ length
+        (boarded_labels (λ v. R.boards resource.now v item.now) duty labels.now) }
 {
     let mut count = 0;
     for label in labels {

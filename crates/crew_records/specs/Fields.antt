@@ -45,7 +45,8 @@ read_on n (b ∷ bs) = read_on (n * 10 + (b - 48)) bs
 
 -- 1 to so many digits without a leading zero
 abbrev pub is_number : ℕ → List ℕ → Bool
-is_number most f = nat_lt 0 (length f) && (not (slice_index f 0 == 48) && (list_all is_ascii_digit f && nat_le (length f) most))
+is_number most f = nat_lt 0 (length f) &&
+    (not (slice_index f 0 == 48) && (list_all is_ascii_digit f && nat_le (length f) most))
 
 abbrev pub number_field : ℕ → List ℕ → Result ℕ RecordFault
 number_field most f = if is_number most f then Ok (read_on 0 f) else Err BadField

@@ -7,8 +7,8 @@ ghost use Rattle.crew_resource.specs.Machinery.BothStages.{both_staged, both_shi
 use crate::{Placed, Resource, Staged};
 use std::alloc::AllocError;
 
-/// Two resources side by side: the pair of both values, at most part by part, and none where either has none.
-/// Values are listed by the first part, then by the second.
+/// Two resources side by side: the pair of both values, at most part by part, and none where either
+/// has none. Values are listed by the first part, then by the second.
 #[derive(Clone, Copy, Drop)]
 pub struct Both<A, B> {
     pub first: A,
@@ -32,7 +32,8 @@ impl<A: Resource, B: Resource<Item = A::Item>> Resource for Both<A, B> {
 
     ghost can_start = { λ s item. A.can_start s.first item × B.can_start s.second item };
 
-    ghost can_extend = { λ s value last next. A.can_extend s.first value.0 last next × B.can_extend s.second value.1 last next };
+    ghost can_extend = { λ s value last next. A.can_extend s.first value.0 last next
+        × B.can_extend s.second value.1 last next };
 
     ghost order = { both_order _ _ _ _ A.order B.order };
 
@@ -96,7 +97,8 @@ impl<P: Placed, A: Staged<P>, B: Staged<P>> Staged<P> for Both<A, B> {
 
     ghost most = { λ s. either_side (A.most s.first) (B.most s.second) };
 
-    ghost count_of = { λ s v. side_of (A.most s.first) (A.count_of s.first v.0) (B.count_of s.second v.1) };
+    ghost count_of = { λ s v. side_of (A.most s.first) (A.count_of s.first v.0)
+        (B.count_of s.second v.1) };
 
     ghost fits = { λ s n. A.fits s.first n × B.fits s.second n };
 
@@ -106,17 +108,23 @@ impl<P: Placed, A: Staged<P>, B: Staged<P>> Staged<P> for Both<A, B> {
 
     ghost can_idle = { λ s g. A.can_idle s.first g × B.can_idle s.second g };
 
-    ghost can_wait = { λ s value x g. A.can_wait s.first value.0 x g × B.can_wait s.second value.1 x g };
+    ghost can_wait = { λ s value x g. A.can_wait s.first value.0 x g
+        × B.can_wait s.second value.1 x g };
 
-    ghost can_board = { λ s value i. A.can_board s.first value.0 i × B.can_board s.second value.1 i };
+    ghost can_board = { λ s value i. A.can_board s.first value.0 i
+        × B.can_board s.second value.1 i };
 
-    ghost staged = { λ s. both_staged _ _ _ _ _ _ _ _ _ _ _ _ _ _ (A.staged s.first) (B.staged s.second) };
+    ghost staged = { λ s. both_staged _ _ _ _ _ _ _ _ _ _ _ _ _ _ (A.staged s.first)
+        (B.staged s.second) };
 
-    ghost shifting = { λ s h. both_shifts _ _ _ _ _ _ _ _ (A.shifting s.first h.0) (B.shifting s.second h.1) };
+    ghost shifting = { λ s h. both_shifts _ _ _ _ _ _ _ _ (A.shifting s.first h.0)
+        (B.shifting s.second h.1) };
 
-    ghost counting = { λ s. both_counting _ _ _ _ _ _ _ _ _ _ (A.counting s.first) (B.counting s.second) };
+    ghost counting = { λ s. both_counting _ _ _ _ _ _ _ _ _ _ (A.counting s.first)
+        (B.counting s.second) };
 
-    ghost bounds = { λ s. both_bounds _ _ _ _ _ _ _ _ _ _ _ _ _ _ _ _ _ _ _ _ _ _ _ _ _ _ _ (A.bounds s.first) (B.bounds s.second) };
+    ghost bounds = { λ s. both_bounds _ _ _ _ _ _ _ _ _ _ _ _ _ _ _ _ _ _ _ _ _ _ _ _ _ _ _
+        (A.bounds s.first) (B.bounds s.second) };
 
     #[inline]
     fn idle(&self, departure: &P::Departure) -> (A::Value, B::Value) {

@@ -12,7 +12,8 @@ use crate::{Placed, Resource, Staged};
 use std::alloc::AllocError;
 use std::marker::PhantomData;
 
-/// The number of items of a list; no value where there are more than `most`. Its grade is the number.
+/// The number of items of a list; no value where there are more than `most`. Its grade is the
+/// number.
 #[derive(Clone, Copy, Drop)]
 pub struct Count<I> {
     pub most: u32,
@@ -122,7 +123,8 @@ impl<P: Placed> Staged<P> for Count<P> {
 
     ghost counting = { λ s. count_counting s.most };
 
-    ghost bounds = { λ s. count_bounds s.most P.is_sound P.may_begin P.may_follow P.arrives P.leaves };
+    ghost bounds = { λ s. count_bounds s.most P.is_sound P.may_begin P.may_follow P.arrives
+        P.leaves };
 
     #[inline]
     fn idle(&self, _departure: &P::Departure) -> i64 {

@@ -6,8 +6,9 @@ use std::alloc::AllocError;
 
 /// What a list of items has, kept item by item.
 ///
-/// An implementation proves the laws: `order` (at most is an order, and the listing tells values apart),
-/// `steps` (extending keeps the order, and makes the value of the longer list) and `grading`.
+/// An implementation proves the laws: `order` (at most is an order, and the listing tells values
+/// apart), `steps` (extending keeps the order, and makes the value of the longer list) and
+/// `grading`.
 pub trait Resource {
     /// `Ord` is the order in which values are listed.
     type Value: Ord + Drop;
@@ -39,7 +40,8 @@ pub trait Resource {
         requires { can_start self.now item.now }
         ensures { IfOk result (λ value. value ≡ opens self.now item.now) };
 
-    /// The value of a list that has `value` and ends with `last`, with `next` after it; none where it has no value.
+    /// The value of a list that has `value` and ends with `last`, with `next` after it; none where
+    /// it has no value.
     fn extend(
         &self,
         value: &Self::Value,
@@ -57,7 +59,8 @@ pub trait Resource {
     fn copy(&self, value: &Self::Value) -> Result<Self::Value, AllocError>
         ensures { IfOk result (λ copied. copied ≡ value.now) };
 
-    /// A number that is no greater at a lesser value, so that a search for better values may end early.
+    /// A number that is no greater at a lesser value, so that a search for better values may end
+    /// early.
     fn grade(&self, value: &Self::Value) -> u32
         ensures { result ≡ grade_of value.now };
 

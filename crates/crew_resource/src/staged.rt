@@ -32,12 +32,14 @@ pub trait Placed {
         ensures { result ≡ leaves self.now };
 }
 
-/// A resource whose step waits from the last item's arrival to the next one's departure, and boards the next.
+/// A resource whose step waits from the last item's arrival to the next one's departure, and boards
+/// the next.
 ///
-/// An implementation proves the laws: `staged` (the stages make the step, and keep the order), `shifting` (where
-/// `is_shift` holds, they make no two values one, reflect the order, and keep the listing), `counting` (where there
-/// is a `most`, a value tells the number of its items, and none has more) and `bounds` (the stages keep a bound by
-/// the number of items, under which every call may be made). No stage takes memory.
+/// An implementation proves the laws: `staged` (the stages make the step, and keep the order),
+/// `shifting` (where `is_shift` holds, they make no two values one, reflect the order, and keep the
+/// listing), `counting` (where there is a `most`, a value tells the number of its items, and none
+/// has more) and `bounds` (the stages keep a bound by the number of items, under which every call
+/// may be made). No stage takes memory.
 pub trait Staged<P: Placed>: Resource<Item = P> {
     /// The value of no item, at a departure.
     ghost idle_of: { Self → P.Departure → Self.Value };
@@ -87,16 +89,22 @@ pub trait Staged<P: Placed>: Resource<Item = P> {
         requires { can_wait self.now value.now arrival.now departure.now }
         ensures { result ≡ waited self.now value.now arrival.now departure.now };
 
-    /// The value of a list with `item` after it, of its value as of the item's departure; none where it has no value.
+    /// The value of a list with `item` after it, of its value as of the item's departure; none
+    /// where it has no value.
     fn board(&self, value: &Self::Value, item: &P) -> Option<Self::Value>
         requires { can_board self.now value.now item.now }
         ensures { result ≡ boards self.now value.now item.now };
 
-    ghost staged: { (r : Self) → StagedLaws (Self.opens r) (Self.extends r) Self.below P.arrives P.leaves (idle_of r) (waited r) (boards r) };
+    ghost staged: { (r : Self) → StagedLaws (Self.opens r) (Self.extends r) Self.below P.arrives
+        P.leaves (idle_of r) (waited r) (boards r) };
 
-    ghost shifting: { (r : Self) → is_shift r → ShiftLaws Self.Value.cmp Self.below (waited r) (boards r) };
+    ghost shifting: { (r : Self) → is_shift r
+        → ShiftLaws Self.Value.cmp Self.below (waited r) (boards r) };
 
-    ghost counting: { (r : Self) (m : ℕ) → most r ≡ Some m → CountingLaws (count_of r) m (idle_of r) (waited r) (boards r) };
+    ghost counting: { (r : Self) (m : ℕ) → most r ≡ Some m
+        → CountingLaws (count_of r) m (idle_of r) (waited r) (boards r) };
 
-    ghost bounds: { (r : Self) → BoundLaws P.is_sound P.may_begin P.may_follow P.arrives P.leaves (idle_of r) (waited r) (boards r) (Self.can_start r) (Self.can_extend r) (can_idle r) (can_wait r) (can_board r) (fits r) (ready r) (arrived r) };
+    ghost bounds: { (r : Self) → BoundLaws P.is_sound P.may_begin P.may_follow P.arrives P.leaves
+        (idle_of r) (waited r) (boards r) (Self.can_start r) (Self.can_extend r) (can_idle r)
+        (can_wait r) (can_board r) (fits r) (ready r) (arrived r) };
 }

@@ -65,7 +65,9 @@ pub trait StagedAmount<P: Placed>: Amount<Item = P> {
         requires { P.is_sound item.now }
         ensures { result ≡ own_amount self.now item.now };
 
-    ghost amounts: { (a : Self) → AmountLaws P.is_sound P.may_begin P.may_follow P.arrives P.leaves (Self.first_of a) (Self.next_of a) (Self.can_first a) (Self.can_next a) (idle_amount a) (wait_amount a) (own_amount a) (share a) };
+    ghost amounts: { (a : Self) → AmountLaws P.is_sound P.may_begin P.may_follow P.arrives
+        P.leaves (Self.first_of a) (Self.next_of a) (Self.can_first a) (Self.can_next a)
+        (idle_amount a) (wait_amount a) (own_amount a) (share a) };
 }
 
 /// The sum of an amount along a list; no value where a beginning of the list passes the cap.
@@ -92,17 +94,20 @@ impl<A: Amount> Resource for Sum<A> {
 
     ghost opens = { λ s item. capped (A.cap_of s.amount) (A.first_of s.amount item) };
 
-    ghost extends = { λ s value last next. capped (A.cap_of s.amount) (value +ℤ A.next_of s.amount last next) };
+    ghost extends = { λ s value last next. capped (A.cap_of s.amount)
+        (value +ℤ A.next_of s.amount last next) };
 
     ghost below = { int_le };
 
-    ghost value_of = { λ s. capped_sum (A.first_of s.amount) (A.next_of s.amount) (A.cap_of s.amount) };
+    ghost value_of = { λ s. capped_sum (A.first_of s.amount) (A.next_of s.amount)
+        (A.cap_of s.amount) };
 
     ghost grade_of = { λ _. 0 };
 
     ghost can_start = { λ s item. A.can_first s.amount item };
 
-    ghost can_extend = { λ s value last next. A.can_next s.amount last next × FitsSigned w64 (value +ℤ A.next_of s.amount last next) };
+    ghost can_extend = { λ s value last next. A.can_next s.amount last next
+        × FitsSigned w64 (value +ℤ A.next_of s.amount last next) };
 
     ghost order = { sum_order };
 
@@ -163,17 +168,25 @@ impl<P: Placed, A: StagedAmount<P>> Staged<P> for Sum<A> {
 
     ghost can_idle = { λ _ g. P.may_begin g };
 
-    ghost can_wait = { λ s value x g. P.may_follow x g × FitsSigned w64 (value +ℤ A.wait_amount s.amount x g) };
+    ghost can_wait = { λ s value x g. P.may_follow x g
+        × FitsSigned w64 (value +ℤ A.wait_amount s.amount x g) };
 
-    ghost can_board = { λ s value i. P.is_sound i × FitsSigned w64 (value +ℤ A.own_amount s.amount i) };
+    ghost can_board = { λ s value i. P.is_sound i
+        × FitsSigned w64 (value +ℤ A.own_amount s.amount i) };
 
-    ghost staged = { λ s. sum_staged (A.first_of s.amount) (A.next_of s.amount) (A.cap_of s.amount) P.arrives P.leaves (A.idle_amount s.amount) (A.wait_amount s.amount) (A.own_amount s.amount) (A.amounts s.amount).starts (A.amounts s.amount).goes_on };
+    ghost staged = { λ s. sum_staged (A.first_of s.amount) (A.next_of s.amount)
+        (A.cap_of s.amount) P.arrives P.leaves (A.idle_amount s.amount) (A.wait_amount s.amount)
+        (A.own_amount s.amount) (A.amounts s.amount).starts (A.amounts s.amount).goes_on };
 
-    ghost shifting = { λ s _. sum_shifts (A.wait_amount s.amount) (A.own_amount s.amount) (A.cap_of s.amount) };
+    ghost shifting = { λ s _. sum_shifts (A.wait_amount s.amount) (A.own_amount s.amount)
+        (A.cap_of s.amount) };
 
     ghost counting = { λ s. no_counting _ _ _ _ };
 
-    ghost bounds = { λ s. sum_bounds P.is_sound P.may_begin P.may_follow P.arrives P.leaves (A.first_of s.amount) (A.next_of s.amount) (A.can_first s.amount) (A.can_next s.amount) (A.cap_of s.amount) (A.idle_amount s.amount) (A.wait_amount s.amount) (A.own_amount s.amount) (A.share s.amount) (A.amounts s.amount) };
+    ghost bounds = { λ s. sum_bounds P.is_sound P.may_begin P.may_follow P.arrives P.leaves
+        (A.first_of s.amount) (A.next_of s.amount) (A.can_first s.amount) (A.can_next s.amount)
+        (A.cap_of s.amount) (A.idle_amount s.amount) (A.wait_amount s.amount)
+        (A.own_amount s.amount) (A.share s.amount) (A.amounts s.amount) };
 
     #[inline]
     fn idle(&self, departure: &P::Departure) -> i64 {

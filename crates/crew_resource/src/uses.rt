@@ -13,7 +13,8 @@ pub fn is_same<R: Resource>(resource: &R, a: &R::Value, b: &R::Value) -> bool
     resource.at_most(a, b) && resource.at_most(b, a)
 }
 
-/// Extends a value and a greater one by the same item: the lesser extends where the greater does, to no greater value.
+/// Extends a value and a greater one by the same item: the lesser extends where the greater does,
+/// to no greater value.
 pub fn extend_ordered<R: Resource>(
     resource: &R,
     lesser: &R::Value,
@@ -24,8 +25,10 @@ pub fn extend_ordered<R: Resource>(
     requires ordered { R.below lesser.now greater.now ≡ true }
     requires lesser_fits { R.can_extend resource.now lesser.now last.now next.now }
     requires greater_fits { R.can_extend resource.now greater.now last.now next.now }
-    ensures lesser { IfOk result (λ both. both.0 ≡ R.extends resource.now lesser.now last.now next.now) }
-    ensures greater { IfOk result (λ both. both.1 ≡ R.extends resource.now greater.now last.now next.now) }
+    ensures lesser { IfOk result (λ both. both.0 ≡ R.extends resource.now lesser.now last.now
+        next.now) }
+    ensures greater { IfOk result (λ both. both.1 ≡ R.extends resource.now greater.now last.now
+        next.now) }
     ensures ordered { IfOk result (λ both. IsNoWorse R.below both.0 both.1) }
 {
     let first = resource.extend(lesser, last, next)?;

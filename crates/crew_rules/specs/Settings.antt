@@ -4,9 +4,10 @@ use Rattle.crew_rules.specs.Range.{is_in_range}
 use Rattle.crew_rules.specs.declared.settings.Settings.{Settings}
 use Rattle.crew_rules.specs.declared.settings.BadSetting.{BadSetting}
 
--- each setting in the order of the numbers, with the least and the greatest value that it may have. 8,280 minutes are 138 hours: with
--- 30 hours free from all duty that end at the first report, each report of a pairing has them within the 168 hours before it
--- (117.25(b)). 3,600 minutes are the 60 hours of 117.23(c), 6,000 the 100 hours of 117.23(b)(1)
+-- each setting in the order of the numbers, with the least and the greatest value that it may have.
+-- 8,280 minutes are 138 hours: with 30 hours free from all duty that end at the first report, each
+-- report of a pairing has them within the 168 hours before it (117.25(b)). 3,600 minutes are the 60
+-- hours of 117.23(c), 6,000 the 100 hours of 117.23(b)(1)
 abbrev pub ranges : Settings → List (ℕ × ℕ × ℕ)
 ranges s =
     (s.lead, 0, 240)

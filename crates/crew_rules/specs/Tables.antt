@@ -8,7 +8,8 @@ Row = ℕ × List ℕ
 -- the limits in force at a minute of the day: those of the last row that begins no later
 abbrev pub in_force : List ℕ → List Row → ℕ → List ℕ
 in_force before [] clock = before
-in_force before (row ∷ rows) clock = if nat_le row.0 clock then in_force row.1 rows clock else before
+in_force before (row ∷ rows) clock = if nat_le row.0 clock then in_force row.1 rows clock else
+    before
 
 -- 117.11, Table A: the most flight time, by the time of report
 abbrev pub rows_a : List Row
@@ -21,7 +22,8 @@ rows_a =
 abbrev pub table_a : ℕ → ℕ
 table_a report = slice_index (in_force [] rows_a report) 0
 
--- 117.13, Table B: the most flight duty period, by the scheduled time of start, for 1, 2, .., 6 and 7 or more flight segments
+-- 117.13, Table B: the most flight duty period, by the scheduled time of start, for 1, 2, .., 6 and
+-- 7 or more flight segments
 abbrev pub rows_b : List Row
 rows_b =
     (0, 540 ∷ 540 ∷ 540 ∷ 540 ∷ 540 ∷ 540 ∷ 540 ∷ [])  -- 0000 to 0359

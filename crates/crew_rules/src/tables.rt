@@ -16,8 +16,8 @@ pub fn table_a(report: ClockMinute) -> u16
     }
 }
 
-/// The limits of Table B by the clock at the start of a flight duty period: for 1, 2, .., 6 and 7 or
-/// more flight segments, in minutes.
+/// The limits of Table B by the clock at the start of a flight duty period: for 1, 2, .., 6 and 7
+/// or more flight segments, in minutes.
 pub fn limits_from(start: ClockMinute) -> [u16; 7]
     ensures { result ≡ Spec.limits_from start }
 {

@@ -38,7 +38,8 @@ fn has_marks(text: &[u8]) -> bool
 #[tactic(auto, unfolding(crate::specs::Civil::form_of))]
 fn parts(text: &[u8]) -> Option<Parts>
     ensures value { result ≡ form_of text.now }
-    ensures bound { IfSome result (λ p. (p.year ≤ 9_999) × (p.month ≤ 99) × (p.day ≤ 99) × (p.hour ≤ 99) × (p.minute ≤ 99)) }
+    ensures bound { IfSome result (λ p. (p.year ≤ 9_999) × (p.month ≤ 99) × (p.day ≤ 99)
+        × (p.hour ≤ 99) × (p.minute ≤ 99)) }
 {
     if !has_marks(text) {
         return None;
@@ -79,7 +80,8 @@ fn minutes_at(days: i32, hour: u8, minute: u8) -> i64
 
 // The instant of a time.
 fn minute_of(parts: Parts) -> Result<Minute, TimeFault>
-    requires { (parts.year ≤ 9_999) × (parts.month ≤ 99) × (parts.day ≤ 99) × (parts.hour ≤ 99) × (parts.minute ≤ 99) }
+    requires { (parts.year ≤ 9_999) × (parts.month ≤ 99) × (parts.day ≤ 99) × (parts.hour ≤ 99)
+        × (parts.minute ≤ 99) }
     ensures { result ≡ parts_minute parts }
 {
     let Some(date) = date_of(parts.year, parts.month, parts.day) else {
@@ -160,11 +162,14 @@ fn minute_text(minute: Minute) -> [u8; 16]
 ///
 /// It is an error where there is no memory for the sixteen bytes, and `out` is then unchanged.
 pub fn write_minute(out: &mut Vec<u8>, minute: Minute) -> Result<(), AllocError>
-    ensures ok { OnOk result ((text : List ℕ) × (out.new.items ≡ out.old.items ++ text) × IsTextOf minute text) }
+    ensures ok { OnOk result ((text : List ℕ) × (out.new.items ≡ out.old.items ++ text)
+        × IsTextOf minute text) }
     // What is written of an instant of those years is read as it.
-    ensures reads_back { OnOk result (IsInYears minute → text_minute (drop (length out.old.items) out.new.items) ≡ Ok minute) }
+    ensures reads_back { OnOk result
+        (IsInYears minute → text_minute (drop (length out.old.items) out.new.items) ≡ Ok minute) }
     // A text that is read as the instant is the one that is written.
-    ensures only_text { OnOk result ((text : List ℕ) → text_minute text ≡ Ok minute → out.new.items ≡ out.old.items ++ text) }
+    ensures only_text { OnOk result ((text : List ℕ) → text_minute text ≡ Ok minute
+        → out.new.items ≡ out.old.items ++ text) }
     ensures err { OnErr result (out.new.items ≡ out.old.items) }
 {
     out.extend_from_slice(&minute_text(minute))

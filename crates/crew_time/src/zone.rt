@@ -65,7 +65,8 @@ impl Zone {
     /// and `>` also of digits, `+` and `-`), an offset of at most 24 hours that counts west, and
     /// then nothing, or a name, perhaps an offset, and both changes of daylight saving time.
     pub fn read(text: &[u8]) -> Result<Zone, TimeFault>
-        ensures succeeds { IsOk result ↔ (IsUtf8 text.now × (begins_zone text.now ≡ true) × IsSome (read_whole text.now)) }
+        ensures succeeds { IsOk result
+            ↔ (IsUtf8 text.now × (begins_zone text.now ≡ true) × IsSome (read_whole text.now)) }
         ensures value { result ≡ text_zone text.now }
     {
         let Ok(rule) = str::from_utf8(text) else {

@@ -42,18 +42,24 @@ pub record IsCleanPairing (s : Settings) (t : Timetable) (p : PricedPairing) : T
 abbrev pub NoDearer : ℤ → List (List Leg) → ℤ → List (List Leg) → Type 0
 NoDearer cost walk other_cost other_walk = (cost <ℤ other_cost) ⊎ ((cost ≡ other_cost) × (walk_at_most walk other_walk ≡ true))
 
--- of the clean pairings of all bases the one that is least by cost and walk; none where there is no pairing
+-- of the clean pairings of all bases the one that is least by cost and walk; none where there is no
+-- pairing
 abbrev pub IsBest : Settings → Timetable → Option PricedPairing → Type 0
 IsBest s t None = (p : PricedPairing) → IsPairing s t p → ⊥
-IsBest s t (Some best) = IsCleanPairing s t best × ((p : PricedPairing) → IsCleanPairing s t p → NoDearer best.cost best.walk p.cost p.walk)
+IsBest s t (Some best) = IsCleanPairing s t best
+    × ((p : PricedPairing) → IsCleanPairing s t p → NoDearer best.cost best.walk p.cost p.walk)
 
 -- the front of each base and legal duty
-abbrev pub AreFronts : Settings → Timetable → (List ℕ → Duty → List (PairingVector × List (List Leg))) → Type 0
+abbrev pub AreFronts : Settings → Timetable
+    → (List ℕ → Duty → List (PairingVector × List (List Leg))) → Type 0
 AreFronts s t front =
-    (base : List ℕ) (price : ℤ) (d : Duty) → map.get t.bases base ≡ Some price → IsDuty s (flights_of t) d → IsFrontAt s t base price d (front base d)
+    (base : List ℕ) (price : ℤ) (d : Duty) → map.get t.bases base ≡ Some price
+    → IsDuty s (flights_of t) d → IsFrontAt s t base price d (front base d)
 
 -- an entry of a node that arrives at its base
-pub record IsHomeEntry (s : Settings) (t : Timetable) (front : List ℕ → Duty → List (PairingVector × List (List Leg))) (base : List ℕ) (v : PairingVector) (w : List (List Leg)) : Type 0 where
+pub record IsHomeEntry (s : Settings) (t : Timetable)
+    (front : List ℕ → Duty → List (PairingVector × List (List Leg))) (base : List ℕ)
+    (v : PairingVector) (w : List (List Leg)) : Type 0 where
   pub price : ℤ
   pub based : map.get t.bases base ≡ Some price
   pub duty : Duty
@@ -62,6 +68,8 @@ pub record IsHomeEntry (s : Settings) (t : Timetable) (front : List ℕ → Duty
   pub held : Member (front base duty) (v, w)
 
 -- from scratch: the front of each base and legal duty, and the best pairing
-pub record IsScratch (s : Settings) (t : Timetable) (front : List ℕ → Duty → List (PairingVector × List (List Leg))) (best : Option PricedPairing) : Type 0 where
+pub record IsScratch (s : Settings) (t : Timetable)
+    (front : List ℕ → Duty → List (PairingVector × List (List Leg)))
+    (best : Option PricedPairing) : Type 0 where
   pub fronts : AreFronts s t front
   pub best_is : IsBest s t best

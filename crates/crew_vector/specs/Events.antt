@@ -1,5 +1,6 @@
--- The time-space network of a base: labels wait from the events at which duties arrive to those at which duties leave, and board
--- duties there. Networks of duties along time are described in Barnhart et al. 2003, "Airline crew scheduling".
+-- The time-space network of a base: labels wait from the events at which duties arrive to those at
+-- which duties leave, and board duties there. Networks of duties along time are described in
+-- Barnhart et al. 2003, "Airline crew scheduling".
 use Rattle.std.specs.Prelude.{◌≡◌, ℕ, Bool, ◌&&◌, cond, int_le, ℤ, pos, ◌+ℤ◌, ◌-ℤ◌, ◌<ℤ◌, neg_ℤ, List, [], ◌∷◌, ◌++◌, Option, Some, None}
 use Rattle.std.specs.Option.{option_map}
 use Rattle.std.specs.Ordering.{eq_by_cmp}
@@ -19,7 +20,16 @@ use Rattle.crew_pairing.specs.declared.vector.PairingVector.{PairingVector}
 
 -- before any duty: what the base's price takes off
 abbrev pub idle_vector : ℤ → Departure → PairingVector
-idle_vector price g = record { duty_pay = neg_ℤ price; trip_rig = neg_ℤ price; guarantee = neg_ℤ price; fdp = pos 0; fly = pos 0; duties = pos 0; away = pos 0 }
+idle_vector price g = record {
+  duty_pay = neg_ℤ price;
+  trip_rig = neg_ℤ price;
+  guarantee = neg_ℤ
+      price;
+  fdp = pos 0;
+  fly = pos 0;
+  duties = pos 0;
+  away = pos 0;
+}
 
 -- the trip rig and the minutes away grow by the rest
 abbrev pub wait_vector : Settings → PairingVector → Arrival → Departure → PairingVector
@@ -43,7 +53,8 @@ may_wait s x g =
     eq_by_cmp code_cmp x.airport g.airport
     && (int_le (pos 600) (g.report -ℤ x.release) && int_le (g.report -ℤ x.release) (pos s.max_rest))
 
-abbrev pub network_of : Settings → List ℕ → ℤ → List Duty → Network Duty PairingVector (List (List Leg)) Departure Arrival
+abbrev pub network_of : Settings → List ℕ → ℤ → List Duty
+    → Network Duty PairingVector (List (List Leg)) Departure Arrival
 network_of s base price duties = record {
   known = duties;
   leaves = departure_of;
@@ -57,9 +68,15 @@ network_of s base price duties = record {
 }
 
 -- the entries at an arrival event of the duties that leave before a minute
-abbrev pub ArrivedBefore : Network Duty PairingVector (List (List Leg)) Departure Arrival → (Duty → List (PairingVector × List (List Leg))) → ℤ → Arrival → PairingVector → List (List Leg) → Type 0
+abbrev pub ArrivedBefore : Network Duty PairingVector (List (List Leg)) Departure Arrival
+    → (Duty → List (PairingVector × List (List Leg))) → ℤ → Arrival → PairingVector
+    → List (List Leg) → Type 0
 ArrivedBefore net fronts minute x v w = (d : Duty) × Member net.known d × (d.report <ℤ minute) × (net.arrives d ≡ x) × Member (fronts d) (v, w)
 
 -- of these the ones with a duty to spare: the others can board nothing
-abbrev pub ArrivedToSpare : Settings → Network Duty PairingVector (List (List Leg)) Departure Arrival → (Duty → List (PairingVector × List (List Leg))) → ℤ → Arrival → PairingVector → List (List Leg) → Type 0
-ArrivedToSpare s net fronts minute x v w = ArrivedBefore net fronts minute x v w × (v.duties <ℤ pos s.max_duties)
+abbrev pub ArrivedToSpare : Settings
+    → Network Duty PairingVector (List (List Leg)) Departure Arrival
+    → (Duty → List (PairingVector × List (List Leg))) → ℤ → Arrival → PairingVector
+    → List (List Leg) → Type 0
+ArrivedToSpare s net fronts minute x v w = ArrivedBefore net fronts minute x v w
+    × (v.duties <ℤ pos s.max_duties)

@@ -1,7 +1,7 @@
--- Partial pairings at a node, which is a base and a legal duty, and the node's front: its undominated vectors, each with the least
--- clean walk that has it. Labels, and the dominance among them, are those of Irnich and Desaulniers 2005, "Shortest path problems
--- with resource constraints".
--- `price` is the base's price, by which the vectors of its partials are less.
+-- Partial pairings at a node, which is a base and a legal duty, and the node's front: its
+-- undominated vectors, each with the least clean walk that has it. Labels, and the dominance among
+-- them, are those of Irnich and Desaulniers 2005, "Shortest path problems with resource
+-- constraints". `price` is the base's price, by which the vectors of its partials are less.
 use Rattle.std.specs.Prelude.{◌≡◌, ℕ, ℤ, List, [], ◌∷◌, ◌++◌, map}
 use Rattle.std.specs.declared.cmp.Ordering.TheVariants.{Less}
 use Rattle.std.specs.Ordering.{int_cmp, ordering_then}
@@ -33,15 +33,19 @@ vector_cmp a b =
     ordering_then (int_cmp a.duty_pay b.duty_pay)
     (ordering_then (int_cmp a.trip_rig b.trip_rig)
     (ordering_then (int_cmp a.guarantee b.guarantee)
-    (ordering_then (int_cmp a.fdp b.fdp) (ordering_then (int_cmp a.fly b.fly) (ordering_then (int_cmp a.duties b.duties) (int_cmp a.away b.away))))))
+    (ordering_then (int_cmp a.fdp b.fdp)
+    (ordering_then (int_cmp a.fly b.fly)
+    (ordering_then (int_cmp a.duties b.duties) (int_cmp a.away b.away))))))
 
 -- each entry stands before all later ones by its vector
 abbrev pub RiseByVector : List (PairingVector × List (List Leg)) → Type 0
 RiseByVector [] = Unit {0}
-RiseByVector (entry ∷ entries) = Each (λ later. vector_cmp entry.0 later.0 ≡ Less) entries × RiseByVector entries
+RiseByVector (entry ∷ entries) = Each (λ later. vector_cmp entry.0 later.0 ≡ Less) entries
+    × RiseByVector entries
 
 -- a partial of the base whose last duty is d, by its vector and its walk
-pub record At (s : Settings) (t : Timetable) (base : List ℕ) (price : ℤ) (d : Duty) (v : PairingVector) (w : List (List Leg)) : Type 0 where
+pub record At (s : Settings) (t : Timetable) (base : List ℕ) (price : ℤ) (d : Duty)
+    (v : PairingVector) (w : List (List Leg)) : Type 0 where
   pub first : Duty
   pub others : List Duty
   pub partial : IsPartial s (flights_of t) base first others
@@ -59,10 +63,12 @@ StaysUndominated s t base price first others =
     (taken left : List Duty) → taken ++ left ≡ others → IsUndominated s t base price (last_duty first taken) (vector_of s price (first ∷ taken))
 
 -- a clean partial
-pub record Clean (s : Settings) (t : Timetable) (base : List ℕ) (price : ℤ) (d : Duty) (v : PairingVector) (w : List (List Leg)) : Type 0 where
+pub record Clean (s : Settings) (t : Timetable) (base : List ℕ) (price : ℤ) (d : Duty)
+    (v : PairingVector) (w : List (List Leg)) : Type 0 where
   pub at : At s t base price d v w
   pub stays : StaysUndominated s t base price at.first at.others
 
 -- exactly the undominated vectors of the node, each with the least clean walk that has it
-abbrev pub IsFrontAt : Settings → Timetable → List ℕ → ℤ → Duty → List (PairingVector × List (List Leg)) → Type 0
+abbrev pub IsFrontAt : Settings → Timetable → List ℕ → ℤ → Duty
+    → List (PairingVector × List (List Leg)) → Type 0
 IsFrontAt s t base price d = IsFront is_at_most walk_at_most (At s t base price d) (Clean s t base price d)

@@ -29,23 +29,35 @@ grown s last next v = record {
 -- the caps, by the parts of a vector
 abbrev pub is_vector_within_caps : Settings → PairingVector → Bool
 is_vector_within_caps s v =
-    int_le v.fdp (pos s.fdp_cap) && (int_le v.fly (pos s.fly_cap) && (int_le v.duties (pos s.max_duties) && int_le v.away (pos s.away_cap)))
+    int_le v.fdp (pos s.fdp_cap) &&
+    (int_le v.fly (pos s.fly_cap) &&
+    (int_le v.duties (pos s.max_duties) && int_le v.away (pos s.away_cap)))
 
 -- duties, each with entries
 abbrev pub Feed : Type 0
 Feed = List (Duty × List (PairingVector × List (List Leg)))
 
--- within the caps: the duty alone, where it leaves the base, and each entry of the feed with the duty after it
-abbrev pub Candidate : Settings → List ℕ → ℤ → Duty → Feed → PairingVector → List (List Leg) → Type 0
+-- within the caps: the duty alone, where it leaves the base, and each entry of the feed with the
+-- duty after it
+abbrev pub Candidate : Settings → List ℕ → ℤ → Duty → Feed → PairingVector → List (List Leg)
+    → Type 0
 Candidate s base price d feed v w =
-    ((d.from ≡ base) × (is_within_caps s (d ∷ []) ≡ true) × (v ≡ vector_of s price (d ∷ [])) × (w ≡ d.key ∷ []))
-    ⊎ ((e : Duty) × (es : List (PairingVector × List (List Leg))) × (u : PairingVector) × (y : List (List Leg)) × Member feed (e, es) × Member es (u, y) × (is_vector_within_caps s (grown s e d u) ≡ true) × (v ≡ grown s e d u) × (w ≡ y ++ d.key ∷ []))
+    ((d.from ≡ base) × (is_within_caps s (d ∷ []) ≡ true) × (v ≡ vector_of s price (d ∷ []))
+    × (w ≡ d.key ∷ []))
+    ⊎ ((e : Duty) × (es : List (PairingVector × List (List Leg))) × (u : PairingVector)
+    × (y : List (List Leg)) × Member feed (e, es) × Member es (u, y)
+    × (is_vector_within_caps s (grown s e d u) ≡ true) × (v ≡ grown s e d u)
+    × (w ≡ y ++ d.key ∷ []))
 
 -- the candidates that none beats, each vector with the least walk
-abbrev pub IsLocalAt : Settings → List ℕ → ℤ → Duty → Feed → List (PairingVector × List (List Leg)) → Type 0
+abbrev pub IsLocalAt : Settings → List ℕ → ℤ → Duty → Feed
+    → List (PairingVector × List (List Leg)) → Type 0
 IsLocalAt s base price d feed = IsLocal is_at_most walk_at_most (Candidate s base price d feed)
 
 -- exactly the legal duties after which d may stand, each with its front
-pub record AreFrontsBefore (s : Settings) (t : Timetable) (base : List ℕ) (price : ℤ) (d : Duty) (feed : Feed) : Type 0 where
-  pub right : (e : Duty) (es : List (PairingVector × List (List Leg))) → Member feed (e, es) → IsDuty s (flights_of t) e × (may_stand_after s e d ≡ true) × IsFrontAt s t base price e es
-  pub every : (e : Duty) → IsDuty s (flights_of t) e → may_stand_after s e d ≡ true → (es : List (PairingVector × List (List Leg))) × Member feed (e, es)
+pub record AreFrontsBefore (s : Settings) (t : Timetable) (base : List ℕ) (price : ℤ) (d : Duty)
+    (feed : Feed) : Type 0 where
+  pub right : (e : Duty) (es : List (PairingVector × List (List Leg))) → Member feed (e, es)
+      → IsDuty s (flights_of t) e × (may_stand_after s e d ≡ true) × IsFrontAt s t base price e es
+  pub every : (e : Duty) → IsDuty s (flights_of t) e → may_stand_after s e d ≡ true
+      → (es : List (PairingVector × List (List Leg))) × Member feed (e, es)

@@ -12,7 +12,9 @@ use Rattle.crew_rules.specs.declared.settings.Settings.{Settings}
 abbrev pub stays_within_caps : Settings → List Duty → Bool
 stays_within_caps s duties = list_all (is_within_caps s) (beginnings duties)
 
--- the value of a list: its vector, and none where the list is empty or a beginning of it passes a cap
+-- the value of a list: its vector, and none where the list is empty or a beginning of it passes a
+-- cap
 abbrev pub value_of : Settings → ℤ → List Duty → Option PairingVector
 value_of s base_price [] = None
-value_of s base_price (first ∷ others) = cond (stays_within_caps s (first ∷ others)) (Some (vector_of s base_price (first ∷ others))) None
+value_of s base_price (first ∷ others) = cond (stays_within_caps s (first ∷ others))
+    (Some (vector_of s base_price (first ∷ others))) None

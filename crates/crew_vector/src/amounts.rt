@@ -56,7 +56,8 @@ fn elapsed_less_price(rate: u32, duty: &Duty) -> i64
 #[inline]
 fn rest(rate: u32, last: &Duty, duty: &Duty) -> i64
     requires { Spec.CanFollow last.now duty.now }
-    ensures value { result ≡ Spec.rig_wait rate (Spec.arrival_of last.now) (Spec.departure_of duty.now) }
+    ensures value { result ≡ Spec.rig_wait rate (Spec.arrival_of last.now)
+        (Spec.departure_of duty.now) }
     ensures least { pos 0 ≤ℤ result }
     ensures most { result ≤ℤ pos 42_949_672_960_000 }
 {

@@ -40,14 +40,18 @@ pub struct VectorResource {
 }
 
 impl VectorResource {
-    /// The resource of a base's pairings. The value of each list of duties is its vector, and none exactly where the
-    /// list is empty or a beginning of it passes a cap; a value has at most `max_duties` duties, and sums fit.
+    /// The resource of a base's pairings. The value of each list of duties is its vector, and none
+    /// exactly where the list is empty or a beginning of it passes a cap; a value has at most
+    /// `max_duties` duties, and sums fit.
     pub fn new(settings: &Settings, base_price: i64) -> VectorResource
         requires checked { IsChecked settings.now }
         requires price { IsBasePrice base_price }
         ensures made { result ≡ vector_resource settings.now base_price }
-        ensures values { (duties : List Duty) → ⟦<VectorResource as Resource>⟧.value_of result duties ≡ value_of settings.now base_price duties }
-        ensures most { ⟦<VectorResource as Staged<Duty>>⟧.most result ≡ Some settings.now.max_duties }
+        ensures values { (duties : List Duty)
+            → ⟦<VectorResource as Resource>⟧.value_of result duties
+            ≡ value_of settings.now base_price duties }
+        ensures most { ⟦<VectorResource as Staged<Duty>>⟧.most result
+            ≡ Some settings.now.max_duties }
         ensures fits { (n : ℕ) → n ≤ 100_000 → ⟦<VectorResource as Staged<Duty>>⟧.fits result n }
     {
         VectorResource {
@@ -128,11 +132,13 @@ impl Resource for VectorResource {
 
     ghost opens = { λ s d. option_map named (⟦<Sides as Resource>⟧.opens (sides_of s) d) };
 
-    ghost extends = { λ s v last next. option_map named (⟦<Sides as Resource>⟧.extends (sides_of s) (numbers_of v) last next) };
+    ghost extends = { λ s v last next. option_map named
+        (⟦<Sides as Resource>⟧.extends (sides_of s) (numbers_of v) last next) };
 
     ghost below = { is_at_most };
 
-    ghost value_of = { λ s duties. option_map named (⟦<Sides as Resource>⟧.value_of (sides_of s) duties) };
+    ghost value_of = { λ s duties. option_map named
+        (⟦<Sides as Resource>⟧.value_of (sides_of s) duties) };
 
     ghost grade_of = { λ v. ⟦<Sides as Resource>⟧.grade_of (numbers_of v) };
 
@@ -187,9 +193,11 @@ impl Resource for VectorResource {
 impl Staged<Duty> for VectorResource {
     ghost idle_of = { λ s g. named (⟦<Sides as Staged<Duty>>⟧.idle_of (sides_of s) g) };
 
-    ghost waited = { λ s v x g. named (⟦<Sides as Staged<Duty>>⟧.waited (sides_of s) (numbers_of v) x g) };
+    ghost waited = { λ s v x g. named
+        (⟦<Sides as Staged<Duty>>⟧.waited (sides_of s) (numbers_of v) x g) };
 
-    ghost boards = { λ s v d. option_map named (⟦<Sides as Staged<Duty>>⟧.boards (sides_of s) (numbers_of v) d) };
+    ghost boards = { λ s v d. option_map named
+        (⟦<Sides as Staged<Duty>>⟧.boards (sides_of s) (numbers_of v) d) };
 
     ghost is_shift = { λ _. Unit {0} };
 

@@ -32,8 +32,8 @@ fn along<P: Placed, R: Staged<P>>(resource: &R, first: &P, others: &[P]) -> Opti
     Some(value)
 }
 
-/// The value of a list of duties of one base, from its first duty on: its vector, and none where the list is empty, or
-/// where it or a beginning of it passes a cap.
+/// The value of a list of duties of one base, from its first duty on: its vector, and none where
+/// the list is empty, or where it or a beginning of it passes a cap.
 pub fn value_of_list(settings: &Settings, base_price: i64, duties: &[Duty]) -> Option<PairingVector>
     requires checked { IsChecked settings.now }
     requires price { IsBasePrice base_price }

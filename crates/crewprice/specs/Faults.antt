@@ -39,4 +39,5 @@ line_of fault = option_map (λ text. codes "crewprice: " ++ text ++ 10 ∷ []) (
 
 -- known bytes grow by a beginning of the text, and by nothing else
 abbrev pub AppendsBeginning : Option (List ℕ) → Option (List ℕ) → List ℕ → Type 0
-AppendsBeginning before after text = (part : List ℕ) × (rest : List ℕ) × (text ≡ part ++ rest) × Appends before after part
+AppendsBeginning before after text = (part : List ℕ) × (rest : List ℕ) × (text ≡ part ++ rest)
+    × Appends before after part

@@ -18,7 +18,8 @@ is_number digits = is_numeral digits && nat_lt (digits_value 10 digits) (2 ^ 32)
 -- the number of an option, by its text, or its default where it isn't given
 abbrev pub number_in : Option (List ℕ) → ℕ → ℕ
 number_in None default = default
-number_in (Some text) default = if is_number (without_leading_plus text) then digits_value 10 (without_leading_plus text) else default
+number_in (Some text) default = if is_number (without_leading_plus text) then digits_value 10
+    (without_leading_plus text) else default
 
 -- each setting is the number of the option of its name
 unfoldable pub settings_in : List Row → Settings

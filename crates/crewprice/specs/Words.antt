@@ -12,8 +12,10 @@ use Rattle.crewprice.specs.Options.{settings_in}
 
 -- the options, in the order of the numbers of their settings
 abbrev pub names : List Text
-names = codes "lead" ∷ codes "debrief" ∷ codes "connect" ∷ codes "sit" ∷ codes "max-rest" ∷ codes "max-duties" ∷ codes "fdp-cap"
-    ∷ codes "fly-cap" ∷ codes "away-cap" ∷ codes "duty-rig" ∷ codes "trip-rig" ∷ codes "duty-min" ∷ codes "guarantee"
+names = codes "lead" ∷ codes "debrief" ∷ codes "connect" ∷ codes "sit" ∷ codes "max-rest" ∷ codes
+    "max-duties" ∷ codes "fdp-cap"
+    ∷ codes "fly-cap" ∷ codes "away-cap" ∷ codes "duty-rig" ∷ codes "trip-rig" ∷ codes "duty-min"
+    ∷ codes "guarantee"
     ∷ codes "deadheads" ∷ []
 
 -- an option takes one value, a whole number from 0 to 1,000,000
@@ -36,11 +38,18 @@ run_up_to count = run_with (map option_rule (take count names))
 -- the whole command line: a subcommand is wanted, `run` is the only one, and `help` is none
 unfoldable pub program : App
 program = record {
-  top = record (new_shape (codes "crewprice")) { is_leaf = false; subcommand_required = true; disable_help_subcommand = true; has_version = true };
+  top = record (new_shape (codes "crewprice")) {
+    is_leaf = false;
+    subcommand_required = true;
+    disable_help_subcommand = true;
+    has_version =
+        true;
+  };
   subs = (run_up_to 14).top ∷ [];
 }
 
--- the faults of words, by kind; none where the parser takes them. The first word is the program's own name
+-- the faults of words, by kind; none where the parser takes them. The first word is the program's
+-- own name
 unfoldable pub faults_in : List Text → Kinds
 faults_in words = fault_of program words
 

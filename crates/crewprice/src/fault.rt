@@ -95,7 +95,8 @@ impl Fault {
 
     // The line of the fault, but not of one in the words.
     fn line(&self, alloc: Global) -> Result<String, AllocError>
-        ensures { IfOk result (λ line. IfSome (line_of self.now) (λ text. string_bytes line ≡ text)) }
+        ensures { IfOk result (λ line. IfSome (line_of self.now)
+            (λ text. string_bytes line ≡ text)) }
     {
         match format!(in alloc; "crewprice: {self}\n") {
             Ok(line) => Ok(line),
@@ -103,11 +104,13 @@ impl Fault {
         }
     }
 
-    /// Writes the line of the fault, or the text of the command line's own fault as it stands. Where
-    /// that fails, the writer has got a beginning of the line, and nothing else.
+    /// Writes the line of the fault, or the text of the command line's own fault as it stands.
+    /// Where that fails, the writer has got a beginning of the line, and nothing else.
     pub fn tell<W: Write>(&self, alloc: Global, writer: &mut W) -> io::Result<()>
-        ensures whole { OnOk result (IfSome (line_of self.now) (Appends (W.contents writer.old) (W.contents writer.new))) }
-        ensures beginning { IfSome (line_of self.now) (AppendsBeginning (W.contents writer.old) (W.contents writer.new)) }
+        ensures whole { OnOk result (IfSome (line_of self.now)
+            (Appends (W.contents writer.old) (W.contents writer.new))) }
+        ensures beginning { IfSome (line_of self.now)
+            (AppendsBeginning (W.contents writer.old) (W.contents writer.new)) }
     {
         match self {
             Fault::Usage(error) => write!(writer, "{error}"),

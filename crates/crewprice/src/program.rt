@@ -44,7 +44,8 @@ fn run_session<T: Threads + Sync, R: Read, W: Write>(
     reader: &mut R,
     writer: &mut W,
 ) -> Result<(), Fault>
-    ensures { Plays settings.now (check_of settings.now) (R.remaining reader.old) (W.contents writer.old) (W.contents writer.new) result }
+    ensures { Plays settings.now (check_of settings.now) (R.remaining reader.old)
+        (W.contents writer.old) (W.contents writer.new) result }
 {
     if let Err(bad) = settings.check() {
         return Err(Fault::Setting(bad));
@@ -64,7 +65,8 @@ fn run_words<T: Threads + Sync, S: AsStr, R: Read, W: Write>(
     reader: &mut R,
     writer: &mut W,
 ) -> Result<(), Fault>
-    ensures { Comes (map S.text words.now) (R.remaining reader.old) (W.contents writer.old) (W.contents writer.new) result }
+    ensures { Comes (map S.text words.now) (R.remaining reader.old) (W.contents writer.old)
+        (W.contents writer.new) result }
 {
     match read_words(alloc, words) {
         Ok(settings) => run_session(rt, alloc, &settings, reader, writer),
@@ -74,8 +76,8 @@ fn run_words<T: Threads + Sync, S: AsStr, R: Read, W: Write>(
 
 /// Does what the words ask for, and gives the status: 0 done, or help or the version was asked for;
 /// 1 a read or write fault; 2 a fault in the words; 3 no memory; 4 a bad setting; 5 a strange log.
-/// The line of a fault goes to `faults`, all else to `writer`; a fault in writing to `faults` changes
-/// nothing. The first word is the program's own name.
+/// The line of a fault goes to `faults`, all else to `writer`; a fault in writing to `faults`
+/// changes nothing. The first word is the program's own name.
 pub fn command<T: Threads + Sync, S: AsStr, R: Read, W: Write, F: Write>(
     rt: &T,
     alloc: Global,
@@ -85,7 +87,8 @@ pub fn command<T: Threads + Sync, S: AsStr, R: Read, W: Write, F: Write>(
     faults: &mut F,
 ) -> u8
     // The words come to an outcome; this is its status, and its line is told.
-    ensures ends { (r : Outcome) × Comes (map S.text words.now) (R.remaining reader.old) (W.contents writer.old) (W.contents writer.new) r
+    ensures ends { (r : Outcome) × Comes (map S.text words.now) (R.remaining reader.old)
+        (W.contents writer.old) (W.contents writer.new) r
         × (result ≡ status_after r) × Tells r (F.contents faults.old) (F.contents faults.new) }
     ensures most { result ≤ 5 }
 {

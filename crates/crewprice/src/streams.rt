@@ -1,12 +1,12 @@
-//! Streams that answer while their input is open: what was written is on its way before a read waits
-//! for more.
+//! Streams that answer while their input is open: what was written is on its way before a read
+//! waits for more.
 
 use std::alloc::Global;
 use std::cell::RefCell;
 use std::io::{self, BufWriter, Read, Write};
 
-/// A writer in blocks, which a reader sends on before it reads. Where a block can't be sent, no more
-/// is written, and there is no more to read: nobody would get the answers.
+/// A writer in blocks, which a reader sends on before it reads. Where a block can't be sent, no
+/// more is written, and there is no more to read: nobody would get the answers.
 #[derive(Drop)]
 pub struct Outlet<W: Write + Drop> {
     held: RefCell<Held<W>>,

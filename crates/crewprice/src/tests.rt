@@ -101,8 +101,8 @@ fn last_line<'a>(ended: &'a Ended) -> &'a [u8] {
     }
 }
 
-// Each option alone: what the session ends with for two of its numbers. The values are worked out by
-// hand from the sessions.
+// Each option alone: what the session ends with for two of its numbers. The values are worked out
+// by hand from the sessions.
 #[test]
 fn each_option_changes_a_session(rt: HostRuntime) {
     let (one_duty, _) = ONE_DUTY;

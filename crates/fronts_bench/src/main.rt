@@ -1,10 +1,11 @@
-//! Offers vectors with their walks to a front, or merges lists of them into a pool, for `bench/fronts`.
+//! Offers vectors with their walks to a front, or merges lists of them into a pool, for
+//! `bench/fronts`.
 //!
-//! Each line of the input has the seven numbers of a vector and the numbers of two flights. The words after the
-//! program's name are `offer` or `absorb`, and how often that is done with all of them; so again for further words.
-//! `offer` offers them to a new front. `absorb` cuts them into lists of 32, makes each list a pool of its own, and each
-//! time merges these into a new pool. It prints how many entries the last front or pool has, and the sum of their first
-//! numbers.
+//! Each line of the input has the seven numbers of a vector and the numbers of two flights. The
+//! words after the program's name are `offer` or `absorb`, and how often that is done with all of
+//! them; so again for further words. `offer` offers them to a new front. `absorb` cuts them into
+//! lists of 32, makes each list a pool of its own, and each time merges these into a new pool. It
+//! prints how many entries the last front or pool has, and the sum of their first numbers.
 #![tactic(auto)]
 
 mod marked;

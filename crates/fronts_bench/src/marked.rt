@@ -74,7 +74,10 @@ impl Marked {
         walks: &Walks,
     ) -> Result<(), AllocError>
         requires { walks.now ≡ [] ∷ [] }
-        ensures { OnOk result ((candidates : List (PairingVector × List ℕ)) → IsPoolOf is_at_most candidates (map (shown walks.now) self.old) → IsPoolOf is_at_most (candidates ++ map (shown walks.now) list.now) (map (shown walks.now) self.new)) }
+        ensures { OnOk result ((candidates : List (PairingVector × List ℕ))
+            → IsPoolOf is_at_most candidates (map (shown walks.now) self.old)
+            → IsPoolOf is_at_most (candidates ++ map (shown walks.now) list.now)
+            (map (shown walks.now) self.new)) }
     {
         self.pool.merge(vector, room, &list.pool, walks)?;
         Ok(())

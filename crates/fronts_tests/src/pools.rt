@@ -136,7 +136,17 @@ impl StagedAmount<Ride> for Fare {
 
     ghost share = { λ _. 1000 };
 
-    ghost amounts = { λ _. record { starts = λ i. refl; goes_on = λ last i. refl; idle_share = λ g b. still 1000; wait_share = λ x g f. still 1000; own_share = λ i s. s; first_call = λ i s b. tt; next_call = λ last i s t f. tt } };
+    ghost amounts = { λ _. record {
+      starts = λ i. refl;
+      goes_on = λ last i. refl;
+      idle_share = λ g
+          b. still 1000;
+      wait_share = λ x g f. still 1000;
+      own_share = λ i s. s;
+      first_call = λ i s
+          b. tt;
+      next_call = λ last i s t f. tt;
+    } };
 
     fn idle(&self, _departure: &i64) -> i64 {
         0

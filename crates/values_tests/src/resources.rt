@@ -73,7 +73,17 @@ impl StagedAmount<Ride> for Fare {
 
     ghost share = { λ _. 1000 };
 
-    ghost amounts = { λ _. record { starts = λ i. refl; goes_on = λ last i. refl; idle_share = λ g b. still 1000; wait_share = λ x g f. still 1000; own_share = λ i s. s.0; first_call = λ i s b. tt; next_call = λ last i s t f. tt } };
+    ghost amounts = { λ _. record {
+      starts = λ i. refl;
+      goes_on = λ last i. refl;
+      idle_share = λ g
+          b. still 1000;
+      wait_share = λ x g f. still 1000;
+      own_share = λ i s. s.0;
+      first_call = λ i
+          s b. tt;
+      next_call = λ last i s t f. tt;
+    } };
 
     fn idle(&self, _departure: &i64) -> i64 {
         0
@@ -98,13 +108,15 @@ impl Amount for Away {
 
     ghost first_of = { λ _ ride. pos 0 +ℤ (ride.arrives -ℤ ride.leaves) };
 
-    ghost next_of = { λ _ last ride. (ride.leaves -ℤ last.arrives) +ℤ (ride.arrives -ℤ ride.leaves) };
+    ghost next_of = { λ _ last ride. (ride.leaves -ℤ last.arrives) +ℤ
+        (ride.arrives -ℤ ride.leaves) };
 
     ghost cap_of = { λ a. Some a.most };
 
     ghost can_first = { λ _ ride. LiesWithin 1000 (ride.arrives -ℤ ride.leaves) };
 
-    ghost can_next = { λ _ last ride. LiesWithin 1000 (ride.leaves -ℤ last.arrives) × LiesWithin 1000 (ride.arrives -ℤ ride.leaves) };
+    ghost can_next = { λ _ last ride. LiesWithin 1000 (ride.leaves -ℤ last.arrives)
+        × LiesWithin 1000 (ride.arrives -ℤ ride.leaves) };
 
     fn first(&self, item: &Ride) -> i64 {
         item.arrives - item.leaves
@@ -128,7 +140,16 @@ impl StagedAmount<Ride> for Away {
 
     ghost share = { λ _. 1000 };
 
-    ghost amounts = { λ _. record { starts = λ i. refl; goes_on = λ last i. refl; idle_share = λ g b. still 1000; wait_share = λ x g f. f; own_share = λ i s. s.1; first_call = λ i s b. s.1; next_call = λ last i s t f. (f, t.1) } };
+    ghost amounts = { λ _. record {
+      starts = λ i. refl;
+      goes_on = λ last i. refl;
+      idle_share = λ g
+          b. still 1000;
+      wait_share = λ x g f. f;
+      own_share = λ i s. s.1;
+      first_call = λ i s b. s.1;
+      next_call = λ last i s t f. (f, t.1);
+    } };
 
     fn idle(&self, _departure: &i64) -> i64 {
         0

@@ -1,5 +1,6 @@
--- The partial pairings of a base as a tree: below a list of duties stand those that go on from it, by the key of the next duty. In
--- preorder they stand by walk. That this lists exactly the partial pairings is a theorem (proofs/Complete.antt).
+-- The partial pairings of a base as a tree: below a list of duties stand those that go on from it,
+-- by the key of the next duty. In preorder they stand by walk. That this lists exactly the partial
+-- pairings is a theorem (proofs/Complete.antt).
 use Rattle.std.specs.Prelude.{ℕ, zero, suc, ℤ, Bool, false, ◌&&◌, List, [], ◌∷◌, ◌++◌, map, if◌then◌else◌}
 use Rattle.std.specs.FinMap as fin
 use Rattle.std.specs.List.{flat_map}
@@ -41,13 +42,15 @@ unfoldable pub after : ℕ → Settings → List Flight → List ℕ → ℤ →
 after zero s flights base price before = []
 after (suc room) s flights base price before =
     flat_map
-    (λ next. if goes_on base s before next then listed s base price (before ++ next ∷ []) ∷ after room s flights base price (before ++ next ∷ []) else [])
+    (λ next. if goes_on base s before next then listed s base price (before ++ next ∷ []) ∷ after
+    room s flights base price (before ++ next ∷ []) else [])
     (all_duties s flights)
 
 -- those that go on with this duty
 abbrev pub with_next : ℕ → Settings → List Flight → List ℕ → ℤ → List Duty → Duty → List Partial
 with_next room s flights base price before next =
-    if goes_on base s before next then listed s base price (before ++ next ∷ []) ∷ after room s flights base price (before ++ next ∷ []) else []
+    if goes_on base s before next then listed s base price (before ++ next ∷ []) ∷ after room s
+    flights base price (before ++ next ∷ []) else []
 
 -- all partials of a base with its price
 abbrev pub of_base : Settings → List Flight → List ℕ × ℤ → List Partial

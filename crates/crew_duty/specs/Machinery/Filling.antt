@@ -4,7 +4,8 @@ use Rattle.std.specs.Prelude.{◌≡◌, ◌≤◌, ◌+◌, ◌++◌, ℕ, List
 -- these stand behind the first `at`, where there is room for them
 abbrev pub Fills : {X : Type 0} → ℕ → List X → List X → List X → Type 0
 Fills at xs before after =
-    (length after ≡ length before) × (at + length xs ≤ length before → take (at + length xs) after ≡ take at before ++ xs)
+    (length after ≡ length before)
+    × (at + length xs ≤ length before → take (at + length xs) after ≡ take at before ++ xs)
 
 -- the same, and `n` has counted them with those before, to one more than may be listed
 abbrev pub Goes : {X : Type 0} → ℕ → List X → List X → ℕ → List X → Type 0

@@ -1,4 +1,5 @@
--- What no beginning of a duty may pass, by its first leg: 14 CFR 117.11 with Table A and 117.13 with Table B.
+-- What no beginning of a duty may pass, by its first leg: 14 CFR 117.11 with Table A and 117.13
+-- with Table B.
 use Rattle.std.specs.Prelude.{◌≡◌, ◌≤ℤ◌, ◌+ℤ◌, ℤ, List, max, pos}
 use Rattle.crew_rules.specs.Tables.{limits_from, table_a, table_b}
 use Rattle.crew_rules.specs.declared.settings.Settings.{Settings}
@@ -17,4 +18,5 @@ pub record AreLimits (s : Settings) (first : TimedLeg) (limits : Limits) : Type 
 
 -- what departs later comes in too late: Table B gives no more time with more flight segments
 abbrev pub latest_departure : Settings → TimedLeg → List TimedLeg → ℤ
-latest_departure s first legs = report s first +ℤ pos (table_b first.flight.report_clock (max (segments legs) 1))
+latest_departure s first legs = report s first +ℤ pos
+    (table_b first.flight.report_clock (max (segments legs) 1))

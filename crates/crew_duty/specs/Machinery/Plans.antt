@@ -19,7 +19,8 @@ abbrev pub StandAt : List Flight → List ℕ → List Flight → Type 0
 StandAt flights [] [] = Unit {0}
 StandAt flights [] (g ∷ gs) = ⊥
 StandAt flights (place ∷ places) [] = ⊥
-StandAt flights (place ∷ places) (g ∷ gs) = (slice_get flights place ≡ Some g) × StandAt flights places gs
+StandAt flights (place ∷ places) (g ∷ gs) = (slice_get flights place ≡ Some g)
+    × StandAt flights places gs
 
 -- the places of the flights that may follow one, in order, where they are known
 abbrev pub Knows : Settings → List Flight → Flight → Option (Vec ℕ Global) → Type 0
@@ -33,19 +34,27 @@ AreNext s flights [] (known ∷ others) = ⊥
 AreNext s flights (f ∷ fs) [] = ⊥
 AreNext s flights (f ∷ fs) (known ∷ others) = Knows s flights f known × AreNext s flights fs others
 
--- what the search works with: checked settings, the flights of a timetable, their departures, and what is known of the flights that may follow each
-pub record IsPlan (s : Settings) (flights : List Flight) (slots : List Slot) (next : List (Option (Vec ℕ Global))) : Type 0 where
+-- what the search works with: checked settings, the flights of a timetable, their departures, and
+-- what is known of the flights that may follow each
+pub record IsPlan (s : Settings) (flights : List Flight) (slots : List Slot)
+    (next : List (Option (Vec ℕ Global))) : Type 0 where
   pub checked : IsChecked s
   pub are_flights : AreFlights flights
   pub few : length flights ≤ 5_000
   pub index : IsIndex flights slots
   pub are_next : AreNext s flights flights next
 
--- the duties that begin with these legs and then the flight at a place, and none where there is no flight
+-- the duties that begin with these legs and then the flight at a place, and none where there is no
+-- flight
 abbrev pub below_place : ℕ → Settings → List Flight → TimedLeg → List TimedLeg → ℕ → List Duty
-below_place room s flights first others place = flat_map (below room s flights first others) (take 1 (drop place flights))
+below_place room s flights first others place = flat_map (below room s flights first others)
+    (take 1 (drop place flights))
 
 -- places of flights that may follow the last leg; below all others that may, nothing stands
-pub record LeadOn (s : Settings) (flights : List Flight) (first : TimedLeg) (others : List TimedLeg) (places : List ℕ) : Type 0 where
-  pub follow : Each (λ place. (g : Flight) × (slice_get flights place ≡ Some g) × (may_follow s (last_of first others).flight g ≡ true)) places
-  pub all : (room : ℕ) → flat_map (below_place room s flights first others) places ≡ flat_map (below room s flights first others) (filter (may_follow s (last_of first others).flight) flights)
+pub record LeadOn (s : Settings) (flights : List Flight) (first : TimedLeg)
+    (others : List TimedLeg) (places : List ℕ) : Type 0 where
+  pub follow : Each (λ place. (g : Flight) × (slice_get flights place ≡ Some g)
+      × (may_follow s (last_of first others).flight g ≡ true)) places
+  pub all : (room : ℕ) → flat_map (below_place room s flights first others) places
+      ≡ flat_map (below room s flights first others)
+      (filter (may_follow s (last_of first others).flight) flights)

@@ -31,7 +31,8 @@ pub record IsNamed (f : Flight) : Type 0 where
 
 -- no slot is later than one after it
 abbrev pub Ascend : List Slot → Type 0
-Ascend slots = (i j : ℕ) (d : Slot) → i ≤ j → j < length slots → (get_or slots i d).at ≤ℤ (get_or slots j d).at
+Ascend slots = (i j : ℕ) (d : Slot) → i ≤ j → j < length slots
+    → (get_or slots i d).at ≤ℤ (get_or slots j d).at
 
 -- from one moment to another, both included
 abbrev pub is_between : ℤ → ℤ → Slot → Bool

@@ -17,7 +17,8 @@ pub record HoldSame {X : Type 0} (xs ys : List X) : Type 0 where
   pub back : (x : X) → Member ys x → Member xs x
 
 -- the new values are this one, and the old ones that it is not at most
-pub record Admitted {V : Type 0} (below : V → V → Bool) (value : V) (old new : List V) : Type 0 where
+pub record Admitted {V : Type 0} (below : V → V → Bool) (value : V) (old new : List V) : Type
+    0 where
   pub joins : Member new value
   pub stays : (w : V) → Member old w → below value w ≡ false → Member new w
   pub among : (w : V) → Member new w → (value ≡ w) ⊎ (Member old w × (below value w ≡ false))

@@ -20,6 +20,7 @@ pub record AreFlights (flights : List Flight) : Type 0 where
   pub rising : Rises flights
 
 -- a beginning of a duty over these flights
-pub record IsBeginning (s : Settings) (flights : List Flight) (first : TimedLeg) (others : List TimedLeg) : Type 0 where
+pub record IsBeginning (s : Settings) (flights : List Flight) (first : TimedLeg)
+    (others : List TimedLeg) : Type 0 where
   pub known : Each (λ l. Member flights l.flight) (first ∷ others)
   pub connected : AllConnect s first others

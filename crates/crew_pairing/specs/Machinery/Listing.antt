@@ -1,5 +1,6 @@
--- The duties over some flights as a tree: below a beginning stand the duties that begin with it. In preorder, with the next legs in order, they stand by key.
--- That this lists exactly the legal duties is a theorem (proofs/Complete.antt).
+-- The duties over some flights as a tree: below a beginning stand the duties that begin with it. In
+-- preorder, with the next legs in order, they stand by key. That this lists exactly the legal
+-- duties is a theorem (proofs/Complete.antt).
 use Rattle.std.specs.Prelude.{◌≡◌, Ok, Result, ℕ, zero, suc, pos, ◌||◌, nat_lt, int_lt, max, Bool, true, false, List, [], ◌∷◌, ◌++◌, filter, take, drop, if◌then◌else◌}
 use Rattle.std.specs.List.{flat_map}
 use Rattle.crew_flights.specs.declared.flight.Flight.{Flight}
@@ -12,12 +13,14 @@ use Rattle.crew_pairing.specs.Legality.{deadheads, duty_of, flight_duty_period, 
 abbrev pub timed : Bool → Flight → TimedLeg
 timed deadhead flight = record { flight = flight; deadhead = deadhead }
 
--- no duty can begin with these legs: too many deadheads, too much flight time, or more flight duty period than Table B allows to the segments so far
+-- no duty can begin with these legs: too many deadheads, too much flight time, or more flight duty
+-- period than Table B allows to the segments so far
 abbrev pub is_hopeless : Settings → TimedLeg → List TimedLeg → Bool
 is_hopeless s first others =
     nat_lt s.deadheads (deadheads (first ∷ others))
     || (int_lt (pos (table_a first.flight.report_clock)) (flight_time first others)
-    || int_lt (pos (table_b first.flight.report_clock (max (segments (first ∷ others)) 1))) (flight_duty_period s first others))
+    || int_lt (pos (table_b first.flight.report_clock (max (segments (first ∷ others)) 1)))
+    (flight_duty_period s first others))
 
 -- the duty of these legs themselves: a deadhead ends none
 abbrev pub own : Settings → TimedLeg → List TimedLeg → List Duty
@@ -29,16 +32,20 @@ listing zero s flights first others = []
 listing (suc room) s flights first others =
     if is_hopeless s first others then []
     else own s first others ++ flat_map
-    (λ next. listing room s flights first (others ++ timed false next ∷ []) ++ listing room s flights first (others ++ timed true next ∷ []))
+    (λ next. listing room s flights first (others ++ timed false next ∷ [])
+    ++ listing room s flights first (others ++ timed true next ∷ []))
     (filter (may_follow s (last_of first others).flight) flights)
 
 -- the duties that go on with a flight, flown and then deadheaded
 abbrev pub below : ℕ → Settings → List Flight → TimedLeg → List TimedLeg → Flight → List Duty
-below room s flights first others next = listing room s flights first (others ++ timed false next ∷ []) ++ listing room s flights first (others ++ timed true next ∷ [])
+below room s flights first others next = listing room s flights first
+    (others ++ timed false next ∷ [])
+    ++ listing room s flights first (others ++ timed true next ∷ [])
 
 -- the duties that begin with a flight, flown and then deadheaded
 abbrev pub from_flight : Settings → List Flight → Flight → List Duty
-from_flight s flights first = listing 8 s flights (timed false first) [] ++ listing 8 s flights (timed true first) []
+from_flight s flights first = listing 8 s flights (timed false first) []
+    ++ listing 8 s flights (timed true first) []
 
 -- all duties
 abbrev pub all_duties : Settings → List Flight → List Duty

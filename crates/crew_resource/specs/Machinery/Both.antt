@@ -8,13 +8,16 @@ both (Some a) None = None
 both (Some a) (Some b) = Some (a, b)
 
 -- the pair of what each gives
-abbrev pub both_extend : {A B I : Type 0} → (A → I → I → Option A) → (B → I → I → Option B) → A × B → I → I → Option (A × B)
+abbrev pub both_extend : {A B I : Type 0} → (A → I → I → Option A) → (B → I → I → Option B)
+    → A × B → I → I → Option (A × B)
 both_extend f g v last next = both (f v.0 last next) (g v.1 last next)
 
-abbrev pub both_wait : {A B X G : Type 0} → (A → X → G → A) → (B → X → G → B) → A × B → X → G → A × B
+abbrev pub both_wait : {A B X G : Type 0} → (A → X → G → A) → (B → X → G → B) → A × B → X → G
+    → A × B
 both_wait f h v x g = (f v.0 x g, h v.1 x g)
 
-abbrev pub both_board : {A B I : Type 0} → (A → I → Option A) → (B → I → Option B) → A × B → I → Option (A × B)
+abbrev pub both_board : {A B I : Type 0} → (A → I → Option A) → (B → I → Option B) → A × B → I
+    → Option (A × B)
 both_board f h v i = both (f v.0 i) (h v.1 i)
 
 -- the first side's, or else the second's

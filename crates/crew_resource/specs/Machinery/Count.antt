@@ -19,11 +19,15 @@ count_grades (pos a) (negsuc b) h = grind (arith, ints)
 count_grades (negsuc a) b h = omega arith
 
 pub count_staged : {I X G : Type 0} (most : ℕ) (arrives : I → X) (leaves : I → G)
-    → StagedLaws (λ _. capped (Some (pos most)) (pos 1)) (λ v _ _. capped (Some (pos most)) (v +ℤ pos 1)) int_le arrives leaves (λ _. pos 0) (shifted (λ _ _. pos 0)) (boarded (Some (pos most)) (λ _. pos 1))
-count_staged most arrives leaves = sum_staged (λ _. pos 1) (λ _ _. pos 1) (Some (pos most)) arrives leaves (λ _. pos 0) (λ _ _. pos 0) (λ _. pos 1) (λ i. refl) (λ last i. refl)
+    → StagedLaws (λ _. capped (Some (pos most)) (pos 1))
+    (λ v _ _. capped (Some (pos most)) (v +ℤ pos 1)) int_le arrives leaves (λ _. pos 0)
+    (shifted (λ _ _. pos 0)) (boarded (Some (pos most)) (λ _. pos 1))
+count_staged most arrives leaves = sum_staged (λ _. pos 1) (λ _ _. pos 1) (Some (pos most))
+    arrives leaves (λ _. pos 0) (λ _ _. pos 0) (λ _. pos 1) (λ i. refl) (λ last i. refl)
 
 pub count_counting : {I X G : Type 0} (most m : ℕ) → ◌≡◌ {A = Option ℕ} (Some most) (Some m)
-    → CountingLaws {I = I} {X = X} {G = G} (λ v. v) m (λ _. pos 0) (shifted (λ _ _. pos 0)) (boarded (Some (pos most)) (λ _. pos 1))
+    → CountingLaws {I = I} {X = X} {G = G} (λ v. v) m (λ _. pos 0) (shifted (λ _ _. pos 0))
+    (boarded (Some (pos most)) (λ _. pos 1))
 count_counting most m e =
     let same : most ≡ m = (cc) in record {
       none_yet = λ g. refl;
@@ -36,13 +40,18 @@ count_counting most m e =
           grind (arith, ints);
     }
 
-pub count_bounds : {I X G : Type 0} (most : ℕ) (is_sound : I → Type 0) (may_begin : G → Type 0) (may_follow : X → G → Type 0) (arrives : I → X) (leaves : I → G)
-    → BoundLaws is_sound may_begin may_follow arrives leaves (λ _. pos 0) (shifted (λ _ _. pos 0)) (boarded (Some (pos most)) (λ _. pos 1))
+pub count_bounds : {I X G : Type 0} (most : ℕ) (is_sound : I → Type 0) (may_begin : G → Type 0)
+    (may_follow : X → G → Type 0) (arrives : I → X) (leaves : I → G)
+    → BoundLaws is_sound may_begin may_follow arrives leaves (λ _. pos 0) (shifted (λ _ _. pos 0))
+    (boarded (Some (pos most)) (λ _. pos 1))
     (λ _. Unit {0}) (λ v _ _. Unit {0} × FitsSigned w64 (v +ℤ pos 1)) may_begin
-    (λ v x g. may_follow x g × FitsSigned w64 (v +ℤ pos 0)) (λ v i. is_sound i × FitsSigned w64 (v +ℤ pos 1))
+    (λ v x g. may_follow x g × FitsSigned w64 (v +ℤ pos 0))
+    (λ v i. is_sound i × FitsSigned w64 (v +ℤ pos 1))
     (sum_fits 1) (sum_ready 1) (sum_arrived 1)
 count_bounds most is_sound may_begin may_follow arrives leaves =
-    sum_bounds is_sound may_begin may_follow arrives leaves (λ _. pos 1) (λ _ _. pos 1) (λ _. Unit {0}) (λ _ _. Unit {0}) (Some (pos most)) (λ _. pos 0) (λ _ _. pos 0) (λ _. pos 1) 1
+    sum_bounds is_sound may_begin may_follow arrives leaves (λ _. pos 1) (λ _ _. pos 1)
+    (λ _. Unit {0}) (λ _ _. Unit {0}) (Some (pos most)) (λ _. pos 0) (λ _ _. pos 0)
+    (λ _. pos 1) 1
     record {
       starts = λ i. refl;
       goes_on = λ last i. refl;

@@ -29,7 +29,9 @@ beginnings (x ∷ xs) = (x ∷ []) ∷ map (λ b. x ∷ b) (beginnings xs)
 -- the sum over the whole list, and none where it, or a beginning of the list, passes the cap
 abbrev pub capped_sum : {I : Type 0} → (I → ℤ) → (I → I → ℤ) → Option ℤ → List I → Option ℤ
 capped_sum first next cap [] = None
-capped_sum first next cap (x ∷ xs) = cond (list_all (λ b. is_within cap (sum_of first next b)) (beginnings (x ∷ xs))) (Some (sum_of first next (x ∷ xs))) None
+capped_sum first next cap (x ∷ xs) = cond
+    (list_all (λ b. is_within cap (sum_of first next b)) (beginnings (x ∷ xs)))
+    (Some (sum_of first next (x ∷ xs))) None
 
 -- what follows the first item adds at least 0
 abbrev pub NeverFalls : {I : Type 0} → (I → I → ℤ) → I → List I → Type 0

@@ -11,4 +11,5 @@ HasRoom fits arrived value = (n : ℕ) × fits (suc n) × arrived n value
 
 -- if there is a value, it lies within the bound for one item more than the one before
 abbrev pub KeepsBound : {V : Type 0} → (ℕ → V → Type 0) → V → Option V → Type 0
-KeepsBound {V} arrived value longer = (n : ℕ) (z : V) → arrived n value → longer ≡ Some z → arrived (suc n) z
+KeepsBound {V} arrived value longer = (n : ℕ) (z : V) → arrived n value → longer ≡ Some z
+    → arrived (suc n) z

@@ -1,5 +1,5 @@
--- What a first duty and each next one add to a part, in stages: before any duty, by the rest, and by the duty itself; and
--- the laws that let the parts stand in stages.
+-- What a first duty and each next one add to a part, in stages: before any duty, by the rest, and
+-- by the duty itself; and the laws that let the parts stand in stages.
 use Rattle.std.specs.Prelude.{ℕ, ◌+◌, ◌*◌, ◌≤◌, ℤ, pos, negsuc, ◌+ℤ◌, ◌-ℤ◌, ◌*ℤ◌, ◌≤ℤ◌, neg_ℤ, unsigned_abs, refl}
 use Rattle.std.proofs.Common.{arith}
 use Rattle.std.proofs.Math.Nat.{mul-le-mul_left}
@@ -77,68 +77,98 @@ abbrev pub away_next : Duty → Duty → ℤ
 away_next last d = (d.report -ℤ last.release) +ℤ (d.release -ℤ d.report)
 
 -- an amount of duties meets the laws of stages
-abbrev pub Laws : (Duty → ℤ) → (Duty → Duty → ℤ) → (Duty → Type 0) → (Duty → Duty → Type 0) → (Departure → ℤ) → (Arrival → Departure → ℤ) → (Duty → ℤ) → ℕ → Type 0
-Laws first next can_first can_next idle wait own share = AmountLaws IsSound (λ _. Unit {0}) MayFollow arrival_of departure_of first next can_first can_next idle wait own share
+abbrev pub Laws : (Duty → ℤ) → (Duty → Duty → ℤ) → (Duty → Type 0) → (Duty → Duty → Type 0)
+    → (Departure → ℤ) → (Arrival → Departure → ℤ) → (Duty → ℤ) → ℕ → Type 0
+Laws first next can_first can_next idle wait own share = AmountLaws IsSound (λ _. Unit {0})
+    MayFollow arrival_of departure_of first next can_first can_next idle wait own share
 
 less : (base_price : ℤ) (more : ℕ) → LiesWithin (unsigned_abs base_price + more) (neg_ℤ base_price)
 less (pos n) more = record { least = omega (arith, ints); most = omega (arith, ints) }
 less (negsuc n) more = record { least = omega (arith, ints); most = omega (arith, ints) }
 
 within : (z : ℤ) (n m : ℕ) → LiesWithin n z → n ≤ m → LiesWithin m z
-within z n m h k = let l = h.least in let u = h.most in record { least = omega (arith, ints); most = omega (arith, ints) }
+within z n m h k = let l = h.least in let u = h.most in record
+    { least = omega (arith, ints); most = omega (arith, ints) }
 
 between : (z : ℤ) (n : ℕ) → pos 0 ≤ℤ z → z ≤ℤ pos n → LiesWithin n z
 between z n h k = record { least = omega (arith, ints); most = omega (arith, ints) }
 
 -- so many for each of at most so many minutes
-pub rate_share : (rate n : ℕ) (z : ℤ) → pos 0 ≤ℤ z → z ≤ℤ pos n → (pos 0 ≤ℤ (pos rate *ℤ z)) × ((pos rate *ℤ z) ≤ℤ pos (rate * n))
+pub rate_share : (rate n : ℕ) (z : ℤ) → pos 0 ≤ℤ z → z ≤ℤ pos n → (pos 0 ≤ℤ (pos rate *ℤ z))
+    × ((pos rate *ℤ z) ≤ℤ pos (rate * n))
 rate_share rate n (pos m) h k =
     let l : m ≤ n = omega (arith, ints) in
     let p = mul-le-mul_left rate l in
     (omega (arith, ints), omega (arith, ints, p))
 rate_share rate n (negsuc m) h k = absurd (omega (arith, ints))
 
-pub pay_laws : (base_price : ℤ) → Laws (pay_first base_price) pay_next IsSound (λ _. IsSound) (λ _. neg_ℤ base_price) (λ _ _. pos 0) pay_own (unsigned_abs base_price + 8_000_020_000)
+pub pay_laws : (base_price : ℤ)
+    → Laws (pay_first base_price) pay_next IsSound (λ _. IsSound) (λ _. neg_ℤ base_price)
+    (λ _ _. pos 0) pay_own (unsigned_abs base_price + 8_000_020_000)
 pay_laws base_price = record {
   starts = λ d. refl;
   goes_on = λ last d. refl;
   idle_share = λ g b. less base_price 8_000_020_000;
   wait_share = λ x g f. still (unsigned_abs base_price + 8_000_020_000);
-  own_share = λ d s. record { least = omega (arith, ints, s.pay, s.price_most); most = omega (arith, ints, s.pay_most, s.price) };
+  own_share = λ d s. record {
+    least = omega (arith, ints, s.pay, s.price_most);
+    most = omega
+        (arith, ints, s.pay_most, s.price);
+  };
   first_call = λ d s b. s;
   next_call = λ last d s t f. t;
 }
 
-pub rig_laws : (rate : ℕ) (base_price : ℤ) → Laws (rig_first rate base_price) (rig_next rate) IsSound CanFollow (λ _. neg_ℤ base_price) (rig_wait rate) (rig_own rate) (rate * 10_000 + unsigned_abs base_price + 8_000_000_000)
+pub rig_laws : (rate : ℕ) (base_price : ℤ)
+    → Laws (rig_first rate base_price) (rig_next rate) IsSound CanFollow (λ _. neg_ℤ base_price)
+    (rig_wait rate) (rig_own rate) (rate * 10_000 + unsigned_abs base_price + 8_000_000_000)
 rig_laws rate base_price = record {
   starts = λ d. refl;
   goes_on = λ last d. refl;
-  idle_share = λ g b. within (neg_ℤ base_price) (unsigned_abs base_price + 8_000_000_000) (rate * 10_000 + unsigned_abs base_price + 8_000_000_000) (less base_price 8_000_000_000) (omega arith);
+  idle_share = λ g b. within (neg_ℤ base_price) (unsigned_abs base_price + 8_000_000_000)
+      (rate * 10_000 + unsigned_abs base_price + 8_000_000_000) (less base_price 8_000_000_000)
+      (omega arith);
   wait_share = λ x g f.
       let least : pos 0 ≤ℤ (g.report -ℤ x.release) = omega (arith, ints, f.rest) in
       let most : (g.report -ℤ x.release) ≤ℤ pos 10_000 = omega (arith, ints, f.rest_most) in
       let r = rate_share rate 10_000 (g.report -ℤ x.release) least most in
-      within (rig_wait rate x g) (rate * 10_000) (rate * 10_000 + unsigned_abs base_price + 8_000_000_000) (between (rig_wait rate x g) (rate * 10_000) r.0 r.1) (omega arith);
+      within (rig_wait rate x g) (rate * 10_000)
+      (rate * 10_000 + unsigned_abs base_price + 8_000_000_000)
+      (between (rig_wait rate x g) (rate * 10_000) r.0 r.1) (omega arith);
   own_share = λ d s.
       let most : (d.release -ℤ d.report) ≤ℤ pos 10_000 = omega (arith, ints, s.elapsed_most) in
       let r = rate_share rate 10_000 (d.release -ℤ d.report) s.elapsed most in
-      record { least = omega (arith, ints, r.0, s.price_most); most = omega (arith, ints, r.1, s.price) };
+      record {
+        least = omega (arith, ints, r.0, s.price_most);
+        most = omega
+            (arith, ints, r.1, s.price);
+      };
   first_call = λ d s b. s;
   next_call = λ last d s t f. (t, f);
 }
 
-pub guarantee_laws : (points : ℕ) (base_price : ℤ) → Laws (guarantee_first points base_price) (guarantee_next points) IsSound (λ _. IsSound) (λ _. neg_ℤ base_price) (λ _ _. pos 0) (guarantee_own points) (points + unsigned_abs base_price + 8_000_000_000)
+pub guarantee_laws : (points : ℕ) (base_price : ℤ)
+    → Laws (guarantee_first points base_price) (guarantee_next points) IsSound (λ _. IsSound)
+    (λ _. neg_ℤ base_price) (λ _ _. pos 0) (guarantee_own points)
+    (points + unsigned_abs base_price + 8_000_000_000)
 guarantee_laws points base_price = record {
   starts = λ d. refl;
   goes_on = λ last d. refl;
-  idle_share = λ g b. within (neg_ℤ base_price) (unsigned_abs base_price + 8_000_000_000) (points + unsigned_abs base_price + 8_000_000_000) (less base_price 8_000_000_000) (omega arith);
+  idle_share = λ g b. within (neg_ℤ base_price) (unsigned_abs base_price + 8_000_000_000)
+      (points + unsigned_abs base_price + 8_000_000_000) (less base_price 8_000_000_000)
+      (omega arith);
   wait_share = λ x g f. still (points + unsigned_abs base_price + 8_000_000_000);
-  own_share = λ d s. record { least = omega (arith, ints, s.price_most); most = omega (arith, ints, s.price) };
+  own_share = λ d s. record {
+    least = omega (arith, ints, s.price_most);
+    most = omega
+        (arith, ints, s.price);
+  };
   first_call = λ d s b. s;
   next_call = λ last d s t f. t;
 }
 
-pub fdp_laws : Laws fdp_first fdp_next (λ _. Unit {0}) (λ _ _. Unit {0}) (λ _. pos 0) (λ _ _. pos 0) (λ d. d.fdp) 840
+pub fdp_laws : Laws fdp_first fdp_next (λ _. Unit {0}) (λ _ _. Unit {0}) (λ _. pos 0)
+    (λ _ _. pos 0) (λ d. d.fdp) 840
 fdp_laws = record {
   starts = λ d. refl;
   goes_on = λ last d. refl;
@@ -149,7 +179,8 @@ fdp_laws = record {
   next_call = λ last d s t f. tt;
 }
 
-pub fly_laws : Laws fly_first fly_next (λ _. Unit {0}) (λ _ _. Unit {0}) (λ _. pos 0) (λ _ _. pos 0) (λ d. d.fly) 540
+pub fly_laws : Laws fly_first fly_next (λ _. Unit {0}) (λ _ _. Unit {0}) (λ _. pos 0)
+    (λ _ _. pos 0) (λ d. d.fly) 540
 fly_laws = record {
   starts = λ d. refl;
   goes_on = λ last d. refl;
@@ -160,13 +191,16 @@ fly_laws = record {
   next_call = λ last d s t f. tt;
 }
 
-pub away_laws : Laws away_first away_next IsSound CanFollow (λ _. pos 0) (λ x g. g.report -ℤ x.release) (λ d. d.release -ℤ d.report) 8_280
+pub away_laws : Laws away_first away_next IsSound CanFollow (λ _. pos 0)
+    (λ x g. g.report -ℤ x.release) (λ d. d.release -ℤ d.report) 8_280
 away_laws = record {
   starts = λ d. refl;
   goes_on = λ last d. refl;
   idle_share = λ g b. still 8_280;
-  wait_share = λ x g f. between (g.report -ℤ x.release) 8_280 (omega (arith, ints, f.rest)) f.rest_most;
-  own_share = λ d s. between (d.release -ℤ d.report) 8_280 s.elapsed (omega (arith, ints, s.elapsed_most));
+  wait_share = λ x g f. between (g.report -ℤ x.release) 8_280 (omega (arith, ints, f.rest))
+      f.rest_most;
+  own_share = λ d s. between (d.release -ℤ d.report) 8_280 s.elapsed
+      (omega (arith, ints, s.elapsed_most));
   first_call = λ d s b. s;
   next_call = λ last d s t f. (t, f);
 }

@@ -26,7 +26,10 @@ use Rattle.crew_vector.specs.Machinery.SidesLaws.{sides_at_most, sides_shifts, s
 use Rattle.crew_pairing.specs.declared.vector.PairingVector.{PairingVector}
 use Rattle.crew_vector.specs.declared.resource.VectorResource.{VectorResource}
 
-pub vector_steps : (r : VectorResource) → StepLaws (λ d. option_map named (opened r d)) (λ v e d. option_map named (stepped r (numbers_of v) e d)) is_at_most (λ ds. option_map named (summed r ds))
+pub vector_steps : (r : VectorResource)
+    → StepLaws (λ d. option_map named (opened r d))
+    (λ v e d. option_map named (stepped r (numbers_of v) e d)) is_at_most
+    (λ ds. option_map named (summed r ds))
 vector_steps r = named_steps (opened r) (stepped r) (summed r) (sides_steps r)
 
 abbrev grade : Numbers → ℕ
@@ -34,109 +37,177 @@ grade n = max (max 0 (max 0 0)) (max (max 0 0) (max (count_grade n.1.1.0) 0))
 
 sides_grading : GradesOrder sides_at_most grade
 sides_grading =
-    both_grades _ _ _ _ (both_grades _ _ _ _ (no_grades int_le) (both_grades _ _ _ _ (no_grades int_le) (no_grades int_le)))
-    (both_grades _ _ _ _ (both_grades _ _ _ _ (no_grades int_le) (no_grades int_le)) (both_grades _ _ _ _ count_grades (no_grades int_le)))
+    both_grades _ _ _ _ (both_grades _ _ _ _ (no_grades int_le)
+    (both_grades _ _ _ _ (no_grades int_le) (no_grades int_le)))
+    (both_grades _ _ _ _ (both_grades _ _ _ _ (no_grades int_le) (no_grades int_le))
+    (both_grades _ _ _ _ count_grades (no_grades int_le)))
 
 pub vector_grading : GradesOrder is_at_most (λ v. grade (numbers_of v))
 vector_grading a b h = sides_grading (numbers_of a) (numbers_of b) h
 
 pub vector_staged : (r : VectorResource)
-    → StagedLaws (λ d. option_map named (opened r d)) (λ v e d. option_map named (stepped r (numbers_of v) e d)) is_at_most arrival_of departure_of (λ g. named (idle r g)) (λ v x g. named (waited r (numbers_of v) x g)) (λ v d. option_map named (aboard r (numbers_of v) d))
-vector_staged r = named_staged (opened r) (stepped r) arrival_of departure_of (idle r) (waited r) (aboard r) (sides_staged r)
+    → StagedLaws (λ d. option_map named (opened r d))
+    (λ v e d. option_map named (stepped r (numbers_of v) e d)) is_at_most arrival_of
+    departure_of (λ g. named (idle r g)) (λ v x g. named (waited r (numbers_of v) x g))
+    (λ v d. option_map named (aboard r (numbers_of v) d))
+vector_staged r = named_staged (opened r) (stepped r) arrival_of departure_of (idle r) (waited r)
+    (aboard r) (sides_staged r)
 
-pub vector_shifts : (r : VectorResource) → ShiftLaws vector_cmp is_at_most (λ v x g. named (waited r (numbers_of v) x g)) (λ v d. option_map named (aboard r (numbers_of v) d))
+pub vector_shifts : (r : VectorResource)
+    → ShiftLaws vector_cmp is_at_most (λ v x g. named (waited r (numbers_of v) x g))
+    (λ v d. option_map named (aboard r (numbers_of v) d))
 vector_shifts r = named_shifts (waited r) (aboard r) (sides_shifts r)
 
 abbrev board_money : VectorResource → ℤ × (ℤ × ℤ) → Duty → Option (ℤ × (ℤ × ℤ))
-board_money r = both_board (boarded None pay_own) (both_board (boarded None (rig_own r.trip_rig)) (boarded None (guarantee_own r.guarantee)))
+board_money r = both_board (boarded None pay_own)
+    (both_board (boarded None (rig_own r.trip_rig)) (boarded None (guarantee_own r.guarantee)))
 
 abbrev board_minutes : VectorResource → ℤ × ℤ → Duty → Option (ℤ × ℤ)
-board_minutes r = both_board (boarded (Some (pos r.fdp_cap)) (λ d. d.fdp)) (boarded (Some (pos r.fly_cap)) (λ d. d.fly))
+board_minutes r = both_board (boarded (Some (pos r.fdp_cap)) (λ d. d.fdp))
+    (boarded (Some (pos r.fly_cap)) (λ d. d.fly))
 
 abbrev board_span : VectorResource → ℤ × ℤ → Duty → Option (ℤ × ℤ)
-board_span r = both_board (boarded (Some (pos r.max_duties)) (λ _. pos 1)) (boarded (Some (pos r.away_cap)) (λ d. d.release -ℤ d.report))
+board_span r = both_board (boarded (Some (pos r.max_duties)) (λ _. pos 1))
+    (boarded (Some (pos r.away_cap)) (λ d. d.release -ℤ d.report))
 
 -- boarding counts one duty more, up to the most
-one_boarded : (r : VectorResource) (v z : PairingVector) (d : Duty) → option_map named (aboard r (numbers_of v) d) ≡ Some z → (int_le (v.duties +ℤ pos 1) (pos r.max_duties) ≡ true) × (v.duties +ℤ pos 1 ≡ z.duties)
+one_boarded : (r : VectorResource) (v z : PairingVector) (d : Duty)
+    → option_map named (aboard r (numbers_of v) d) ≡ Some z
+    → (int_le (v.duties +ℤ pos 1) (pos r.max_duties) ≡ true) × (v.duties +ℤ pos 1 ≡ z.duties)
 one_boarded r v z d e =
     let n = numbers_of v in
     let m = numbers_of z in
-    let a = both_parts (board_money r n.0 d) (both_board (board_minutes r) (board_span r) n.1 d) m (unnamed (aboard r n d) z e) in
+    let a = both_parts (board_money r n.0 d) (both_board (board_minutes r) (board_span r) n.1 d) m
+    (unnamed (aboard r n d) z e) in
     let b = both_parts (board_minutes r n.1.0 d) (board_span r n.1.1 d) m.1 a.1 in
-    let c = both_parts (boarded (Some (pos r.max_duties)) (λ (_ : Duty). pos 1) v.duties d) (boarded (Some (pos r.away_cap)) (λ (d : Duty). d.release -ℤ d.report) v.away d) m.1.1 b.1 in
+    let c = both_parts (boarded (Some (pos r.max_duties)) (λ (_ : Duty). pos 1) v.duties d)
+    (boarded (Some (pos r.away_cap)) (λ (d : Duty). d.release -ℤ d.report) v.away d) m.1.1 b.1
+    in
     capped_is (Some (pos r.max_duties)) (v.duties +ℤ pos 1) z.duties c.0
 
 test_le : (a b : ℤ) → int_le a b ≡ true → a ≤ℤ b
 test_le a b h = grind (arith, ints)
 
-counting : (r : VectorResource) → CountingLaws (λ (v : PairingVector). v.duties) r.max_duties (λ g. named (idle r g)) (λ v x g. named (waited r (numbers_of v) x g)) (λ v d. option_map named (aboard r (numbers_of v) d))
+counting : (r : VectorResource)
+    → CountingLaws (λ (v : PairingVector). v.duties) r.max_duties (λ g. named (idle r g))
+    (λ v x g. named (waited r (numbers_of v) x g))
+    (λ v d. option_map named (aboard r (numbers_of v) d))
 counting r = record {
   none_yet = λ g. refl;
   none_more = λ v x g. omega (arith, ints);
   one_more = λ v z i e. sym (one_boarded r v z i e).1;
-  ends = λ v z i e. let k = one_boarded r v z i e in subst (λ n. n ≤ℤ pos r.max_duties) k.1 (test_le (v.duties +ℤ pos 1) (pos r.max_duties) k.0);
+  ends = λ v z i e. let k = one_boarded r v z i e in subst (λ n. n ≤ℤ pos r.max_duties) k.1
+      (test_le (v.duties +ℤ pos 1) (pos r.max_duties) k.0);
 }
 
-pub vector_counting : (r : VectorResource) (m : ℕ) → ◌≡◌ {A = Option ℕ} (Some r.max_duties) (Some m) → CountingLaws (λ (v : PairingVector). v.duties) m (λ g. named (idle r g)) (λ v x g. named (waited r (numbers_of v) x g)) (λ v d. option_map named (aboard r (numbers_of v) d))
+pub vector_counting : (r : VectorResource) (m : ℕ)
+    → ◌≡◌ {A = Option ℕ} (Some r.max_duties) (Some m)
+    → CountingLaws (λ (v : PairingVector). v.duties) m (λ g. named (idle r g))
+    (λ v x g. named (waited r (numbers_of v) x g))
+    (λ v d. option_map named (aboard r (numbers_of v) d))
 vector_counting r m e =
     let same : r.max_duties ≡ m = (cc) in
-    subst (λ k. CountingLaws (λ (v : PairingVector). v.duties) k (λ g. named (idle r g)) (λ v x g. named (waited r (numbers_of v) x g)) (λ v d. option_map named (aboard r (numbers_of v) d))) same (counting r)
+    subst (λ k. CountingLaws (λ (v : PairingVector). v.duties) k (λ g. named (idle r g))
+    (λ v x g. named (waited r (numbers_of v) x g))
+    (λ v d. option_map named (aboard r (numbers_of v) d))) same (counting r)
 
 -- a call's sums fit
 abbrev can_start : Duty → Type 0
-can_start d = (IsSound d × (IsSound d × IsSound d)) × ((Unit {0} × Unit {0}) × (Unit {0} × IsSound d))
+can_start d = (IsSound d × (IsSound d × IsSound d))
+    × ((Unit {0} × Unit {0}) × (Unit {0} × IsSound d))
 
 abbrev can_extend : VectorResource → Numbers → Duty → Duty → Type 0
 can_extend r n e d =
-    ((IsSound d × FitsSigned w64 (n.0.0 +ℤ pay_next e d)) × ((CanFollow e d × FitsSigned w64 (n.0.1.0 +ℤ rig_next r.trip_rig e d)) × (IsSound d × FitsSigned w64 (n.0.1.1 +ℤ guarantee_next r.guarantee e d))))
-    × (((Unit {0} × FitsSigned w64 (n.1.0.0 +ℤ fdp_next e d)) × (Unit {0} × FitsSigned w64 (n.1.0.1 +ℤ fly_next e d))) × ((Unit {0} × FitsSigned w64 (n.1.1.0 +ℤ pos 1)) × (CanFollow e d × FitsSigned w64 (n.1.1.1 +ℤ away_next e d))))
+    ((IsSound d × FitsSigned w64 (n.0.0 +ℤ pay_next e d))
+    × ((CanFollow e d × FitsSigned w64 (n.0.1.0 +ℤ rig_next r.trip_rig e d))
+    × (IsSound d × FitsSigned w64 (n.0.1.1 +ℤ guarantee_next r.guarantee e d))))
+    × (((Unit {0} × FitsSigned w64 (n.1.0.0 +ℤ fdp_next e d))
+    × (Unit {0} × FitsSigned w64 (n.1.0.1 +ℤ fly_next e d)))
+    × ((Unit {0} × FitsSigned w64 (n.1.1.0 +ℤ pos 1))
+    × (CanFollow e d × FitsSigned w64 (n.1.1.1 +ℤ away_next e d))))
 
 abbrev can_idle : Departure → Type 0
 can_idle g = (Unit {0} × (Unit {0} × Unit {0})) × ((Unit {0} × Unit {0}) × (Unit {0} × Unit {0}))
 
 abbrev can_wait : VectorResource → Numbers → Arrival → Departure → Type 0
 can_wait r n x g =
-    ((MayFollow x g × FitsSigned w64 (n.0.0 +ℤ pos 0)) × ((MayFollow x g × FitsSigned w64 (n.0.1.0 +ℤ rig_wait r.trip_rig x g)) × (MayFollow x g × FitsSigned w64 (n.0.1.1 +ℤ pos 0))))
-    × (((MayFollow x g × FitsSigned w64 (n.1.0.0 +ℤ pos 0)) × (MayFollow x g × FitsSigned w64 (n.1.0.1 +ℤ pos 0))) × ((MayFollow x g × FitsSigned w64 (n.1.1.0 +ℤ pos 0)) × (MayFollow x g × FitsSigned w64 (n.1.1.1 +ℤ (g.report -ℤ x.release)))))
+    ((MayFollow x g × FitsSigned w64 (n.0.0 +ℤ pos 0))
+    × ((MayFollow x g × FitsSigned w64 (n.0.1.0 +ℤ rig_wait r.trip_rig x g))
+    × (MayFollow x g × FitsSigned w64 (n.0.1.1 +ℤ pos 0))))
+    × (((MayFollow x g × FitsSigned w64 (n.1.0.0 +ℤ pos 0))
+    × (MayFollow x g × FitsSigned w64 (n.1.0.1 +ℤ pos 0)))
+    × ((MayFollow x g × FitsSigned w64 (n.1.1.0 +ℤ pos 0))
+    × (MayFollow x g × FitsSigned w64 (n.1.1.1 +ℤ (g.report -ℤ x.release)))))
 
 abbrev can_board : VectorResource → Numbers → Duty → Type 0
 can_board r n d =
-    ((IsSound d × FitsSigned w64 (n.0.0 +ℤ pay_own d)) × ((IsSound d × FitsSigned w64 (n.0.1.0 +ℤ rig_own r.trip_rig d)) × (IsSound d × FitsSigned w64 (n.0.1.1 +ℤ guarantee_own r.guarantee d))))
-    × (((IsSound d × FitsSigned w64 (n.1.0.0 +ℤ d.fdp)) × (IsSound d × FitsSigned w64 (n.1.0.1 +ℤ d.fly))) × ((IsSound d × FitsSigned w64 (n.1.1.0 +ℤ pos 1)) × (IsSound d × FitsSigned w64 (n.1.1.1 +ℤ (d.release -ℤ d.report)))))
+    ((IsSound d × FitsSigned w64 (n.0.0 +ℤ pay_own d))
+    × ((IsSound d × FitsSigned w64 (n.0.1.0 +ℤ rig_own r.trip_rig d))
+    × (IsSound d × FitsSigned w64 (n.0.1.1 +ℤ guarantee_own r.guarantee d))))
+    × (((IsSound d × FitsSigned w64 (n.1.0.0 +ℤ d.fdp))
+    × (IsSound d × FitsSigned w64 (n.1.0.1 +ℤ d.fly)))
+    × ((IsSound d × FitsSigned w64 (n.1.1.0 +ℤ pos 1))
+    × (IsSound d × FitsSigned w64 (n.1.1.1 +ℤ (d.release -ℤ d.report)))))
 
 abbrev ready : VectorResource → ℕ → Numbers → Type 0
 ready r n v =
     (sum_ready (unsigned_abs r.base_price + 8_000_020_000) n v.0.0
-    × (sum_ready (r.trip_rig * 10_000 + unsigned_abs r.base_price + 8_000_000_000) n v.0.1.0 × sum_ready (r.guarantee + unsigned_abs r.base_price + 8_000_000_000) n v.0.1.1))
-    × ((sum_ready 840 n v.1.0.0 × sum_ready 540 n v.1.0.1) × (sum_ready 1 n v.1.1.0 × sum_ready 8_280 n v.1.1.1))
+    × (sum_ready (r.trip_rig * 10_000 + unsigned_abs r.base_price + 8_000_000_000) n v.0.1.0
+    × sum_ready (r.guarantee + unsigned_abs r.base_price + 8_000_000_000) n v.0.1.1))
+    × ((sum_ready 840 n v.1.0.0 × sum_ready 540 n v.1.0.1)
+    × (sum_ready 1 n v.1.1.0 × sum_ready 8_280 n v.1.1.1))
 
 abbrev arrived : VectorResource → ℕ → Numbers → Type 0
 arrived r n v =
     (sum_arrived (unsigned_abs r.base_price + 8_000_020_000) n v.0.0
-    × (sum_arrived (r.trip_rig * 10_000 + unsigned_abs r.base_price + 8_000_000_000) n v.0.1.0 × sum_arrived (r.guarantee + unsigned_abs r.base_price + 8_000_000_000) n v.0.1.1))
-    × ((sum_arrived 840 n v.1.0.0 × sum_arrived 540 n v.1.0.1) × (sum_arrived 1 n v.1.1.0 × sum_arrived 8_280 n v.1.1.1))
+    × (sum_arrived (r.trip_rig * 10_000 + unsigned_abs r.base_price + 8_000_000_000) n v.0.1.0
+    × sum_arrived (r.guarantee + unsigned_abs r.base_price + 8_000_000_000) n v.0.1.1))
+    × ((sum_arrived 840 n v.1.0.0 × sum_arrived 540 n v.1.0.1)
+    × (sum_arrived 1 n v.1.1.0 × sum_arrived 8_280 n v.1.1.1))
 
 sides_bounds : (r : VectorResource)
-    → BoundLaws IsSound (λ _. Unit {0}) MayFollow arrival_of departure_of (idle r) (waited r) (aboard r) can_start (can_extend r) can_idle (can_wait r) (can_board r) (fits_in r) (ready r) (arrived r)
+    → BoundLaws IsSound (λ _. Unit {0}) MayFollow arrival_of departure_of (idle r) (waited r)
+    (aboard r) can_start (can_extend r) can_idle (can_wait r) (can_board r) (fits_in r)
+    (ready r) (arrived r)
 sides_bounds r =
     both_bounds _ _ _ _ _ _ _ _ _ _ _ _ _ _ _ _ _ _ _ _ _ _ _ _ _ _ _
     (both_bounds _ _ _ _ _ _ _ _ _ _ _ _ _ _ _ _ _ _ _ _ _ _ _ _ _ _ _
-    (sum_bounds IsSound (λ _. Unit {0}) MayFollow arrival_of departure_of (pay_first r.base_price) pay_next IsSound (λ _. IsSound) None (λ _. neg_ℤ r.base_price) (λ _ _. pos 0) pay_own (unsigned_abs r.base_price + 8_000_020_000) (pay_laws r.base_price))
+    (sum_bounds IsSound (λ _. Unit {0}) MayFollow arrival_of departure_of (pay_first r.base_price)
+    pay_next IsSound (λ _. IsSound) None (λ _. neg_ℤ r.base_price) (λ _ _. pos 0) pay_own
+    (unsigned_abs r.base_price + 8_000_020_000) (pay_laws r.base_price))
     (both_bounds _ _ _ _ _ _ _ _ _ _ _ _ _ _ _ _ _ _ _ _ _ _ _ _ _ _ _
-    (sum_bounds IsSound (λ _. Unit {0}) MayFollow arrival_of departure_of (rig_first r.trip_rig r.base_price) (rig_next r.trip_rig) IsSound CanFollow None (λ _. neg_ℤ r.base_price) (rig_wait r.trip_rig) (rig_own r.trip_rig)
-    (r.trip_rig * 10_000 + unsigned_abs r.base_price + 8_000_000_000) (rig_laws r.trip_rig r.base_price))
-    (sum_bounds IsSound (λ _. Unit {0}) MayFollow arrival_of departure_of (guarantee_first r.guarantee r.base_price) (guarantee_next r.guarantee) IsSound (λ _. IsSound) None (λ _. neg_ℤ r.base_price) (λ _ _. pos 0) (guarantee_own r.guarantee)
-    (r.guarantee + unsigned_abs r.base_price + 8_000_000_000) (guarantee_laws r.guarantee r.base_price))))
+    (sum_bounds IsSound (λ _. Unit {0}) MayFollow arrival_of departure_of
+    (rig_first r.trip_rig r.base_price) (rig_next r.trip_rig) IsSound CanFollow None
+    (λ _. neg_ℤ r.base_price) (rig_wait r.trip_rig) (rig_own r.trip_rig)
+    (r.trip_rig * 10_000 + unsigned_abs r.base_price + 8_000_000_000)
+    (rig_laws r.trip_rig r.base_price))
+    (sum_bounds IsSound (λ _. Unit {0}) MayFollow arrival_of departure_of
+    (guarantee_first r.guarantee r.base_price) (guarantee_next r.guarantee) IsSound
+    (λ _. IsSound) None (λ _. neg_ℤ r.base_price) (λ _ _. pos 0) (guarantee_own r.guarantee)
+    (r.guarantee + unsigned_abs r.base_price + 8_000_000_000)
+    (guarantee_laws r.guarantee r.base_price))))
     (both_bounds _ _ _ _ _ _ _ _ _ _ _ _ _ _ _ _ _ _ _ _ _ _ _ _ _ _ _
     (both_bounds _ _ _ _ _ _ _ _ _ _ _ _ _ _ _ _ _ _ _ _ _ _ _ _ _ _ _
-    (sum_bounds IsSound (λ _. Unit {0}) MayFollow arrival_of departure_of fdp_first fdp_next (λ _. Unit {0}) (λ _ _. Unit {0}) (Some (pos r.fdp_cap)) (λ _. pos 0) (λ _ _. pos 0) (λ d. d.fdp) 840 fdp_laws)
-    (sum_bounds IsSound (λ _. Unit {0}) MayFollow arrival_of departure_of fly_first fly_next (λ _. Unit {0}) (λ _ _. Unit {0}) (Some (pos r.fly_cap)) (λ _. pos 0) (λ _ _. pos 0) (λ d. d.fly) 540 fly_laws))
+    (sum_bounds IsSound (λ _. Unit {0}) MayFollow arrival_of departure_of fdp_first fdp_next
+    (λ _. Unit {0}) (λ _ _. Unit {0}) (Some (pos r.fdp_cap)) (λ _. pos 0) (λ _ _. pos 0)
+    (λ d. d.fdp) 840 fdp_laws)
+    (sum_bounds IsSound (λ _. Unit {0}) MayFollow arrival_of departure_of fly_first fly_next
+    (λ _. Unit {0}) (λ _ _. Unit {0}) (Some (pos r.fly_cap)) (λ _. pos 0) (λ _ _. pos 0)
+    (λ d. d.fly) 540 fly_laws))
     (both_bounds _ _ _ _ _ _ _ _ _ _ _ _ _ _ _ _ _ _ _ _ _ _ _ _ _ _ _
     (count_bounds r.max_duties IsSound (λ _. Unit {0}) MayFollow arrival_of departure_of)
-    (sum_bounds IsSound (λ _. Unit {0}) MayFollow arrival_of departure_of away_first away_next IsSound CanFollow (Some (pos r.away_cap)) (λ _. pos 0) (λ x g. g.report -ℤ x.release) (λ d. d.release -ℤ d.report) 8_280 away_laws)))
+    (sum_bounds IsSound (λ _. Unit {0}) MayFollow arrival_of departure_of away_first away_next
+    IsSound CanFollow (Some (pos r.away_cap)) (λ _. pos 0) (λ x g. g.report -ℤ x.release)
+    (λ d. d.release -ℤ d.report) 8_280 away_laws)))
 
 pub vector_bounds : (r : VectorResource)
-    → BoundLaws IsSound (λ _. Unit {0}) MayFollow arrival_of departure_of (λ g. named (idle r g)) (λ v x g. named (waited r (numbers_of v) x g)) (λ v d. option_map named (aboard r (numbers_of v) d))
-    can_start (λ v. can_extend r (numbers_of v)) can_idle (λ v. can_wait r (numbers_of v)) (λ v. can_board r (numbers_of v)) (fits_in r) (λ n v. ready r n (numbers_of v)) (λ n v. arrived r n (numbers_of v))
+    → BoundLaws IsSound (λ _. Unit {0}) MayFollow arrival_of departure_of (λ g. named (idle r g))
+    (λ v x g. named (waited r (numbers_of v) x g))
+    (λ v d. option_map named (aboard r (numbers_of v) d))
+    can_start (λ v. can_extend r (numbers_of v)) can_idle (λ v. can_wait r (numbers_of v))
+    (λ v. can_board r (numbers_of v)) (fits_in r) (λ n v. ready r n (numbers_of v))
+    (λ n v. arrived r n (numbers_of v))
 vector_bounds r =
-    named_bounds IsSound (λ _. Unit {0}) MayFollow arrival_of departure_of (idle r) (waited r) (aboard r) can_start (can_extend r) can_idle (can_wait r) (can_board r) (fits_in r) (ready r) (arrived r) (sides_bounds r)
+    named_bounds IsSound (λ _. Unit {0}) MayFollow arrival_of departure_of (idle r) (waited r)
+    (aboard r) can_start (can_extend r) can_idle (can_wait r) (can_board r) (fits_in r)
+    (ready r) (arrived r) (sides_bounds r)

@@ -25,7 +25,8 @@ vector_resource s base_price = record {
 }
 
 abbrev pub Sides : Type 0
-Sides = Both (Both (Sum DutyPay) (Both (Sum TripRig) (Sum Guarantee))) (Both (Both (Sum DutyMinutes) (Sum FlightMinutes)) (Both (Count Duty) (Sum MinutesAway)))
+Sides = Both (Both (Sum DutyPay) (Both (Sum TripRig) (Sum Guarantee)))
+    (Both (Both (Sum DutyMinutes) (Sum FlightMinutes)) (Both (Count Duty) (Sum MinutesAway)))
 
 abbrev pub sides_of : VectorResource → Sides
 sides_of r = record {
