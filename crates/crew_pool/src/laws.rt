@@ -13,5 +13,8 @@ use crew_resource::Resource;
 /// Over all legal duties of a timetable, by key: what candidates leave with their walks by rank is
 /// what they leave with their walks by key.
 pub fn pools_by_rank_are_pools_by_key<R: Resource>()
-    ensures { (s : Settings) (t : Timetable) (duties : List Duty) (candidates entries : List (R.Value × List ℕ)) → AreDuties s t duties → AreRanked (length duties) candidates → IsPoolOf R.below candidates entries → IsLocalOf R.below (by_key duties candidates) (by_key duties entries) }
+    ensures { (s : Settings) (t : Timetable) (duties : List Duty)
+        (candidates entries : List (R.Value × List ℕ)) → AreDuties s t duties
+        → AreRanked (length duties) candidates → IsPoolOf R.below candidates entries
+        → IsLocalOf R.below (by_key duties candidates) (by_key duties entries) }
 {}

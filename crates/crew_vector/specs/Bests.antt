@@ -40,7 +40,8 @@ pub record IsCleanPairing (s : Settings) (t : Timetable) (p : PricedPairing) : T
 
 -- by cost, and then by walk
 abbrev pub NoDearer : ℤ → List (List Leg) → ℤ → List (List Leg) → Type 0
-NoDearer cost walk other_cost other_walk = (cost <ℤ other_cost) ⊎ ((cost ≡ other_cost) × (walk_at_most walk other_walk ≡ true))
+NoDearer cost walk other_cost other_walk = (cost <ℤ other_cost)
+    ⊎ ((cost ≡ other_cost) × (walk_at_most walk other_walk ≡ true))
 
 -- of the clean pairings of all bases the one that is least by cost and walk; none where there is no
 -- pairing

@@ -71,7 +71,8 @@ network_of s base price duties = record {
 abbrev pub ArrivedBefore : Network Duty PairingVector (List (List Leg)) Departure Arrival
     → (Duty → List (PairingVector × List (List Leg))) → ℤ → Arrival → PairingVector
     → List (List Leg) → Type 0
-ArrivedBefore net fronts minute x v w = (d : Duty) × Member net.known d × (d.report <ℤ minute) × (net.arrives d ≡ x) × Member (fronts d) (v, w)
+ArrivedBefore net fronts minute x v w = (d : Duty) × Member net.known d × (d.report <ℤ minute)
+    × (net.arrives d ≡ x) × Member (fronts d) (v, w)
 
 -- of these the ones with a duty to spare: the others can board nothing
 abbrev pub ArrivedToSpare : Settings

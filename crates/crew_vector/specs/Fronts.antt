@@ -60,7 +60,8 @@ IsUndominated s t base price d = Undominated is_at_most (At s t base price d)
 -- each beginning, the whole list included, has a vector that is undominated at its own node
 abbrev pub StaysUndominated : Settings → Timetable → List ℕ → ℤ → Duty → List Duty → Type 0
 StaysUndominated s t base price first others =
-    (taken left : List Duty) → taken ++ left ≡ others → IsUndominated s t base price (last_duty first taken) (vector_of s price (first ∷ taken))
+    (taken left : List Duty) → taken ++ left ≡ others
+    → IsUndominated s t base price (last_duty first taken) (vector_of s price (first ∷ taken))
 
 -- a clean partial
 pub record Clean (s : Settings) (t : Timetable) (base : List ℕ) (price : ℤ) (d : Duty)
@@ -71,4 +72,5 @@ pub record Clean (s : Settings) (t : Timetable) (base : List ℕ) (price : ℤ) 
 -- exactly the undominated vectors of the node, each with the least clean walk that has it
 abbrev pub IsFrontAt : Settings → Timetable → List ℕ → ℤ → Duty
     → List (PairingVector × List (List Leg)) → Type 0
-IsFrontAt s t base price d = IsFront is_at_most walk_at_most (At s t base price d) (Clean s t base price d)
+IsFrontAt s t base price d = IsFront is_at_most walk_at_most (At s t base price d)
+    (Clean s t base price d)
