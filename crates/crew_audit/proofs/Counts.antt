@@ -1,10 +1,12 @@
 -- The least cost with one partial more.
-use Rattle.std.proofs.Common.{◌≡◌, ℤ, ◌≤ℤ◌, Bool, true, false, List, [], ◌∷◌, ◌++◌, Option, Some, None, ◌⊎◌, ◌∙◌, int_le, refl, sym, arith, inl, inr, if◌then◌else◌}
+use Rattle.std.proofs.Common.{◌≡◌, ℕ, ◌+◌, ap, length-append, count_by, ℤ, ◌≤ℤ◌, Bool, true, false, List, [], ◌∷◌, ◌++◌, Option, Some, None, ◌⊎◌, ◌∙◌, int_le, refl, sym, arith, inl, inr, if◌then◌else◌}
 use Rattle.std.specs.Int.{int_min}
 use Rattle.std.proofs.lemmas.Int.{ints}
 use Rattle.crew_resource.specs.Members.{Member}
 use Rattle.crew_pairing.proofs.InList.{Member-either, Member-left, Member-right}
-use Rattle.crew_audit.specs.Tallies.{IsLeast, cost_in, least_with}
+use Rattle.std.proofs.lemmas.Grind.{common_steps}
+use Rattle.crew_audit.specs.declared.tally.Tally.{Tally}
+use Rattle.crew_audit.specs.Tallies.{IsLeast, IsTally, cost_in, least_with}
 use Rattle.crew_audit.specs.declared.partial.Partial.{Partial}
 
 int_min-either : (a b : ℤ) → (int_min a b ≡ a) ⊎ (int_min a b ≡ b)
@@ -52,3 +54,18 @@ some-so-far ps p cost false e h =
 pub least-more : (ps : List Partial) (p : Partial) (cost : Option ℤ) → IsLeast ps cost → IsLeast (ps ++ p ∷ []) (least_with cost p)
 least-more ps p None h = none-yet ps p p.pairing refl h
 least-more ps p (Some cost) h = some-so-far ps p cost p.pairing refl h
+
+pub tally-more : (ps : List Partial) (p : Partial) (tally next : Tally) → IsTally ps tally → next.partials ≡ tally.partials + 1 → next.pairings ≡ tally.pairings + (if p.pairing then 1 else 0)
+    → next.cost ≡ least_with tally.cost p → IsTally (ps ++ p ∷ []) next
+tally-more ps p tally next h a b e = record {
+  partials = omega (arith, a, h.partials, length-append ps (p ∷ []));
+  pairings = b ∙ ap (λ (n : ℕ). n + (if p.pairing then 1 else 0)) h.pairings ∙ sym (counted ps p);
+  cost = rw e (least-more ps p tally.cost h.cost);
+}
+  where
+    one : (b : Bool) → count_by (λ (x : Bool). x) (b ∷ []) ≡ (if b then 1 else 0)
+    one true = refl
+    one false = refl
+
+    counted : (ps : List Partial) (p : Partial) → count_by (λ (q : Partial). q.pairing) (ps ++ p ∷ []) ≡ count_by (λ (q : Partial). q.pairing) ps + (if p.pairing then 1 else 0)
+    counted ps p = grind (arith, common_steps)

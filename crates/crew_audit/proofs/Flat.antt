@@ -1,12 +1,12 @@
 -- Lists of lists, joined.
-use Rattle.std.proofs.Common.{◌≡◌, ◌<◌, ◌+◌, ℕ, List, [], ◌∷◌, ◌++◌, Some, Bool, true, false, cond, length, refl, sym, ap, ◌∙◌, arith, take, get_or, filter, length-append, append-nil, inl, inr, if◌then◌else◌}
+use Rattle.std.proofs.Common.{◌≡◌, ◌<◌, ◌+◌, ℕ, List, [], ◌∷◌, ◌++◌, Some, Bool, true, false, cond, length, refl, sym, ap, ◌∙◌, take, get_or, filter, inl, inr, if◌then◌else◌}
 use Rattle.std.specs.Prelude.{slice_get}
 use Rattle.std.specs.List.{flat_map}
 use Rattle.std.proofs.lemmas.List.{flat_map_more, take_more}
 use Rattle.std.proofs.lemmas.Grind.{flat_map-append}
 use Rattle.std.proofs.lemmas.Option.{get_or_from_slice_get, slice_get-get_or}
 use Rattle.crew_resource.specs.Members.{Member}
-use Rattle.crew_pairing.proofs.Tree.{flat_map-room, slice_get-Member, slice_get-within}
+use Rattle.crew_pairing.proofs.Tree.{slice_get-Member, slice_get-within}
 
 pub flat-flat : {X Y Z : Type 0} (f : Y → List Z) (g : X → List Y) (xs : List X) → flat_map f (flat_map g xs) ≡ flat_map (λ x. flat_map f (g x)) xs
 flat-flat f g [] = refl
@@ -36,16 +36,6 @@ more-at {X} F xs i x start before now at b e =
     let item : get_or xs i x ≡ x = get_or_from_slice_get xs i x x at in
     let grown : take (i + 1) xs ≡ take i xs ++ x ∷ [] = take_more xs i x within ∙ ap (λ (y : X). take i xs ++ y ∷ []) item in
     e ∙ rw b (flat_map_more F start (take i xs) x) ∙ ap (λ (t : List X). start ++ flat_map F t) (sym grown)
-
--- an element that adds nothing
-pub skip-at : {X Y : Type 0} (F : X → List Y) (xs : List X) (i : ℕ) (x : X) (start before now : List Y) → slice_get xs i ≡ Some x → before ≡ start ++ flat_map F (take i xs) → F x ≡ [] → now ≡ before
-    → now ≡ start ++ flat_map F (take (i + 1) xs)
-skip-at F xs i x start before now at b none e = more-at F xs i x start before now at b (rw none (e ∙ sym (append-nil before)))
-
--- more than so many already
-pub over-at : {X Y : Type 0} (F : X → List Y) (xs : List X) (i : ℕ) (x : X) (start before : List Y) (n : ℕ) → slice_get xs i ≡ Some x → before ≡ start ++ flat_map F (take i xs) → n < length before + length (F x)
-    → n < length start + length (flat_map F xs)
-over-at F xs i x start before n at b h = omega (arith, h, ap length b, length-append start (flat_map F (take i xs)), flat_map-room F xs i x at)
 
 -- what a loop reads
 pub item-at : {X : Type 0} (xs : List X) (i : ℕ) (x : X) → i < length xs → x ≡ get_or xs i x → slice_get xs i ≡ Some x

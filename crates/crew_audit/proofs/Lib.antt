@@ -5,4 +5,5 @@ pub mod Flat
 pub mod Rising
 pub mod Sound
 pub mod Steps
+pub mod Taking
 pub mod Whole

@@ -1,5 +1,5 @@
 -- One step of the tree of partials.
-use Rattle.std.proofs.Common.{◌≡◌, ◌≤◌, ◌<◌, ◌+◌, ◌-◌, ◌&&◌, ℕ, suc, ℤ, ◌≤ℤ◌, Bool, true, false, List, [], ◌∷◌, ◌++◌, length, refl, ap, ◌∙◌, arith, append-nil, append_assoc, length-append, filter, inl, inr, if◌then◌else◌}
+use Rattle.std.proofs.Common.{◌≡◌, ◌≤◌, ◌<◌, ◌+◌, ◌-◌, ◌&&◌, ℕ, suc, ℤ, ◌≤ℤ◌, Bool, true, false, List, [], ◌∷◌, ◌++◌, length, refl, ap, ◌∙◌, arith, append-nil, length-append, filter, inl, inr, if◌then◌else◌}
 use Rattle.std.specs.List.{flat_map}
 use Rattle.std.proofs.lemmas.Grind.{flat_map-append}
 use Rattle.std.proofs.lemmas.Int.{ints}
@@ -180,12 +180,6 @@ own-listed room s flights base price before d longer last end e l =
     ∙ ap (λ (ds : List Duty). if end.deadhead then [] else listed s base price ds ∷ after (s.max_duties - length ds) s flights base price ds) e
     ∙ ap (λ (n : ℕ). if end.deadhead then [] else listed s base price (before ++ d ∷ []) ∷ after n s flights base price (before ++ d ∷ [])) long
 
--- more than so many in the first of two lists, and in the second
+-- more than so many in the first of two lists
 pub more-than : (n m : ℕ) (mine own rest : List Partial) → mine ≡ own → n < m + length mine → n < m + length (own ++ rest)
 more-than n m mine own rest e h = omega (arith, h, ap length e, length-append own rest)
-
-pub more-after : (start now mine own rest : List Partial) (n : ℕ) → mine ≡ own → now ≡ start ++ mine → n < length now + length rest → n < length start + length (own ++ rest)
-more-after start now mine own rest n e a h = omega (arith, h, ap length e, ap length a, length-append start mine, length-append own rest)
-
-pub joined-up : (start now mine own rest end : List Partial) → mine ≡ own → now ≡ start ++ mine → end ≡ now ++ rest → end ≡ start ++ (own ++ rest)
-joined-up start now mine own rest end e a b = b ∙ rw (a, e) (append_assoc start own rest)

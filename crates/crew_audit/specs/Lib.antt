@@ -1,3 +1,4 @@
+pub mod Faults
 pub mod Partials
 pub mod Tallies
 pub mod Machinery

@@ -1,3 +1,4 @@
 -- The tree in which partial pairings are found, and bounds under which sums fit.
 pub mod Listing
 pub mod Ranges
+pub mod Taking

@@ -1,9 +1,12 @@
 -- How many partial pairings there are, how many of them are pairings, and the least cost of a
 -- pairing.
-use Rattle.std.specs.Prelude.{◌≡◌, ℤ, ◌≤ℤ◌, true, List, Option, Some, None, length, count_by, if◌then◌else◌}
+use Rattle.std.specs.Prelude.{◌≡◌, ℤ, ◌≤ℤ◌, ◌≤◌, ℕ, true, List, Option, Some, None, length, count_by, if◌then◌else◌}
 use Rattle.std.specs.Int.{int_min}
 use Rattle.crew_resource.specs.Members.{Member}
 use Rattle.crew_pairing.specs.Vectors.{reduced_cost}
+use Rattle.crew_flights.specs.Timetable.{Timetable}
+use Rattle.crew_rules.specs.declared.settings.Settings.{Settings}
+use Rattle.crew_audit.specs.Partials.{ArePartials}
 use Rattle.crew_audit.specs.declared.partial.Partial.{Partial}
 use Rattle.crew_audit.specs.declared.tally.Tally.{Tally}
 
@@ -27,3 +30,8 @@ pub record IsTally (ps : List Partial) (tally : Tally) : Type 0 where
   pub partials : tally.partials ≡ length ps
   pub pairings : tally.pairings ≡ count_by (λ p. p.pairing) ps
   pub cost : IsLeast ps tally.cost
+
+-- what is counted of all partial pairings of a timetable, where there are at most so many
+abbrev pub IsTallyOf : Settings → Timetable → ℕ → Tally → Type 0
+IsTallyOf s t limit tally = (ps : List Partial) × ArePartials s t ps × IsTally ps tally
+    × (length ps ≤ limit)

@@ -1,6 +1,6 @@
 //! All partial pairings of a timetable.
 
-ghost use Rattle.std.specs.Prelude.{◌≡◌, ◌<◌, ◌≤◌, ℕ, ℤ, List, IfOk, Err, length};
+ghost use Rattle.std.specs.Prelude.{◌≡◌, ◌+◌, ◌<◌, ◌≤◌, ℕ, ℤ, List, IfOk, OnOk, Err, length};
 ghost use Rattle.std.specs.FinMap as fin;
 ghost use Rattle.std.specs.List.{flat_map};
 ghost use Rattle.crew_flights.specs.Timetable.{IsBasePrice, IsSound};
@@ -8,11 +8,15 @@ ghost use Rattle.crew_rules.specs.Settings.{IsChecked};
 ghost use Rattle.crew_pairing.specs.Duties.{flights_of};
 ghost use Rattle.crew_resource.specs.Members.{Each};
 ghost use Rattle.crew_pairing.specs.Machinery.Beginnings.{AreFlights};
-ghost use Rattle.crew_audit.specs.Machinery.Listing.{of_base};
+ghost use Rattle.crew_audit.specs.Machinery.Listing.{all_partials, of_base};
+ghost use Rattle.crew_audit.specs.Machinery.Taking.{Took};
 ghost use Rattle.crew_audit.specs.Partials.{ArePartials, HasMoreThan};
+ghost use Rattle.crew_audit.specs.Tallies.{IsTallyOf};
 
 use crate::partial::{AuditFault, Partial};
 use crate::search::{Scope, list_after};
+use crate::sink::{Running, Sink};
+use crate::tally::Tally;
 use crew_flights::{Code, Flight, Timetable};
 use crew_rules::Settings;
 use std::alloc::{AllocError, Global};
@@ -36,24 +40,26 @@ fn held_bases(alloc: Global, timetable: &Timetable) -> Result<Vec<(Code, i64)>, 
         .collect(alloc)
 }
 
-// All partials of these bases over these flights.
-fn list_all(
+// Finds all partials of these bases over these flights.
+fn find_all<F: Sink>(
     alloc: Global,
+    found: &mut F,
     settings: &Settings,
     flights: &[Flight],
     bases: &[(Code, i64)],
     limit: usize,
-) -> Result<Vec<Partial>, AuditFault>
+) -> Result<(), AuditFault>
     requires checked { IsChecked settings.now }
     requires flights { AreFlights flights.now }
     requires prices { Each (λ (b : List ℕ × ℤ). IsBasePrice b.1) bases.now }
-    ensures ok { IfOk result (λ found. found.items ≡ flat_map (of_base settings.now flights.now)
-        bases.now) }
-    ensures few { IfOk result (λ found. length found.items ≤ limit) }
+    requires room { F.count found.old ≤ limit }
+    ensures ok { OnOk result (Took F.count F.holds found.old found.new
+        (flat_map (of_base settings.now flights.now) bases.now)) }
+    ensures room { OnOk result (F.count found.new ≤ limit) }
     ensures over { result ≡ Err AuditFault.OverLimit
-        → limit < length (flat_map (of_base settings.now flights.now) bases.now) }
+        → limit < F.count found.old + length
+        (flat_map (of_base settings.now flights.now) bases.now) }
 {
-    let mut found = Vec::new(alloc);
     for &(base, base_price) in bases {
         let scope = Scope {
             settings,
@@ -62,9 +68,33 @@ fn list_all(
             base_price,
             limit,
         };
-        list_after(alloc, &mut found, &scope, &[])?;
+        list_after(alloc, found, &scope, &[])?;
     }
-    Ok(found)
+    Ok(())
+}
+
+// Finds all partials of a timetable.
+fn find<F: Sink>(
+    alloc: Global,
+    found: &mut F,
+    settings: &Settings,
+    timetable: &Timetable,
+    limit: usize,
+) -> Result<(), AuditFault>
+    requires checked { IsChecked settings.now }
+    requires new { F.count found.old ≡ 0 }
+    ensures ok { OnOk result (Took F.count F.holds found.old found.new
+        (all_partials settings.now timetable.now)) }
+    ensures all { OnOk result (ArePartials settings.now timetable.now
+        (all_partials settings.now timetable.now)) }
+    ensures few { OnOk result (length (all_partials settings.now timetable.now) ≤ limit) }
+    ensures over { result ≡ Err AuditFault.OverLimit
+        → HasMoreThan settings.now timetable.now limit }
+{
+    let flights = held_flights(alloc, timetable)?;
+    let bases = held_bases(alloc, timetable)?;
+    find_all(alloc, found, settings, &flights, &bases, limit)?;
+    Ok(())
 }
 
 /// The partial pairings of all bases of a timetable: exactly those, each once, by base and walk,
@@ -83,8 +113,26 @@ pub fn enumerate(
     ensures over { result ≡ Err AuditFault.OverLimit
         → HasMoreThan settings.now timetable.now limit }
 {
-    let flights = held_flights(alloc, timetable)?;
-    let bases = held_bases(alloc, timetable)?;
-    let partials = list_all(alloc, settings, &flights, &bases, limit)?;
+    let mut partials = Vec::new(alloc);
+    find(alloc, &mut partials, settings, timetable, limit)?;
     Ok(partials)
+}
+
+/// What `enumerate` lists, counted and not kept: it takes memory for the flights, the bases and one
+/// partial at a time, however many there are. `OverLimit` exactly where there are more than
+/// `limit`, as soon as one more is found, and `Memory` only where a growth was refused.
+pub fn tally_all(
+    alloc: Global,
+    settings: &Settings,
+    timetable: &Timetable,
+    limit: usize,
+) -> Result<Tally, AuditFault>
+    requires { IsChecked settings.now }
+    ensures counted { IfOk result (λ tally. IsTallyOf settings.now timetable.now limit tally) }
+    ensures over { result ≡ Err AuditFault.OverLimit
+        → HasMoreThan settings.now timetable.now limit }
+{
+    let mut running = Running::new();
+    find(alloc, &mut running, settings, timetable, limit)?;
+    Ok(running.tally)
 }

@@ -2,7 +2,8 @@
 //! reference for what finds pairings faster: slow, short, and right by the definition of a partial
 //! pairing alone. The crate promises that `enumerate` lists exactly the partial pairings of a
 //! timetable, each once, by base and walk, each with its vector and whether it is a pairing; that
-//! it refuses exactly where there are more than a limit; and that `Tally` counts them.
+//! it refuses exactly where there are more than a limit; and that `tally_all` counts the same
+//! partials, without a list of them.
 #![tactic(auto)]
 
 mod audit;
@@ -11,8 +12,9 @@ pub mod laws;
 mod legs;
 mod partial;
 mod search;
+mod sink;
 mod tally;
 
-pub use audit::enumerate;
+pub use audit::{enumerate, tally_all};
 pub use partial::{AuditFault, Partial};
 pub use tally::Tally;

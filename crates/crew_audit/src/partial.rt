@@ -1,10 +1,12 @@
 //! Partial pairings, and why they are not listed.
 
 ghost use Rattle.std.specs.Prelude.{◌≡◌, IfOk};
+ghost use Rattle.crew_audit.specs.Faults.{audit_number};
 
 use crew_flights::Code;
 use crew_pairing::{PairingVector, Walk};
 use std::alloc::{AllocError, AllocFailed, Global};
+use thiserror::Error;
 
 /// A partial pairing of a base.
 #[derive(Debug, Drop)]
@@ -32,12 +34,26 @@ impl Partial {
 }
 
 /// Why partial pairings are not listed.
-#[derive(Clone, Copy, Debug, PartialEq, Eq)]
+#[derive(Clone, Copy, Debug, PartialEq, Eq, Error)]
 pub enum AuditFault {
-    /// There are more than the limit.
+    /// 45: there are more than the limit.
+    #[error("there are more partial pairings than the limit")]
     OverLimit,
-    /// Memory ran out.
+    /// There is no memory.
+    #[error("out of memory")]
     Memory,
+}
+
+impl AuditFault {
+    /// The number of the refusal; want of memory has none.
+    pub fn number(self) -> Option<u8>
+        ensures { result ≡ audit_number self }
+    {
+        match self {
+            AuditFault::OverLimit => Some(45),
+            AuditFault::Memory => None,
+        }
+    }
 }
 
 impl From<AllocError> for AuditFault {

@@ -11,10 +11,12 @@ ghost use Rattle.crew_pairing.specs.Pairings.{is_within_caps};
 ghost use Rattle.crew_pairing.specs.Machinery.Beginnings.{AreFlights, IsBeginning};
 ghost use Rattle.crew_audit.specs.Machinery.Listing.{after, listed, may_join, with_next};
 ghost use Rattle.crew_audit.specs.Machinery.Ranges.{IsInRange};
+ghost use Rattle.crew_audit.specs.Machinery.Taking.{Took};
 
 use crate::chain::{self, keep_within_caps, may_leave, partial_from};
 use crate::legs::{self, LEGS, cannot_begin, duty_from, may_come_next};
-use crate::partial::{AuditFault, Partial};
+use crate::partial::AuditFault;
+use crate::sink::Sink;
 use crew_flights::{Code, Flight};
 use crew_pairing::facts::last_leg;
 use crew_pairing::{Duty, TimedLeg};
@@ -33,9 +35,9 @@ pub(crate) struct Scope<'a> {
 }
 
 // Lists these duties.
-fn list_one(
+fn list_one<F: Sink>(
     alloc: Global,
-    found: &mut Vec<Partial>,
+    found: &mut F,
     scope: &Scope<'_>,
     duties: &[Duty],
 ) -> Result<(), AuditFault>
@@ -43,26 +45,25 @@ fn list_one(
     requires price { IsBasePrice scope.now.base_price }
     requires few { length duties.now ≤ 13 }
     requires ranges { Each IsInRange duties.now }
-    requires room { length found.old.items ≤ scope.now.limit }
-    ensures ok { OnOk result (found.new.items ≡ found.old.items
-        ++ listed scope.now.settings.now scope.now.base scope.now.base_price duties.now ∷ []) }
-    ensures room { OnOk result (length found.new.items ≤ scope.now.limit) }
-    ensures over { result ≡ Err AuditFault.OverLimit
-        → scope.now.limit < length found.old.items + 1 }
+    requires room { F.count found.old ≤ scope.now.limit }
+    ensures ok { OnOk result (Took F.count F.holds found.old found.new
+        (listed scope.now.settings.now scope.now.base scope.now.base_price duties.now ∷ [])) }
+    ensures room { OnOk result (F.count found.new ≤ scope.now.limit) }
+    ensures over { result ≡ Err AuditFault.OverLimit → scope.now.limit < F.count found.old + 1 }
 {
-    if found.len() >= scope.limit {
+    if found.taken() >= scope.limit {
         return Err(AuditFault::OverLimit);
     }
     let partial = partial_from(alloc, scope.settings, scope.base, scope.base_price, duties)?;
-    found.push(partial)?;
+    found.take(partial)?;
     Ok(())
 }
 
 // Lists the partials that go on from these duties.
 #[cycle(partials)]
-pub(crate) fn list_after(
+pub(crate) fn list_after<F: Sink>(
     alloc: Global,
-    found: &mut Vec<Partial>,
+    found: &mut F,
     scope: &Scope<'_>,
     before: &[Duty],
 ) -> Result<(), AuditFault>
@@ -71,12 +72,12 @@ pub(crate) fn list_after(
     requires price { IsBasePrice scope.now.base_price }
     requires few { length before.now ≤ scope.now.settings.now.max_duties }
     requires ranges { Each IsInRange before.now }
-    requires room { length found.old.items ≤ scope.now.limit }
-    ensures ok { OnOk result (found.new.items ≡ found.old.items
-        ++ after (scope.now.settings.now.max_duties - length before.now) scope.now.settings.now
-        scope.now.flights.now scope.now.base scope.now.base_price before.now) }
-    ensures room { OnOk result (length found.new.items ≤ scope.now.limit) }
-    ensures over { result ≡ Err AuditFault.OverLimit → scope.now.limit < length found.old.items
+    requires room { F.count found.old ≤ scope.now.limit }
+    ensures ok { OnOk result (Took F.count F.holds found.old found.new
+        (after (scope.now.settings.now.max_duties - length before.now) scope.now.settings.now
+        scope.now.flights.now scope.now.base scope.now.base_price before.now)) }
+    ensures room { OnOk result (F.count found.new ≤ scope.now.limit) }
+    ensures over { result ≡ Err AuditFault.OverLimit → scope.now.limit < F.count found.old
         + length (after (scope.now.settings.now.max_duties - length before.now) scope.now.settings.now scope.now.flights.now scope.now.base scope.now.base_price before.now) }
 {
     if before.len() >= scope.settings.max_duties as usize {
@@ -92,9 +93,9 @@ pub(crate) fn list_after(
 
 // Lists those that go on with a duty that begins with this flight, flown and then deadheaded.
 #[cycle(partials)]
-fn list_from(
+fn list_from<F: Sink>(
     alloc: Global,
-    found: &mut Vec<Partial>,
+    found: &mut F,
     scope: &Scope<'_>,
     before: &[Duty],
     flight: &Flight,
@@ -107,14 +108,13 @@ fn list_from(
     requires known { Member scope.now.flights.now flight.now }
     requires joins { may_join scope.now.base scope.now.settings.now before.now
         (duty_of scope.now.settings.now (timed false flight.now) []) ≡ true }
-    requires room { length found.old.items ≤ scope.now.limit }
-    ensures ok { OnOk result (found.new.items ≡ found.old.items
-        ++ flat_map (with_next (scope.now.settings.now.max_duties - (length before.now + 1))
-        scope.now.settings.now scope.now.flights.now scope.now.base scope.now.base_price
-        before.now)
-        (from_flight scope.now.settings.now scope.now.flights.now flight.now)) }
-    ensures room { OnOk result (length found.new.items ≤ scope.now.limit) }
-    ensures over { result ≡ Err AuditFault.OverLimit → scope.now.limit < length found.old.items
+    requires room { F.count found.old ≤ scope.now.limit }
+    ensures ok { OnOk result (Took F.count F.holds found.old found.new
+        (flat_map (with_next (scope.now.settings.now.max_duties - (length before.now + 1))
+        scope.now.settings.now scope.now.flights.now scope.now.base scope.now.base_price before.now)
+        (from_flight scope.now.settings.now scope.now.flights.now flight.now))) }
+    ensures room { OnOk result (F.count found.new ≤ scope.now.limit) }
+    ensures over { result ≡ Err AuditFault.OverLimit → scope.now.limit < F.count found.old
         + length (flat_map (with_next (scope.now.settings.now.max_duties - (length before.now + 1)) scope.now.settings.now scope.now.flights.now scope.now.base scope.now.base_price before.now)
         (from_flight scope.now.settings.now scope.now.flights.now flight.now)) }
 {
@@ -132,9 +132,9 @@ fn list_from(
 
 // Lists those that go on with a duty that begins with these legs.
 #[cycle(partials)]
-fn list_legs(
+fn list_legs<F: Sink>(
     alloc: Global,
-    found: &mut Vec<Partial>,
+    found: &mut F,
     scope: &Scope<'_>,
     before: &[Duty],
     first: &TimedLeg,
@@ -150,15 +150,14 @@ fn list_legs(
     requires beginning { IsBeginning scope.now.settings.now scope.now.flights.now first.now
         others.now }
     requires legs { length others.now ≤ 8 }
-    requires room { length found.old.items ≤ scope.now.limit }
-    ensures ok { OnOk result (found.new.items ≡ found.old.items
-        ++ flat_map (with_next (scope.now.settings.now.max_duties - (length before.now + 1))
-        scope.now.settings.now scope.now.flights.now scope.now.base scope.now.base_price
-        before.now)
+    requires room { F.count found.old ≤ scope.now.limit }
+    ensures ok { OnOk result (Took F.count F.holds found.old found.new
+        (flat_map (with_next (scope.now.settings.now.max_duties - (length before.now + 1))
+        scope.now.settings.now scope.now.flights.now scope.now.base scope.now.base_price before.now)
         (listing (8 - length others.now) scope.now.settings.now scope.now.flights.now first.now
-        others.now)) }
-    ensures room { OnOk result (length found.new.items ≤ scope.now.limit) }
-    ensures over { result ≡ Err AuditFault.OverLimit → scope.now.limit < length found.old.items
+        others.now))) }
+    ensures room { OnOk result (F.count found.new ≤ scope.now.limit) }
+    ensures over { result ≡ Err AuditFault.OverLimit → scope.now.limit < F.count found.old
         + length (flat_map (with_next (scope.now.settings.now.max_duties - (length before.now + 1)) scope.now.settings.now scope.now.flights.now scope.now.base scope.now.base_price before.now)
         (listing (8 - length others.now) scope.now.settings.now scope.now.flights.now first.now
         others.now)) }
@@ -184,9 +183,9 @@ fn list_legs(
 // Lists these duties, and then the partials that go on from them; nothing where their last leg is
 // a deadhead.
 #[cycle(partials)]
-fn list_own(
+fn list_own<F: Sink>(
     alloc: Global,
-    found: &mut Vec<Partial>,
+    found: &mut F,
     scope: &Scope<'_>,
     duties: &[Duty],
     deadhead: bool,
@@ -196,14 +195,14 @@ fn list_own(
     requires price { IsBasePrice scope.now.base_price }
     requires few { length duties.now ≤ scope.now.settings.now.max_duties }
     requires ranges { Each IsInRange duties.now }
-    requires room { length found.old.items ≤ scope.now.limit }
-    ensures ok { OnOk result (found.new.items ≡ found.old.items
-        ++ (if deadhead then [] else listed scope.now.settings.now scope.now.base
+    requires room { F.count found.old ≤ scope.now.limit }
+    ensures ok { OnOk result (Took F.count F.holds found.old found.new
+        (if deadhead then [] else listed scope.now.settings.now scope.now.base
         scope.now.base_price duties.now
         ∷ after (scope.now.settings.now.max_duties - length duties.now) scope.now.settings.now
         scope.now.flights.now scope.now.base scope.now.base_price duties.now)) }
-    ensures room { OnOk result (length found.new.items ≤ scope.now.limit) }
-    ensures over { result ≡ Err AuditFault.OverLimit → scope.now.limit < length found.old.items
+    ensures room { OnOk result (F.count found.new ≤ scope.now.limit) }
+    ensures over { result ≡ Err AuditFault.OverLimit → scope.now.limit < F.count found.old
         + length (if deadhead then [] else listed scope.now.settings.now scope.now.base scope.now.base_price duties.now
         ∷ after (scope.now.settings.now.max_duties - length duties.now) scope.now.settings.now
         scope.now.flights.now scope.now.base scope.now.base_price duties.now) }
@@ -218,9 +217,9 @@ fn list_own(
 // Lists those that go on with a duty that begins with these legs and this flight, flown and then
 // deadheaded.
 #[cycle(partials)]
-fn list_below(
+fn list_below<F: Sink>(
     alloc: Global,
-    found: &mut Vec<Partial>,
+    found: &mut F,
     scope: &Scope<'_>,
     before: &[Duty],
     first: &TimedLeg,
@@ -240,15 +239,14 @@ fn list_below(
     requires known { Member scope.now.flights.now flight.now }
     requires follows { may_follow scope.now.settings.now (last_of first.now others.now).flight
         flight.now ≡ true }
-    requires room { length found.old.items ≤ scope.now.limit }
-    ensures ok { OnOk result (found.new.items ≡ found.old.items
-        ++ flat_map (with_next (scope.now.settings.now.max_duties - (length before.now + 1))
-        scope.now.settings.now scope.now.flights.now scope.now.base scope.now.base_price
-        before.now)
+    requires room { F.count found.old ≤ scope.now.limit }
+    ensures ok { OnOk result (Took F.count F.holds found.old found.new
+        (flat_map (with_next (scope.now.settings.now.max_duties - (length before.now + 1))
+        scope.now.settings.now scope.now.flights.now scope.now.base scope.now.base_price before.now)
         (below (7 - length others.now) scope.now.settings.now scope.now.flights.now first.now
-        others.now flight.now)) }
-    ensures room { OnOk result (length found.new.items ≤ scope.now.limit) }
-    ensures over { result ≡ Err AuditFault.OverLimit → scope.now.limit < length found.old.items
+        others.now flight.now))) }
+    ensures room { OnOk result (F.count found.new ≤ scope.now.limit) }
+    ensures over { result ≡ Err AuditFault.OverLimit → scope.now.limit < F.count found.old
         + length (flat_map (with_next (scope.now.settings.now.max_duties - (length before.now + 1)) scope.now.settings.now scope.now.flights.now scope.now.base scope.now.base_price before.now)
         (below (7 - length others.now) scope.now.settings.now scope.now.flights.now first.now
         others.now flight.now)) }

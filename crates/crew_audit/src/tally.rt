@@ -1,6 +1,6 @@
 //! What an audit counts.
 
-ghost use Rattle.std.specs.Prelude.{◌≡◌};
+ghost use Rattle.std.specs.Prelude.{◌≡◌, ◌<◌, ◌≤◌, ◌+◌, if◌then◌else◌};
 ghost use Rattle.crew_audit.specs.Tallies.{IsTally, cost_in, least_with};
 
 use crate::partial::Partial;
@@ -40,6 +40,22 @@ fn least(cost: Option<i64>, partial: &Partial) -> Option<i64>
 }
 
 impl Tally {
+    /// What is counted with one partial more.
+    pub(crate) fn with(&self, partial: &Partial) -> Tally
+        requires room { self.now.partials < usize.MAX }
+        requires fewer { self.now.pairings ≤ self.now.partials }
+        ensures partials { result.partials ≡ self.now.partials + 1 }
+        ensures pairings { result.pairings
+            ≡ self.now.pairings + (if partial.now.pairing then 1 else 0) }
+        ensures cost { result.cost ≡ least_with self.now.cost partial.now }
+    {
+        Tally {
+            partials: self.partials + 1,
+            pairings: self.pairings + usize::from(partial.pairing),
+            cost: least(self.cost, partial),
+        }
+    }
+
     /// What these partials come to.
     pub fn of(partials: &[Partial]) -> Tally
         ensures { IsTally partials.now result }

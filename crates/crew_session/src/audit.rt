@@ -8,14 +8,14 @@ ghost use Rattle.crew_session.specs.Faults.{IsLineFault};
 use crate::fault::SessionFault;
 use crate::lines::{write_audit, write_refused};
 use crate::version::Version;
-use crew_audit::{AuditFault, Tally, enumerate};
+use crew_audit::{AuditFault, tally_all};
 use std::alloc::Global;
 use std::io::Write;
 
 // The number by which an audit is refused where there are more partial pairings than its limit.
 const OVER_LIMIT: u8 = 45;
 
-/// Lists the partial pairings of a version's timetable, and writes how many there are, or that
+/// Counts the partial pairings of a version's timetable, and writes how many there are, or that
 /// there are more than `limit`.
 pub(crate) fn answer_audit<W: Write>(
     alloc: Global,
@@ -29,13 +29,13 @@ pub(crate) fn answer_audit<W: Write>(
         × Audits limit number version.now text) }
     ensures fault { IfErr result IsLineFault }
 {
-    match enumerate(
+    match tally_all(
         alloc,
         version.settings(),
         version.timetable(),
         limit as usize,
     ) {
-        Ok(partials) => write_audit(alloc, writer, &Tally::of(&partials)),
+        Ok(tally) => write_audit(alloc, writer, &tally),
         Err(AuditFault::OverLimit) => write_refused(alloc, writer, number, OVER_LIMIT),
         Err(AuditFault::Memory) => Err(SessionFault::Memory),
     }

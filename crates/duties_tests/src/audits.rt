@@ -1,5 +1,5 @@
 use crate::rows::{Row, timetable_of};
-use crew_audit::{AuditFault, Partial, Tally, enumerate};
+use crew_audit::{AuditFault, Partial, Tally, enumerate, tally_all};
 use crew_flights::Timetable;
 use crew_pairing::PairingVector;
 use crew_rules::Settings;
@@ -209,17 +209,22 @@ fn three_duties(rt: HostRuntime) -> Result<(), Fail> {
         "JFK 401\nJFK 401 403\nJFK 401 403 404 pairing\nJFK 402\nJFK 402 403\nJFK 402 403 404 pairing\n"
     );
     let partials = enumerate(rt.alloc(), &settings, &timetable, 6)?;
-    assert!(rt;
-        Tally::of(&partials)
-            == Tally {
-                partials: 6,
-                pairings: 2,
-                cost: Some(13_680)
-            }
-    );
+    let tally = Tally {
+        partials: 6,
+        pairings: 2,
+        cost: Some(13_680),
+    };
+    assert!(rt; Tally::of(&partials) == tally);
+    assert!(rt; tally_all(rt.alloc(), &settings, &timetable, 6)? == tally);
     assert!(rt;
         matches!(
             enumerate(rt.alloc(), &settings, &timetable, 5),
+            Err(AuditFault::OverLimit)
+        )
+    );
+    assert!(rt;
+        matches!(
+            tally_all(rt.alloc(), &settings, &timetable, 5),
             Err(AuditFault::OverLimit)
         )
     );
@@ -303,6 +308,18 @@ fn two_bases(rt: HostRuntime) -> Result<(), Fail> {
             (want.3, want.4, want.5, want.6)
         );
     }
+    let tally = Tally {
+        partials: 3,
+        pairings: 1,
+        cost: Some(8_400),
+    };
+    assert!(rt; tally_all(rt.alloc(), &settings, &timetable, 3)? == tally);
+    assert!(rt;
+        matches!(
+            tally_all(rt.alloc(), &settings, &timetable, 2),
+            Err(AuditFault::OverLimit)
+        )
+    );
     Ok(())
 }
 
@@ -324,6 +341,12 @@ fn deadhead_first(rt: HostRuntime) -> Result<(), Fail> {
         *cost = partial.cost();
     }
     assert_eq!(rt; costs, [1_200, -800, 2_200]);
+    let tally = Tally {
+        partials: 3,
+        pairings: 2,
+        cost: Some(-800),
+    };
+    assert!(rt; tally_all(rt.alloc(), &settings, &timetable, 3)? == tally);
     Ok(())
 }
 
@@ -332,14 +355,13 @@ fn no_base(rt: HostRuntime) -> Result<(), Fail> {
     let settings = Settings::standard();
     let timetable = timetable_of(rt.alloc(), &settings, &[], &OUT_AND_BACK)?;
     let partials = enumerate(rt.alloc(), &settings, &timetable, 0)?;
-    assert!(rt;
-        Tally::of(&partials)
-            == Tally {
-                partials: 0,
-                pairings: 0,
-                cost: None
-            }
-    );
+    let tally = Tally {
+        partials: 0,
+        pairings: 0,
+        cost: None,
+    };
+    assert!(rt; Tally::of(&partials) == tally);
+    assert!(rt; tally_all(rt.alloc(), &settings, &timetable, 0)? == tally);
     Ok(())
 }
 
@@ -350,6 +372,10 @@ fn a_refused_allocation(rt: HostRuntime) -> Result<(), Fail> {
     let timetable = timetable_of(rt.alloc(), &settings, &[(b"JFK", 0)], &THREE_DUTIES)?;
     match enumerate(rt.alloc(), &settings, &timetable, 6) {
         Ok(partials) => assert_eq!(rt; partials.len(), 6),
+        Err(fault) => assert!(rt; fault == AuditFault::Memory),
+    }
+    match tally_all(rt.alloc(), &settings, &timetable, 6) {
+        Ok(tally) => assert_eq!(rt; tally.partials, 6),
         Err(fault) => assert!(rt; fault == AuditFault::Memory),
     }
     Ok(())
@@ -408,11 +434,18 @@ fn twelve_duties(rt: HostRuntime) -> Result<(), Fail> {
         cost: Some(8_400),
     };
     assert!(rt; Tally::of(&partials) == tally);
+    assert!(rt; tally_all(rt.alloc(), &settings, &timetable, 42)? == tally);
     let most = partials.iter().map(|partial| partial.vector.duties).max();
     assert!(rt; most == Some(12));
     assert!(rt;
         matches!(
             enumerate(rt.alloc(), &settings, &timetable, 41),
+            Err(AuditFault::OverLimit)
+        )
+    );
+    assert!(rt;
+        matches!(
+            tally_all(rt.alloc(), &settings, &timetable, 41),
             Err(AuditFault::OverLimit)
         )
     );

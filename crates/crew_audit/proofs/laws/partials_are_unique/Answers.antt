@@ -1,12 +1,9 @@
 use Rattle.std.proofs.Common.{List, [], ◌∷◌}
 use Rattle.std.specs.Cmp.{on_total, then_total}
 use Rattle.crew_flights.specs.Codes.{code_cmp_total}
-use Rattle.crew_flights.specs.Timetable.{Timetable}
 use Rattle.crew_pairing.specs.Keys.{walk_total}
-use Rattle.crew_resource.specs.Members.{Member}
 use Rattle.crew_resource.proofs.Rising.{Rising, same-rising}
-use Rattle.crew_rules.specs.declared.settings.Settings.{Settings}
-use Rattle.crew_audit.specs.Partials.{ArePartials, Rise, partial_cmp}
+use Rattle.crew_audit.specs.Partials.{Rise, partial_cmp}
 use Rattle.crew_audit.specs.declared.partial.Partial.{Partial}
 use Rattle.crew_audit.proofs.laws.partials_are_unique.Goals as goal
 

@@ -1,4 +1,4 @@
-use Rattle.std.proofs.Common.{◌≡◌, ◌+◌, ◌-◌, ◌++◌, ◌∷◌, [], ◌∙◌, List, true, false, sym, ap, arith, append-nil, length, length-append, take}
+use Rattle.std.proofs.Common.{◌≡◌, ◌+◌, ◌-◌, ◌++◌, ◌∷◌, [], ◌∙◌, List, true, false, sym, ap, arith, length, length-append, take}
 use Rattle.std.specs.List.{flat_map}
 use Rattle.std.proofs.lemmas.List.{take_all}
 use Rattle.std.proofs.lemmas.Result.{err_from_is_err_and}
@@ -13,27 +13,28 @@ use Rattle.crew_audit.specs.Machinery.Listing.{with_next}
 use Rattle.crew_audit.specs.declared.partial.Partial.{Partial}
 use Rattle.crew_pairing.specs.Pairings.{is_within_caps}
 use Rattle.std.proofs.lemmas.Grind.{common_steps}
-use Rattle.crew_audit.proofs.Flat.{item-at, item-known, more-at, over-at, skip-at}
-use Rattle.crew_audit.proofs.Steps.{after-flights, after-full, joined-up, join-legs, legs-open, more-after, more-than, not-joined, not-within, onward, onward-off, onward-on, own-listed}
+use Rattle.crew_audit.proofs.Flat.{item-at, item-known}
+use Rattle.crew_audit.proofs.Taking.{joined-up, over-after, took-at, took-none, took-over, took-skip}
+use Rattle.crew_audit.proofs.Steps.{after-flights, after-full, join-legs, legs-open, more-than, not-joined, not-within, onward, onward-off, onward-on, own-listed}
 use Rattle.crew_audit.proofs.search.+partials.Goals as goal
 use Rattle.crew_audit.proofs.search.+partials.Goals.{list_after-then-may_leave+in_ok-list_from, list_after-else-may_leave, list_legs-then-others-ge-LEGS-via-then-others-ge-LEGS, list_legs-then-others-ge-LEGS-via-else-others-ge-LEGS+then-cannot_begin, list_legs-then-may_come_next+in_ok-list_below, list_legs-else-may_come_next}
 
 pub list_after-returns-then-before-scope-clause-ok : goal.list_after-returns-then-before-scope-clause-ok
-list_after-returns-then-before-scope-clause-ok t c =
+list_after-returns-then-before-scope-clause-ok bound t c =
     let s = c.args.scope.now.settings.now in
     let none = after-full s.max_duties (length c.args.before.now) s c.args.scope.now.flights.now c.args.scope.now.base c.args.scope.now.base_price c.args.before.now c.if-before-scope.true in
-    rw none (sym (append-nil c.args.found.now.items))
+    rw none (took-none bound.F.Sink.count bound.F.Sink.holds c.args.found.now)
 
 pub list_after-list_from-requires : goal.list_after-list_from-requires
-list_after-list_from-requires t c =
+list_after-list_from-requires bound t c =
     let flights = c.args.scope.now.flights.now in
     let i = c.loop-flight.flight-index in
     let f = c.flight-item.result in
     let known = item-known flights i f c.loop-flight-test.true c.flight-item.is in
-    (omega arith, (c.requires.checked, (c.requires.flights, (c.requires.price, (c.if-before-scope.false, (c.requires.ranges, (known, (sym c.may_leave.ensures ∙ c.if-may_leave.true, c.loop-flight.invariant.room))))))))
+    λ κs within. (omega arith, (within, (c.requires.checked, (c.requires.flights, (c.requires.price, (c.if-before-scope.false, (c.requires.ranges, (known, (sym c.may_leave.ensures ∙ c.if-may_leave.true, c.loop-flight.invariant.room)))))))))
 
 pub list_after-returns-in_err-list_from-clause-over : goal.list_after-returns-in_err-list_from-clause-over
-list_after-returns-in_err-list_from-clause-over t c =
+list_after-returns-in_err-list_from-clause-over bound t c =
     let s = c.args.scope.now.settings.now in
     let flights = c.args.scope.now.flights.now in
     let base = c.args.scope.now.base in
@@ -46,11 +47,11 @@ list_after-returns-in_err-list_from-clause-over t c =
     let opened = after-flights s.max_duties (length before) s flights base price before c.if-before-scope.false in
     let p = err_from_is_err_and c.from_residual.result c.from_residual.ensures.1 in
     λ e. rw opened
-    (over-at (λ (g : Flight). flat_map (with_next n s flights base price before) (from_flight s flights g)) flights i f c.args.found.now.items c.loop-flight.found.items c.args.scope.now.limit at
+    (took-over bound.F.Sink.count bound.F.Sink.holds (λ (g : Flight). flat_map (with_next n s flights base price before) (from_flight s flights g)) flights i f c.args.found.now c.loop-flight.found c.args.scope.now.limit at
     c.loop-flight.invariant.found (c.in_err-list_from.ensures.over (cc)))
 
 pub list_after-loop-flight-preserved : goal.list_after-loop-flight-preserved
-list_after-loop-flight-preserved t c =
+list_after-loop-flight-preserved bound t c =
     let s = c.args.scope.now.settings.now in
     let flights = c.args.scope.now.flights.now in
     let base = c.args.scope.now.base in
@@ -64,22 +65,22 @@ list_after-loop-flight-preserved t c =
     let F : Flight → List Partial = λ g. flat_map (with_next n s flights base price before) (from_flight s flights g) in
     elim c.if-may_leave.branch [
       | list_after-then-may_leave+in_ok-list_from w ↦
-          let same : c.if-may_leave.found.items ≡ w.list_from.new.found.items = grind (arith, common_steps) in
+          let same : c.if-may_leave.found ≡ w.list_from.new.found = grind (arith, common_steps) in
           record {
-            found = same ∙ more-at F flights i f c.args.found.now.items c.loop-flight.found.items w.list_from.new.found.items at c.loop-flight.invariant.found w.in_ok-list_from.ensures.ok;
+            found = rw same (took-at bound.F.Sink.count bound.F.Sink.holds F flights i f c.args.found.now c.loop-flight.found w.list_from.new.found at c.loop-flight.invariant.found w.in_ok-list_from.ensures.ok);
             room = rw same w.in_ok-list_from.ensures.room;
           }
       | list_after-else-may_leave w ↦
-          let same : c.if-may_leave.found.items ≡ c.loop-flight.found.items = grind (arith, common_steps) in
+          let same : c.if-may_leave.found ≡ c.loop-flight.found = grind (arith, common_steps) in
           let none = not-joined n s flights base price before f known (sym c.may_leave.ensures ∙ w.if-may_leave.false) in
           record {
-            found = skip-at F flights i f c.args.found.now.items c.loop-flight.found.items c.if-may_leave.found.items at c.loop-flight.invariant.found none same;
+            found = rw same (took-skip bound.F.Sink.count bound.F.Sink.holds F flights i f c.args.found.now c.loop-flight.found at c.loop-flight.invariant.found none);
             room = rw same c.loop-flight.invariant.room;
           }
     ]
 
 pub list_after-returns-clause-ok : goal.list_after-returns-clause-ok
-list_after-returns-clause-ok t c =
+list_after-returns-clause-ok bound t c =
     let s = c.args.scope.now.settings.now in
     let flights = c.args.scope.now.flights.now in
     let base = c.args.scope.now.base in
@@ -90,7 +91,7 @@ list_after-returns-clause-ok t c =
     rw opened (rw all at c.loop-flight.invariant.found)
 
 pub list_below-list_legs-requires : goal.list_below-list_legs-requires
-list_below-list_legs-requires t c =
+list_below-list_legs-requires bound t c =
     let s = c.args.scope.now.settings.now in
     let flights = c.args.scope.now.flights.now in
     let first = c.args.first.now in
@@ -100,10 +101,10 @@ list_below-list_legs-requires t c =
     let long : length c.deref.result.now ≡ length others + 1 = ap length flown ∙ length-append others (timed false g ∷ []) in
     let joins = join-legs c.args.scope.now.base s c.args.before.now first c.deref.result.now others ∙ c.requires.joins in
     let more = IsBeginning-more s flights first others false g c.requires.beginning c.requires.follows c.requires.known in
-    (omega arith, (c.requires.checked, (c.requires.flights, (c.requires.price, (c.requires.few, (c.requires.ranges, (joins, (rw flown more, (omega arith, c.requires.room)))))))))
+    λ κs within. (omega arith, (within, (c.requires.checked, (c.requires.flights, (c.requires.price, (c.requires.few, (c.requires.ranges, (joins, (rw flown more, (omega arith, c.requires.room))))))))))
 
 pub list_below-list_legs-requires-2 : goal.list_below-list_legs-requires-2
-list_below-list_legs-requires-2 t c =
+list_below-list_legs-requires-2 bound t c =
     let s = c.args.scope.now.settings.now in
     let flights = c.args.scope.now.flights.now in
     let first = c.args.first.now in
@@ -113,10 +114,10 @@ list_below-list_legs-requires-2 t c =
     let long : length c.deref-2.result.now ≡ length others + 1 = ap length ridden ∙ length-append others (timed true g ∷ []) in
     let joins = join-legs c.args.scope.now.base s c.args.before.now first c.deref-2.result.now others ∙ c.requires.joins in
     let more = IsBeginning-more s flights first others true g c.requires.beginning c.requires.follows c.requires.known in
-    (omega arith, (c.requires.checked, (c.requires.flights, (c.requires.price, (c.requires.few, (c.requires.ranges, (joins, (rw ridden more, (omega arith, c.in_ok-list_legs.ensures.room)))))))))
+    λ κs within. (omega arith, (within, (c.requires.checked, (c.requires.flights, (c.requires.price, (c.requires.few, (c.requires.ranges, (joins, (rw ridden more, (omega arith, c.in_ok-list_legs.ensures.room))))))))))
 
 pub list_legs-returns-then-others-ge-LEGS-clause-ok : goal.list_legs-returns-then-others-ge-LEGS-clause-ok
-list_legs-returns-then-others-ge-LEGS-clause-ok t c =
+list_legs-returns-then-others-ge-LEGS-clause-ok bound t c =
     let s = c.args.scope.now.settings.now in
     let flights = c.args.scope.now.flights.now in
     let first = c.args.first.now in
@@ -126,13 +127,13 @@ list_legs-returns-then-others-ge-LEGS-clause-ok t c =
       | list_legs-then-others-ge-LEGS-via-then-others-ge-LEGS w ↦ let room : 8 - length others ≡ 0 = omega arith in rw room (listing-none s flights first others)
       | list_legs-then-others-ge-LEGS-via-else-others-ge-LEGS+then-cannot_begin w ↦ listing-closed (8 - length others) s flights first others (sym w.cannot_begin.ensures ∙ w.if-cannot_begin.true)
     ] in
-    rw none (sym (append-nil c.args.found.now.items))
+    rw none (took-none bound.F.Sink.count bound.F.Sink.holds c.args.found.now)
 
 pub list_legs-duty_from-next-requires-clause-sound : goal.list_legs-duty_from-next-requires-clause-sound
-list_legs-duty_from-next-requires-clause-sound t c = known-sound c.args.scope.now.flights.now (c.args.first.now ∷ c.args.others.now) c.requires.flights c.requires.beginning.known
+list_legs-duty_from-next-requires-clause-sound bound t c = known-sound c.args.scope.now.flights.now (c.args.first.now ∷ c.args.others.now) c.requires.flights c.requires.beginning.known
 
 pub list_legs-returns-then-not-keep_within_caps-clause-ok : goal.list_legs-returns-then-not-keep_within_caps-clause-ok
-list_legs-returns-then-not-keep_within_caps-clause-ok t c =
+list_legs-returns-then-not-keep_within_caps-clause-ok bound t c =
     let s = c.args.scope.now.settings.now in
     let flights = c.args.scope.now.flights.now in
     let first = c.args.first.now in
@@ -143,10 +144,10 @@ list_legs-returns-then-not-keep_within_caps-clause-ok t c =
     let caps : is_within_caps s (before ++ duty_of s first others ∷ []) ≡ false = ap (is_within_caps s) (sym longer) ∙ sym c.keep_within_caps.ensures ∙ c.if-not-keep_within_caps.true in
     let none = not-within (s.max_duties - (length before + 1)) (8 - length others) s flights c.args.scope.now.base c.args.scope.now.base_price before first others c.requires.flights c.requires.beginning
     (omega arith) caps in
-    rw none (sym (append-nil c.args.found.now.items))
+    rw none (took-none bound.F.Sink.count bound.F.Sink.holds c.args.found.now)
 
 pub list_legs-returns-in_err-list_own-clause-over : goal.list_legs-returns-in_err-list_own-clause-over
-list_legs-returns-in_err-list_own-clause-over t c =
+list_legs-returns-in_err-list_own-clause-over bound t c =
     let s = c.args.scope.now.settings.now in
     let flights = c.args.scope.now.flights.now in
     let first = c.args.first.now in
@@ -166,7 +167,7 @@ list_legs-returns-in_err-list_own-clause-over t c =
     λ e. rw opened (more-than _ _ _ _ (flat_map (onward room s flights base price before first others) flights) own-is (c.in_err-list_own.ensures.over (cc)))
 
 pub list_legs-list_below-requires : goal.list_legs-list_below-requires
-list_legs-list_below-requires t c =
+list_legs-list_below-requires bound t c =
     let s = c.args.scope.now.settings.now in
     let flights = c.args.scope.now.flights.now in
     let i = c.loop-flight.flight-index in
@@ -174,10 +175,10 @@ list_legs-list_below-requires t c =
     let known = item-known flights i g c.loop-flight-test.true c.flight-item.is in
     let follows : may_follow s (last_of c.args.first.now c.args.others.now).flight g ≡ true =
     ap (λ (l : TimedLeg). may_follow s l.flight g) (sym c.last_leg-last.ensures) ∙ sym c.may_come_next.ensures ∙ c.if-may_come_next.true in
-    (omega arith, (c.requires.checked, (c.requires.flights, (c.requires.price, (c.requires.few, (c.requires.ranges, (c.requires.joins, (c.requires.beginning, (c.if-others-ge-LEGS.false, (known, (follows, c.loop-flight.invariant.room)))))))))))
+    λ κs within. (omega arith, (within, (c.requires.checked, (c.requires.flights, (c.requires.price, (c.requires.few, (c.requires.ranges, (c.requires.joins, (c.requires.beginning, (c.if-others-ge-LEGS.false, (known, (follows, c.loop-flight.invariant.room))))))))))))
 
 pub list_legs-returns-in_err-list_below-clause-over : goal.list_legs-returns-in_err-list_below-clause-over
-list_legs-returns-in_err-list_below-clause-over t c =
+list_legs-returns-in_err-list_below-clause-over bound t c =
     let s = c.args.scope.now.settings.now in
     let flights = c.args.scope.now.flights.now in
     let first = c.args.first.now in
@@ -200,12 +201,12 @@ list_legs-returns-in_err-list_below-clause-over t c =
     let p = err_from_is_err_and c.from_residual-in_err-list_below.result c.from_residual-in_err-list_below.ensures.1 in
     let ward = onward-on room s flights base price before first others g follows in
     λ e. rw opened
-    (more-after c.args.found.now.items c.list_own.new.found.items _ _ (flat_map (onward room s flights base price before first others) flights) c.args.scope.now.limit own-is c.in_ok-list_own.ensures.ok
-    (over-at (onward room s flights base price before first others) flights i g c.list_own.new.found.items c.loop-flight.found.items c.args.scope.now.limit at c.loop-flight.invariant.found
+    (over-after bound.F.Sink.count bound.F.Sink.holds c.args.found.now c.list_own.new.found _ _ (flat_map (onward room s flights base price before first others) flights) c.args.scope.now.limit own-is c.in_ok-list_own.ensures.ok
+    (took-over bound.F.Sink.count bound.F.Sink.holds (onward room s flights base price before first others) flights i g c.list_own.new.found c.loop-flight.found c.args.scope.now.limit at c.loop-flight.invariant.found
     (rw ward (c.in_err-list_below.ensures.over (cc)))))
 
 pub list_legs-loop-flight-preserved : goal.list_legs-loop-flight-preserved
-list_legs-loop-flight-preserved t c =
+list_legs-loop-flight-preserved bound t c =
     let s = c.args.scope.now.settings.now in
     let flights = c.args.scope.now.flights.now in
     let first = c.args.first.now in
@@ -221,23 +222,23 @@ list_legs-loop-flight-preserved t c =
     let F : Flight → List Partial = onward room s flights base price before first others in
     elim c.if-may_come_next.branch [
       | list_legs-then-may_come_next+in_ok-list_below w ↦
-          let same : c.if-may_come_next.found.items ≡ w.list_below.new.found.items = grind (arith, common_steps) in
+          let same : c.if-may_come_next.found ≡ w.list_below.new.found = grind (arith, common_steps) in
           let ward = onward-on room s flights base price before first others g (test ∙ w.if-may_come_next.true) in
           record {
-            found = same ∙ more-at F flights i g c.list_own.new.found.items c.loop-flight.found.items w.list_below.new.found.items at c.loop-flight.invariant.found (rw ward w.in_ok-list_below.ensures.ok);
+            found = rw same (took-at bound.F.Sink.count bound.F.Sink.holds F flights i g c.list_own.new.found c.loop-flight.found w.list_below.new.found at c.loop-flight.invariant.found (rw ward w.in_ok-list_below.ensures.ok));
             room = rw same w.in_ok-list_below.ensures.room;
           }
       | list_legs-else-may_come_next w ↦
-          let same : c.if-may_come_next.found.items ≡ c.loop-flight.found.items = grind (arith, common_steps) in
+          let same : c.if-may_come_next.found ≡ c.loop-flight.found = grind (arith, common_steps) in
           let none = onward-off room s flights base price before first others g (test ∙ w.if-may_come_next.false) in
           record {
-            found = skip-at F flights i g c.list_own.new.found.items c.loop-flight.found.items c.if-may_come_next.found.items at c.loop-flight.invariant.found none same;
+            found = rw same (took-skip bound.F.Sink.count bound.F.Sink.holds F flights i g c.list_own.new.found c.loop-flight.found at c.loop-flight.invariant.found none);
             room = rw same c.loop-flight.invariant.room;
           }
     ]
 
 pub list_legs-returns-clause-ok : goal.list_legs-returns-clause-ok
-list_legs-returns-clause-ok t c =
+list_legs-returns-clause-ok bound t c =
     let s = c.args.scope.now.settings.now in
     let flights = c.args.scope.now.flights.now in
     let first = c.args.first.now in
@@ -255,4 +256,4 @@ list_legs-returns-clause-ok t c =
     let own-is = own-listed room s flights base price before (duty_of s first others) c.deref-2.result.now c.last_leg-last.result (last_of first others) longer-2 c.last_leg-last.ensures in
     let all : take c.loop-flight.flight-index flights ≡ flights = take_all c.loop-flight.flight-index flights (omega arith) in
     let done = rw all at c.loop-flight.invariant.found in
-    rw opened (joined-up c.args.found.now.items c.list_own.new.found.items _ _ (flat_map (onward room s flights base price before first others) flights) c.loop-flight.found.items own-is c.in_ok-list_own.ensures.ok done)
+    rw opened (joined-up bound.F.Sink.count bound.F.Sink.holds c.args.found.now c.list_own.new.found c.loop-flight.found _ _ (flat_map (onward room s flights base price before first others) flights) own-is c.in_ok-list_own.ensures.ok done)

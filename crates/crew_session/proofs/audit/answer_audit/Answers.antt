@@ -5,20 +5,9 @@ use Rattle.crew_session.proofs.audit.answer_audit.Goals as goal
 
 pub returns-in-Ok-clause-answered : goal.returns-in-Ok-clause-answered
 returns-in-Ok-clause-answered g c =
-    let listed = c.in-Ok.ensures.listed in
+    let all = rw (c.settings.ensures.value, c.timetable.ensures) at c.in-Ok.ensures.counted in
     on_ok_weaker c.write_audit.result
-    (λ w. (
-      audit_line c.of.result,
-      w,
-      inl (record {
-        partials = c.in-Ok.partials.items;
-        tally = c.of.result;
-        all = rw (c.settings.ensures.value, c.timetable.ensures) at listed;
-        few = c.in-Ok.ensures.few;
-        counted = rw c.deref.ensures.value at c.of.ensures;
-        written = refl;
-      }),
-    ))
+    (λ w. (audit_line c.in-Ok.tally, w, inl (record { partials = all.0; tally = c.in-Ok.tally; all = all.1; few = all.3; counted = all.2; written = refl })))
     c.write_audit.ensures.written
 
 pub returns-in-Err-OverLimit-clause-answered : goal.returns-in-Err-OverLimit-clause-answered
