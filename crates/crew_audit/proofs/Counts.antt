@@ -63,9 +63,5 @@ tally-more ps p tally next h a b e = record {
   cost = rw e (least-more ps p tally.cost h.cost);
 }
   where
-    one : (b : Bool) → count_by (λ (x : Bool). x) (b ∷ []) ≡ (if b then 1 else 0)
-    one true = refl
-    one false = refl
-
     counted : (ps : List Partial) (p : Partial) → count_by (λ (q : Partial). q.pairing) (ps ++ p ∷ []) ≡ count_by (λ (q : Partial). q.pairing) ps + (if p.pairing then 1 else 0)
     counted ps p = grind (arith, common_steps)

@@ -24,7 +24,7 @@ use crew_rules::Settings;
 use std::alloc::Global;
 
 // What the search works with: the flights by number, a base with its price, and the most partials
-// that are listed.
+// that are taken.
 #[derive(Clone, Copy, Drop)]
 pub(crate) struct Scope<'a> {
     pub(crate) settings: &'a Settings,
@@ -34,7 +34,7 @@ pub(crate) struct Scope<'a> {
     pub(crate) limit: usize,
 }
 
-// Lists these duties.
+// Gives these duties to what takes partials, which lists or counts them.
 fn list_one<F: Sink>(
     alloc: Global,
     found: &mut F,

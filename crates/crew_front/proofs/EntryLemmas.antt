@@ -1,5 +1,5 @@
 -- Lists that rise with no element at most another.
-use Rattle.std.proofs.Common.{◌≡◌, ◌≢◌, ℕ, zero, suc, ◌+◌, ◌≤◌, ◌<◌, Bool, true, false, cond, not, List, [], ◌∷◌, ◌++◌, length, take, drop, set, map, get_or, Some, None, inl, inr, refl, sym, ◌∙◌, ap, subst, ⊎_elim, arith, Ordering}
+use Rattle.std.proofs.Common.{◌≡◌, ◌≢◌, ℕ, suc, ◌+◌, Bool, true, false, cond, not, List, [], ◌∷◌, ◌++◌, length, take, drop, map, get_or, Some, inl, inr, refl, sym, ◌∙◌, ap, subst, ⊎_elim, arith, Ordering}
 use Rattle.std.specs.Prelude.{slice_get, unwrap_or, Result, Ok, Err, OnErr}
 use Rattle.std.specs.List.{filter, insert, position, position_or_len, prefix_len, All, Any, AllByRecursion}
 use Rattle.std.proofs.lemmas.List.Quantifiers.{position-Some}
@@ -8,14 +8,13 @@ use Rattle.std.specs.Ordering.{is_eq, is_lt}
 use Rattle.std.specs.Cmp.{IsTotalOrder}
 use Rattle.std.specs.declared.cmp.Ordering.TheVariants.{Less, Equal, Greater}
 use Rattle.std.proofs.lemmas.Bool.{cases_Bool, false≢true, not-true}
-use Rattle.std.proofs.lemmas.List.Sums.{prefix_len-le-length, fails_before_first}
+use Rattle.std.proofs.lemmas.List.Sums.{prefix_len-le-length}
 use Rattle.std.proofs.lemmas.Bool.Decides.{nat_tests}
 use Rattle.std.proofs.lemmas.Cmp.{tied_itself}
 use Rattle.std.proofs.Math.Numerals.{one-add}
-use Rattle.std.proofs.lemmas.List.Elements.{recursion_from_All}
 use Rattle.crew_resource.specs.Members.{Member}
-use Rattle.crew_resource.proofs.Lists.{Member-All, map-slice_set, none_passes, within_some}
-use Rattle.crew_resource.proofs.Members.{Member-filter_out, Member-get, Member-map_in, Member-map_out}
+use Rattle.crew_resource.proofs.Lists.{Member-All}
+use Rattle.crew_resource.proofs.Members.{Member-filter_out, Member-get, Member-map_out}
 use Rattle.crew_resource.specs.Resource.{OrderLaws}
 use Rattle.crew_resource.specs.Entries.{Parted, PartedFromAll, IsApart, placed}
 

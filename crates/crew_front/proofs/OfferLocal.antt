@@ -1,5 +1,5 @@
 -- What an offer does is what one more candidate does to the undominated ones.
-use Rattle.std.proofs.Common.{◌≡◌, ◌≢◌, ℕ, zero, suc, ◌<◌, Bool, true, false, cond, not, List, [], ◌∷◌, ◌++◌, length, set, map, get_or, Some, ◌⊎◌, inl, inr, refl, sym, ◌∙◌, ap, subst, ⊎_elim, arith, Ordering}
+use Rattle.std.proofs.Common.{◌≡◌, ◌≢◌, ℕ, zero, suc, Bool, true, false, cond, not, List, [], ◌∷◌, ◌++◌, set, map, Some, ◌⊎◌, inl, inr, refl, sym, ◌∙◌, ap, subst, ⊎_elim, Ordering}
 use Rattle.std.specs.Prelude.{slice_get}
 use Rattle.std.specs.List.{All, Any, filter}
 use Rattle.std.specs.Ordering.{is_lt, is_le, ordering_reverse}
@@ -7,7 +7,7 @@ use Rattle.std.specs.declared.cmp.Ordering.TheVariants.{Less, Equal, Greater}
 use Rattle.std.proofs.lemmas.Bool.{cases_Bool, false≢true, not-true, not_from_false, cond-true, cond-false}
 use Rattle.crew_resource.specs.Members.{Member}
 use Rattle.crew_resource.specs.Labels.{Beats, IsLocal}
-use Rattle.crew_resource.proofs.Order.{IsOrder, order}
+use Rattle.crew_resource.proofs.Order.{order}
 use Rattle.crew_resource.proofs.Members.{Member-at, Member-get_or, Member-filter_in, Member-filter_out, Member-append, Member-append_left, Member-append_right}
 use Rattle.crew_resource.proofs.Offers.{More, IsLocal-beaten, IsLocal-kept, IsLocal-tied}
 use Rattle.crew_resource.specs.Resource.{OrderLaws}

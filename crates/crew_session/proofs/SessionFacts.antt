@@ -1,9 +1,8 @@
 -- How a session goes on by a record.
-use Rattle.std.proofs.Common.{◌≡◌, ◌<◌, ◌≤◌, ◌+◌, ◌∙◌, ℕ, zero, suc, Bool, true, false, List, [], ◌∷◌, ◌++◌, length, drop, Option, Some, None, Result, Ok, Err, refl, sym, ap, subst, inl, inr, arith, option_map, if◌then◌else◌, append_assoc, length-append}
+use Rattle.std.proofs.Common.{◌≡◌, ◌≤◌, ◌+◌, ◌∙◌, ℕ, zero, suc, Bool, false, List, [], ◌∷◌, ◌++◌, length, drop, Option, Some, None, Result, Ok, Err, refl, sym, ap, subst, arith, option_map, if◌then◌else◌, append_assoc, length-append}
 use Rattle.std.specs.Prelude.{IfSome, OnOk, nat_lt}
 use Rattle.std.proofs.lemmas.Bool.Decides.{nat_tests}
 use Rattle.std.specs.FinMap as map
-use Rattle.std.proofs.lemmas.Result.{on_ok_weaker}
 use Rattle.std.specs.Io.KnownBytes.{Appends}
 use Rattle.std.proofs.lemmas.List.{append-nil}
 use Rattle.csv.specs.Reading.{default_config, records_from, strip_bom}
@@ -14,14 +13,13 @@ use Rattle.crew_records.specs.Fields.{Fields}
 use Rattle.crew_session.specs.Rows.{HasNoRow, TakesRow, records_of}
 use Rattle.crew_flights.specs.declared.edit.Edit.{Edit}
 use Rattle.crew_flights.specs.declared.entries.Entry.{Entry}
-use Rattle.crew_pairing.specs.Duties.{HasTooMany}
-use Rattle.crew_session.specs.Engines.{AreTooMany, BeginsWith, IsSubmitFault, engine_number}
+use Rattle.crew_session.specs.Engines.{BeginsWith, IsSubmitFault, engine_number}
 use Rattle.crew_session.specs.declared.engine_fault.EngineFault.{EngineFault}
 use Rattle.crew_session.specs.declared.engine_fault.EngineFault.TheVariants.{TooManyDuties, LastVersion, SeatFull, Gap, OtherLog, NoView, Memory}
 use Rattle.crew_session.specs.Machinery.Journals.{Came, HasEnded, IsInStep, since, state_of, zones_of}
-use Rattle.crew_session.specs.Lines.{refused_line, refused_lines, version_line}
-use Rattle.crew_session.specs.Session.{Does, Obeys, Settles, State, Writes, entry_count, refuse, start, submit, submit_at, with_entry}
-use Rattle.crew_session.specs.Versions.{IsRight, Snapshot, entry_of, opening, timetable_of, verdicts_of}
+use Rattle.crew_session.specs.Lines.{refused_line}
+use Rattle.crew_session.specs.Session.{Does, Obeys, State, Writes, entry_count, refuse, start, submit, with_entry}
+use Rattle.crew_session.specs.Versions.{Snapshot, opening}
 use Rattle.crew_session.specs.declared.journal.Journal.{Journal}
 use Rattle.crew_session.specs.declared.session.Ending.TheVariants.{AtEnd, TooManyRecords}
 use Rattle.crew_session.specs.Audits.{Audits}
