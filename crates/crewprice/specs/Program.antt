@@ -1,5 +1,5 @@
 -- How a run of the program ends.
-use Rattle.std.specs.Prelude.{◌≡◌, ◌⊎◌, ◌∷◌, [], ℕ, List, Option, Result, Ok, Err, IfSome}
+use Rattle.std.specs.Prelude.{◌≡◌, ◌⊎◌, ◌∷◌, [], ℕ, List, Option, Result, Ok, Err, IfSome, false}
 use Rattle.std.specs.Io.KnownBytes.{Appends, Keeps}
 use Rattle.clap.specs.Kinds.{IsAmong, Kinds}
 use Rattle.clap.specs.Words.{Text, kind_of}
@@ -9,6 +9,7 @@ use Rattle.clap.specs.declared.error.kind.ErrorKind.TheVariants as kind
 use Rattle.crew_rules.specs.Settings.{check_of}
 use Rattle.crew_rules.specs.declared.settings.Settings.{Settings}
 use Rattle.crew_rules.specs.declared.settings.BadSetting.{BadSetting}
+use Rattle.crew_session.specs.Faults.{IsSessionFault}
 use Rattle.crew_session.specs.Session.{IsSessionText}
 use Rattle.crew_session.specs.declared.fault.SessionFault.{SessionFault}
 use Rattle.crewprice.specs.Faults.{AppendsBeginning, fault_of, line_of, status_of}
@@ -33,12 +34,14 @@ Answers kind.DisplayHelp error before after r = (r ≡ Ok tt) ⊎ (r ≡ Err Wri
 Answers kind.DisplayVersion error before after r = (r ≡ Ok tt) ⊎ (r ≡ Err Write)
 Answers other error before after r = (r ≡ Err (Usage error)) × Keeps before after
 
--- what a session comes to: it wrote what a session of the bytes writes, or it failed
+-- what a session comes to: it wrote what a session of the bytes writes, or it failed, and not for a
+-- strange log: this program's engine is never strange
 abbrev pub Played : Settings → Option (List ℕ) → Option (List ℕ) → Option (List ℕ) → Outcome
     → Type 0
 Played s input before after (Ok done) = IfSome input
     (λ bytes. (text : List ℕ) × Appends before after text × IsSessionText s bytes text)
-Played s input before after (Err fault) = (f : SessionFault) × (fault ≡ fault_of f)
+Played s input before after (Err fault) =
+    (f : SessionFault) × IsSessionFault false f × (fault ≡ fault_of f)
 
 -- a session: settings out of their ranges are refused and nothing is written
 abbrev pub Plays : Settings → Result (Unit {0}) BadSetting → Option (List ℕ) → Option (List ℕ)
