@@ -153,8 +153,9 @@ fn copied_it_goes_on(rt: HostRuntime) -> Result<(), Fail> {
 fn holds_hundreds_of_entries(rt: HostRuntime) -> Result<(), Fail> {
     let alloc = rt.alloc();
     let mut front = Front::new(alloc, resource());
-    for step in 0..300 {
-        let value = vector([step, 0, 0, 0, 0, 2, 300 - step]);
+    for step in 0..300u16 {
+        let pay = i64::from(step);
+        let value = vector([pay, 0, 0, 0, 0, 2, 300 - pay]);
         assert!(rt; front.offer(value, walk(alloc, 1, 2)?)? == Offer::Kept);
     }
     assert!(rt; front.len() == 300);
