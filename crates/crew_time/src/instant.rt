@@ -11,7 +11,8 @@ use std::marker::Model;
 /// a departure and releases after an arrival. A contract sees the number.
 #[derive(Clone, Copy, Debug, PartialEq, Eq, PartialOrd, Ord, Hash)]
 pub struct Minute {
-    pub(crate) value: i64,
+    // All of the range fits; half the bytes of the number that callers see.
+    pub(crate) value: i32,
 }
 
 impl Model for Minute {
@@ -36,7 +37,9 @@ impl Minute {
         ensures value { IfSome result (λ minute. minute ≡ value) }
     {
         if (15_776_640..=68_375_519).contains(&value) {
-            Some(Minute { value })
+            Some(Minute {
+                value: value as i32,
+            })
         } else {
             None
         }
@@ -47,7 +50,7 @@ impl Minute {
         ensures value { result ≡ self }
         ensures range { IsInstant result }
     {
-        self.value
+        i64::from(self.value)
     }
 }
 

@@ -93,9 +93,10 @@ fn minute_of(parts: Parts) -> Result<Minute, TimeFault>
     if parts.year < 2_000 || parts.year > 2_099 {
         return Err(TimeFault::YearRange);
     }
-    Ok(Minute {
-        value: minutes_at(date.to_unix_epoch_day(), parts.hour, parts.minute),
-    })
+    match Minute::new(minutes_at(date.to_unix_epoch_day(), parts.hour, parts.minute)) {
+        Some(minute) => Ok(minute),
+        None => unreachable!(),
+    }
 }
 
 /// The instant of a text `YYYY-MM-DDTHH:MM`, a time in UTC of the years 2000 to 2099.
@@ -151,7 +152,7 @@ fn year_of(date: Date) -> u16
 fn minute_text(minute: Minute) -> [u8; 16]
     ensures { IsTextOf minute result }
 {
-    let value = minute.value as u32;
+    let value = minute.get() as u32;
     let Ok(date) = Date::from_unix_epoch_day((value / 1_440) as i64) else {
         unreachable!();
     };

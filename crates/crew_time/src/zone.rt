@@ -87,7 +87,7 @@ impl Zone {
     pub fn clock(&self, minute: Minute) -> ClockMinute
         ensures { result ≡ clock_of self.now minute }
     {
-        let seconds = minute.value * 60;
+        let seconds = minute.get() * 60;
         let Ok(instant) = Timestamp::from_second(seconds) else {
             unreachable!();
         };
