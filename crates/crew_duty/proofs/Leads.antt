@@ -1,5 +1,5 @@
 -- What flights go on from some legs: those that depart too late begin no duty.
-use Rattle.std.proofs.Common.{◌≡◌, ◌≤◌, ◌<◌, ◌+ℤ◌, ◌≤ℤ◌, ℤ, pos, ℕ, zero, suc, List, [], ◌∷◌, ◌++◌, ◌&&◌, ◌||◌, Some, Bool, true, false, cond, nat_lt, max, refl, ap, ◌∙◌, subst, arith, filter, drop, take, int_le}
+use Rattle.std.proofs.Common.{◌≡◌, ◌≤◌, ◌<◌, ◌+ℤ◌, ◌≤ℤ◌, ◌<ℤ◌, ℤ, pos, ℕ, zero, suc, List, [], ◌∷◌, ◌++◌, ◌&&◌, ◌||◌, Some, Bool, true, false, cond, nat_lt, max, refl, ap, ◌∙◌, subst, arith, filter, drop, take, int_le}
 use Rattle.std.specs.Prelude.{int_lt, slice_get}
 use Rattle.std.specs.List.{flat_map}
 use Rattle.std.proofs.lemmas.Bool.{and_parts}
@@ -14,7 +14,9 @@ use Rattle.crew_duty.specs.Machinery.Limits.{latest_departure}
 use Rattle.crew_pairing.specs.Machinery.Listing.{below, is_hopeless, timed}
 use Rattle.crew_resource.specs.Members.{Each}
 use Rattle.crew_pairing.specs.Machinery.Beginnings.{AreFlights}
-use Rattle.crew_duty.specs.Machinery.Plans.{LeadOn, StandAt}
+use Rattle.crew_duty.specs.Machinery.Paths.{onward}
+use Rattle.crew_duty.specs.Machinery.Plans.{IsNext, LeadOn, StandAt}
+use Rattle.crew_duty.specs.declared.plan.Next.{Next}
 use Rattle.crew_duty.specs.Machinery.Slots.{follows_by}
 use Rattle.crew_pairing.specs.declared.leg.TimedLeg.{TimedLeg}
 use Rattle.crew_pairing.specs.declared.duty.Duty.{Duty}
@@ -70,22 +72,28 @@ over-lt a b h = grind (arith, ints, h)
 le-fails : (a b : ℤ) → int_le a b ≡ false → (b +ℤ pos 1) ≤ℤ a
 le-fails a b h = grind (arith, ints, h)
 
--- a leg that departs too late comes in too late
-late-closed : (s : Settings) (first : TimedLeg) (others : List TimedLeg) (dead : Bool) (g : Flight) → IsFlight g.id g → int_le g.dep (latest_departure s first (first ∷ others)) ≡ false
+-- a leg that arrives later than any may depart comes in too late
+soon-closed : (s : Settings) (first : TimedLeg) (others : List TimedLeg) (dead : Bool) (g : Flight) → latest_departure s first (first ∷ others) <ℤ g.arr
     → is_hopeless s first (others ++ timed dead g ∷ []) ≡ true
-late-closed s first others dead g sound late =
+soon-closed s first others dead g after =
     let l = timed dead g in
     let clock = first.flight.report_clock in
     let longer = others ++ l ∷ [] in
     let more : segments (first ∷ others) ≤ segments (first ∷ longer) = segments-more (first ∷ others) l in
     let falls = table_b-falls clock (max (segments (first ∷ others)) 1) (max (segments (first ∷ longer)) 1) (omega (arith, more)) in
     let last : (last_of first longer).flight.arr ≡ g.arr = ap (λ (x : TimedLeg). x.flight.arr) (last_of-push first others l) in
-    let block = sound.least_block in
-    let after = le-fails g.dep (latest_departure s first (first ∷ others)) late in
-    let over : (pos (table_b clock (max (segments (first ∷ longer)) 1)) +ℤ pos 1) ≤ℤ flight_duty_period s first longer = omega (arith, ints, falls, last, block, after) in
+    let over : (pos (table_b clock (max (segments (first ∷ longer)) 1)) +ℤ pos 1) ≤ℤ flight_duty_period s first longer = omega (arith, ints, falls, last, after) in
     or-last (nat_lt s.deadheads (deadheads (first ∷ longer))) (int_lt (pos (table_a clock)) (flight_time first longer))
     (int_lt (pos (table_b clock (max (segments (first ∷ longer)) 1))) (flight_duty_period s first longer))
     (over-lt (pos (table_b clock (max (segments (first ∷ longer)) 1))) (flight_duty_period s first longer) over)
+
+-- a leg that departs too late comes in too late
+late-closed : (s : Settings) (first : TimedLeg) (others : List TimedLeg) (dead : Bool) (g : Flight) → IsFlight g.id g → int_le g.dep (latest_departure s first (first ∷ others)) ≡ false
+    → is_hopeless s first (others ++ timed dead g ∷ []) ≡ true
+late-closed s first others dead g sound late =
+    let block = sound.least_block in
+    let after = le-fails g.dep (latest_departure s first (first ∷ others)) late in
+    soon-closed s first others dead g (omega (arith, ints, block, after))
 
 or-first : (a b : Bool) → a ≡ true → (a || b) ≡ true
 or-first true b e = refl
@@ -147,3 +155,25 @@ pub leads-at : {X : Type 0} (P : X → Type 0) (xs : List X) (i : ℕ) (x : X) �
 leads-at P [] i x h e = cc
 leads-at P (y ∷ xs) zero x h e = let same : y ≡ x = cc in subst P same h.0
 leads-at P (y ∷ xs) (suc i) x h e = leads-at P xs i x h.1 e
+
+-- where every flight that may follow arrives too late, nothing goes on
+none-below : (s : Settings) (flights : List Flight) (first : TimedLeg) (others : List TimedLeg) (room : ℕ) (gs : List Flight) → Each (λ g. latest_departure s first (first ∷ others) <ℤ g.arr) gs
+    → flat_map (below room s flights first others) gs ≡ []
+none-below s flights first others room [] h = refl
+none-below s flights first others room (g ∷ gs) h =
+    let flown = listing-closed room s flights first (others ++ timed false g ∷ []) (soon-closed s first others false g h.0) in
+    let ridden = listing-closed room s flights first (others ++ timed true g ∷ []) (soon-closed s first others true g h.0) in
+    rw (flown, ridden) (none-below s flights first others room gs h.1)
+
+pub leads-nowhere : (s : Settings) (flights : List Flight) (first : TimedLeg) (others : List TimedLeg) (room : ℕ) (next : Next) (latest : ℤ) → IsNext s flights (last_of first others).flight next → latest ≡ latest_departure s first (first ∷ others)
+    → pos 0 ≤ℤ latest → latest <ℤ next.soonest → onward room s flights first others ≡ []
+leads-nowhere s flights first others room next latest is e least soon =
+    let gs = filter (may_follow s (last_of first others).flight) flights in
+    none-below s flights first others room gs (subst (λ (t : ℤ). Each (λ g. t <ℤ g.arr) gs) e (is.soonest latest least soon))
+
+-- no leg is ridden first where none may be
+pub ridden-first : (s : Settings) (g : Flight) → s.deadheads ≡ 0 → is_hopeless s (timed true g) [] ≡ true
+ridden-first s g none =
+    or-first (nat_lt s.deadheads (deadheads (timed true g ∷ [])))
+    (int_lt (pos (table_a g.report_clock)) (flight_time (timed true g) []) || int_lt (pos (table_b g.report_clock (max (segments (timed true g ∷ [])) 1))) (flight_duty_period s (timed true g) []))
+    (more-lt s.deadheads (deadheads (timed true g ∷ [])) (omega (arith, none)))

@@ -3,6 +3,7 @@ pub mod Filling
 pub mod InPlace
 pub mod Leads
 pub mod Parts
+pub mod Paths
 pub mod Places
 pub mod Running
 pub mod Slots

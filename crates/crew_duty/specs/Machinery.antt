@@ -3,6 +3,7 @@ pub mod Counts
 pub mod Filling
 pub mod Followers
 pub mod Limits
+pub mod Paths
 pub mod Plans
 pub mod Running
 pub mod Slots

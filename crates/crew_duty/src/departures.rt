@@ -1,6 +1,6 @@
 //! Departures by airport and time: which flights may follow one, by binary search.
 
-ghost use Rattle.std.specs.Prelude.{◌≡◌, ◌≤◌, ◌<◌, ◌≤ℤ◌, ◌+ℤ◌, pos, true, IfOk, List, IsPermutation, IsSorted, filter, length, map};
+ghost use Rattle.std.specs.Prelude.{◌≡◌, ◌≤◌, ◌<◌, ◌≤ℤ◌, ◌+ℤ◌, ℤ, pos, true, IfOk, List, IsPermutation, IsSorted, filter, length, map};
 ghost use Rattle.std.specs.Ordering.{nat_cmp};
 ghost use Rattle.crew_flights.specs.Codes.{is_code};
 ghost use Rattle.crew_flights.specs.declared.flight.Flight.{Flight};
@@ -16,8 +16,8 @@ use std::alloc::{AllocError, Global};
 /// The most followers of a flight that are put in order once for all.
 const FEW: usize = 32;
 
-/// Later than any departure.
-const NEVER: i64 = 100_000_000;
+/// Later than any departure or arrival.
+pub(crate) const NEVER: i64 = 100_000_000;
 
 /// A departure: where and when as one number, and the place of its flight among all.
 #[derive(Clone, Copy, Debug, PartialEq, Eq, PartialOrd, Ord)]
@@ -87,9 +87,11 @@ pub(crate) fn index_of(alloc: Global, flights: &[Flight]) -> Result<Vec<Slot>, A
     Ok(slots)
 }
 
-// The earlier of two minutes.
-fn earlier_of(first: i64, second: i64) -> i64
-    ensures { result ≡ earlier first second }
+/// The earlier of two minutes.
+pub(crate) fn earlier_of(first: i64, second: i64) -> i64
+    ensures value { result ≡ earlier first second }
+    ensures most { (result ≤ℤ first) × (result ≤ℤ second) }
+    ensures least { (least : ℤ) → least ≤ℤ first → least ≤ℤ second → least ≤ℤ result }
 {
     if first < second { first } else { second }
 }
@@ -149,6 +151,7 @@ pub(crate) fn few_after(
 }
 
 /// The places of the flights that may follow this one and depart by a minute.
+#[inline(never)]
 pub(crate) fn places_by(
     alloc: Global,
     slots: &[Slot],

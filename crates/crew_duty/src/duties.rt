@@ -9,7 +9,7 @@ ghost use Rattle.crew_pairing.specs.declared.duty.Duty.{Duty};
 use crate::departures::index_of;
 use crate::fault::DutyFault;
 use crate::pieces::{count_all, list_all, total_of};
-use crate::plan::{Plan, next_places};
+use crate::plan::{Plan, next_flights};
 use crate::search::DUTIES;
 use crew_flights::{Flight, Timetable};
 use crew_pairing::Duty;
@@ -93,7 +93,7 @@ pub fn list_duties<R: Threads + Sync>(
 {
     let flights = held_flights(alloc, timetable)?;
     let slots = index_of(alloc, &flights)?;
-    let next = next_places(alloc, settings, &flights, &slots)?;
+    let next = next_flights(alloc, settings, &flights, &slots)?;
     let plan = Plan {
         settings,
         flights: &flights,

@@ -9,6 +9,7 @@ ghost use Rattle.crew_pairing.specs.Machinery.Listing.{is_hopeless};
 ghost use Rattle.crew_duty.specs.Machinery.Running.{AreTotals};
 
 use crate::totals::Totals;
+use crew_flights::Flight;
 use crew_pairing::TimedLeg;
 use crew_pairing::facts::report;
 use crew_rules::{Settings, limits_from, table_a};
@@ -41,21 +42,23 @@ impl Limits {
         }
     }
 
-    /// Whether no duty can begin with these legs, of which this is the last.
-    pub(crate) fn forbid(&self, last: &TimedLeg, totals: Totals) -> bool
+    /// Whether no duty can begin with these legs, of which the last is of this flight.
+    #[inline(always)]
+    pub(crate) fn forbid(&self, last: &Flight, totals: Totals) -> bool
         requires { (s : Settings) × (first : TimedLeg) × AreLimits s first self.now }
         ensures { (s : Settings) (first : TimedLeg) (others : List TimedLeg)
             → AreLimits s first self.now → AreTotals (first ∷ others) totals
-            → last_of first others ≡ last.now → result ≡ is_hopeless s first others }
+            → (last_of first others).flight ≡ last.now → result ≡ is_hopeless s first others }
     {
         if totals.deadheads > self.deadheads {
             return true;
         }
         let most = self.periods[totals.segments.clamp(1, 7) - 1];
-        totals.fly > i64::from(self.fly) || last.flight.arr.get() - self.report > i64::from(most)
+        totals.fly > i64::from(self.fly) || last.arr.get() - self.report > i64::from(most)
     }
 
     /// The latest departure of a leg that goes on from these.
+    #[inline(always)]
     pub(crate) fn latest(&self, totals: Totals) -> i64
         requires { (s : Settings) × (first : TimedLeg) × AreLimits s first self.now }
         ensures value { (s : Settings) (first : TimedLeg) (legs : List TimedLeg)

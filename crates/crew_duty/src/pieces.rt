@@ -237,18 +237,19 @@ fn grow(list: &mut Vec<Duty>, flight: &Flight, many: usize) -> Result<(), AllocE
     ensures longer { OnOk result (length list.new.items ≡ length list.old.items + many) }
     ensures kept { OnOk result (take (length list.old.items) list.new.items ≡ list.old.items) }
 {
+    let blank = Duty {
+        key: Key::of(Leg::new(flight.id, false)),
+        from: flight.from,
+        to: flight.to,
+        report: 0,
+        release: 0,
+        fdp: 0,
+        fly: 0,
+        pay: 0,
+        price: 0,
+    };
     for made in 0..many {
-        list.push(Duty {
-            key: Key::of(Leg::new(flight.id, false)),
-            from: flight.from,
-            to: flight.to,
-            report: 0,
-            release: 0,
-            fdp: 0,
-            fly: 0,
-            pay: 0,
-            price: 0,
-        })?;
+        list.push(blank.copy())?;
     }
     Ok(())
 }

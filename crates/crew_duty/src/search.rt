@@ -1,25 +1,21 @@
 //! The search for legal duties: a tree for each first leg, with the next legs in order.
 
-ghost use Rattle.std.specs.Prelude.{◌≡◌, ◌-◌, ◌<◌, ◌≤◌, ◌++◌, ◌∷◌, [], Some, OnOk, IfOk, false, true, length, slice_get};
+ghost use Rattle.std.specs.Prelude.{◌≡◌, ◌-◌, ◌<◌, ◌≤◌, ◌++◌, ◌∷◌, [], List, OnOk, IfOk, false, length, slice_get, Some};
 ghost use Rattle.crew_flights.specs.declared.flight.Flight.{Flight};
-ghost use Rattle.crew_flights.specs.Timetable.{IsFlight};
-ghost use Rattle.crew_rules.specs.Settings.{IsChecked};
 ghost use Rattle.crew_duty.specs.Machinery.Filling.{Goes};
-ghost use Rattle.crew_pairing.specs.Legality.{AllConnect, duty_of, last_of, may_follow};
+ghost use Rattle.crew_pairing.specs.Legality.{duty_of};
 ghost use Rattle.crew_duty.specs.Machinery.Limits.{AreLimits};
-ghost use Rattle.crew_pairing.specs.Machinery.Listing.{from_place, is_hopeless, listing, own, timed};
-ghost use Rattle.crew_resource.specs.Members.{Each};
-ghost use Rattle.crew_duty.specs.Machinery.Running.{AreTotals};
-ghost use Rattle.crew_pairing.specs.Machinery.Beginnings.{IsBeginning};
+ghost use Rattle.crew_pairing.specs.Machinery.Listing.{from_place, listing, own, timed};
+ghost use Rattle.crew_pairing.specs.declared.leg.TimedLeg.{TimedLeg};
+ghost use Rattle.crew_duty.specs.Machinery.Paths.{EndsAt, GoesOn, IsPath, LastAt, onward};
 ghost use Rattle.crew_duty.specs.Machinery.Plans.{IsPlan};
 
 use crate::limits::Limits;
 use crate::plan::{Plan, follow_on};
 use crate::totals::Totals;
 use crew_flights::Flight;
-use crew_pairing::facts::{flight_duty_period, last_leg, release, report};
-use crew_pairing::{Duty, Key, TimedLeg};
-use crew_rules::{Settings, duty_pay};
+use crew_pairing::{Duty, Key, Leg, TimedLeg};
+use crew_rules::duty_pay;
 use std::alloc::{AllocError, Global};
 
 /// The most legs of a duty.
@@ -28,30 +24,37 @@ const LEGS: usize = 8;
 /// The most duties that are listed.
 pub(crate) const DUTIES: usize = 200_000;
 
-// The duty of these legs.
-fn duty_from(settings: &Settings, first: &TimedLeg, others: &[TimedLeg], totals: Totals) -> Duty
-    requires checked { IsChecked settings.now }
-    requires few { length others.now ≤ 7 }
-    requires totals { AreTotals (first.now ∷ others.now) totals }
-    requires sound { Each (λ l. IsFlight l.flight.id l.flight) (first.now ∷ others.now) }
-    requires connected { AllConnect settings.now first.now others.now }
-    ensures { result ≡ duty_of settings.now first.now others.now }
+// The duty of the legs of a key, of which the last is of the flight at a place.
+#[inline(always)]
+fn duty_from(
+    plan: &Plan<'_>,
+    first: &TimedLeg,
+    limits: &Limits,
+    key: &Key,
+    last: usize,
+    totals: Totals,
+) -> Duty
+    requires plan { IsPlan plan.now.settings.now plan.now.flights.now plan.now.slots.now
+        plan.now.next.now }
+    requires limits { AreLimits plan.now.settings.now first.now limits.now }
+    requires path { (others : List TimedLeg) × IsPath plan.now.settings.now plan.now.flights.now
+        first.now others key.now totals × EndsAt plan.now.flights.now first.now others last false }
+    ensures { (others : List TimedLeg) → IsPath plan.now.settings.now plan.now.flights.now
+        first.now others key.now totals → EndsAt plan.now.flights.now first.now others last false
+        → result ≡ duty_of plan.now.settings.now first.now others }
 {
-    let mut key = Key::of(first.leg());
-    for leg in others {
-        key.push(leg.leg());
-    }
-    let report = report(settings, first);
-    let release = release(settings, first, others);
+    let flight = &plan.flights[last];
+    let arrival = flight.arr.get();
+    let release = arrival + i64::from(plan.settings.debrief);
     Duty {
-        key,
+        key: key.copy(),
         from: first.flight.from,
-        to: last_leg(first, others).flight.to,
-        report: report as i32,
+        to: flight.to,
+        report: limits.report as i32,
         release: release as i32,
-        fdp: flight_duty_period(settings, first, others) as i32,
+        fdp: (arrival - limits.report) as i32,
         fly: totals.fly as i32,
-        pay: duty_pay(settings, release - report, totals.fly) as i32,
+        pay: duty_pay(plan.settings, release - limits.report, totals.fly) as i32,
         price: totals.price,
     }
 }
@@ -61,43 +64,37 @@ fn duty_from(settings: &Settings, first: &TimedLeg, others: &[TimedLeg], totals:
 #[inline(always)]
 fn put_own(
     found: &mut [Duty],
-    settings: &Settings,
+    plan: &Plan<'_>,
     first: &TimedLeg,
-    others: &[TimedLeg],
+    limits: &Limits,
+    key: &Key,
+    last: usize,
+    ridden: bool,
     totals: Totals,
     so_far: usize,
 ) -> usize
-    requires checked { IsChecked settings.now }
-    requires few { length others.now ≤ 7 }
-    requires totals { AreTotals (first.now ∷ others.now) totals }
-    requires sound { Each (λ l. IsFlight l.flight.id l.flight) (first.now ∷ others.now) }
-    requires connected { AllConnect settings.now first.now others.now }
+    requires plan { IsPlan plan.now.settings.now plan.now.flights.now plan.now.slots.now
+        plan.now.next.now }
+    requires limits { AreLimits plan.now.settings.now first.now limits.now }
+    requires path { (others : List TimedLeg) × IsPath plan.now.settings.now plan.now.flights.now
+        first.now others key.now totals × EndsAt plan.now.flights.now first.now others last ridden }
     requires so_far { so_far ≤ 200_000 }
-    ensures { Goes so_far (own settings.now first.now others.now) found.old result found.new }
+    ensures { (others : List TimedLeg) → IsPath plan.now.settings.now plan.now.flights.now
+        first.now others key.now totals → EndsAt plan.now.flights.now first.now others last ridden
+        → Goes so_far (own plan.now.settings.now first.now others) found.old result found.new }
 {
-    if last_leg(first, others).deadhead {
+    if ridden {
         return so_far;
     }
     if so_far < found.len() {
-        found[so_far] = duty_from(settings, first, others, totals);
+        found[so_far] = duty_from(plan, first, limits, key, last, totals);
     }
     so_far + 1
 }
 
-// A flight as a leg.
-#[inline(always)]
-fn timed_leg(flight: &Flight, deadhead: bool) -> TimedLeg
-    ensures { result ≡ timed deadhead flight.now }
-{
-    TimedLeg {
-        flight: *flight,
-        deadhead,
-    }
-}
-
-// Counts the duties that begin with these legs, which may begin one, and puts those in their places
-// that there is room for: they stand behind `so_far` others. The last leg is of the flight that
-// stands at `last`. The count ends at one more than may be listed.
+// Counts the duties that begin with the legs of a key and go on, and puts those in their places that
+// there is room for: they stand behind `so_far` others. The last leg is of the flight at `last`. The
+// count ends at one more than may be listed.
 #[cycle(tree)]
 fn walk(
     alloc: Global,
@@ -105,7 +102,7 @@ fn walk(
     plan: &Plan<'_>,
     first: &TimedLeg,
     limits: &Limits,
-    others: &mut Vec<TimedLeg>,
+    key: &mut Key,
     last: usize,
     totals: Totals,
     so_far: usize,
@@ -113,41 +110,33 @@ fn walk(
     requires plan { IsPlan plan.now.settings.now plan.now.flights.now plan.now.slots.now
         plan.now.next.now }
     requires limits { AreLimits plan.now.settings.now first.now limits.now }
-    requires beginning { IsBeginning plan.now.settings.now plan.now.flights.now first.now
-        others.old.items }
-    requires few { length others.old.items ≤ 7 }
-    requires hope { is_hopeless plan.now.settings.now first.now others.old.items ≡ false }
-    requires last { slice_get plan.now.flights.now last
-        ≡ Some (last_of first.now others.old.items).flight }
-    requires totals { AreTotals (first.now ∷ others.old.items) totals }
+    requires few { length key.old ≤ 7 }
+    requires path { (others : List TimedLeg) × IsPath plan.now.settings.now plan.now.flights.now
+        first.now others key.old totals × LastAt plan.now.flights.now first.now others last }
     requires so_far { so_far ≤ 200_001 }
     requires room { length found.old ≤ 200_000 }
-    ensures goes { IfOk result (λ n. Goes so_far
-        (listing (8 - length others.old.items) plan.now.settings.now plan.now.flights.now
-        first.now others.old.items) found.old n found.new) }
-    ensures kept { OnOk result (others.new.items ≡ others.old.items) }
+    ensures goes { IfOk result (λ n. (others : List TimedLeg)
+        → IsPath plan.now.settings.now plan.now.flights.now first.now others key.old totals
+        → LastAt plan.now.flights.now first.now others last
+        → Goes so_far (onward (7 - length others) plan.now.settings.now plan.now.flights.now
+        first.now others) found.old n found.new) }
+    ensures kept { OnOk result (key.new ≡ key.old) }
 {
-    if so_far > DUTIES {
-        return Ok(so_far);
-    }
-    let mut counted = put_own(found, plan.settings, first, others, totals, so_far);
-    if others.len() >= LEGS - 1 {
-        return Ok(counted);
-    }
     let next = follow_on(alloc, plan, limits, last, totals)?;
+    let mut counted = so_far;
     for place in next.as_slice() {
         let place = *place as usize;
         counted = step(
-            alloc, found, plan, first, limits, others, place, false, totals, counted,
+            alloc, found, plan, first, limits, key, place, false, totals, counted,
         )?;
         counted = step(
-            alloc, found, plan, first, limits, others, place, true, totals, counted,
+            alloc, found, plan, first, limits, key, place, true, totals, counted,
         )?;
     }
     Ok(counted)
 }
 
-// The same of the duties that begin with these legs and then the flight at a place.
+// The same of the duties that begin with the flight at a place after these legs.
 #[cycle(tree)]
 #[inline(always)]
 fn step(
@@ -156,7 +145,7 @@ fn step(
     plan: &Plan<'_>,
     first: &TimedLeg,
     limits: &Limits,
-    others: &mut Vec<TimedLeg>,
+    key: &mut Key,
     place: usize,
     deadhead: bool,
     totals: Totals,
@@ -165,34 +154,90 @@ fn step(
     requires plan { IsPlan plan.now.settings.now plan.now.flights.now plan.now.slots.now
         plan.now.next.now }
     requires limits { AreLimits plan.now.settings.now first.now limits.now }
-    requires beginning { IsBeginning plan.now.settings.now plan.now.flights.now first.now
-        others.old.items }
-    requires few { length others.old.items < 7 }
-    requires place { (g : Flight) × (slice_get plan.now.flights.now place ≡ Some g)
-        × (may_follow plan.now.settings.now (last_of first.now others.old.items).flight g ≡ true) }
-    requires totals { AreTotals (first.now ∷ others.old.items) totals }
+    requires few { length key.old ≤ 7 }
+    requires path { (others : List TimedLeg) × (g : Flight) × IsPath plan.now.settings.now
+        plan.now.flights.now first.now others key.old totals × GoesOn plan.now.settings.now
+        plan.now.flights.now first.now others place g }
     requires so_far { so_far ≤ 200_001 }
     requires room { length found.old ≤ 200_000 }
-    ensures goes { IfOk result (λ n. (g : Flight) → slice_get plan.now.flights.now place ≡ Some g
-        → Goes so_far (listing (7 - length others.old.items) plan.now.settings.now
-        plan.now.flights.now first.now (others.old.items ++ timed deadhead g ∷ [])) found.old
-        n found.new) }
-    ensures kept { OnOk result (others.new.items ≡ others.old.items) }
+    ensures goes { IfOk result (λ n. (others : List TimedLeg) (g : Flight)
+        → IsPath plan.now.settings.now plan.now.flights.now first.now others key.old totals
+        → GoesOn plan.now.settings.now plan.now.flights.now first.now others place g
+        → Goes so_far (listing (7 - length others) plan.now.settings.now plan.now.flights.now
+        first.now (others ++ timed deadhead g ∷ [])) found.old n found.new) }
+    ensures kept { OnOk result (key.new ≡ key.old) }
 {
     if deadhead && totals.deadheads >= limits.deadheads {
         return Ok(so_far);
     }
-    let leg = timed_leg(&plan.flights[place], deadhead);
-    let longer = totals.after(&leg);
-    if limits.forbid(&leg, longer) {
+    let flight = &plan.flights[place];
+    let longer = totals.after(flight, deadhead);
+    if limits.forbid(flight, longer) {
         return Ok(so_far);
     }
-    others.push(leg)?;
-    let counted = walk(
-        alloc, found, plan, first, limits, others, place, longer, so_far,
+    key.push(Leg::new(flight.id, deadhead));
+    let counted = enter(
+        alloc, found, plan, first, limits, key, place, deadhead, longer, so_far,
     )?;
-    others.pop();
+    key.pop();
     Ok(counted)
+}
+
+// The same of these legs themselves and of those that go on from them. Most go on no more: then even
+// the next flight that is there soonest arrives too late.
+#[cycle(tree)]
+#[inline(always)]
+fn enter(
+    alloc: Global,
+    found: &mut [Duty],
+    plan: &Plan<'_>,
+    first: &TimedLeg,
+    limits: &Limits,
+    key: &mut Key,
+    last: usize,
+    ridden: bool,
+    totals: Totals,
+    so_far: usize,
+) -> Result<usize, AllocError>
+    requires plan { IsPlan plan.now.settings.now plan.now.flights.now plan.now.slots.now
+        plan.now.next.now }
+    requires limits { AreLimits plan.now.settings.now first.now limits.now }
+    requires path { (others : List TimedLeg) × IsPath plan.now.settings.now plan.now.flights.now
+        first.now others key.old totals × EndsAt plan.now.flights.now first.now others last ridden }
+    requires so_far { so_far ≤ 200_001 }
+    requires room { length found.old ≤ 200_000 }
+    ensures goes { IfOk result (λ n. (others : List TimedLeg)
+        → IsPath plan.now.settings.now plan.now.flights.now first.now others key.old totals
+        → EndsAt plan.now.flights.now first.now others last ridden
+        → Goes so_far (listing (8 - length others) plan.now.settings.now plan.now.flights.now
+        first.now others) found.old n found.new) }
+    ensures kept { OnOk result (key.new ≡ key.old) }
+{
+    if so_far > DUTIES {
+        return Ok(so_far);
+    }
+    let counted = put_own(
+        found, plan, first, limits, key, last, ridden, totals, so_far,
+    );
+    if key.legs().len() >= LEGS {
+        return Ok(counted);
+    }
+    if limits.latest(totals) < plan.next[last].soonest {
+        return Ok(counted);
+    }
+    walk(
+        alloc, found, plan, first, limits, key, last, totals, counted,
+    )
+}
+
+// A flight as a leg.
+fn timed_leg(flight: &Flight, deadhead: bool) -> TimedLeg
+    ensures { result ≡ timed deadhead flight.now }
+{
+    TimedLeg {
+        flight: *flight,
+        deadhead,
+    }
 }
 
 // The same of the duties that begin with the flight at a place, flown or deadheaded.
@@ -214,23 +259,19 @@ fn walk_first(
         → Goes so_far (listing 8 plan.now.settings.now plan.now.flights.now
         (timed deadhead flight) []) found.old n found.new) }
 {
-    let first = timed_leg(&plan.flights[place], deadhead);
-    let limits = Limits::of(plan.settings, &first);
-    let totals = Totals::of(&first);
-    if limits.forbid(&first, totals) {
+    if deadhead && plan.settings.deadheads == 0 {
         return Ok(so_far);
     }
-    let mut others = Vec::with_capacity(alloc, LEGS)?;
-    walk(
-        alloc,
-        found,
-        plan,
-        &first,
-        &limits,
-        &mut others,
-        place,
-        totals,
-        so_far,
+    let flight = &plan.flights[place];
+    let first = timed_leg(flight, deadhead);
+    let limits = Limits::of(plan.settings, &first);
+    let totals = Totals::of(flight, deadhead);
+    if limits.forbid(flight, totals) {
+        return Ok(so_far);
+    }
+    let mut key = Key::of(first.leg());
+    enter(
+        alloc, found, plan, &first, &limits, &mut key, place, deadhead, totals, so_far,
     )
 }
 

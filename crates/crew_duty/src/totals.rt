@@ -2,9 +2,11 @@
 
 ghost use Rattle.std.specs.Prelude.{◌++◌, ◌∷◌, [], List};
 ghost use Rattle.crew_flights.specs.Timetable.{IsFlight};
+ghost use Rattle.crew_pairing.specs.Machinery.Listing.{timed};
+ghost use Rattle.crew_pairing.specs.declared.leg.TimedLeg.{TimedLeg};
 ghost use Rattle.crew_duty.specs.Machinery.Running.{AreTotals, StayBounded};
 
-use crew_pairing::TimedLeg;
+use crew_flights::Flight;
 
 /// What the legs so far come to, kept along a path so that no leg is looked at twice.
 #[derive(Clone, Copy, Debug)]
@@ -21,9 +23,10 @@ pub(crate) struct Totals {
 
 impl Totals {
     /// Of a first leg alone.
-    pub(crate) fn of(leg: &TimedLeg) -> Totals
-        requires { IsFlight leg.now.flight.id leg.now.flight }
-        ensures { AreTotals (leg.now ∷ []) result }
+    #[inline(always)]
+    pub(crate) fn of(flight: &Flight, deadhead: bool) -> Totals
+        requires { IsFlight flight.now.id flight.now }
+        ensures { AreTotals (timed deadhead flight.now ∷ []) result }
     {
         let none = Totals {
             deadheads: 0,
@@ -31,28 +34,29 @@ impl Totals {
             fly: 0,
             price: 0,
         };
-        none.after(leg)
+        none.after(flight, deadhead)
     }
 
     /// With one leg more.
-    pub(crate) fn after(self, leg: &TimedLeg) -> Totals
-        requires sound { IsFlight leg.now.flight.id leg.now.flight }
+    #[inline(always)]
+    pub(crate) fn after(self, flight: &Flight, deadhead: bool) -> Totals
+        requires sound { IsFlight flight.now.id flight.now }
         requires bounded { StayBounded self }
         ensures { (legs : List TimedLeg) → AreTotals legs self
-            → AreTotals (legs ++ leg.now ∷ []) result }
+            → AreTotals (legs ++ timed deadhead flight.now ∷ []) result }
     {
-        if leg.deadhead {
+        if deadhead {
             return Totals {
                 deadheads: self.deadheads + 1,
                 ..self
             };
         }
-        let minutes = leg.flight.arr.get() - leg.flight.dep.get();
+        let minutes = flight.arr.get() - flight.dep.get();
         Totals {
             deadheads: self.deadheads,
             segments: self.segments + 1,
             fly: self.fly + minutes,
-            price: self.price + leg.flight.price,
+            price: self.price + flight.price,
         }
     }
 }

@@ -1,6 +1,6 @@
 //! Keys of duties, and walks.
 
-ghost use Rattle.std.specs.Prelude.{◌≡◌, ◌≤◌, ◌++◌, ◌∷◌, [], List, IfOk, length, take};
+ghost use Rattle.std.specs.Prelude.{◌≡◌, ◌≤◌, ◌-◌, ◌++◌, ◌∷◌, [], List, IfOk, length, take};
 ghost use Rattle.std.proofs.Common.{refl};
 ghost use Rattle.std.specs.Ordering.{as_partial_cmp, eq_by_cmp};
 ghost use Rattle.std.specs.Cmp.{eq_by_cmp_equiv, partial_equiv_from_equiv, partial_order_from_total};
@@ -52,6 +52,14 @@ impl Key {
         self.count += 1;
     }
 
+    /// Takes the last leg off; one stays.
+    pub fn pop(&mut self)
+        requires { 2 ≤ length self.old }
+        ensures { self.new ≡ take (length self.old - 1) self.old }
+    {
+        self.count -= 1;
+    }
+
     /// The legs.
     pub fn legs(&self) -> &[Leg]
         ensures { result.now ≡ self.now }
@@ -63,12 +71,11 @@ impl Key {
     pub fn copy(&self) -> Key
         ensures { result ≡ self.now }
     {
-        let legs = &self.legs[..self.count as usize];
-        let mut key = Key::of(legs[0]);
-        for leg in &legs[1..] {
-            key.push(*leg);
+        let [a, b, c, d, e, f, g, h] = &self.legs;
+        Key {
+            legs: [*a, *b, *c, *d, *e, *f, *g, *h],
+            count: self.count,
         }
-        key
     }
 }
 

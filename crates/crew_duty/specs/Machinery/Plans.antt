@@ -1,5 +1,5 @@
 -- What the search for duties works with.
-use Rattle.std.specs.Prelude.{◌≡◌, ◌≤◌, ℕ, List, length, [], ◌∷◌, None, Option, Some, drop, filter, slice_get, take, true, Vec}
+use Rattle.std.specs.Prelude.{◌≡◌, ◌≤◌, ◌≤ℤ◌, ◌<ℤ◌, ℕ, ℤ, pos, List, length, [], ◌∷◌, None, Option, Some, drop, filter, slice_get, take, true, Vec}
 use Rattle.std.specs.List.{flat_map}
 use Rattle.crew_flights.specs.declared.flight.Flight.{Flight}
 use Rattle.crew_rules.specs.Settings.{IsChecked}
@@ -9,6 +9,7 @@ use Rattle.crew_pairing.specs.Legality.{last_of, may_follow}
 use Rattle.crew_pairing.specs.Machinery.Listing.{below}
 use Rattle.crew_duty.specs.Machinery.Slots.{IsIndex}
 use Rattle.crew_duty.specs.declared.departures.Slot.{Slot}
+use Rattle.crew_duty.specs.declared.plan.Next.{Next}
 use Rattle.crew_pairing.specs.declared.duty.Duty.{Duty}
 use Rattle.crew_resource.specs.Members.{Each}
 use Rattle.crew_pairing.specs.declared.leg.TimedLeg.{TimedLeg}
@@ -27,17 +28,26 @@ abbrev pub Knows : Settings → List Flight → Flight → Option (Vec ℕ Globa
 Knows s flights f None = Unit {0}
 Knows s flights f (Some places) = StandAt flights places.items (filter (may_follow s f) flights)
 
--- what is known of each flight
-abbrev pub AreNext : Settings → List Flight → List Flight → List (Option (Vec ℕ Global)) → Type 0
+-- what may follow a flight: the places, where they are known, and a minute that none of them arrives
+-- before
+pub record IsNext (s : Settings) (flights : List Flight) (f : Flight) (next : Next) : Type 0 where
+  pub knows : Knows s flights f next.places
+  pub least : pos 0 ≤ℤ next.soonest
+  pub most : next.soonest ≤ℤ pos 100_000_000
+  pub soonest : (latest : ℤ) → pos 0 ≤ℤ latest → latest <ℤ next.soonest
+      → Each (λ g. latest <ℤ g.arr) (filter (may_follow s f) flights)
+
+-- what may follow each flight
+abbrev pub AreNext : Settings → List Flight → List Flight → List Next → Type 0
 AreNext s flights [] [] = Unit {0}
-AreNext s flights [] (known ∷ others) = ⊥
+AreNext s flights [] (next ∷ others) = ⊥
 AreNext s flights (f ∷ fs) [] = ⊥
-AreNext s flights (f ∷ fs) (known ∷ others) = Knows s flights f known × AreNext s flights fs others
+AreNext s flights (f ∷ fs) (next ∷ others) = IsNext s flights f next × AreNext s flights fs others
 
 -- what the search works with: checked settings, the flights of a timetable, their departures, and
 -- what is known of the flights that may follow each
 pub record IsPlan (s : Settings) (flights : List Flight) (slots : List Slot)
-    (next : List (Option (Vec ℕ Global))) : Type 0 where
+    (next : List Next) : Type 0 where
   pub checked : IsChecked s
   pub are_flights : AreFlights flights
   pub few : length flights ≤ 5_000

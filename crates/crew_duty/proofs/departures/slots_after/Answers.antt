@@ -4,6 +4,11 @@ use Rattle.crew_duty.specs.Machinery.Slots.{earlier, is_between, moment}
 use Rattle.crew_duty.proofs.Slots.{earlier-least, earlier-most}
 use Rattle.crew_duty.proofs.departures.slots_after.Goals as goal
 
+pub moment-requires-clause-least : goal.moment-requires-clause-least
+moment-requires-clause-least c =
+    let least = c.earlier_of-last.ensures.least (pos 0) (omega (arith, ints, c.get-arrival.ensures, c.from-2.ensures)) (omega (arith, ints, c.requires.least, c.requires.most)) in
+    omega (arith, ints, least, c.earlier_of-last.ensures.most, c.requires.most)
+
 pub returns-clause-slots : goal.returns-clause-slots
 returns-clause-slots c =
     let s = c.args.settings.now in
@@ -13,7 +18,7 @@ returns-clause-slots c =
     let early = c.moment-earliest.ensures.value ∙ ap (λ (m : ℤ). moment before.to m) {y = before.arr +ℤ pos s.connect} (omega (arith, ints, c.get-arrival.ensures.value, c.from.ensures)) in
     let sat : to_z w64 (of_z w64 (to_z w64 (of_z w64 c.get-arrival.result) +ℤ to_z w64 (of_z w64 c.from-2.result))) ≡ before.arr +ℤ pos s.sit = omega (arith, ints, c.get-arrival.ensures, c.from-2.ensures) in
     let same : to_z w64 (of_z w64 c.args.latest) ≡ c.args.latest = omega (arith, ints, c.requires.least, c.requires.most) in
-    let last : c.earlier_of-last.result ≡ earlier (before.arr +ℤ pos s.sit) c.args.latest = c.earlier_of-last.ensures ∙ (λ i. earlier (sat i) (same i)) in
+    let last : c.earlier_of-last.result ≡ earlier (before.arr +ℤ pos s.sit) c.args.latest = c.earlier_of-last.ensures.value ∙ (λ i. earlier (sat i) (same i)) in
     let stays : to_z w64 (of_z w64 c.earlier_of-last.result) ≡ c.earlier_of-last.result =
     omega (arith, ints, last, earlier-most (before.arr +ℤ pos s.sit) c.args.latest, earlier-least (before.arr +ℤ pos s.sit) c.args.latest (pos 0) (omega (arith, ints, c.get-arrival.ensures.range.from, c.get-arrival.ensures.value)) c.requires.least, c.requires.most) in
     let late = c.moment.ensures.value ∙ ap (λ (m : ℤ). moment before.to m) (stays ∙ last) in

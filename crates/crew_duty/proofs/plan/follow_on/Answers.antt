@@ -22,7 +22,7 @@ returns-in-Some c = λ first others limits here are.
     let in_next : c.args.last < length next = omega (arith, c.requires.last, AreNext-length s flights flights next c.requires.plan.are_next) in
     let d = c.index-plan-last.result in
     let known = AreNext-at s flights flights next c.args.last (last_of first others).flight (get_or next c.args.last d) c.requires.plan.are_next here (slice_get-get_or next c.args.last d in_next) in
-    let places = subst (Knows s flights (last_of first others).flight) (c.in-Some.is) known in
+    let places = subst (Knows s flights (last_of first others).flight) (c.in-Some.is) known.knows in
     rw c.deref.ensures.value (leads-all s flights first others c.in-Some.places.items places)
 
 pub returns : goal.returns

@@ -1,43 +1,58 @@
-use Rattle.std.proofs.Common.{◌≡◌, [], ◌∙◌, ap, sym, get_or, refl}
+use Rattle.std.proofs.Common.{◌≡◌, true, [], ◌∷◌, ◌∙◌, ap, sym, get_or, refl}
 use Rattle.std.proofs.lemmas.Option.{get_or_from_slice_get, slice_get-get_or}
 use Rattle.rayon.proofs.ListFacts.{IfOk-then}
+use Rattle.crew_pairing.specs.Legality.{leg_of}
 use Rattle.crew_pairing.specs.Machinery.Listing.{is_hopeless, listing, timed}
-use Rattle.crew_pairing.specs.Machinery.Beginnings.{IsBeginning}
 use Rattle.crew_duty.proofs.Filling.{goes-none}
-use Rattle.crew_pairing.proofs.Tree.{listing-closed, slice_get-Member}
+use Rattle.crew_duty.proofs.Leads.{ridden-first}
+use Rattle.crew_duty.proofs.Paths.{path-one}
+use Rattle.crew_pairing.proofs.Tree.{listing-closed}
 use Rattle.crew_duty.proofs.search.walk_first.Goals as goal
+
+pub returns-then-plan-eq0 : goal.returns-then-plan-eq0
+returns-then-plan-eq0 c = λ flight h.
+    let s = c.args.plan.now.settings.now in
+    let flights = c.args.plan.now.flights.now in
+    let none : listing 8 s flights (timed true flight) [] ≡ [] = listing-closed 8 s flights (timed true flight) [] (ridden-first s flight c.if-plan-eq0.true) in
+    rw (c.if-deadhead.true, none) (goes-none c.args.so_far c.args.found.now c.requires.so_far)
 
 pub returns-then-forbid : goal.returns-then-forbid
 returns-then-forbid c =
     let s = c.args.plan.now.settings.now in
     let flights = c.args.plan.now.flights.now in
-    let leg = c.timed_leg-first.result in
-    let tested : c.forbid.result ≡ is_hopeless s leg [] = c.forbid.ensures s leg [] c.of-limits.ensures c.of-totals.ensures refl in
+    let d = c.args.deadhead in
+    let g = get_or flights c.args.place c.index-plan-place.result in
+    let leg : c.timed_leg-first.result ≡ timed d g = c.timed_leg-first.ensures in
+    let tested : c.forbid.result ≡ is_hopeless s (timed d g) [] = c.forbid.ensures s (timed d g) [] (rw (sym leg) c.of-limits.ensures) c.of-totals.ensures refl in
     λ flight h.
-    let same : leg ≡ timed c.args.deadhead flight = c.timed_leg-first.ensures ∙ ap (timed c.args.deadhead) (get_or_from_slice_get flights c.args.place flight c.index-plan-place.result h) in
-    let none : listing 8 s flights (timed c.args.deadhead flight) [] ≡ [] = rw same at (listing-closed 8 s flights leg [] (sym tested ∙ c.if-forbid.true)) in
+    let same : g ≡ flight = get_or_from_slice_get flights c.args.place flight c.index-plan-place.result h in
+    let none : listing 8 s flights (timed d flight) [] ≡ [] = rw same at (listing-closed 8 s flights (timed d g) [] (sym tested ∙ c.if-forbid.true)) in
     rw none (goes-none c.args.so_far c.args.found.now c.requires.so_far)
 
-pub walk-requires-clause-beginning : goal.walk-requires-clause-beginning
-walk-requires-clause-beginning c =
-    let flights = c.args.plan.now.flights.now in
+pub enter-requires-clause-path : goal.enter-requires-clause-path
+enter-requires-clause-path c =
     let s = c.args.plan.now.settings.now in
-    let d = c.index-plan-place.result in
-    let flight = get_or flights c.args.place d in
-    let begins : IsBeginning s flights (timed c.args.deadhead flight) [] =
-    record { known = (slice_get-Member flights c.args.place flight (slice_get-get_or flights c.args.place d c.requires.place), tt); connected = tt } in
-    rw (c.timed_leg-first.ensures, c.in_ok-others.ensures.items) begins
-
-pub walk-requires-clause-last : goal.walk-requires-clause-last
-walk-requires-clause-last c =
-    rw (c.timed_leg-first.ensures, c.in_ok-others.ensures.items) (slice_get-get_or c.args.plan.now.flights.now c.args.place c.index-plan-place.result c.requires.place)
+    let flights = c.args.plan.now.flights.now in
+    let d = c.args.deadhead in
+    let g = get_or flights c.args.place c.index-plan-place.result in
+    let at = slice_get-get_or flights c.args.place c.index-plan-place.result c.requires.place in
+    let leg : c.timed_leg-first.result ≡ timed d g = c.timed_leg-first.ensures in
+    let tested : c.forbid.result ≡ is_hopeless s (timed d g) [] = c.forbid.ensures s (timed d g) [] (rw (sym leg) c.of-limits.ensures) c.of-totals.ensures refl in
+    let key : c.of-key.result ≡ leg_of (timed d g) ∷ [] = c.of-key.ensures ∙ ap (λ l. l ∷ []) (c.leg.ensures ∙ ap leg_of leg) in
+    rw leg ([], path-one s flights d g c.args.place c.of-key.result c.of-totals.result at (sym tested ∙ c.if-forbid.false) key c.of-totals.ensures, record { flight = at; is_ridden = refl })
 
 pub returns : goal.returns
 returns c =
     let s = c.args.plan.now.settings.now in
     let flights = c.args.plan.now.flights.now in
-    let none = c.in_ok-others.ensures.items in
-    IfOk-then c.walk.result _ _ c.walk.ensures.goes
+    let d = c.args.deadhead in
+    let g = get_or flights c.args.place c.index-plan-place.result in
+    let at = slice_get-get_or flights c.args.place c.index-plan-place.result c.requires.place in
+    let leg : c.timed_leg-first.result ≡ timed d g = c.timed_leg-first.ensures in
+    let tested : c.forbid.result ≡ is_hopeless s (timed d g) [] = c.forbid.ensures s (timed d g) [] (rw (sym leg) c.of-limits.ensures) c.of-totals.ensures refl in
+    let key : c.of-key.result ≡ leg_of (timed d g) ∷ [] = c.of-key.ensures ∙ ap (λ l. l ∷ []) (c.leg.ensures ∙ ap leg_of leg) in
+    let path = path-one s flights d g c.args.place c.of-key.result c.of-totals.result at (sym tested ∙ c.if-forbid.false) key c.of-totals.ensures in
+    IfOk-then c.enter.result _ _ c.enter.ensures.goes
     (λ n e flight h.
-    let same = c.timed_leg-first.ensures ∙ ap (timed c.args.deadhead) (get_or_from_slice_get flights c.args.place flight c.index-plan-place.result h) in
-    rw (same, none) at e)
+    let same : g ≡ flight = get_or_from_slice_get flights c.args.place flight c.index-plan-place.result h in
+    rw same at (rw leg at e [] path (record { flight = at; is_ridden = refl })))
