@@ -1,8 +1,23 @@
 -- The events that duties leave and arrive at, and bounds under which every sum over a pairing fits.
-use Rattle.std.specs.Prelude.{◌≡◌, pos, negsuc, ◌-ℤ◌, ◌≤ℤ◌}
+use Rattle.std.specs.Prelude.{◌≡◌, Bool, ◌&&◌, int_le, pos, negsuc, ◌-ℤ◌, ◌≤ℤ◌}
+use Rattle.std.specs.Ordering.{eq_by_cmp}
+use Rattle.crew_flights.specs.Codes.{code_cmp}
 use Rattle.crew_pairing.specs.declared.duty.Duty.{Duty}
 use Rattle.crew_pairing.specs.declared.events.Arrival.{Arrival}
 use Rattle.crew_pairing.specs.declared.events.Departure.{Departure}
+use Rattle.crew_rules.specs.declared.settings.Settings.{Settings}
+
+abbrev pub departure_of : Duty → Departure
+departure_of d = record { airport = d.from; report = d.report }
+
+abbrev pub arrival_of : Duty → Arrival
+arrival_of d = record { airport = d.to; release = d.release }
+
+-- a duty that leaves at the departure may stand after one that ends at the arrival (117.25(e))
+abbrev pub may_wait : Settings → Arrival → Departure → Bool
+may_wait s x g =
+    eq_by_cmp code_cmp x.airport g.airport
+    && (int_le (pos 600) (g.report -ℤ x.release) && int_le (g.report -ℤ x.release) (pos s.max_rest))
 
 -- a duty's numbers lie in the ranges of a legal one
 pub record IsSound (d : Duty) : Type 0 where

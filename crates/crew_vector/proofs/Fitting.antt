@@ -9,7 +9,7 @@ use Rattle.std.proofs.lemmas.Int.{ints}
 use Rattle.std.proofs.lemmas.List.Folds.{list_all-map}
 use Rattle.std.proofs.lemmas.Option.{cond_some}
 use Rattle.crew_pairing.specs.Legality.{total}
-use Rattle.crew_pairing.specs.Events.{IsSound, MayFollow}
+use Rattle.crew_pairing.specs.Events.{IsSound, MayFollow, arrival_of, departure_of}
 use Rattle.crew_pairing.specs.declared.duty.Duty.{Duty}
 use Rattle.crew_resource.specs.Machinery.Sum.{is_within, sum_of, beginnings, NeverFalls}
 use Rattle.crew_resource.specs.Machinery.Count.{count_grade}
@@ -18,7 +18,7 @@ use Rattle.crew_resource.proofs.Caps.{whole_test}
 use Rattle.crew_rules.specs.Settings.{IsChecked}
 use Rattle.crew_rules.specs.declared.settings.Settings.{Settings}
 use Rattle.crew_vector.specs.Machinery.Along.{GoesOn, IsLine}
-use Rattle.crew_vector.specs.Machinery.Amounts.{arrival_of, departure_of, fdp_first, fdp_next, fly_first, fly_next, away_first, away_next}
+use Rattle.crew_vector.specs.Machinery.Amounts.{fdp_first, fdp_next, fly_first, fly_next, away_first, away_next}
 use Rattle.crew_pairing.specs.Vectors.{reduced_cost, prices, cost_of, vector_of}
 use Rattle.crew_pairing.specs.Pairings.{is_within_caps, minutes_away}
 use Rattle.crew_vector.specs.Values.{stays_within_caps, value_of}

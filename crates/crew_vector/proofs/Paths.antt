@@ -8,7 +8,7 @@ use Rattle.crew_pairing.proofs.Complete.{all-every, all-sound}
 use Rattle.crew_pairing.proofs.Timetables.{flights-of-timetable}
 use Rattle.crew_pairing.specs.Duties.{flights_of}
 use Rattle.crew_pairing.specs.Events as Events
-use Rattle.crew_pairing.specs.Events.{MayFollow}
+use Rattle.crew_pairing.specs.Events.{MayFollow, arrival_of, departure_of}
 use Rattle.crew_pairing.specs.Machinery.Listing.{all_duties}
 use Rattle.crew_resource.specs.Members.{Each, Member}
 use Rattle.crew_pairing.specs.Pairings.{AllRested, IsDuty, IsPartial, last_duty, may_stand_after}
@@ -22,7 +22,6 @@ use Rattle.crew_resource.proofs.Members.{Member-append, Member-append_left}
 use Rattle.crew_rules.specs.Settings.{IsChecked}
 use Rattle.crew_rules.specs.declared.settings.Settings.{Settings}
 use Rattle.crew_vector.specs.Machinery.Along.{GoesOn, IsLine}
-use Rattle.crew_vector.specs.Machinery.Amounts.{arrival_of, departure_of}
 use Rattle.crew_vector.specs.Dominance.{is_at_most}
 use Rattle.crew_vector.specs.Fronts.{At, Clean, IsFrontAt, IsUndominated, walk_of}
 use Rattle.crew_pairing.specs.Vectors.{vector_of}

@@ -9,6 +9,7 @@ use Rattle.std.proofs.lemmas.Bool.{and_parts}
 use Rattle.std.proofs.lemmas.Cmp.{tied_itself}
 use Rattle.std.proofs.lemmas.Int.{ints}
 use Rattle.std.proofs.lemmas.Option.{cond_some}
+use Rattle.crew_pairing.specs.Events.{departure_of}
 use Rattle.crew_pairing.specs.Keys.{key_cmp, key_total, walk_cmp, walk_at_most}
 use Rattle.crew_pairing.specs.declared.duty.Duty.{Duty}
 use Rattle.crew_pairing.specs.declared.events.Arrival.{Arrival}
@@ -21,7 +22,7 @@ use Rattle.crew_resource.proofs.Covering.{local_of_all}
 use Rattle.crew_resource.proofs.ListOrder.{at_most_order}
 use Rattle.crew_resource.proofs.Pools.{view_in, view_out}
 use Rattle.crew_rules.specs.declared.settings.Settings.{Settings}
-use Rattle.crew_vector.specs.Machinery.Amounts.{departure_of, guarantee_own, pay_own, rig_own}
+use Rattle.crew_vector.specs.Machinery.Amounts.{guarantee_own, pay_own, rig_own}
 use Rattle.crew_vector.specs.Dominance.{is_at_most}
 use Rattle.crew_vector.specs.Events.{ArrivedBefore, ArrivedToSpare, board_vector, network_of}
 use Rattle.crew_vector.specs.Locals.{is_vector_within_caps}

@@ -5,6 +5,7 @@ use Rattle.std.specs.List.{filter}
 use Rattle.std.specs.Option.{option_and_then}
 use Rattle.std.specs.Ordering.{eq_by_cmp}
 use Rattle.std.proofs.lemmas.Int.{ints}
+use Rattle.crew_pairing.specs.Events.{arrival_of, departure_of, may_wait}
 use Rattle.crew_pairing.specs.Duties.{AreDuties, flights_of}
 use Rattle.crew_pairing.specs.Keys.{key_cmp, key_total, walk_at_most}
 use Rattle.crew_pairing.specs.Pairings.{IsDuty, may_stand_after}
@@ -24,9 +25,8 @@ use Rattle.crew_resource.proofs.Step.{Covers, Step, step_covers, step_front}
 use Rattle.crew_resource.proofs.Sweep.{at_fits}
 use Rattle.crew_rules.specs.Settings.{IsChecked}
 use Rattle.crew_rules.specs.declared.settings.Settings.{Settings}
-use Rattle.crew_vector.specs.Machinery.Amounts.{arrival_of, departure_of}
 use Rattle.crew_vector.specs.Dominance.{is_at_most}
-use Rattle.crew_vector.specs.Events.{ArrivedToSpare, board_vector, idle_vector, may_wait, network_of, wait_vector}
+use Rattle.crew_vector.specs.Events.{ArrivedToSpare, board_vector, idle_vector, network_of, wait_vector}
 use Rattle.crew_vector.specs.Fronts.{IsFrontAt, vector_cmp}
 use Rattle.crew_vector.specs.Machinery.Named.{named_order}
 use Rattle.crew_vector.specs.Machinery.VectorResources.{vector_resource}

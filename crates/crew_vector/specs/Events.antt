@@ -1,7 +1,7 @@
 -- The time-space network of a base: labels wait from the events at which duties arrive to those at
 -- which duties leave, and board duties there. Networks of duties along time are described in
 -- Barnhart et al. 2003, "Airline crew scheduling".
-use Rattle.std.specs.Prelude.{◌≡◌, ℕ, Bool, ◌&&◌, cond, int_le, ℤ, pos, ◌+ℤ◌, ◌-ℤ◌, ◌<ℤ◌, neg_ℤ, List, [], ◌∷◌, ◌++◌, Option, Some, None}
+use Rattle.std.specs.Prelude.{◌≡◌, ℕ, cond, ℤ, pos, ◌+ℤ◌, ◌-ℤ◌, ◌<ℤ◌, neg_ℤ, List, [], ◌∷◌, ◌++◌, Option, Some, None}
 use Rattle.std.specs.Option.{option_map}
 use Rattle.std.specs.Ordering.{eq_by_cmp}
 use Rattle.crew_pairing.specs.declared.duty.Duty.{Duty}
@@ -12,7 +12,8 @@ use Rattle.crew_flights.specs.Codes.{code_cmp}
 use Rattle.crew_resource.specs.Events.{Network}
 use Rattle.crew_resource.specs.Members.{Member}
 use Rattle.crew_rules.specs.declared.settings.Settings.{Settings}
-use Rattle.crew_vector.specs.Machinery.Amounts.{arrival_of, departure_of, rig_wait}
+use Rattle.crew_pairing.specs.Events.{arrival_of, departure_of, may_wait}
+use Rattle.crew_vector.specs.Machinery.Amounts.{rig_wait}
 use Rattle.crew_vector.specs.Machinery.Numbers.{named, numbers_of}
 use Rattle.crew_vector.specs.Machinery.VectorResources.{vector_resource}
 use Rattle.crew_vector.specs.Machinery.Sides.{aboard}
@@ -46,12 +47,6 @@ wait_vector s v x g = record {
 -- each part grows by the duty's own amount, and none where a cap is passed
 abbrev pub board_vector : Settings → PairingVector → Duty → Option PairingVector
 board_vector s v d = option_map named (aboard (vector_resource s (pos 0)) (numbers_of v) d)
-
--- a duty that leaves at the departure may stand after one that ends at the arrival
-abbrev pub may_wait : Settings → Arrival → Departure → Bool
-may_wait s x g =
-    eq_by_cmp code_cmp x.airport g.airport
-    && (int_le (pos 600) (g.report -ℤ x.release) && int_le (g.report -ℤ x.release) (pos s.max_rest))
 
 abbrev pub network_of : Settings → List ℕ → ℤ → List Duty
     → Network Duty PairingVector (List (List Leg)) Departure Arrival

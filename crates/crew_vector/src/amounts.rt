@@ -1,6 +1,6 @@
 //! What each duty adds to a part, and what a rest before it adds.
 ghost use Rattle.std.specs.Prelude.{◌≡◌, ◌+◌, ◌*◌, ◌≤ℤ◌, ◌+ℤ◌, ◌-ℤ◌, ◌*ℤ◌, neg_ℤ, ℤ, pos, negsuc, Some, None, unsigned_abs, refl};
-ghost use Rattle.crew_pairing.specs.Events.{IsSound};
+ghost use Rattle.crew_pairing.specs.Events.{IsSound, arrival_of, departure_of};
 ghost use Rattle.crew_vector.specs.Machinery.Amounts as Spec;
 
 use crew_pairing::{Arrival, Departure, Duty};
@@ -56,8 +56,7 @@ fn elapsed_less_price(rate: u32, duty: &Duty) -> i64
 #[inline]
 fn rest(rate: u32, last: &Duty, duty: &Duty) -> i64
     requires { Spec.CanFollow last.now duty.now }
-    ensures value { result ≡ Spec.rig_wait rate (Spec.arrival_of last.now)
-        (Spec.departure_of duty.now) }
+    ensures value { result ≡ Spec.rig_wait rate (arrival_of last.now) (departure_of duty.now) }
     ensures least { pos 0 ≤ℤ result }
     ensures most { result ≤ℤ pos 42_949_672_960_000 }
 {

@@ -1,7 +1,7 @@
 //! Laws over the definitions alone.
 ghost use Rattle.std.specs.Prelude.{◌≡◌, ◌≤ℤ◌, ℕ, ℤ, pos, ◌+ℤ◌, ◌-ℤ◌, ◌*ℤ◌, cond, true, List, [], ◌∷◌, Option, Some, None, length};
 ghost use Rattle.crew_pairing.specs.Duties.{AreDuties, flights_of};
-ghost use Rattle.crew_pairing.specs.Events.{IsSound};
+ghost use Rattle.crew_pairing.specs.Events.{IsSound, departure_of, may_wait};
 ghost use Rattle.crew_resource.specs.Members.{Member};
 ghost use Rattle.crew_pairing.specs.Pairings.{IsDuty, is_within_caps};
 ghost use Rattle.crew_pairing.specs.declared.duty.Duty.{Duty};
@@ -15,11 +15,10 @@ ghost use Rattle.crew_resource.specs.Labels as Labels;
 ghost use Rattle.crew_rules.specs.Settings.{IsChecked};
 ghost use Rattle.crew_rules.specs.declared.settings.Settings.{Settings};
 ghost use Rattle.crew_vector.specs.Machinery.Along.{IsLine};
-ghost use Rattle.crew_vector.specs.Machinery.Amounts.{departure_of};
 ghost use Rattle.crew_vector.specs.Bests.{AreFronts, IsBest, IsCleanPairing, IsHomeEntry, IsPairing, NoDearer, PricedPairing};
 ghost use Rattle.crew_vector.specs.Dominance.{is_at_most};
 ghost use Rattle.crew_pairing.specs.Vectors.{reduced_cost, cost_of, vector_of};
-ghost use Rattle.crew_vector.specs.Events.{ArrivedBefore, ArrivedToSpare, board_vector, idle_vector, may_wait, network_of, wait_vector};
+ghost use Rattle.crew_vector.specs.Events.{ArrivedBefore, ArrivedToSpare, board_vector, idle_vector, network_of, wait_vector};
 ghost use Rattle.crew_vector.specs.Fronts.{Clean, IsFrontAt, IsUndominated, RiseByVector};
 ghost use Rattle.crew_pairing.specs.Keys.{walk_at_most};
 ghost use Rattle.crew_vector.specs.Locals.{AreFrontsBefore, Candidate, Feed, IsLocalAt, grown, is_vector_within_caps};

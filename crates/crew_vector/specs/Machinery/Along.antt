@@ -1,9 +1,8 @@
 -- Lists that a value may be carried along.
 use Rattle.std.specs.Prelude.{◌≡◌, ℕ, suc, List, [], ◌∷◌, Option, Some}
 use Rattle.std.specs.Option.{option_and_then}
-use Rattle.crew_pairing.specs.Events.{IsSound, MayFollow}
+use Rattle.crew_pairing.specs.Events.{IsSound, MayFollow, arrival_of, departure_of}
 use Rattle.crew_pairing.specs.declared.duty.Duty.{Duty}
-use Rattle.crew_vector.specs.Machinery.Amounts.{arrival_of, departure_of}
 
 -- each later item is sound and may follow the one before
 abbrev pub GoesOn : {I X G : Type 0} → (I → Type 0) → (X → G → Type 0) → (I → X) → (I → G) → I

@@ -4,19 +4,13 @@ use Rattle.std.specs.Prelude.{ℕ, ◌+◌, ◌*◌, ◌≤◌, ℤ, pos, negsuc
 use Rattle.std.proofs.Common.{arith}
 use Rattle.std.proofs.Math.Nat.{mul-le-mul_left}
 use Rattle.std.proofs.lemmas.Int.{ints}
-use Rattle.crew_pairing.specs.Events.{IsSound, MayFollow}
+use Rattle.crew_pairing.specs.Events.{IsSound, MayFollow, arrival_of, departure_of}
 use Rattle.crew_pairing.specs.declared.duty.Duty.{Duty}
 use Rattle.crew_pairing.specs.declared.events.Arrival.{Arrival}
 use Rattle.crew_pairing.specs.declared.events.Departure.{Departure}
 use Rattle.crew_resource.specs.Stages.{AmountLaws}
 use Rattle.crew_resource.specs.Machinery.Sum.{LiesWithin}
 use Rattle.crew_resource.specs.Machinery.SumStages.{still}
-
-abbrev pub arrival_of : Duty → Arrival
-arrival_of d = record { airport = d.to; release = d.release }
-
-abbrev pub departure_of : Duty → Departure
-departure_of d = record { airport = d.from; report = d.report }
 
 -- a duty is sound and may stand after another
 abbrev pub CanFollow : Duty → Duty → Type 0

@@ -1,12 +1,12 @@
 -- Duties that others stand for: their boardings can be left out of the arrivals.
 use Rattle.std.specs.Prelude.{◌≡◌, true, ℤ, ◌-ℤ◌, ◌<ℤ◌, ◌≤ℤ◌, List}
 use Rattle.std.specs.Ordering.{is_le}
+use Rattle.crew_pairing.specs.Events.{arrival_of, departure_of}
 use Rattle.crew_pairing.specs.Keys.{key_cmp, walk_at_most}
 use Rattle.crew_pairing.specs.declared.duty.Duty.{Duty}
 use Rattle.crew_pairing.specs.declared.events.Arrival.{Arrival}
 use Rattle.crew_pairing.specs.Legs.{Leg}
 use Rattle.crew_resource.specs.Members.{Member}
-use Rattle.crew_vector.specs.Machinery.Amounts.{arrival_of, departure_of}
 use Rattle.crew_vector.specs.Dominance.{is_at_most}
 use Rattle.crew_pairing.specs.declared.vector.PairingVector.{PairingVector}
 

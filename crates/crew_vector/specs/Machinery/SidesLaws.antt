@@ -2,6 +2,7 @@
 use Rattle.std.specs.Prelude.{Bool, ◌&&◌, int_le, pos, ◌-ℤ◌, neg_ℤ, Some, None, refl}
 use Rattle.std.specs.Ordering.{int_cmp, ordering_then}
 use Rattle.std.specs.declared.cmp.Ordering.{Ordering}
+use Rattle.crew_pairing.specs.Events.{arrival_of, departure_of}
 use Rattle.crew_pairing.specs.declared.duty.Duty.{Duty}
 use Rattle.crew_pairing.specs.declared.events.Arrival.{Arrival}
 use Rattle.crew_pairing.specs.declared.events.Departure.{Departure}
@@ -12,7 +13,7 @@ use Rattle.crew_resource.specs.Resource.{OrderLaws, StepLaws}
 use Rattle.crew_resource.specs.Stages.{ShiftLaws, StagedLaws}
 use Rattle.crew_resource.specs.Machinery.SumLaws.{sum_order, sum_steps}
 use Rattle.crew_resource.specs.Machinery.SumStages.{sum_shifts, sum_staged}
-use Rattle.crew_vector.specs.Machinery.Amounts.{arrival_of, away_first, away_next, departure_of, fdp_first, fdp_next, fly_first, fly_next, guarantee_first, guarantee_next, guarantee_own, pay_first, pay_next, pay_own, rig_first, rig_next, rig_own, rig_wait}
+use Rattle.crew_vector.specs.Machinery.Amounts.{away_first, away_next, fdp_first, fdp_next, fly_first, fly_next, guarantee_first, guarantee_next, guarantee_own, pay_first, pay_next, pay_own, rig_first, rig_next, rig_own, rig_wait}
 use Rattle.crew_vector.specs.Machinery.Numbers.{Numbers}
 use Rattle.crew_vector.specs.Machinery.Sides.{aboard, idle, opened, stepped, summed, waited}
 use Rattle.crew_vector.specs.declared.resource.VectorResource.{VectorResource}

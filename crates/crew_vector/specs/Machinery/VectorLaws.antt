@@ -4,7 +4,7 @@ use Rattle.std.specs.Int.{w64}
 use Rattle.std.specs.Option.{option_map}
 use Rattle.std.proofs.Common.{sym, subst, arith}
 use Rattle.std.proofs.lemmas.Int.{ints}
-use Rattle.crew_pairing.specs.Events.{IsSound, MayFollow}
+use Rattle.crew_pairing.specs.Events.{IsSound, MayFollow, arrival_of, departure_of}
 use Rattle.crew_pairing.specs.declared.duty.Duty.{Duty}
 use Rattle.crew_pairing.specs.declared.events.Arrival.{Arrival}
 use Rattle.crew_pairing.specs.declared.events.Departure.{Departure}
@@ -16,7 +16,7 @@ use Rattle.crew_resource.specs.Resource.{GradesOrder, StepLaws}
 use Rattle.crew_resource.specs.Stages.{BoundLaws, CountingLaws, ShiftLaws, StagedLaws, boarded}
 use Rattle.crew_resource.specs.Machinery.SumLaws.{no_grades}
 use Rattle.crew_resource.specs.Machinery.SumStages.{capped_is, sum_arrived, sum_bounds, sum_ready}
-use Rattle.crew_vector.specs.Machinery.Amounts.{CanFollow, arrival_of, away_first, away_laws, away_next, departure_of, fdp_first, fdp_laws, fdp_next, fly_first, fly_laws, fly_next, guarantee_first, guarantee_laws, guarantee_next, guarantee_own, pay_first, pay_laws, pay_next, pay_own, rig_first, rig_laws, rig_next, rig_own, rig_wait}
+use Rattle.crew_vector.specs.Machinery.Amounts.{CanFollow, away_first, away_laws, away_next, fdp_first, fdp_laws, fdp_next, fly_first, fly_laws, fly_next, guarantee_first, guarantee_laws, guarantee_next, guarantee_own, pay_first, pay_laws, pay_next, pay_own, rig_first, rig_laws, rig_next, rig_own, rig_wait}
 use Rattle.crew_vector.specs.Dominance.{is_at_most}
 use Rattle.crew_vector.specs.Fronts.{vector_cmp}
 use Rattle.crew_vector.specs.Machinery.Named.{named_bounds, named_shifts, named_staged, named_steps, unnamed}
