@@ -1,4 +1,2 @@
 pub mod Faults
-pub mod Options
 pub mod Program
-pub mod Words

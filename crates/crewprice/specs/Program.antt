@@ -15,7 +15,7 @@ use Rattle.crew_session.specs.declared.fault.SessionFault.{SessionFault}
 use Rattle.crewprice.specs.Faults.{AppendsBeginning, fault_of, line_of, status_of}
 use Rattle.crewprice.specs.declared.fault.Fault.{Fault}
 use Rattle.crewprice.specs.declared.fault.Fault.TheVariants.{Write, Usage, Memory, Setting}
-use Rattle.crewprice.specs.Words.{faults_in, settings_of}
+use Rattle.crew_words.specs.Words.{faults_in, settings_of}
 
 -- what a run comes to
 abbrev pub Outcome : Type 0

@@ -9,10 +9,8 @@ ghost use Rattle.std.specs.Prelude.{◌≡◌, ◌≢◌};
 ghost use Rattle.std.specs.IoError.{error_kind};
 
 mod fault;
-mod options;
 mod program;
 mod streams;
-mod words;
 
 use fault::Fault;
 use program::command;

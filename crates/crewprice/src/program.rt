@@ -6,10 +6,10 @@ ghost use Rattle.crew_rules.specs.Settings.{check_of};
 ghost use Rattle.crewprice.specs.Program.{Answers, Comes, Outcome, Plays, Tells, status_after};
 
 use crate::fault::Fault;
-use crate::words::read_words;
 use clap::error::ErrorKind;
 use crew_rules::Settings;
 use crew_session::{Plain, run};
+use crew_words::read_words;
 use std::alloc::Global;
 use std::convert::AsStr;
 use std::io;

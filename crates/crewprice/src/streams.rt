@@ -45,6 +45,9 @@ impl<W: Write + Drop> Held<W> {
 
 impl<W: Write + Drop> Outlet<W> {
     /// An outlet over a writer. `OutOfMemory` where there is no memory for a block.
+    ///
+    /// No clause: what a `RefCell` holds is hidden from contracts, so none can tell what the ends of
+    /// an outlet write. The tests of the program drive them, over memory and over pipes.
     pub fn new(alloc: Global, writer: W) -> io::Result<Outlet<W>> {
         let writer = BufWriter::new(alloc, writer)?;
         Ok(Outlet {
@@ -55,12 +58,12 @@ impl<W: Write + Drop> Outlet<W> {
         })
     }
 
-    /// The end that is written to.
+    /// The end that is written to. No clause, for the same reason.
     pub fn writer(&self) -> OutletWriter<'_, W> {
         OutletWriter { outlet: self }
     }
 
-    /// The reader, which now sends what is held back before it reads.
+    /// The reader, which now sends what is held back before it reads. No clause, for the same reason.
     pub fn before<R: Read>(&self, reader: R) -> SendingReader<'_, R, W> {
         SendingReader {
             reader,

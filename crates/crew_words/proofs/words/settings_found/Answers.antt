@@ -5,8 +5,8 @@ use Rattle.clap.specs.Words.{Row, Text, subcommand_rows}
 use Rattle.clap.specs.declared.parser.matches.ArgMatches.TheViews.{out-ArgMatches}
 use Rattle.clap.specs.declared.parser.matches.SubCommand.{SubCommand}
 use Rattle.crew_rules.specs.Settings.{standard}
-use Rattle.crewprice.specs.Options.{settings_in}
-use Rattle.crewprice.proofs.words.settings_found.Goals as goal
+use Rattle.crew_words.specs.Options.{settings_in}
+use Rattle.crew_words.proofs.words.settings_found.Goals as goal
 
 none : {Z : Type 0} (o : Option (Box SubCommand Z)) → false ≡ is_some o → option_map_or (λ (p : Text × List Row). p.1) (subcommand_rows o) [] ≡ []
 none None e = refl

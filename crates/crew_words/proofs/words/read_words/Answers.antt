@@ -7,9 +7,9 @@ use Rattle.clap.specs.Words.{App, FailsBy, Row, Text, is_simple, subcommand_of}
 use Rattle.clap.specs.declared.error.Error.{Error}
 use Rattle.clap.proofs.OnLiterals.{clap_on_literals}
 use Rattle.crew_rules.specs.declared.settings.Settings.{Settings}
-use Rattle.crewprice.specs.Options.{settings_in}
-use Rattle.crewprice.specs.Words.{faults_in, option_rule, options_in, program, run_up_to}
-use Rattle.crewprice.proofs.words.read_words.Goals as goal
+use Rattle.crew_words.specs.Options.{settings_in}
+use Rattle.crew_words.specs.Words.{faults_in, option_rule, options_in, program, run_up_to}
+use Rattle.crew_words.proofs.words.read_words.Goals as goal
 
 simple : is_simple program ≡ true
 unfolding program run_up_to option_rule clap_on_literals

@@ -1,9 +1,9 @@
 use Rattle.std.proofs.Common.{◌∙◌, ap}
 use Rattle.clap.proofs.WalkLemmas.{one_text-rows}
 use Rattle.clap.specs.Words.{found_of}
-use Rattle.crewprice.specs.Options.{number_in}
-use Rattle.crewprice.proofs.OptionFacts.{number-read}
-use Rattle.crewprice.proofs.options.number_of.Goals as goal
+use Rattle.crew_words.specs.Options.{number_in}
+use Rattle.crew_words.proofs.OptionFacts.{number-read}
+use Rattle.crew_words.proofs.options.number_of.Goals as goal
 
 pub returns : goal.returns
 returns c = c.unwrap_or.ensures ∙ (number-read _ c.args.default c.get_one.result c.get_one.ensures.none c.get_one.ensures.value

@@ -1,6 +1,6 @@
 use Rattle.std.proofs.Common.{refl}
-use Rattle.crewprice.specs.Options.{settings_in}
-use Rattle.crewprice.proofs.options.settings_from.Goals as goal
+use Rattle.crew_words.specs.Options.{settings_in}
+use Rattle.crew_words.proofs.options.settings_from.Goals as goal
 
 pub returns : goal.returns
 unfolding settings_in

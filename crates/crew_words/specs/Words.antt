@@ -8,7 +8,7 @@ use Rattle.clap.specs.Simple.{new_shape}
 use Rattle.clap.specs.declared.builder.action.ArgAction.TheVariants.{Set}
 use Rattle.clap.specs.declared.builder.value_parser.ValueParser.TheVariants as parser
 use Rattle.crew_rules.specs.declared.settings.Settings.{Settings}
-use Rattle.crewprice.specs.Options.{settings_in}
+use Rattle.crew_words.specs.Options.{settings_in}
 
 -- the options, in the order of the numbers of their settings
 abbrev pub names : List Text

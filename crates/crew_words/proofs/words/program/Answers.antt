@@ -1,8 +1,8 @@
 use Rattle.std.proofs.Common.{◌≡◌, ◌∙◌, [], ap, ap₂, codes, true}
 use Rattle.clap.specs.Words.{App, app_of, with_subcommand}
 use Rattle.clap.specs.Simple.{new_shape}
-use Rattle.crewprice.specs.Words.{program}
-use Rattle.crewprice.proofs.words.program.Goals as goal
+use Rattle.crew_words.specs.Words.{program}
+use Rattle.crew_words.proofs.words.program.Goals as goal
 
 pub returns-clause-shape : goal.returns-clause-shape
 unfolding program

@@ -1,5 +1,5 @@
-use Rattle.crewprice.specs.Words.{run_up_to}
-use Rattle.crewprice.proofs.words.run_command.Goals as goal
+use Rattle.crew_words.specs.Words.{run_up_to}
+use Rattle.crew_words.proofs.words.run_command.Goals as goal
 
 pub with_options-requires-clause-bare : goal.with_options-requires-clause-bare
 unfolding run_up_to

@@ -2,7 +2,7 @@
 
 ghost use Rattle.std.specs.Prelude.{◌≡◌, ◌+◌, IfOk, vec_len};
 ghost use Rattle.clap.specs.Words.{found_of, one_of, rows_of};
-ghost use Rattle.crewprice.specs.Options.{number_in, settings_in};
+ghost use Rattle.crew_words.specs.Options.{number_in, settings_in};
 
 use clap::ArgMatches;
 use crew_rules::Settings;

@@ -7,7 +7,7 @@ use Rattle.std.specs.Str.Parse.{AllDigits, ExplainsUnsignedError, HasUnsignedDig
 use Rattle.std.specs.declared.num.ParseIntError.{ParseIntError}
 use Rattle.std.specs.Prelude.{Result}
 use Rattle.clap.specs.Words.{ReadsOne}
-use Rattle.crewprice.specs.Options.{is_number, is_numeral, number_in}
+use Rattle.crew_words.specs.Options.{is_number, is_numeral, number_in}
 
 and-parts : (a b : Bool) → (a && b) ≡ true → (a ≡ true) × (b ≡ true)
 and-parts true b h = (refl, h)

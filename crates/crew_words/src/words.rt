@@ -4,8 +4,8 @@ ghost use Rattle.std.specs.Prelude.{◌≡◌, [], false, map, IfErr, IfOk, leng
 ghost use Rattle.std.specs.Option.{option_map_or};
 ghost use Rattle.clap.specs.Words.{FailsBy, app_of, kind_of, rule_of, subcommand_rows_of};
 ghost use Rattle.clap.specs.declared.builder.command.Command.TheViews.{out-Command as fields_of};
-ghost use Rattle.crewprice.specs.Options.{settings_in};
-ghost use Rattle.crewprice.specs.Words as Spec;
+ghost use Rattle.crew_words.specs.Options.{settings_in};
+ghost use Rattle.crew_words.specs.Words as Spec;
 
 use crate::options::{OPTIONS, SettingOption, help_texts, settings_from};
 use clap::error::ErrorKind;
@@ -14,8 +14,8 @@ use crew_rules::Settings;
 use std::alloc::Global;
 use std::convert::AsStr;
 
-/// The version of the program.
-pub static VERSION: &str = "1.0.0";
+// The version of the program.
+static VERSION: &str = "1.0.0";
 
 // What holds of each duty whatever the settings are, what pay is counted in, and how a run ends.
 static RULES: &str =

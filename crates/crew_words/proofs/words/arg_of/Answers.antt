@@ -3,8 +3,8 @@ use Rattle.std.specs.Prelude.{Some, pos}
 use Rattle.clap.specs.Words.{Rule, rule_of, new_rule}
 use Rattle.clap.specs.declared.builder.action.ArgAction.TheVariants.{Set}
 use Rattle.clap.specs.declared.builder.value_parser.ValueParser.TheVariants as vp
-use Rattle.crewprice.specs.Words.{option_rule}
-use Rattle.crewprice.proofs.words.arg_of.Goals as goal
+use Rattle.crew_words.specs.Words.{option_rule}
+use Rattle.crew_words.proofs.words.arg_of.Goals as goal
 
 pub returns-clause-rule : goal.returns-clause-rule
 unfolding option_rule

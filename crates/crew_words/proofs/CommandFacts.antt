@@ -6,8 +6,8 @@ use Rattle.clap.specs.Words.{AddsArg, App, app_of, rule_of, with_rule}
 use Rattle.clap.specs.declared.builder.arg.Arg.{Arg}
 use Rattle.clap.specs.declared.builder.command.Command.{Command}
 use Rattle.clap.specs.declared.builder.command.Command.TheViews.{out-Command}
-use Rattle.crewprice.specs.Words.{names, option_rule, run_up_to, run_with}
-use Rattle.crewprice.specs.declared.options.SettingOption.{SettingOption}
+use Rattle.crew_words.specs.Words.{names, option_rule, run_up_to, run_with}
+use Rattle.crew_words.specs.declared.options.SettingOption.{SettingOption}
 
 -- with the next option of the table, `run` has one more
 more : (table : List SettingOption) (i : ℕ) (d : SettingOption) (a : App) → map (λ o. o.name.now) table ≡ names → i < length table

@@ -1,8 +1,8 @@
 use Rattle.std.proofs.Common.{◌≡◌, false}
 use Rattle.clap.specs.Words.{app_of}
 use Rattle.clap.specs.declared.builder.command.Command.TheViews.{out-Command}
-use Rattle.crewprice.specs.Words.{run_up_to}
-use Rattle.crewprice.proofs.words.with_options.Given as goal
+use Rattle.crew_words.specs.Words.{run_up_to}
+use Rattle.crew_words.proofs.words.with_options.Given as goal
 
 -- the command has the options so far
 abbrev pub invariant-loop-i : goal.invariant-loop-i

@@ -1,6 +1,6 @@
 use Rattle.std.proofs.Common.{arith}
-use Rattle.crewprice.proofs.CommandFacts.{command-more, globals-none}
-use Rattle.crewprice.proofs.words.with_options.Goals as goal
+use Rattle.crew_words.proofs.CommandFacts.{command-more, globals-none}
+use Rattle.crew_words.proofs.words.with_options.Goals as goal
 
 pub loop-i-preserved : goal.loop-i-preserved
 loop-i-preserved c = (
