@@ -8,12 +8,9 @@ ghost use Rattle.crew_session.specs.Faults.{IsLineFault};
 use crate::fault::SessionFault;
 use crate::lines::{write_audit, write_refused};
 use crate::version::Version;
-use crew_audit::{AuditFault, tally_all};
+use crew_audit::tally_all;
 use std::alloc::Global;
 use std::io::Write;
-
-// The number by which an audit is refused where there are more partial pairings than its limit.
-const OVER_LIMIT: u8 = 45;
 
 /// Counts the partial pairings of a version's timetable, and writes how many there are, or that
 /// there are more than `limit`.
@@ -36,7 +33,9 @@ pub(crate) fn answer_audit<W: Write>(
         limit as usize,
     ) {
         Ok(tally) => write_audit(alloc, writer, &tally),
-        Err(AuditFault::OverLimit) => write_refused(alloc, writer, number, OVER_LIMIT),
-        Err(AuditFault::Memory) => Err(SessionFault::Memory),
+        Err(fault) => match fault.number() {
+            Some(why) => write_refused(alloc, writer, number, why),
+            None => Err(SessionFault::Memory),
+        },
     }
 }

@@ -1,6 +1,6 @@
-use Rattle.std.proofs.Common.{refl, inl, inr}
+use Rattle.std.proofs.Common.{refl, inl}
 use Rattle.std.proofs.lemmas.Result.{on_ok_weaker}
-use Rattle.crew_session.specs.Lines.{audit_line, refused_line}
+use Rattle.crew_session.specs.Lines.{audit_line}
 use Rattle.crew_session.proofs.audit.answer_audit.Goals as goal
 
 pub returns-in-Ok-clause-answered : goal.returns-in-Ok-clause-answered
@@ -9,9 +9,3 @@ returns-in-Ok-clause-answered g c =
     on_ok_weaker c.write_audit.result
     (λ w. (audit_line c.in-Ok.tally, w, inl (record { partials = all.0; tally = c.in-Ok.tally; all = all.1; few = all.3; counted = all.2; written = refl })))
     c.write_audit.ensures.written
-
-pub returns-in-Err-OverLimit-clause-answered : goal.returns-in-Err-OverLimit-clause-answered
-returns-in-Err-OverLimit-clause-answered g c =
-    on_ok_weaker c.write_refused.result
-    (λ w. (refused_line c.args.number 45, w, inr (record { more = rw (c.settings.ensures.value, c.timetable.ensures) at (c.in-Err-OverLimit.ensures.over (cc)); written = refl })))
-    c.write_refused.ensures.written
