@@ -1,0 +1,4 @@
+pub mod Anchors
+pub mod Stages
+pub mod Sweeps
+pub mod Machinery

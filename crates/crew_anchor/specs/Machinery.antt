@@ -1,0 +1,5 @@
+-- How far sums reach, and the laws of anchored vectors as a resource.
+pub mod AnchorLaws
+pub mod Bounds
+pub mod Shifts
+pub mod Values
