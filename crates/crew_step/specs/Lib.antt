@@ -1,0 +1,3 @@
+pub mod Jobs
+pub mod Walks
+pub mod Machinery

@@ -1,0 +1,23 @@
+//! The work on one node, which is a base and a duty: its front, from the fronts of the duties just
+//! before it. A `Job` has all that the work depends on, two jobs are told apart by all that they
+//! hold, and what is common to the jobs of one departure event is shared. `work` does a job: its
+//! type keeps that the entries of what is `Done` are exactly what the opening and all extensions of
+//! the entries before leave, each vector with its least walk, in order of vector. Among pools,
+//! `waiting_labels` makes the labels of an arrival such as may wait on and board. `laws` has it
+//! that entries of fronts are values of their walks, as a job wants them.
+#![tactic(auto)]
+
+mod done;
+mod feed;
+mod job;
+pub mod laws;
+mod offers;
+mod same;
+mod step;
+mod waiting;
+
+pub use done::Done;
+pub use feed::{Feed, Predecessor};
+pub use job::Job;
+pub use step::work;
+pub use waiting::waiting_labels;
