@@ -1,0 +1,14 @@
+pub mod InOrder
+pub mod Moments
+pub mod Oks
+pub mod Places
+pub mod Segments
+pub mod Named
+pub mod Firsts
+pub mod AtMoments
+pub mod Geometry
+pub mod EventOrder
+pub mod Shown
+pub mod Ranking
+pub mod NodeList
+pub mod ByReport

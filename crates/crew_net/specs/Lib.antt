@@ -1,0 +1,5 @@
+pub mod Nodes
+pub mod Events
+pub mod Nets
+pub mod Ranks
+pub mod Machinery

@@ -1,0 +1,5 @@
+-- What the network works with.
+pub mod Held
+pub mod Moments
+pub mod Ranking
+pub mod Timelines

@@ -1,0 +1,254 @@
+//! The network.
+
+ghost use Rattle.std.specs.Prelude.{◌≡◌, ◌≤◌, ◌<◌, ◌*◌, IfOk, Some, length, map, slice_get};
+ghost use Rattle.std.specs.Arc.{arc_value};
+ghost use Rattle.std.specs.FinMap as fin;
+ghost use Rattle.crew_net.specs.Events.{AreEvents, IsWindow, arrival_cmp, arrives_at, departure_cmp, leaves_at};
+ghost use Rattle.crew_net.specs.Nets.{AreByReport, ArePreds, IsNetOf, IsRank, nodes_of, ranks_before};
+ghost use Rattle.crew_net.specs.Ranks.{ranks_where};
+ghost use Rattle.crew_pairing.specs.Events.{arrival_of, departure_of, may_wait};
+ghost use Rattle.crew_pairing.specs.Duties.{AreDuties};
+ghost use Rattle.crew_pairing.specs.declared.duty.Duty.{Duty};
+ghost use Rattle.crew_pairing.specs.declared.events.Arrival.{Arrival};
+ghost use Rattle.crew_pairing.specs.declared.events.Departure.{Departure};
+ghost use Rattle.crew_rules.specs.Settings.{IsChecked};
+
+use crate::events::{arrivals_of, arrive_moments, by_report, departures_of, leave_moments};
+use crate::node::Node;
+use crate::ranks::rank_of;
+use crate::timeline::Timeline;
+use crate::window::Window;
+use crate::windows::{following, waiting};
+use crew_duty::Duties;
+use crew_flights::{Code, Timetable};
+use crew_pairing::{Arrival, Departure, Duty};
+use crew_resource::Placed;
+use crew_rules::Settings;
+use std::alloc::{AllocError, Global};
+use std::marker::Model;
+use std::sync::Arc;
+
+/// The time-space network of a timetable's legal duties.
+///
+/// A contract sees the settings, the crew bases, the duties by key, and the events at which they
+/// leave and arrive.
+#[derive(Drop)]
+pub struct Net {
+    settings: Settings,
+    bases: Vec<Code>,
+    duties: Arc<Duties, Global>,
+    leave: Timeline,
+    arrive: Timeline,
+    departures: Vec<Departure>,
+    arrivals: Vec<Arrival>,
+    by_report: Vec<u32>,
+}
+
+impl Model for Net {
+    ghost use Rattle.crew_net.specs.Nets as Spec;
+
+    ghost Value = { Spec.Net };
+
+    ghost view = { λ n. record {
+      settings = n.settings;
+      bases = n.bases.items;
+      duties = n.duties.value;
+      departures = n.departures.items;
+      arrivals = n.arrivals.items;
+      by_report = n.by_report.items;
+    } };
+
+    ghost use Rattle.crew_net.specs.Machinery.Held.{IsHeld};
+
+    ghost invariant = { λ n. IsHeld n.settings n.bases.items n.duties.value n.leave n.arrive
+        n.departures.items n.arrivals.items n.by_report.items };
+}
+
+// The bases of a timetable, in order.
+fn held_bases(alloc: Global, timetable: &Timetable) -> Result<Vec<Code>, AllocError>
+    ensures bases { IfOk result (λ bases. bases.items ≡ fin.keys timetable.now.bases) }
+    ensures few { length (fin.keys timetable.now.bases) ≤ 16 }
+{
+    timetable.bases().map(|(code, _)| *code).collect(alloc)
+}
+
+// The node at a place among those of some bases and duties.
+fn node_at(bases: &[Code], duties: &[Duty], place: usize) -> Option<Node>
+    ensures { result ≡ slice_get (nodes_of bases.now duties.now) place }
+{
+    if duties.is_empty() {
+        return None;
+    }
+    let row = place / duties.len();
+    if row >= bases.len() {
+        return None;
+    }
+    let key = duties[place % duties.len()].key.copy();
+    Some(Node {
+        base: bases[row],
+        key,
+    })
+}
+
+impl Net {
+    /// The network of the legal duties of a timetable.
+    pub fn build(
+        alloc: Global,
+        settings: &Settings,
+        timetable: &Timetable,
+        duties: Arc<Duties, Global>,
+    ) -> Result<Net, AllocError>
+        requires checked { IsChecked settings.now }
+        requires duties { AreDuties settings.now timetable.now (arc_value duties) }
+        requires few { length (arc_value duties) ≤ 200_000 }
+        ensures { IfOk result (IsNetOf settings.now timetable.now (arc_value duties)) }
+    {
+        let list = duties.as_slice();
+        let leave = Timeline::of(alloc, &leave_moments(alloc, list)?)?;
+        let arrive = Timeline::of(alloc, &arrive_moments(alloc, list)?)?;
+        let departures = departures_of(alloc, list, &leave)?;
+        let arrivals = arrivals_of(alloc, list, &arrive)?;
+        let by_report = by_report(alloc, &departures)?;
+        let bases = held_bases(alloc, timetable)?;
+        Ok(Net {
+            settings: *settings,
+            bases,
+            duties,
+            leave,
+            arrive,
+            departures,
+            arrivals,
+            by_report,
+        })
+    }
+
+    /// The crew bases, in order.
+    pub fn bases(&self) -> &[Code]
+        ensures { result.now ≡ self.now.bases }
+    {
+        &self.bases
+    }
+
+    /// The duties, by key.
+    pub fn duties(&self) -> &Duties
+        ensures { result.now ≡ self.now.duties }
+    {
+        &self.duties
+    }
+
+    /// The events at which duties leave, by airport and report.
+    pub fn departures(&self) -> &[Departure]
+        ensures events { result.now ≡ self.now.departures }
+        ensures exact { AreEvents departure_of departure_cmp self.now.duties self.now.departures }
+    {
+        &self.departures
+    }
+
+    /// The events at which duties arrive, by airport and release.
+    pub fn arrivals(&self) -> &[Arrival]
+        ensures events { result.now ≡ self.now.arrivals }
+        ensures exact { AreEvents arrival_of arrival_cmp self.now.duties self.now.arrivals }
+    {
+        &self.arrivals
+    }
+
+    /// The places of all departures, in order of report.
+    pub fn by_report(&self) -> &[u32]
+        ensures places { result.now ≡ self.now.by_report }
+        ensures exact { AreByReport self.now.departures self.now.by_report }
+    {
+        &self.by_report
+    }
+
+    /// The duties that leave at a departure, by rank.
+    pub fn leaving(&self, departure: usize) -> &[u32]
+        requires { departure < length self.now.departures }
+        ensures { (g : Departure) → slice_get self.now.departures departure ≡ Some g
+            → result.now ≡ ranks_where (leaves_at g) self.now.duties }
+    {
+        self.leave.places_in(Window {
+            from: departure,
+            end: departure + 1,
+        })
+    }
+
+    /// The duties that arrive at an arrival, by rank.
+    pub fn arriving(&self, arrival: usize) -> &[u32]
+        requires { arrival < length self.now.arrivals }
+        ensures { (x : Arrival) → slice_get self.now.arrivals arrival ≡ Some x
+            → result.now ≡ ranks_where (arrives_at x) self.now.duties }
+    {
+        self.arrive.places_in(Window {
+            from: arrival,
+            end: arrival + 1,
+        })
+    }
+
+    /// The arrivals after which a crew may report for a departure.
+    pub fn window(&self, departure: usize) -> Window
+        requires { departure < length self.now.departures }
+        ensures { (g : Departure) → slice_get self.now.departures departure ≡ Some g
+            → IsWindow (λ x. may_wait self.now.settings x g) self.now.arrivals result }
+    {
+        let event = &self.departures[departure];
+        waiting(&self.settings, &self.arrive.moments, event)
+    }
+
+    /// The departures that may follow an arrival.
+    pub fn followers(&self, arrival: usize) -> Window
+        requires { arrival < length self.now.arrivals }
+        ensures { (x : Arrival) → slice_get self.now.arrivals arrival ≡ Some x
+            → IsWindow (may_wait self.now.settings x) self.now.departures result }
+    {
+        let event = &self.arrivals[arrival];
+        following(&self.settings, &self.leave.moments, event)
+    }
+
+    /// How many nodes there are: one for each base and duty.
+    pub fn len(&self) -> usize
+        ensures { result ≡ length self.now.bases * length self.now.duties }
+    {
+        self.bases.len() * self.duties.len()
+    }
+
+    /// The node at a place, in order of base and key.
+    pub fn node(&self, place: usize) -> Option<Node>
+        ensures { result ≡ slice_get (nodes_of self.now.bases self.now.duties) place }
+    {
+        node_at(&self.bases, self.duties.as_slice(), place)
+    }
+
+    /// The rank of a node's duty, and `None` where it isn't a node of the network.
+    pub fn rank(&self, node: &Node) -> Option<usize>
+        ensures { IsRank self.now node.now result }
+    {
+        if !self.bases.contains(&node.base) {
+            return None;
+        }
+        rank_of(self.duties.as_slice(), &node.key)
+    }
+
+    // The duties that may stand just before the one of a rank.
+    fn before(&self, alloc: Global, rank: usize) -> Result<Vec<u32>, AllocError>
+        requires { rank < length self.now.duties }
+        ensures { IfOk result (λ ranks. (d : Duty) → slice_get self.now.duties rank ≡ Some d
+            → ranks.items ≡ ranks_before self.now.settings self.now.duties d) }
+    {
+        let event = self.duties.as_slice()[rank].departure();
+        let window = waiting(&self.settings, &self.arrive.moments, &event);
+        let mut ranks = Vec::from_slice(alloc, self.arrive.places_in(window))?;
+        ranks.sort_unstable();
+        Ok(ranks)
+    }
+
+    /// The duties that may stand just before a node's, by rank, at the same base: `None` where it
+    /// isn't a node of the network.
+    pub fn preds(&self, alloc: Global, node: &Node) -> Result<Option<Vec<u32>>, AllocError>
+        ensures { IfOk result (ArePreds self.now node.now) }
+    {
+        match self.rank(node) {
+            Some(rank) => Ok(Some(self.before(alloc, rank)?)),
+            None => Ok(None),
+        }
+    }
+}

@@ -1,0 +1,129 @@
+//! Builds the network of a timetable, for `bench/net`.
+//!
+//! The input is the records `zone`, `base` and `flight` of a session; others are passed over. The
+//! settings are the standard ones, with 80 minutes at most between two legs and at most four duties
+//! in a pairing. It prints how many duties, nodes, departures and arrivals there are, and on
+//! standard error the microseconds that it took to list the duties and to build their network, the
+//! least of ten times each.
+#![tactic(auto)]
+
+use crew_duty::list_duties;
+use crew_flights::{Code, Edit, Flight, FlightId, Timetable};
+use crew_net::Net;
+use crew_rules::Settings;
+use crew_time::{Minute, Zone, read_minute};
+use std::io::{self, BufRead, BufReader};
+use std::sync::Arc;
+use std::time::Instant;
+
+// How often each is measured.
+const ROUNDS: u32 = 10;
+
+// A code of three letters.
+fn code_of(word: &str) -> Option<Code> {
+    let [first, second, third] = word.as_bytes() else {
+        return None;
+    };
+    Code::new([*first, *second, *third])
+}
+
+// The clock of an airport.
+fn zone_of(zones: &[(Code, Zone)], airport: Code) -> Option<&Zone> {
+    for (code, zone) in zones {
+        if *code == airport {
+            return Some(zone);
+        }
+    }
+    None
+}
+
+// The airport and the clock of a record.
+fn read_zone(line: &str) -> Option<(Code, Zone)> {
+    let (_, rest) = line.split_once("zone,")?;
+    let (code, rule) = rest.split_once(',')?;
+    let rule = rule.strip_prefix('"')?;
+    let rule = rule.strip_suffix('"')?;
+    Some((code_of(code)?, Zone::read(rule.as_bytes()).ok()?))
+}
+
+// The base of a record.
+fn read_base(line: &str) -> Option<Edit> {
+    let (_, rest) = line.split_once("base,")?;
+    let (code, price) = rest.split_once(',')?;
+    Some(Edit::AddBase {
+        code: code_of(code)?,
+        price: price.parse::<i64>().ok()?,
+    })
+}
+
+// The flight of a record.
+fn read_flight(settings: &Settings, zones: &[(Code, Zone)], line: &str) -> Option<Edit> {
+    let (_, rest) = line.split_once("flight,")?;
+    let (id, rest) = rest.split_once(',')?;
+    let (from, rest) = rest.split_once(',')?;
+    let (to, rest) = rest.split_once(',')?;
+    let (dep, rest) = rest.split_once(',')?;
+    let (arr, price) = rest.split_once(',')?;
+    let from = code_of(from)?;
+    let dep = read_minute(dep.as_bytes()).ok()?;
+    let report = Minute::new(dep.get() - i64::from(settings.lead))?;
+    Some(Edit::AddFlight(Flight {
+        id: FlightId::new(id.parse::<u32>().ok()?)?,
+        from,
+        to: code_of(to)?,
+        dep,
+        arr: read_minute(arr.as_bytes()).ok()?,
+        report_clock: zone_of(zones, from)?.clock(report),
+        price: price.parse::<i64>().ok()?,
+    }))
+}
+
+fn main(rt: HostRuntime) -> io::Result<()> {
+    let alloc = rt.alloc();
+    let settings = Settings {
+        sit: 80,
+        max_duties: 4,
+        ..Settings::standard()
+    };
+    if settings.check().is_err() {
+        return Ok(());
+    }
+    let mut zones = Vec::new(alloc);
+    let mut timetable = Timetable::new(alloc);
+    for line in BufReader::new(alloc, rt.reader())?.lines(alloc) {
+        let line = line?;
+        if let Some(zone) = read_zone(line.as_str()) {
+            zones.push(zone)?;
+        } else if let Some(base) = read_base(line.as_str()) {
+            timetable.apply(&base)?;
+        } else if let Some(flight) = read_flight(&settings, &zones, line.as_str()) {
+            timetable.apply(&flight)?;
+        }
+    }
+    let mut list = u128::MAX;
+    let mut build = u128::MAX;
+    for round in 0..ROUNDS {
+        let start = Instant::now(&rt)?;
+        let Ok(duties) = list_duties(&rt, alloc, &settings, &timetable) else {
+            return Ok(());
+        };
+        let listed = start.elapsed(&rt)?.as_micros();
+        let shared = Arc::new(alloc, duties)?;
+        let start = Instant::now(&rt)?;
+        let net = Net::build(alloc, &settings, &timetable, shared)?;
+        let built = start.elapsed(&rt)?.as_micros();
+        list = list.min(listed);
+        build = build.min(built);
+        if round + 1 == ROUNDS {
+            println!(&rt;
+                "duties {} nodes {} departures {} arrivals {}",
+                net.duties().len(),
+                net.len(),
+                net.departures().len(),
+                net.arrivals().len()
+            )?;
+        }
+    }
+    eprintln!(&rt; "list {list} build {build}")?;
+    Ok(())
+}
