@@ -1,0 +1,2 @@
+-- What a sweep over the events of a network works with.
+pub mod Numbered

@@ -1,0 +1,61 @@
+-- The network of a base with its events by number, as a sweep goes over them: departures by their
+-- places in the order in which it does, arrivals by theirs in the network.
+use Rattle.std.specs.Prelude.{◌≡◌, ℕ, suc, Bool, false, ◌&&◌, cond, List, [], ◌∷◌, ◌++◌, Option, Some, None, slice_get}
+use Rattle.std.specs.Ordering.{eq_by_cmp, int_eq}
+use Rattle.crew_anchor.specs.Stages.{anchored_board, anchored_idle}
+use Rattle.crew_anchor.specs.declared.resource.AnchoredResource.{AnchoredResource}
+use Rattle.crew_pairing.specs.Events.{arrival_of, departure_of, may_wait}
+use Rattle.crew_flights.specs.Codes.{code_cmp}
+use Rattle.crew_pairing.specs.Legs.{Leg}
+use Rattle.crew_pairing.specs.declared.duty.Duty.{Duty}
+use Rattle.crew_pairing.specs.declared.events.Arrival.{Arrival}
+use Rattle.crew_pairing.specs.declared.events.Departure.{Departure}
+use Rattle.crew_pairing.specs.declared.vector.PairingVector.{PairingVector}
+use Rattle.crew_resource.specs.Events.{Network}
+use Rattle.crew_rules.specs.declared.settings.Settings.{Settings}
+
+-- the place of the first that passes a test, or how many there are where none does
+abbrev pub place_of : {E : Type 0} → (E → Bool) → List E → ℕ
+place_of passes [] = 0
+place_of passes (e ∷ es) = cond (passes e) 0 (suc (place_of passes es))
+
+abbrev pub is_departure : Departure → Departure → Bool
+is_departure g h = eq_by_cmp code_cmp g.airport h.airport && int_eq g.report h.report
+
+abbrev pub is_arrival : Arrival → Arrival → Bool
+is_arrival x y = eq_by_cmp code_cmp x.airport y.airport && int_eq x.release y.release
+
+abbrev pub departure_place : List Departure → Departure → ℕ
+departure_place departures g = place_of (λ h. is_departure h g) departures
+
+abbrev pub arrival_place : List Arrival → Arrival → ℕ
+arrival_place arrivals x = place_of (λ y. is_arrival y x) arrivals
+
+-- each stands in one place
+abbrev pub AreDistinct : {E : Type 0} → List E → Type 0
+AreDistinct {E} es = (i j : ℕ) (e : E) → slice_get es i ≡ Some e → slice_get es j ≡ Some e → i ≡ j
+
+abbrev pub window_at : Settings → Option Arrival → Option Departure → Bool
+window_at s None g = false
+window_at s (Some x) None = false
+window_at s (Some x) (Some g) = may_wait s x g
+
+abbrev pub idle_at : AnchoredResource → List ℕ → Option Departure → Option PairingVector
+idle_at r base None = None
+idle_at r base (Some g) = cond (eq_by_cmp code_cmp g.airport base) (Some (anchored_idle r g.report))
+    None
+
+-- labels as of a common instant, so waiting changes nothing
+abbrev pub numbered : Settings → AnchoredResource → List ℕ → List Duty → List Departure
+    → List Arrival → Network Duty PairingVector (List (List Leg)) ℕ ℕ
+numbered s r base duties departures arrivals = record {
+  known = duties;
+  leaves = λ d. departure_place departures (departure_of d);
+  arrives = λ d. arrival_place arrivals (arrival_of d);
+  window = λ x g. window_at s (slice_get arrivals x) (slice_get departures g);
+  none = [];
+  more = λ w d. w ++ d.key ∷ [];
+  idle = λ g. idle_at r base (slice_get departures g);
+  wait = λ v x g. v;
+  board = anchored_board r;
+}
