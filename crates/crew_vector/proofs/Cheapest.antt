@@ -10,7 +10,8 @@ use Rattle.crew_flights.specs.Codes.{code_cmp}
 use Rattle.crew_flights.specs.Timetable.{IsSound, Timetable}
 use Rattle.crew_rules.specs.Settings.{IsChecked}
 use Rattle.crew_rules.specs.declared.settings.Settings.{Settings}
-use Rattle.crew_vector.specs.Bests.{AreFronts, IsBest, IsCleanPairing, IsHomeEntry, IsPairing, NoDearer, PricedPairing}
+use Rattle.crew_vector.specs.Bests.{AreFronts, IsBest, IsCleanPairing, IsHomeEntry, IsPairing, NoDearer}
+use Rattle.crew_vector.specs.declared.priced.PricedPairing.{PricedPairing}
 use Rattle.crew_vector.specs.Dominance.{cost_respects}
 use Rattle.crew_pairing.specs.Vectors.{reduced_cost, cost_of, pay_of, prices, vector_of}
 use Rattle.crew_vector.specs.Fronts.{At, walk_of}

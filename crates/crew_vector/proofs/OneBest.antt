@@ -13,7 +13,8 @@ use Rattle.crew_pairing.specs.Pairings.{IsDuty, minutes_away}
 use Rattle.crew_pairing.specs.declared.duty.Duty.{Duty}
 use Rattle.crew_flights.specs.Timetable.{IsSound, Timetable}
 use Rattle.crew_rules.specs.declared.settings.Settings.{Settings}
-use Rattle.crew_vector.specs.Bests.{IsBest, IsPairing, NoDearer, PricedPairing}
+use Rattle.crew_vector.specs.Bests.{IsBest, IsPairing, NoDearer}
+use Rattle.crew_vector.specs.declared.priced.PricedPairing.{PricedPairing}
 use Rattle.crew_vector.specs.Fronts.{walk_of}
 use Rattle.crew_pairing.specs.Vectors.{pay_of}
 use Rattle.crew_vector.proofs.Orders.{walk-order}

@@ -9,17 +9,10 @@ use Rattle.crew_flights.specs.Timetable.{Timetable}
 use Rattle.crew_resource.specs.Members.{Member}
 use Rattle.crew_rules.specs.declared.settings.Settings.{Settings}
 use Rattle.crew_vector.specs.Fronts.{IsFrontAt, StaysUndominated, walk_of}
+use Rattle.crew_vector.specs.declared.priced.PricedPairing.{PricedPairing}
 use Rattle.crew_pairing.specs.Keys.{walk_at_most}
 use Rattle.crew_pairing.specs.Vectors.{cost_of, pay_of}
 use Rattle.crew_pairing.specs.declared.vector.PairingVector.{PairingVector}
-
--- a pairing by its walk, with its reduced cost, pay and minutes away
-pub record PricedPairing : Type 0 where
-  pub base : List ℕ
-  pub walk : List (List Leg)
-  pub cost : ℤ
-  pub pay : ℤ
-  pub away : ℤ
 
 -- a pairing of a base of the timetable: a partial that returns to its base
 pub record IsPairing (s : Settings) (t : Timetable) (p : PricedPairing) : Type 0 where

@@ -14,9 +14,11 @@ mod amounts;
 mod cost;
 pub mod laws;
 mod numbers;
+mod priced;
 mod resource;
 mod value;
 
 pub use cost::ReducedCost;
+pub use priced::PricedPairing;
 pub use resource::VectorResource;
 pub use value::value_of_list;
