@@ -65,6 +65,15 @@ impl Walks {
         Ok(count as u32 + 1)
     }
 
+    /// The place of the walk of no duty.
+    pub fn empty_walk(&self) -> u32
+        ensures there { result < length self.now }
+        ensures empty { walk_at self.now result ≡ [] }
+    {
+        let _links = &self.links;
+        0
+    }
+
     /// Compares the walks of two places, duty by duty, by rank.
     pub fn compare(&self, a: u32, b: u32) -> Ordering
         requires a { a < length self.now }
