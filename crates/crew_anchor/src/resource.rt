@@ -1,5 +1,5 @@
 //! The vector of a pairing as of a common instant.
-ghost use Rattle.std.specs.Prelude.{◌≡◌, ◌≤◌, ◌+ℤ◌, ◌*◌, ◌*ℤ◌, ◌^◌, ℕ, ℤ, pos, Some};
+ghost use Rattle.std.specs.Prelude.{◌≡◌, ◌≤◌, ◌+◌, ◌+ℤ◌, ◌*◌, ◌*ℤ◌, ◌^◌, ℕ, ℤ, pos, Some};
 ghost use Rattle.crew_anchor.specs.Machinery.AnchorLaws.{anchored_bounds, anchored_counting, anchored_grading, anchored_shifts, anchored_staged, anchored_steps};
 ghost use Rattle.crew_anchor.specs.Anchors.{shown};
 ghost use Rattle.crew_anchor.specs.Machinery.Bounds.{AreWithin, fits_in, is_ready, may_board};
@@ -69,6 +69,18 @@ impl AnchoredResource {
             fly_cap: settings.fly_cap,
             max_duties: settings.max_duties,
             away_cap: settings.away_cap,
+        }
+    }
+
+    /// The resource of lists with a duty to spare: of one duty less at most.
+    pub fn sparing(&self) -> AnchoredResource
+        requires { 1 ≤ self.now.max_duties }
+        ensures { (most : ℕ) → most + 1 ≡ self.now.max_duties
+            → result ≡ record self.now { max_duties = most } }
+    {
+        AnchoredResource {
+            max_duties: self.max_duties - 1,
+            ..*self
         }
     }
 
