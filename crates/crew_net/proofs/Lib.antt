@@ -12,3 +12,4 @@ pub mod Shown
 pub mod Ranking
 pub mod NodeList
 pub mod ByReport
+pub mod ArrivalPlaces

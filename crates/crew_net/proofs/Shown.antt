@@ -41,6 +41,11 @@ module _ (s : Settings) (bases : List (List ℕ)) (duties : List Duty) (leave ar
       → (k < length leave.moments.items) × (is_code g.airport ≡ true) × IsReal g.report × ((m : ℤ) → get_or leave.moments.items k m ≡ moment g.airport g.report)
   departure-at k g h = event-at (λ (g : Departure). g.airport) (λ (g : Departure). g.report) departure_of departure_cmp (λ e f p q i. record { airport = p i; report = q i }) (λ e f. refl) duties left leave.moments.items departures held.leave_events k g h
 
+  pub departures-real : (g : Departure) → Member departures g → IsReal g.report
+  departures-real g m =
+      let e = departures-are.some g m in
+      subst (λ (z : Departure). IsReal z.report) e.2 (left e.0 e.1).1
+
   pub arrival-at : (k : ℕ) (x : Arrival) → slice_get arrivals k ≡ Some x
       → (k < length arrive.moments.items) × (is_code x.airport ≡ true) × IsReal x.release × ((m : ℤ) → get_or arrive.moments.items k m ≡ moment x.airport x.release)
   arrival-at k x h = event-at (λ (x : Arrival). x.airport) (λ (x : Arrival). x.release) arrival_of arrival_cmp (λ e f p q i. record { airport = p i; release = q i }) (λ e f. refl) duties reached arrive.moments.items arrivals held.arrive_events k x h

@@ -4,6 +4,7 @@ ghost use Rattle.std.specs.Prelude.{◌≡◌, ◌≤◌, ◌<◌, ◌*◌, IfOk
 ghost use Rattle.std.specs.Arc.{arc_value};
 ghost use Rattle.std.specs.FinMap as fin;
 ghost use Rattle.crew_net.specs.Events.{AreEvents, IsWindow, arrival_cmp, arrives_at, departure_cmp, leaves_at};
+ghost use Rattle.crew_net.specs.Machinery.Moments.{IsReal};
 ghost use Rattle.crew_net.specs.Nets.{AreByReport, ArePreds, IsNetOf, IsRank, nodes_of, ranks_before};
 ghost use Rattle.crew_net.specs.Ranks.{ranks_where};
 ghost use Rattle.crew_pairing.specs.Events.{arrival_of, departure_of, may_wait};
@@ -11,6 +12,7 @@ ghost use Rattle.crew_pairing.specs.Duties.{AreDuties};
 ghost use Rattle.crew_pairing.specs.declared.duty.Duty.{Duty};
 ghost use Rattle.crew_pairing.specs.declared.events.Arrival.{Arrival};
 ghost use Rattle.crew_pairing.specs.declared.events.Departure.{Departure};
+ghost use Rattle.crew_resource.specs.Members.{Member};
 ghost use Rattle.crew_rules.specs.Settings.{IsChecked};
 
 use crate::events::{arrivals_of, arrive_moments, by_report, departures_of, leave_moments};
@@ -122,6 +124,14 @@ impl Net {
         })
     }
 
+    /// The settings.
+    pub fn settings(&self) -> &Settings
+        ensures value { result.now ≡ self.now.settings }
+        ensures checked { IsChecked self.now.settings }
+    {
+        &self.settings
+    }
+
     /// The crew bases, in order.
     pub fn bases(&self) -> &[Code]
         ensures { result.now ≡ self.now.bases }
@@ -140,6 +150,7 @@ impl Net {
     pub fn departures(&self) -> &[Departure]
         ensures events { result.now ≡ self.now.departures }
         ensures exact { AreEvents departure_of departure_cmp self.now.duties self.now.departures }
+        ensures real { (g : Departure) → Member self.now.departures g → IsReal g.report }
     {
         &self.departures
     }
@@ -148,6 +159,7 @@ impl Net {
     pub fn arrivals(&self) -> &[Arrival]
         ensures events { result.now ≡ self.now.arrivals }
         ensures exact { AreEvents arrival_of arrival_cmp self.now.duties self.now.arrivals }
+        ensures few { length self.now.arrivals ≤ 200_000 }
     {
         &self.arrivals
     }
