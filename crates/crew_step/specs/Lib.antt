@@ -1,3 +1,4 @@
 pub mod Jobs
 pub mod Walks
+pub mod Pools
 pub mod Machinery
