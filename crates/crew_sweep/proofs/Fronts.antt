@@ -90,7 +90,7 @@ board-more s price most less u v e h room =
     let few = then-less x.duties most s.max_duties less (subst (λ (z : PairingVector). z.duties <ℤ pos s.max_duties) (sym k.1) room) in
     chosen (is_within_caps_at full e.release x) (is_within_caps_at (lesser s price most) e.release x) x v h (within-more (int_le x.fdp (pos full.fdp_cap)) (int_le x.fly (pos full.fly_cap)) (int_le x.duties (pos s.max_duties)) (int_le x.duties (pos most)) (int_le (x.away +ℤ e.release) (pos full.away_cap)) k.0 few)
 
-waits : WaitLaws {V = PairingVector} {G = ℕ} {X = ℕ} is_at_most (λ v x g. v)
+pub waits : WaitLaws {V = PairingVector} {G = ℕ} {X = ℕ} is_at_most (λ v x g. v)
 waits = record { monotone = λ a b x g h. h; strict = λ a b x g h e. e }
 
 module _ (s : Settings) (t : Timetable) (base : List ℕ) (price : ℤ) (duties : List Duty) (departures : List Departure) (arrivals : List Arrival) (most : ℕ) (pools held : List Labelled)

@@ -1,2 +1,11 @@
 pub mod Numbers
 pub mod Fronts
+pub mod Keeping
+pub mod Slices
+pub mod Orders
+pub mod Shown
+pub mod Gathered
+pub mod Sending
+pub mod Steps
+pub mod Passable
+pub mod Ends

@@ -43,7 +43,7 @@ int-itself a = grind (arith, ints)
 both : (a b : Bool) → a ≡ true → b ≡ true → (a && b) ≡ true
 both a b p q = rw (p, q) refl
 
-same-departure : (g h : Departure) → is_departure g h ≡ true → g ≡ h
+pub same-departure : (g h : Departure) → is_departure g h ≡ true → g ≡ h
 same-departure g h e =
     let p = and_parts _ _ e in
     ap₂ {C = Departure} (λ a m. record { airport = a; report = m }) (same-code g.airport h.airport p.0) (same-int g.report h.report p.1)
@@ -53,7 +53,7 @@ same-arrival x y e =
     let p = and_parts _ _ e in
     ap₂ {C = Arrival} (λ a m. record { airport = a; release = m }) (same-code x.airport y.airport p.0) (same-int x.release y.release p.1)
 
-departure-itself : (g : Departure) → is_departure g g ≡ true
+pub departure-itself : (g : Departure) → is_departure g g ≡ true
 departure-itself g = both _ _ (code-itself g.airport g.airport refl) (int-itself g.report)
 
 arrival-itself : (x : Arrival) → is_arrival x x ≡ true

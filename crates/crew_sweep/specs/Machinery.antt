@@ -1,2 +1,4 @@
--- What a sweep over the events of a network works with.
+-- Events by number, and what a sweep keeps of its labels.
 pub mod Numbered
+pub mod Kept
+pub mod Passing

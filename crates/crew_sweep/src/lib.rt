@@ -1,6 +1,12 @@
-//! What one pass over the events of a base's network shows, in order of time. `laws` promises that
-//! where each departure's pool is made from the arrivals in its window, and nothing boards into an
-//! arrival without a duty to spare, the pools show each duty's front. There is no pass itself yet.
+//! One pass over the events of a base's network, in order of time. `sweep` makes the pool of each
+//! departure from the arrivals in its window, and boards the duties that leave there into their
+//! arrivals, with a duty to spare; it promises that the pools show each legal duty's front. `laws`
+//! has what this rests on.
 #![tactic(auto)]
 
 pub mod laws;
+mod pass;
+mod swept;
+
+pub use pass::sweep;
+pub use swept::Sweep;

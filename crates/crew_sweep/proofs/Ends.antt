@@ -1,0 +1,113 @@
+-- All departures are passed: what is kept, and the fronts that the pools show.
+use Rattle.std.proofs.Common.{◌≡◌, ◌∙◌, ◌<◌, ◌≤◌, ◌+◌, ◌-◌, ℕ, suc, ℤ, List, [], length, map, get_or, sym, ap, subst, arith, refl}
+use Rattle.crew_anchor.specs.Machinery.Bounds.{fits_in}
+use Rattle.crew_anchor.specs.Stages.{anchored_resource}
+use Rattle.crew_anchor.specs.Sweeps.{anchored_network, shown_labels}
+use Rattle.crew_anchor.specs.declared.resource.AnchoredResource.{AnchoredResource}
+use Rattle.crew_flights.specs.Timetable.{IsSound, Timetable}
+use Rattle.crew_net.specs.Nets.{Net}
+use Rattle.crew_pairing.specs.Duties.{AreDuties}
+use Rattle.crew_pairing.specs.Events.{departure_of}
+use Rattle.crew_pairing.specs.Legs.{Leg}
+use Rattle.crew_pairing.specs.declared.vector.PairingVector.{PairingVector}
+use Rattle.crew_pool.specs.LabelWalks.{shown}
+use Rattle.crew_pool.specs.declared.label_walk.LabelWalk.{LabelWalk}
+use Rattle.crew_resource.specs.Events.{Swept, view}
+use Rattle.crew_resource.specs.Members.{Each, Member}
+use Rattle.crew_resource.proofs.Members.{Member-map_out}
+use Rattle.crew_rules.specs.Settings.{IsChecked}
+use Rattle.crew_sweep.specs.Machinery.Kept.{IsKept}
+use Rattle.crew_sweep.specs.Machinery.Numbered.{departure_place}
+use Rattle.crew_sweep.specs.Machinery.Passing.{HasPassed, IsPassable, passed_network}
+use Rattle.crew_sweep.specs.Sweeps.{BaseSweep, ShowsFronts, in_order, keyed}
+use Rattle.crew_sweep.proofs.Fronts.{swept-fronts}
+use Rattle.crew_sweep.proofs.Numbers.{at-departure, get-within}
+use Rattle.crew_sweep.proofs.Orders.{arrivals-distinct, in-order-distinct, in-order-long, leaves-in}
+use Rattle.crew_sweep.proofs.Slices.{map-or}
+use Rattle.crew_pairing.specs.Keys.{walk_at_most}
+use Rattle.crew_vector.specs.Dominance.{is_at_most}
+use Rattle.crew_vector.specs.Fronts.{IsFrontAt}
+use Rattle.std.proofs.lemmas.List.{length-map}
+
+abbrev Labels : Type 0
+Labels = List (PairingVector × LabelWalk)
+
+-- one duty less, where there is one at least
+pub one-less : (n : ℕ) → 1 ≤ n → n - 1 + 1 ≡ n
+one-less n h = omega (arith, h)
+
+abbrev pub lesser : AnchoredResource → ℕ → AnchoredResource
+lesser r most = record r { max_duties = most }
+
+abbrev pub made : Net → List ℕ → ℤ → List (List ℕ) → List Labels → BaseSweep
+made net base price walks pools = record { net = net; base = base; price = price; walks = walks; pools = pools }
+
+module _ (net : Net) (places : List ℕ) (passable : IsPassable net places) (base : List ℕ) (price : ℤ) (most : ℕ) (few : most ≤ 12) (less : most + 1 ≡ net.settings.max_duties)
+    (fits : (n : ℕ) → n ≤ 100_000 → fits_in (anchored_resource net.settings price) n) (walks : List (List ℕ)) (pools : List Labels)
+    (passed : HasPassed net base (lesser (anchored_resource net.settings price) most) walks pools) where
+  pub kept : IsKept (made net base price walks pools) (anchored_resource net.settings price)
+  kept = record {
+    resource = refl;
+    sound = passable.sound;
+    few = passable.few;
+    long = passed.all;
+    labels = λ labels m. record {
+      counts = passed.passing.whole labels m;
+      ranked = λ e k. let s = Member-map_out (shown walks) labels e k in subst (λ (z : PairingVector × List ℕ). Each (λ rank. rank < length net.duties) z.1) s.2 (passed.passing.pooled labels m s.0 s.1).ranked;
+      ready = λ l k.
+          let label = passed.passing.pooled labels m l k in
+          let short = label.few in
+          (length (shown walks l).1, fits (suc (length (shown walks l).1)) (omega (arith, short, few)), label.ready);
+    };
+  }
+
+  pub right : IsChecked net.settings → (t : Timetable) → IsSound t → AreDuties net.settings t net.duties → ShowsFronts t (made net base price walks pools)
+  right checked t sound exactly d legal =
+      let place = departure_place (in_order net) (departure_of d) in
+      let known = subst (Member net.duties) (sym legal.3) (exactly.every legal.0 legal.1 legal.2) in
+      let leaves = leaves-in net passable.departs passable.arrives passable.ordered in
+      let long = in-order-long net passable.departs passable.arrives passable.ordered in
+      let within : place < length pools = subst (λ n. place < n) (long ∙ sym passed.all) (get-within (in_order net) place (departure_of d) (at-departure (in_order net) (departure_of d) (leaves d known))) in
+      let all : length pools ≡ length (in_order net) = passed.all ∙ sym long in
+      let swept = subst (λ n. Swept (passed_network net base (lesser (anchored_resource net.settings price) most)) is_at_most walk_at_most n (map (keyed net walks) pools) (λ x. get_or (map (keyed net walks) passed.held) x [])) all passed.passing.swept in
+      let held-long : length (map (keyed net walks) passed.held) ≡ length net.arrivals = length-map passed.held (keyed net walks) ∙ passed.passing.long in
+      let front = swept-fronts net.settings t base price net.duties (in_order net) net.arrivals most (map (keyed net walks) pools) (map (keyed net walks) passed.held) checked sound exactly
+      (in-order-distinct net passable.departs passable.arrives passable.ordered) (arrivals-distinct net passable.departs passable.arrives passable.ordered) leaves passable.arrives.every
+      (omega (arith, held-long)) less swept d legal in
+      subst (λ (ls : List (PairingVector × List (List Leg))). IsFrontAt net.settings t base price d (shown_labels net.settings.trip_rig d.release (view (anchored_network net.settings base price net.duties) d ls)))
+      (map-or (keyed net walks) pools place within) front
+
+-- the resource with a duty to spare, of a network's settings
+module _ (net : Net) (checked : IsChecked net.settings) (price : ℤ) (full spare : AnchoredResource) (full-is : full ≡ anchored_resource net.settings price)
+    (spare-by : (most : ℕ) → most + 1 ≡ full.max_duties → spare ≡ lesser full most) (fits : (n : ℕ) → n ≤ 100_000 → fits_in full n) where
+  abbrev pub most-less : ℕ
+  most-less = net.settings.max_duties - 1
+
+  pub spare-is : spare ≡ lesser (anchored_resource net.settings price) most-less
+  spare-is =
+      spare-by most-less (one-less net.settings.max_duties checked.max_duties ∙ ap (λ (r : AnchoredResource). r.max_duties) (sym full-is))
+      ∙ ap (λ (r : AnchoredResource). lesser r most-less) full-is
+
+  pub full-fits : (n : ℕ) → n ≤ 100_000 → fits_in (anchored_resource net.settings price) n
+  full-fits n h = subst (λ (r : AnchoredResource). fits_in r n) full-is (fits n h)
+
+  pub spare-fits : (n : ℕ) → n ≤ 100_000 → fits_in spare n
+  spare-fits n h = subst (λ (r : AnchoredResource). fits_in r n) (sym spare-is) (full-fits n h)
+
+  pub few-less : most-less ≤ 12
+  few-less = let most = checked.max_duties_most in omega (arith, most)
+
+  pub spare-few : spare.max_duties ≤ 12
+  spare-few = subst (λ (r : AnchoredResource). r.max_duties ≤ 12) (sym spare-is) few-less
+
+  module _ (places : List ℕ) (passable : IsPassable net places) (base : List ℕ) (walks : List (List ℕ)) (pools : List Labels) (passed : HasPassed net base spare walks pools) where
+    through : HasPassed net base (lesser (anchored_resource net.settings price) most-less) walks pools
+    through = subst (λ (r : AnchoredResource). HasPassed net base r walks pools) spare-is passed
+
+    pub all-kept : IsKept (made net base price walks pools) full
+    all-kept = subst (IsKept (made net base price walks pools)) (sym full-is)
+        (kept net places passable base price most-less few-less (one-less net.settings.max_duties checked.max_duties) full-fits walks pools through)
+
+    pub all-right : (t : Timetable) → IsSound t → AreDuties net.settings t net.duties
+        → ShowsFronts t (made net base price walks pools)
+    all-right = right net places passable base price most-less few-less (one-less net.settings.max_duties checked.max_duties) full-fits walks pools through checked

@@ -1,0 +1,129 @@
+//! What one pass leaves.
+ghost use Rattle.std.specs.Prelude.{◌≡◌, ◌<◌, [], get_or, length};
+ghost use Rattle.std.specs.Arc.{arc_value};
+ghost use Rattle.crew_anchor.specs.Stages.{anchored_resource};
+ghost use Rattle.crew_pairing.specs.Events.{IsSound};
+ghost use Rattle.crew_pairing.specs.declared.duty.Duty.{Duty};
+ghost use Rattle.crew_resource.specs.Members.{Member};
+
+use crew_anchor::AnchoredResource;
+use crew_flights::Code;
+use crew_net::Net;
+use crew_pool::{Pool, Walks};
+use std::alloc::Global;
+use std::marker::Model;
+use std::sync::Arc;
+
+/// The pools of a base, one for each departure of its network in order of report.
+///
+/// A contract sees the network, the base with its price, the walks by place, and the labels of each
+/// pool. Labels stand as of a common instant.
+#[derive(Drop)]
+pub struct Sweep {
+    net: Arc<Net, Global>,
+    base: Code,
+    price: i64,
+    resource: AnchoredResource,
+    walks: Walks,
+    pools: Vec<Pool<AnchoredResource>>,
+}
+
+impl Model for Sweep {
+    ghost use Rattle.crew_sweep.specs.Machinery.Kept.{IsKept};
+    ghost use Rattle.crew_sweep.specs.Sweeps.{BaseSweep};
+
+    ghost Value = { BaseSweep };
+
+    ghost view = { λ s. record {
+      net = s.net.value;
+      base = s.base;
+      price = s.price;
+      walks = s.walks;
+      pools = s.pools.items;
+    } };
+
+    ghost invariant = { λ s. IsKept (record {
+      net = s.net.value;
+      base = s.base;
+      price = s.price;
+      walks = s.walks;
+      pools = s.pools.items;
+    }) s.resource };
+}
+
+impl Sweep {
+    ghost use Rattle.crew_sweep.specs.Machinery.Kept.{AreKept, IsKept};
+
+    // The pools of a base, under its resource.
+    pub(crate) fn new(
+        net: Arc<Net, Global>,
+        base: Code,
+        price: i64,
+        resource: AnchoredResource,
+        walks: Walks,
+        pools: Vec<Pool<AnchoredResource>>,
+    ) -> Sweep
+        requires { IsKept (record {
+          net = arc_value net;
+          base = base;
+          price = price;
+          walks = walks;
+          pools = pools.items;
+        }) resource }
+        ensures { result ≡ record {
+          net = arc_value net;
+          base = base;
+          price = price;
+          walks = walks;
+          pools = pools.items;
+        } }
+    {
+        Sweep {
+            net,
+            base,
+            price,
+            resource,
+            walks,
+            pools,
+        }
+    }
+
+    /// The network.
+    pub fn net(&self) -> &Net
+        ensures net { result.now ≡ self.now.net }
+        ensures sound { (d : Duty) → Member self.now.net.duties d → IsSound d }
+    {
+        &self.net
+    }
+
+    /// The base.
+    pub fn base(&self) -> Code
+        ensures { result ≡ self.now.base }
+    {
+        self.base
+    }
+
+    /// The resource of the base's labels.
+    pub fn resource(&self) -> &AnchoredResource
+        ensures { result.now ≡ anchored_resource self.now.net.settings self.now.price }
+    {
+        &self.resource
+    }
+
+    /// The walks of the labels.
+    pub fn walks(&self) -> &Walks
+        ensures { result.now ≡ self.now.walks }
+    {
+        &self.walks
+    }
+
+    /// The pool of the departure that stands there in order of report.
+    pub fn pool(&self, index: usize) -> &Pool<AnchoredResource>
+        requires { index < length self.now.net.by_report }
+        ensures same { result.now ≡ get_or self.now.pools index [] }
+        ensures kept { AreKept (anchored_resource self.now.net.settings self.now.price)
+            (length self.now.net.duties) self.now.walks result.now }
+    {
+        &self.pools[index]
+    }
+}
