@@ -1,0 +1,13 @@
+pub mod Amounts
+pub mod Listed
+pub mod Pairings
+pub mod Boarded
+pub mod Departing
+pub mod Fronted
+pub mod Bases
+pub mod Reach
+pub mod Least
+pub mod Homing
+pub mod Solving
+pub mod Shown
+pub mod Entered

@@ -1,0 +1,74 @@
+-- Lists that are gone through from their first item on, and the least of what they give.
+use Rattle.std.proofs.Common.{◌≡◌, ◌∙◌, ◌<◌, ◌+◌, ℕ, zero, suc, ℤ, Bool, false, cond, ◌&&◌, ◌||◌, List, [], ◌∷◌, ◌++◌, Option, Some, append-nil, append_assoc, length, refl, sym, ap, arith, take, get_or, map}
+use Rattle.std.specs.Prelude.{◌<ℤ◌, int_lt}
+use Rattle.std.specs.List.{flat_map, range_with_len}
+use Rattle.std.specs.Ordering.{int_eq, is_lt}
+use Rattle.std.proofs.lemmas.Int.{ints}
+use Rattle.crew_pairing.specs.Keys.{walk_cmp}
+use Rattle.crew_resource.specs.Members.{Each}
+use Rattle.crew_solve.specs.Machinery.Homes.{is_cheaper, least_of, lesser}
+use Rattle.crew_vector.specs.declared.priced.PricedPairing.{PricedPairing}
+
+pub least-append : (least : Option PricedPairing) (ps qs : List PricedPairing) → least_of least (ps ++ qs) ≡ least_of (least_of least ps) qs
+least-append least [] qs = refl
+least-append least (p ∷ ps) qs = least-append (lesser least p) ps qs
+
+pub flat-append : {X Y : Type 0} (f : X → List Y) (xs ys : List X) → flat_map f (xs ++ ys) ≡ flat_map f xs ++ flat_map f ys
+flat-append f [] ys = refl
+flat-append f (x ∷ xs) ys = ap (λ l. f x ++ l) (flat-append f xs ys) ∙ sym (append_assoc (f x) (flat_map f xs) (flat_map f ys))
+
+-- an item more
+pub take-more : {X : Type 0} (xs : List X) (k : ℕ) (d : X) → k < length xs → take (k + 1) xs ≡ take k xs ++ get_or xs k d ∷ []
+take-more [] k d h = absurd (omega (arith, h))
+take-more (x ∷ xs) zero d h = refl
+take-more {X} (x ∷ xs) (suc k) d h =
+    let on : suc k + 1 ≡ suc (k + 1) = omega arith in
+    rw on (ap (λ (l : List X). x ∷ l) (take-more xs k d (omega (arith, h))))
+
+pub flat-more : {X Y : Type 0} (f : X → List Y) (xs : List X) (k : ℕ) (d : X) → k < length xs → flat_map f (take (k + 1) xs) ≡ flat_map f (take k xs) ++ f (get_or xs k d)
+flat-more f xs k d h = ap (flat_map f) (take-more xs k d h) ∙ (flat-append f (take k xs) (get_or xs k d ∷ []) ∙ ap (λ l. flat_map f (take k xs) ++ l) (append-nil (f (get_or xs k d))))
+
+range-more : (from n : ℕ) → range_with_len from (n + 1) ≡ range_with_len from n ++ (from + n) ∷ []
+range-more from zero = let e : from + 0 ≡ from = omega arith in rw e refl
+range-more from (suc n) =
+    let on : suc n + 1 ≡ suc (n + 1) = omega arith in
+    let at : from + 1 + n ≡ from + suc n = omega arith in
+    rw on (ap (λ l. from ∷ l) (range-more (from + 1) n ∙ ap (λ k. range_with_len (from + 1) n ++ k ∷ []) at))
+
+pub flat-range : {Y : Type 0} (f : ℕ → List Y) (n : ℕ) → flat_map f (range_with_len 0 (n + 1)) ≡ flat_map f (range_with_len 0 n) ++ f n
+flat-range f n =
+    let at : 0 + n ≡ n = omega arith in
+    ap (flat_map f) (range-more 0 n) ∙ (flat-append f (range_with_len 0 n) ((0 + n) ∷ []) ∙ (ap (λ l. flat_map f (range_with_len 0 n) ++ l) (append-nil (f (0 + n))) ∙ ap (λ k. flat_map f (range_with_len 0 n) ++ f k) at))
+
+-- each item
+pub each-at : {X : Type 0} (P : X → Type 0) (xs : List X) (k : ℕ) (d : X) → k < length xs → Each P xs → P (get_or xs k d)
+each-at P [] k d h e = absurd (omega (arith, h))
+each-at P (x ∷ xs) zero d h e = e.0
+each-at P (x ∷ xs) (suc k) d h e = each-at P xs k d (omega (arith, h)) e.1
+
+-- a place below the length holds the same whatever stands beyond the end
+pub get-same : {X : Type 0} (xs : List X) (k : ℕ) (c d : X) → k < length xs → get_or xs k c ≡ get_or xs k d
+get-same [] k c d h = absurd (omega (arith, h))
+get-same (x ∷ xs) zero c d h = refl
+get-same (x ∷ xs) (suc k) c d h = get-same xs k c d (omega (arith, h))
+
+-- the lesser of two
+not-less : (a b : ℤ) → a <ℤ b → (int_lt b a ≡ false) × (int_eq b a ≡ false)
+not-less a b h = (grind (arith, ints), grind (arith, ints))
+
+pub lesser-dearer : (best p : PricedPairing) → best.cost <ℤ p.cost → lesser (Some best) p ≡ Some best
+lesser-dearer best p h =
+    let k = not-less best.cost p.cost h in
+    ap (λ b. Some (cond (b || (int_eq p.cost best.cost && is_lt (walk_cmp p.walk best.walk))) p best)) k.0
+    ∙ ap (λ b. Some (cond (b && is_lt (walk_cmp p.walk best.walk)) p best)) k.1
+
+pub lesser-by : (best p : PricedPairing) (b : Bool) → is_cheaper p best ≡ b → lesser (Some best) p ≡ Some (cond b p best)
+lesser-by best p b e = ap (λ z. Some (cond z p best)) e
+
+pub least-one-more : {X : Type 0} (least : Option PricedPairing) (f : X → PricedPairing) (xs : List X) (x : X) → least_of least (map f (xs ++ x ∷ [])) ≡ lesser (least_of least (map f xs)) (f x)
+least-one-more least f [] x = refl
+least-one-more least f (y ∷ xs) x = least-one-more (lesser least (f y)) f xs x
+
+pub each-push : {X : Type 0} (P : X → Type 0) (xs : List X) (x : X) → Each P xs → P x → Each P (xs ++ x ∷ [])
+each-push P [] x h p = (p, tt)
+each-push P (y ∷ xs) x h p = (h.0, each-push P xs x h.1 p)

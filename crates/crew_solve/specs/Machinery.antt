@@ -1,0 +1,3 @@
+-- The pairings that come home.
+pub mod Homes
+pub mod Solved

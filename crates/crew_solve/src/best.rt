@@ -1,0 +1,221 @@
+//! The least pairing of all that comes home.
+ghost use Rattle.std.specs.Prelude.{◌≡◌, ◌<◌, ◌≤◌, ℕ, IfOk, None, Some, length, slice_get};
+ghost use Rattle.std.specs.List.{flat_map};
+ghost use Rattle.crew_pairing.specs.Events.{IsSound, departure_of};
+ghost use Rattle.crew_pairing.specs.declared.duty.Duty.{Duty};
+ghost use Rattle.crew_pool.specs.LabelWalks.{walk_of_label};
+ghost use Rattle.crew_resource.specs.Machinery.Sum.{LiesWithin};
+ghost use Rattle.crew_resource.specs.Members.{Each, Member};
+ghost use Rattle.crew_solve.specs.Machinery.Homes as Spec;
+ghost use Rattle.crew_solve.specs.Machinery.Homes.{HasPay, IsFit, IsShowable};
+ghost use Rattle.crew_sweep.specs.Sweeps.{in_order};
+
+use crew_flights::Code;
+use crew_pairing::{Duty, PairingVector, Walk};
+use crew_pool::{LabelWalk, View};
+use crew_sweep::Sweep;
+use crew_vector::PricedPairing;
+use std::alloc::{AllocError, Global};
+
+// The pairing of a vector and a walk that come home to a base.
+fn priced(trip_rig: u32, base: Code, vector: &PairingVector, walk: Walk) -> PricedPairing
+    requires { HasPay trip_rig vector.now }
+    ensures { result ≡ Spec.priced trip_rig base vector.now walk }
+{
+    let cost = vector.reduced_cost();
+    let prices = i64::from(trip_rig) * vector.away - vector.trip_rig;
+    PricedPairing {
+        base,
+        walk,
+        cost,
+        pay: cost + prices,
+        away: vector.away,
+    }
+}
+
+// Whether one is less than another, by cost and then by walk.
+fn is_cheaper(pairing: &PricedPairing, other: &PricedPairing) -> bool
+    ensures { result ≡ Spec.is_cheaper pairing.now other.now }
+{
+    pairing.cost < other.cost || (pairing.cost == other.cost && pairing.walk < other.walk)
+}
+
+/// A label's walk by key.
+pub(crate) fn walk_of(alloc: Global, sweep: &Sweep, label: LabelWalk) -> Result<Walk, AllocError>
+    requires there { label.walk < length sweep.now.walks }
+    requires ranked { Each (λ rank. rank < length sweep.now.net.duties)
+        (walk_of_label sweep.now.walks label) }
+    ensures { IfOk result (λ walk. walk ≡ Spec.walk_by_key sweep.now label) }
+{
+    let ranks = sweep.walks().ranks(alloc, label)?;
+    let duties = sweep.net().duties().as_slice();
+    let mut keys = Vec::with_capacity(alloc, ranks.len())?;
+    for &rank in &ranks {
+        keys.push(duties[rank as usize].key.copy())?;
+    }
+    Ok(Walk::new(keys))
+}
+
+// The pairing of a label whose vector is shown.
+fn pairing_of(
+    alloc: Global,
+    sweep: &Sweep,
+    trip_rig: u32,
+    vector: &PairingVector,
+    label: LabelWalk,
+) -> Result<PricedPairing, AllocError>
+    requires pay { HasPay trip_rig vector.now }
+    requires there { label.walk < length sweep.now.walks }
+    requires ranked { Each (λ rank. rank < length sweep.now.net.duties)
+        (walk_of_label sweep.now.walks label) }
+    ensures { IfOk result (λ pairing. pairing ≡ Spec.priced trip_rig sweep.now.base vector.now
+        (Spec.walk_by_key sweep.now label)) }
+{
+    let walk = walk_of(alloc, sweep, label)?;
+    Ok(priced(trip_rig, sweep.base(), vector, walk))
+}
+
+// The least with a label's pairing, whose walk is made only where it may be the least.
+fn least_with(
+    alloc: Global,
+    sweep: &Sweep,
+    trip_rig: u32,
+    minute: i64,
+    least: Option<PricedPairing>,
+    label: &(PairingVector, LabelWalk),
+) -> Result<Option<PricedPairing>, AllocError>
+    requires rate { trip_rig ≡ sweep.now.net.settings.trip_rig }
+    requires minute { LiesWithin 2_147_483_648 minute }
+    requires showable { IsShowable sweep.now minute label.now.0 }
+    requires there { label.now.1.walk < length sweep.now.walks }
+    requires ranked { Each (λ rank. rank < length sweep.now.net.duties)
+        (walk_of_label sweep.now.walks label.now.1) }
+    ensures { IfOk result (λ next. next
+        ≡ Spec.lesser least (Spec.pairing_at sweep.now minute label.now)) }
+{
+    let vector = sweep.resource().show(&label.0, minute);
+    let Some(best) = least else {
+        return Ok(Some(pairing_of(alloc, sweep, trip_rig, &vector, label.1)?));
+    };
+    if best.cost < vector.reduced_cost() {
+        return Ok(Some(best));
+    }
+    let pairing = pairing_of(alloc, sweep, trip_rig, &vector, label.1)?;
+    if is_cheaper(&pairing, &best) {
+        Ok(Some(pairing))
+    } else {
+        Ok(Some(best))
+    }
+}
+
+// The least with the pairings that a duty ends.
+fn least_by(
+    alloc: Global,
+    sweep: &Sweep,
+    trip_rig: u32,
+    index: usize,
+    rank: u32,
+    duty: &Duty,
+    least: Option<PricedPairing>,
+) -> Result<Option<PricedPairing>, AllocError>
+    requires rate { trip_rig ≡ sweep.now.net.settings.trip_rig }
+    requires index { index < length sweep.now.net.by_report }
+    requires duty { slice_get sweep.now.net.duties rank ≡ Some duty.now }
+    requires own { slice_get (in_order sweep.now.net) index ≡ Some (departure_of duty.now) }
+    requires sound { IsSound duty.now }
+    requires fit { IsFit sweep.now }
+    ensures { IfOk result (λ next. next
+        ≡ Spec.least_of least (Spec.ended_by sweep.now index duty.now)) }
+{
+    let minute = i64::from(duty.release);
+    let view = View::new(sweep.resource(), sweep.pool(index), duty, rank);
+    let mut least = least;
+    for label in view.iter() {
+        least = least_with(alloc, sweep, trip_rig, minute, least, &label)?;
+    }
+    Ok(least)
+}
+
+// The least with what comes home by the duty of a rank.
+fn least_at(
+    alloc: Global,
+    sweep: &Sweep,
+    trip_rig: u32,
+    index: usize,
+    rank: u32,
+    least: Option<PricedPairing>,
+) -> Result<Option<PricedPairing>, AllocError>
+    requires rate { trip_rig ≡ sweep.now.net.settings.trip_rig }
+    requires index { index < length sweep.now.net.by_report }
+    requires rank { rank < length sweep.now.net.duties }
+    requires own { (d : Duty) → slice_get sweep.now.net.duties rank ≡ Some d
+        → slice_get (in_order sweep.now.net) index ≡ Some (departure_of d) }
+    requires fit { IsFit sweep.now }
+    ensures { IfOk result (λ next. next
+        ≡ Spec.least_of least (Spec.home_at sweep.now index rank)) }
+{
+    let duty = &sweep.net().duties().as_slice()[rank as usize];
+    if duty.to != sweep.base() {
+        return Ok(least);
+    }
+    least_by(alloc, sweep, trip_rig, index, rank, duty, least)
+}
+
+// The least with what comes home by the duties of a departure.
+fn least_from(
+    alloc: Global,
+    sweep: &Sweep,
+    trip_rig: u32,
+    index: usize,
+    least: Option<PricedPairing>,
+) -> Result<Option<PricedPairing>, AllocError>
+    requires rate { trip_rig ≡ sweep.now.net.settings.trip_rig }
+    requires index { index < length sweep.now.net.by_report }
+    requires fit { IsFit sweep.now }
+    ensures { IfOk result (λ next. next
+        ≡ Spec.least_of least (Spec.home_from sweep.now index)) }
+{
+    let place = sweep.net().by_report()[index] as usize;
+    let ranks = sweep.net().leaving(place);
+    let mut least = least;
+    for &rank in ranks {
+        least = least_at(alloc, sweep, trip_rig, index, rank, least)?;
+    }
+    Ok(least)
+}
+
+// The least with all that comes home to a base.
+fn least_of(
+    alloc: Global,
+    sweep: &Sweep,
+    trip_rig: u32,
+    least: Option<PricedPairing>,
+) -> Result<Option<PricedPairing>, AllocError>
+    requires rate { trip_rig ≡ sweep.now.net.settings.trip_rig }
+    requires fit { IsFit sweep.now }
+    ensures { IfOk result (λ next. next ≡ Spec.least_of least (Spec.home_of sweep.now)) }
+{
+    let mut least = least;
+    for index in 0..sweep.net().by_report().len() {
+        least = least_from(alloc, sweep, trip_rig, index, least)?;
+    }
+    Ok(least)
+}
+
+/// The least of all that comes home to its base.
+pub(crate) fn best_of(
+    alloc: Global,
+    sweeps: &[Sweep],
+    trip_rig: u32,
+) -> Result<Option<PricedPairing>, AllocError>
+    requires rate { Each (λ b. trip_rig ≡ b.net.settings.trip_rig) sweeps.now }
+    requires fit { Each IsFit sweeps.now }
+    ensures { IfOk result (λ best. best
+        ≡ Spec.least_of None (flat_map Spec.home_of sweeps.now)) }
+{
+    let mut best = None;
+    for sweep in sweeps {
+        best = least_of(alloc, sweep, trip_rig, best)?;
+    }
+    Ok(best)
+}

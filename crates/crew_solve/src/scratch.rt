@@ -1,0 +1,76 @@
+//! From a timetable to its fronts and its best pairing.
+ghost use Rattle.std.specs.Prelude.{◌≡◌, ◌≤◌, Err, IfOk, OnOk, length};
+ghost use Rattle.std.specs.Arc.{arc_value};
+ghost use Rattle.crew_net.specs.Nets.{IsNetOf};
+ghost use Rattle.crew_pairing.specs.Duties.{AreDuties, HasFew, HasTooMany};
+ghost use Rattle.crew_rules.specs.Settings.{IsChecked};
+ghost use Rattle.crew_solve.specs.Solutions.{HasNetOf, front_of};
+ghost use Rattle.crew_vector.specs.Bests.{IsScratch};
+
+use crate::best::best_of;
+use crate::solution::Solution;
+use crate::sweeps::sweep_all;
+use crew_duty::{Duties, DutyFault, list_duties};
+use crew_flights::Timetable;
+use crew_net::{Net, arrival_places};
+use crew_rules::Settings;
+use std::alloc::{AllocError, Global};
+use std::sync::Arc;
+use std::thread::Threads;
+
+// The network of all legal duties, to be shared.
+fn net_of(
+    alloc: Global,
+    settings: &Settings,
+    timetable: &Timetable,
+    duties: Duties,
+) -> Result<Arc<Net, Global>, AllocError>
+    requires checked { IsChecked settings.now }
+    requires duties { AreDuties settings.now timetable.now duties }
+    requires few { length duties ≤ 200_000 }
+    ensures { IfOk result (λ net. IsNetOf settings.now timetable.now duties (arc_value net)) }
+{
+    let duties = Arc::new(alloc, duties)?;
+    Ok(Arc::new(alloc, Net::build(alloc, settings, timetable, duties)?)?)
+}
+
+// All fronts and the best pairing, given all legal duties.
+fn solve_over(
+    alloc: Global,
+    settings: &Settings,
+    timetable: &Timetable,
+    duties: Duties,
+) -> Result<Solution, AllocError>
+    requires checked { IsChecked settings.now }
+    requires duties { AreDuties settings.now timetable.now duties }
+    requires few { length duties ≤ 200_000 }
+    ensures scratch { IfOk result (λ solution. IsScratch settings.now timetable.now
+        (front_of solution) solution.best) }
+    ensures network { IfOk result (HasNetOf settings.now timetable.now) }
+{
+    let net = net_of(alloc, settings, timetable, duties)?;
+    let places = arrival_places(alloc, &net)?;
+    let sweeps = sweep_all(alloc, timetable, &net, &places)?;
+    let best = best_of(alloc, &sweeps, settings.trip_rig)?;
+    Ok(Solution::new(net, sweeps, best))
+}
+
+/// All fronts and the best pairing of a timetable, from scratch. `TooManyDuties` exactly where it
+/// has more than 200,000 legal duties, or `Memory`.
+pub fn solve<R: Threads + Sync>(
+    rt: &R,
+    alloc: Global,
+    settings: &Settings,
+    timetable: &Timetable,
+) -> Result<Solution, DutyFault>
+    requires { IsChecked settings.now }
+    ensures scratch { IfOk result (λ solution. IsScratch settings.now timetable.now
+        (front_of solution) solution.best) }
+    ensures network { IfOk result (HasNetOf settings.now timetable.now) }
+    ensures few { OnOk result (HasFew settings.now timetable.now) }
+    ensures too_many { result ≡ Err DutyFault.TooManyDuties
+        → HasTooMany settings.now timetable.now }
+{
+    let duties = list_duties(rt, alloc, settings, timetable)?;
+    Ok(solve_over(alloc, settings, timetable, duties)?)
+}

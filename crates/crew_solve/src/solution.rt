@@ -1,0 +1,98 @@
+//! What a timetable gives.
+ghost use Rattle.std.specs.Arc.{arc_value};
+ghost use Rattle.std.specs.Option.{option_copied};
+ghost use Rattle.std.specs.Prelude.{◌≡◌, IfOk};
+ghost use Rattle.crew_solve.specs.Machinery.Solved.{IsSolved};
+ghost use Rattle.crew_solve.specs.Solutions.{IsFrontOf};
+
+use crate::entries::{entries_at, place_of, sweep_of};
+use crew_flights::Code;
+use crew_net::{Net, Node};
+use crew_pairing::{Key, PairingVector, Walk};
+use crew_sweep::Sweep;
+use crew_vector::PricedPairing;
+use std::alloc::{AllocError, Global};
+use std::marker::Model;
+use std::sync::Arc;
+
+/// The fronts of all bases and legal duties of a timetable, and its best pairing.
+///
+/// A contract sees the network, the sweep of each base, and the best.
+#[derive(Drop)]
+pub struct Solution {
+    net: Arc<Net, Global>,
+    sweeps: Vec<Sweep>,
+    best: Option<PricedPairing>,
+}
+
+impl Model for Solution {
+    ghost use Rattle.crew_solve.specs.Solutions as Spec;
+
+    ghost Value = { Spec.Solution };
+
+    ghost view = { λ s. record { net = s.net.value; sweeps = s.sweeps.items; best = s.best } };
+
+    ghost use Rattle.crew_solve.specs.Machinery.Solved.{IsSolved};
+
+    ghost invariant = { λ s. IsSolved s.net.value s.sweeps.items };
+}
+
+impl Solution {
+    // What a timetable gives.
+    pub(crate) fn new(
+        net: Arc<Net, Global>,
+        sweeps: Vec<Sweep>,
+        best: Option<PricedPairing>,
+    ) -> Self
+        requires { IsSolved (arc_value net) sweeps.items }
+        ensures { result ≡ record { net = arc_value net; sweeps = sweeps.items; best = best } }
+    {
+        Solution { net, sweeps, best }
+    }
+
+    /// The network.
+    pub fn net(&self) -> &Net
+        ensures { result.now ≡ self.now.net }
+    {
+        &self.net
+    }
+
+    /// The best pairing, if there is one.
+    pub fn best(&self) -> Option<&PricedPairing>
+        ensures { option_copied result ≡ self.now.best }
+    {
+        self.best.as_ref()
+    }
+
+    /// The best pairing alone, if there is one.
+    pub fn into_best(self) -> Option<PricedPairing>
+        ensures { result ≡ self.best }
+    {
+        self.best
+    }
+
+    /// The front of a base and the duty of a key, in order of vector: each vector with its walk.
+    /// `None` where the code is no base or the key is no legal duty's.
+    pub fn front(
+        &self,
+        alloc: Global,
+        base: Code,
+        key: &Key,
+    ) -> Result<Option<Vec<(PairingVector, Walk)>>, AllocError>
+        ensures { IfOk result (IsFrontOf self.now base key.now) }
+    {
+        let node = Node {
+            base,
+            key: key.copy(),
+        };
+        let Some(rank) = self.net.rank(&node) else {
+            return Ok(None);
+        };
+        let Some(sweep) = sweep_of(&self.sweeps, base) else {
+            return Ok(None);
+        };
+        let duty = &sweep.net().duties().as_slice()[rank];
+        let index = place_of(sweep.net(), duty);
+        Ok(Some(entries_at(alloc, sweep, index, rank as u32, duty)?))
+    }
+}
