@@ -1,1 +1,3 @@
+pub mod DashFacts
+pub mod DutyFacts
 pub mod NumberFacts

@@ -3,11 +3,11 @@ use Rattle.std.specs.Prelude.{ℕ, List, Result, Ok, Err, codes, if◌then◌els
 use Rattle.std.specs.Str.{bytes_eq}
 use Rattle.crew_time.specs.Instant.{IsInYears}
 use Rattle.crew_flights.specs.declared.edit.Edit.TheVariants as edit
-use Rattle.crew_records.specs.Fields.{Fields, ◌>>=◌, count_field, field_of, code_field, id_field, limit_field, price_field, time_field, zone_field}
+use Rattle.crew_records.specs.Fields.{Fields, ◌>>=◌, count_field, field_of, code_field, duty_field, id_field, limit_field, price_field, time_field, zone_field}
 use Rattle.crew_records.specs.declared.fault.RecordFault.{RecordFault}
 use Rattle.crew_records.specs.declared.fault.RecordFault.TheVariants.{UnknownRecord}
 use Rattle.crew_records.specs.declared.command.Command.{Command}
-use Rattle.crew_records.specs.declared.command.Command.TheVariants.{AddZone, Submit, AddFlight, Retime, Settle, Best, Audit, Refuse}
+use Rattle.crew_records.specs.declared.command.Command.TheVariants.{AddZone, Submit, AddFlight, Retime, Settle, Best, ShowFront, Audit, Refuse}
 
 -- ---- each kind of record: its number of fields, then its fields from left to right
 
@@ -72,6 +72,14 @@ price_command fields = do
   price ← price_field (field_of fields 2)
   Ok (Submit (edit.Price id price))
 
+-- front,CODE,DUTY
+unfoldable pub front_command : Fields → Result Command RecordFault
+front_command fields = do
+  count ← count_field fields 3
+  base ← code_field (field_of fields 1)
+  key ← duty_field (field_of fields 2)
+  Ok (ShowFront base key)
+
 -- audit,LIMIT
 unfoldable pub audit_command : Fields → Result Command RecordFault
 audit_command fields = do
@@ -98,8 +106,9 @@ kind_of name fields =
     else (if bytes_eq name (codes "price") then price_command fields
     else (if bytes_eq name (codes "settle") then plain_command fields Settle
     else (if bytes_eq name (codes "best") then plain_command fields Best
+    else (if bytes_eq name (codes "front") then front_command fields
     else (if bytes_eq name (codes "audit") then audit_command fields
-    else Err UnknownRecord)))))))))
+    else Err UnknownRecord))))))))))
 
 abbrev pub named_command : Fields → Result Command RecordFault
 named_command fields = kind_of (field_of fields 0) fields
@@ -120,5 +129,6 @@ IsDated (AddFlight id from to dep arr price) = IsInYears dep
 IsDated (Retime id from dep arr) = IsInYears dep
 IsDated Settle = Unit {0}
 IsDated Best = Unit {0}
+IsDated (ShowFront base key) = Unit {0}
 IsDated (Audit limit) = Unit {0}
 IsDated (Refuse fault) = Unit {0}

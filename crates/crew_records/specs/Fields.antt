@@ -1,14 +1,15 @@
 -- What a field of a record means. A field is a list of bytes.
-use Rattle.std.specs.Prelude.{◌+◌, ◌-◌, ◌*◌, ◌&&◌, ◌==◌, ℕ, ℤ, pos, neg_ℤ, nat_le, nat_lt, not, slice_index, Bool, List, [], ◌∷◌, Option, Some, None, Result, Ok, Err, length, codes, if◌then◌else◌}
+use Rattle.std.specs.Prelude.{◌+◌, ◌-◌, ◌*◌, ◌&&◌, ◌==◌, ℕ, ℤ, pos, neg_ℤ, nat_le, nat_lt, not, slice_index, take, Bool, true, false, List, [], ◌∷◌, Option, Some, None, Result, Ok, Err, length, codes, if◌then◌else◌}
 use Rattle.std.specs.Result.{result_map_both}
 use Rattle.std.specs.Char.{is_ascii_digit}
-use Rattle.std.specs.List.{list_all}
+use Rattle.std.specs.List.{list_all, slice_split}
 use Rattle.std.specs.Str.{bytes_eq}
 use Rattle.csv.specs.Records.{field_at}
 use Rattle.jiff_tz.specs.PosixText.{TzText}
 use Rattle.crew_time.specs.Civil.{text_minute}
 use Rattle.crew_time.specs.Zone.{text_zone}
 use Rattle.crew_flights.specs.Codes.{is_code}
+use Rattle.crew_pairing.specs.Legs.{Leg}
 use Rattle.crew_records.specs.declared.fault.RecordFault.{RecordFault}
 use Rattle.crew_records.specs.declared.fault.RecordFault.TheVariants.{Text, BadField, FieldCount}
 
@@ -76,3 +77,30 @@ time_field f = result_map_both (λ m. m) Text (text_minute f)
 -- ZONE: the text of a rule
 abbrev pub zone_field : List ℕ → Result TzText RecordFault
 zone_field f = result_map_both (λ z. z) Text (text_zone f)
+
+-- a leg: an ID, with a `d` after it where the crew rides
+abbrev pub leg_with : List ℕ → Bool → Result Leg RecordFault
+leg_with f deadhead =
+    result_map_both (λ id. record { flight = id; deadhead = deadhead }) (λ e. e) (id_field f)
+
+abbrev pub leg_field : List ℕ → Result Leg RecordFault
+leg_field f =
+    if slice_index f (length f - 1) == 100 then leg_with (take (length f - 1) f) true
+    else leg_with f false
+
+-- a leg for each text
+abbrev pub legs_field : List (List ℕ) → Result (List Leg) RecordFault
+legs_field [] = Ok []
+legs_field (f ∷ fs) = leg_field f >>= (λ leg. legs_field fs >>= (λ legs. Ok (leg ∷ legs)))
+
+-- the byte between two legs
+abbrev pub is_dash : ℕ → Bool
+is_dash b = b == 45
+
+-- up to eight legs
+abbrev pub up_to_8 : List Leg → Result (List Leg) RecordFault
+up_to_8 legs = if nat_le (length legs) 8 then Ok legs else Err BadField
+
+-- DUTY: 1 to 8 legs joined by `-`
+abbrev pub duty_field : List ℕ → Result (List Leg) RecordFault
+duty_field f = legs_field (slice_split is_dash f) >>= up_to_8

@@ -1,3 +1,4 @@
 pub mod Commands
 pub mod Faults
 pub mod Fields
+pub mod Machinery

@@ -7,9 +7,10 @@ ghost use Rattle.crew_records.specs.Commands as Spec;
 
 use crate::fault::RecordFault;
 use crate::fields::{
-    count_fields, field, read_code, read_id, read_limit, read_price, read_time, read_zone,
+    count_fields, field, read_code, read_id, read_key, read_limit, read_price, read_time, read_zone,
 };
 use crew_flights::{Code, Edit, FlightId};
+use crew_pairing::Key;
 use crew_time::{Minute, Zone};
 use csv::ByteRecord;
 
@@ -43,6 +44,11 @@ pub enum Command {
     Settle,
     /// The best pairing of the last version.
     Best,
+    /// The front of a base and the duty of a key in the last version.
+    ShowFront {
+        base: Code,
+        key: Key,
+    },
     /// The partial pairings of the last version, where there are at most so many.
     Audit {
         limit: u32,
@@ -140,6 +146,17 @@ fn price_command(row: &ByteRecord) -> Result<Command, RecordFault>
     Ok(Command::Submit(Edit::Price { id, price }))
 }
 
+#[tactic(auto, unfolding(crate::specs::Commands::front_command))]
+fn front_command(row: &ByteRecord) -> Result<Command, RecordFault>
+    ensures value { result ≡ Spec.front_command (fields_of row.now) }
+    ensures dated { IfOk result IsDated }
+{
+    count_fields(row, 3)?;
+    let base = read_code(field(row, 1))?;
+    let key = read_key(field(row, 2))?;
+    Ok(Command::ShowFront { base, key })
+}
+
 #[tactic(auto, unfolding(crate::specs::Commands::audit_command))]
 fn audit_command(row: &ByteRecord) -> Result<Command, RecordFault>
     ensures value { result ≡ Spec.audit_command (fields_of row.now) }
@@ -192,6 +209,9 @@ fn named_command(row: &ByteRecord) -> Result<Command, RecordFault>
     }
     if name == b"best".as_slice() {
         return plain_command(row, Command::Best);
+    }
+    if name == b"front".as_slice() {
+        return front_command(row);
     }
     if name == b"audit".as_slice() {
         return audit_command(row);

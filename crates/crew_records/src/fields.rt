@@ -1,14 +1,17 @@
 //! Readers of the fields of records.
 
-ghost use Rattle.std.specs.Prelude.{◌≡◌, ◌<◌, ◌≤◌, ◌^◌, ◌+◌, ◌-◌, ◌*◌, IfOk, length, slice_index, true};
+ghost use Rattle.std.specs.Prelude.{◌≡◌, ◌<◌, ◌≤◌, ◌^◌, ◌+◌, ◌-◌, ◌*◌, ◌∷◌, IfOk, length, slice_index, true};
 ghost use Rattle.std.specs.Char.{is_ascii_digit};
-ghost use Rattle.std.specs.List.{list_all};
+ghost use Rattle.std.specs.List.{list_all, position, slice_split};
+ghost use Rattle.crew_records.specs.Machinery.Cuts.{texts_of};
+ghost use Rattle.std.specs.Option.{option_map};
 ghost use Rattle.csv.specs.Records.{fields_of};
 ghost use Rattle.crew_time.specs.Instant.{IsInYears};
 ghost use Rattle.crew_records.specs.Fields as Spec;
 
 use crate::fault::RecordFault;
 use crew_flights::{Code, FlightId};
+use crew_pairing::{Key, Leg};
 use crew_time::{Minute, Zone};
 use csv::ByteRecord;
 
@@ -92,6 +95,53 @@ pub(crate) fn read_id(field: &[u8]) -> Result<FlightId, RecordFault>
 {
     let number = read_number(field, 6)?;
     FlightId::new(number as u32).ok_or(RecordFault::BadField)
+}
+
+// A leg: a flight's number, with a `d` after it where the crew rides.
+fn read_leg(field: &[u8]) -> Result<Leg, RecordFault>
+    ensures { result ≡ Spec.leg_field field.now }
+{
+    match field.split_last() {
+        Some((b'd', id)) => Ok(Leg::new(read_id(id)?, true)),
+        _ => Ok(Leg::new(read_id(field)?, false)),
+    }
+}
+
+// Where the first `-` stands.
+fn first_dash(field: &[u8]) -> Option<usize>
+    ensures { result ≡ position Spec.is_dash field.now }
+{
+    field.iter().position(|b| *b == b'-')
+}
+
+// The text before the first `-`, and the text after it if there is one.
+fn cut(field: &[u8]) -> (&[u8], Option<&[u8]>)
+    ensures { slice_split Spec.is_dash field.now ≡ result.0.now ∷ texts_of (option_map (λ rest. rest.now) result.1) }
+{
+    match first_dash(field) {
+        None => (field, None),
+        Some(at) => (&field[..at], Some(&field[at + 1..])),
+    }
+}
+
+// The key of a duty: at most eight legs joined by `-`.
+pub(crate) fn read_key(field: &[u8]) -> Result<Key, RecordFault>
+    ensures { result ≡ Spec.duty_field field.now }
+{
+    let (first, mut rest) = cut(field);
+    let mut key = Key::of(read_leg(first)?);
+    for _ in 1..8u32 {
+        let Some(text) = rest else {
+            return Ok(key);
+        };
+        let (next, after) = cut(text);
+        key.push(read_leg(next)?);
+        rest = after;
+    }
+    match rest {
+        None => Ok(key),
+        Some(_) => Err(RecordFault::BadField),
+    }
 }
 
 // The most that an audit lists.

@@ -1,0 +1,2 @@
+-- What the readers of fields work with.
+pub mod Cuts
