@@ -1,5 +1,6 @@
 pub mod LineFacts
-pub mod OfferFacts
+pub mod OpeningFacts
 pub mod RowFacts
 pub mod SessionFacts
+pub mod SolutionFacts
 pub mod ZoneFacts

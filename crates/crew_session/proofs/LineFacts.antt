@@ -4,7 +4,10 @@ use Rattle.std.specs.Prelude.{slice_get}
 use Rattle.std.specs.Io.KnownBytes.{Appends}
 use Rattle.std.proofs.lemmas.List.{append-nil}
 use Rattle.crew_flights.specs.declared.edit.Verdict.{Verdict}
-use Rattle.crew_session.specs.Lines.{refused_lines}
+use Rattle.std.specs.List.{flat_map}
+use Rattle.crew_pairing.specs.Legs.{Leg}
+use Rattle.crew_pairing.specs.declared.vector.PairingVector.{PairingVector}
+use Rattle.crew_session.specs.Lines.{entry_line, refused_lines}
 use Rattle.crew_session.specs.Verdicts.{verdict_text}
 
 pub appends-none : (w : Option (List ℕ)) → Appends w w []
@@ -33,6 +36,11 @@ pub refused-more : (ns : List ℕ) (vs : List Verdict) (first i : ℕ) → i < l
 refused-more ns vs first i h =
     let next : first + (i + 1) ≡ suc (first + i) = omega arith in
     rw (next, drop-cons ns i 0, add-one i) (one-more vs (first + i) (get_or ns i 0) (drop (suc i) ns))
+
+-- the line of the entry at a place, and then the others
+pub entries-more : (entries : List (PairingVector × List (List Leg))) (i : ℕ) (entry : PairingVector × List (List Leg)) → i < length entries
+    → flat_map entry_line (drop i entries) ≡ entry_line (get_or entries i entry) ++ flat_map entry_line (drop (i + 1) entries)
+entries-more entries i entry h = rw (drop-cons entries i entry, add-one i) refl
 
 -- nothing is left
 pub refused-all : (ns : List ℕ) (vs : List Verdict) (i : ℕ) → length ns < i + 1 → refused_lines (drop i ns) vs ≡ []

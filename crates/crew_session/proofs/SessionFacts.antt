@@ -23,8 +23,10 @@ use Rattle.crew_session.specs.Versions.{Snapshot, opening}
 use Rattle.crew_session.specs.declared.journal.Journal.{Journal}
 use Rattle.crew_session.specs.declared.session.Ending.TheVariants.{AtEnd, TooManyRecords}
 use Rattle.crew_session.specs.Audits.{Audits}
+use Rattle.crew_session.specs.Fronts.{ShowsFront}
+use Rattle.crew_pairing.specs.Legs.{Leg}
 use Rattle.crew_records.specs.declared.command.Command.{Command}
-use Rattle.crew_records.specs.declared.command.Command.TheVariants.{Audit}
+use Rattle.crew_records.specs.declared.command.Command.TheVariants.{Audit, ShowFront}
 use Rattle.crew_session.proofs.LineFacts.{appends-both, appends-none}
 
 -- a session has come this far: what it wrote, with what the records that are left write, is what all write
@@ -84,6 +86,13 @@ pub did : {F : Type 0} (r : Result (Unit {0}) F) (old new : Option (List ℕ)) (
 did (Ok u) old new s number command kind a b p q e f does came =
     (q.1, subst (λ (x : State × List ℕ). Appends old new x.1) f came.0, subst (λ (k : Command). Obeys s number k a b q.1) (sym e) (does q.1 (came.1 ∙ ap (λ (x : State × List ℕ). x.0) f, refl)))
 did (Err x) old new s number command kind a b p q e f does came = tt
+
+-- a front changes nothing
+pub fronted : {F : Type 0} (r : Result (Unit {0}) F) (old new : Option (List ℕ)) (s : Settings) (number : ℕ) (base : List ℕ) (key : List Leg) (command : Command) (j : Journal) (v w : Snapshot) (taken : List Entry) → command ≡ ShowFront base key → w ≡ v
+    → OnOk r ((text : List ℕ) × Appends old new text × ShowsFront base key w text) → OnOk r ((text : List ℕ) × Appends old new text × Obeys s number command (state_of j v taken) (state_of j v taken) text)
+fronted (Ok u) old new s number base key command j v w taken e f told =
+    (told.0, told.1, subst (λ (k : Command). Obeys s number k (state_of j v taken) (state_of j v taken) told.0) (sym e) (refl, subst (λ (x : Snapshot). ShowsFront base key x told.0) f told.2))
+fronted (Err x) old new s number base key command j v w taken e f told = tt
 
 -- an audit changes nothing
 pub audited : {F : Type 0} (r : Result (Unit {0}) F) (old new : Option (List ℕ)) (s : Settings) (number limit : ℕ) (command : Command) (j : Journal) (v w : Snapshot) (taken : List Entry) → command ≡ Audit limit → w ≡ v

@@ -1,7 +1,7 @@
 pub mod Audits
-pub mod Bests
 pub mod Engines
 pub mod Faults
+pub mod Fronts
 pub mod Lines
 pub mod Rows
 pub mod Session

@@ -2,13 +2,15 @@
 use Rattle.std.specs.Prelude.{ℕ, ℤ, ◌++◌, List, [], ◌∷◌, Option, Some, None, codes, decimal, length, map, if◌then◌else◌}
 use Rattle.std.specs.Fmt.{signed_decimal}
 use Rattle.std.specs.FinMap as fin
+use Rattle.std.specs.List.{flat_map}
 use Rattle.crew_flights.specs.Refusals.{number_of}
 use Rattle.crew_flights.specs.declared.edit.Verdict.{Verdict}
 use Rattle.crew_flights.specs.declared.edit.Verdict.TheVariants.{Accepted, Refused}
 use Rattle.crew_pairing.specs.Legs.{Leg}
+use Rattle.crew_pairing.specs.declared.vector.PairingVector.{PairingVector}
 use Rattle.crew_audit.specs.declared.tally.Tally.{Tally}
 use Rattle.crew_session.specs.Versions.{Snapshot, timetable_of}
-use Rattle.crew_session.specs.declared.best.Best.{Best}
+use Rattle.crew_vector.specs.declared.priced.PricedPairing.{PricedPairing}
 
 -- texts with a byte between each two
 abbrev pub after_first : ℕ → List (List ℕ) → List ℕ
@@ -55,7 +57,7 @@ version_line v =
     ++ codes " entries " ++ decimal (length v.entries)
     ++ codes " flights " ++ decimal (fin.len (timetable_of v.entries).flights) ++ codes "\n"
 
-abbrev pub best_line : Option Best → List ℕ
+abbrev pub best_line : Option PricedPairing → List ℕ
 best_line None = codes "best none\n"
 best_line (Some b) =
     codes "best " ++ b.base
@@ -63,6 +65,31 @@ best_line (Some b) =
     ++ codes " pay " ++ signed_decimal b.pay
     ++ codes " away " ++ signed_decimal b.away
     ++ codes " " ++ walk_text b.walk ++ codes "\n"
+
+-- the parts of a vector in order, each after a space
+abbrev pub part_text : ℤ → List ℕ
+part_text part = codes " " ++ signed_decimal part
+
+abbrev pub costs_text : PairingVector → List ℕ
+costs_text v = part_text v.duty_pay ++ part_text v.trip_rig ++ part_text v.guarantee
+
+abbrev pub totals_text : PairingVector → List ℕ
+totals_text v = part_text v.fdp ++ part_text v.fly ++ part_text v.duties
+
+-- an entry of a front: a vector with its walk
+abbrev pub entry_line : PairingVector × List (List Leg) → List ℕ
+entry_line entry =
+    codes "entry" ++ costs_text entry.0 ++ totals_text entry.0 ++ part_text entry.0.away
+    ++ codes " " ++ walk_text entry.1 ++ codes "\n"
+
+-- the front of a base and the duty of a key, or that there is none
+abbrev pub front_lines : List ℕ → List Leg → Option (List (PairingVector × List (List Leg)))
+    → List ℕ
+front_lines base key None = codes "front " ++ base ++ codes " " ++ key_text key ++ codes " none\n"
+front_lines base key (Some entries) =
+    (codes "front " ++ base ++ codes " " ++ key_text key
+    ++ codes " entries " ++ decimal (length entries) ++ codes "\n")
+    ++ flat_map entry_line entries
 
 -- the least cost of a pairing, if there is one
 abbrev pub cost_text : Option ℤ → List ℕ

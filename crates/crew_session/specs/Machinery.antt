@@ -1,4 +1,3 @@
--- What the journal, the engine and the search for the best keep while they work.
+-- What the journal and the engine keep while they work.
 pub mod Journals
-pub mod Offers
 pub mod Plains

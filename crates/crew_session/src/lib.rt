@@ -3,27 +3,26 @@
 //! promises that what `run` writes is the text of the session, for any reader, any writer and any
 //! engine: each refusal is named by its record, nothing that was taken is lost, a settle makes a
 //! version exactly where there are no more than 200,000 legal duties, the best that a version shows
-//! is the least of all its pairings of one duty, and an audit counts the partial pairings of its
-//! timetable by their definition. Where it ends otherwise, only an engine that may be strange is
-//! called strange.
+//! is the best pairing of its timetable, whatever its length, and an audit counts the partial
+//! pairings of its timetable by their definition. Where it ends otherwise, only an engine that may
+//! be strange is called strange.
 #![tactic(auto)]
 
 mod audit;
-mod best;
 mod engine;
 mod engine_fault;
 mod entry;
 mod fault;
+mod front;
 mod journal;
 mod lines;
-mod offers;
 mod plain;
 mod rows;
+mod search;
 mod session;
 mod version;
 mod zones;
 
-pub use best::Best;
 pub use engine::Engine;
 pub use engine_fault::EngineFault;
 pub use fault::SessionFault;

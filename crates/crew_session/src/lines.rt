@@ -8,12 +8,12 @@ ghost use Rattle.crew_session.specs.Lines as Spec;
 ghost use Rattle.crew_session.specs.Verdicts.{verdict_text};
 ghost use Rattle.crew_session.specs.Versions.{verdicts_of};
 
-use crate::best::Best;
 use crate::fault::SessionFault;
 use crate::version::Version;
 use crew_audit::Tally;
 use crew_flights::Verdict;
 use crew_pairing::{Key, Leg, Walk};
+use crew_vector::PricedPairing;
 use std::alloc::{AllocError, Global};
 use std::io::Write;
 
@@ -27,7 +27,7 @@ pub(crate) fn write_line<W: Write>(writer: &mut W, line: &[u8]) -> Result<(), Se
 }
 
 // Appends a number.
-fn put_number(line: &mut Vec<u8>, number: usize) -> Result<(), AllocError>
+pub(crate) fn put_number(line: &mut Vec<u8>, number: usize) -> Result<(), AllocError>
     ensures { OnOk result (line.new.items ≡ line.old.items ++ decimal number) }
 {
     write!(line, "{number}").map_err(|_| AllocError)
@@ -45,7 +45,7 @@ fn put_leg(line: &mut Vec<u8>, leg: Leg) -> Result<(), AllocError>
 }
 
 // Appends a duty.
-fn put_key(line: &mut Vec<u8>, key: &Key) -> Result<(), AllocError>
+pub(crate) fn put_key(line: &mut Vec<u8>, key: &Key) -> Result<(), AllocError>
     ensures { OnOk result (line.new.items ≡ line.old.items ++ Spec.key_text key.now) }
 {
     let Some((first, others)) = key.legs().split_first() else {
@@ -60,7 +60,7 @@ fn put_key(line: &mut Vec<u8>, key: &Key) -> Result<(), AllocError>
 }
 
 // Appends a walk.
-fn put_walk(line: &mut Vec<u8>, walk: &Walk) -> Result<(), AllocError>
+pub(crate) fn put_walk(line: &mut Vec<u8>, walk: &Walk) -> Result<(), AllocError>
     ensures { OnOk result (line.new.items ≡ line.old.items ++ Spec.walk_text walk.now) }
 {
     let Some((first, others)) = walk.keys().split_first() else {
@@ -75,14 +75,14 @@ fn put_walk(line: &mut Vec<u8>, walk: &Walk) -> Result<(), AllocError>
 }
 
 // Appends a signed number.
-fn put_signed(line: &mut Vec<u8>, number: i64) -> Result<(), AllocError>
+pub(crate) fn put_signed(line: &mut Vec<u8>, number: i64) -> Result<(), AllocError>
     ensures { OnOk result (line.new.items ≡ line.old.items ++ signed_decimal number) }
 {
     write!(line, "{number}").map_err(|_| AllocError)
 }
 
 // The line of a pairing.
-fn pairing_line(alloc: Global, best: &Best) -> Result<Vec<u8>, AllocError>
+fn pairing_line(alloc: Global, best: &PricedPairing) -> Result<Vec<u8>, AllocError>
     ensures { IfOk result (λ line. line.items ≡ Spec.best_line (Some best.now)) }
 {
     let mut line = Vec::new(alloc);

@@ -21,6 +21,7 @@ use crate::audit::answer_audit;
 use crate::engine::Engine;
 use crate::engine_fault::EngineFault;
 use crate::fault::{SessionFault, stop};
+use crate::front::answer_front;
 use crate::journal::Journal;
 use crate::lines::{write_best, write_refusals, write_refused, write_version};
 use crate::rows::next_row;
@@ -312,6 +313,9 @@ fn obey<R: Threads + Sync, W: Write, E: Engine>(
         }
         Command::Settle => settle(rt, alloc, number, journal, writer, engine),
         Command::Best => write_best(alloc, writer, engine.version()),
+        Command::ShowFront { base, key } => {
+            answer_front(alloc, writer, base, &key, engine.version())
+        }
         Command::Audit { limit } => answer_audit(alloc, number, limit, writer, engine.version()),
         Command::Refuse(fault) => write_refused(alloc, writer, number, fault.number()),
     }

@@ -1,27 +1,31 @@
 //! Versions.
 
 ghost use Rattle.std.specs.Prelude.{◌≡◌, ◌+◌, ◌++◌, ◌≤◌, [], IfOk, IfErr, OnOk, OnErr, length, slice_get, vec_capacity, vec_len};
-ghost use Rattle.std.specs.Option.{option_copied};
+ghost use Rattle.std.specs.Option.{option_copied, option_map};
 ghost use Rattle.std.specs.FinMap as map;
 ghost use Rattle.crew_rules.specs.Settings.{IsChecked};
 ghost use Rattle.crew_session.specs.Engines.{IsAdvanceFault};
+ghost use Rattle.crew_session.specs.Fronts.{IsFrontByKey};
 ghost use Rattle.crew_session.specs.Versions.{FoldsOn};
 
-use crate::best::Best;
 use crate::engine_fault::EngineFault;
-use crate::offers::find_best;
-use crew_flights::{Entry, Folding, Timetable, Verdict};
+use crate::search::find_solution;
+use crew_flights::{Code, Entry, Folding, Timetable, Verdict};
+use crew_pairing::{Key, PairingVector, Walk};
 use crew_rules::Settings;
+use crew_solve::Solution;
+use crew_vector::PricedPairing;
 use std::alloc::{AllocError, Global};
 use std::marker::Model;
 use std::mem::swap;
+use std::sync::Arc;
 use std::thread::Threads;
 
 /// A version: what the entries of a log come to under some settings.
 ///
 /// A contract sees its number, settings, entries and best. Its verdicts and timetable are those of
-/// its entries, they come to at most 200,000 legal duties, and its best is the least of all
-/// pairings of one duty.
+/// its entries, they come to at most 200,000 legal duties, and its best is the best pairing of
+/// that timetable.
 #[derive(Drop)]
 pub struct Version {
     number: u64,
@@ -29,11 +33,12 @@ pub struct Version {
     entries: Vec<Entry>,
     verdicts: Vec<Verdict>,
     fold: Folding,
-    best: Option<Best>,
+    solution: Option<Arc<Solution, Global>>,
 }
 
 impl Model for Version {
-    ghost use Rattle.crew_session.specs.Versions.{IsKept, Snapshot};
+    ghost use Rattle.std.specs.Option.{option_map};
+    ghost use Rattle.crew_session.specs.Versions.{IsKept, Snapshot, best_of};
 
     ghost Value = { Snapshot };
 
@@ -41,10 +46,11 @@ impl Model for Version {
       number = v.number;
       settings = v.settings;
       entries = v.entries.items;
-      best = v.best;
+      best = best_of (option_map (λ a. a.value) v.solution);
     } };
 
-    ghost invariant = { λ v. IsKept v.settings v.entries.items v.verdicts.items v.fold v.best };
+    ghost invariant = { λ v. IsKept v.settings v.entries.items v.verdicts.items v.fold
+        (option_map (λ a. a.value) v.solution) };
 }
 
 // The fold gone on with these entries, and their verdicts.
@@ -116,7 +122,7 @@ impl Version {
             entries: Vec::new(alloc),
             verdicts: Vec::new(alloc),
             fold: Folding::new(alloc),
-            best: None,
+            solution: None,
         }
     }
 
@@ -172,11 +178,31 @@ impl Version {
     }
 
     /// The best pairing, if there is one.
-    pub fn best(&self) -> Option<&Best>
+    pub fn best(&self) -> Option<&PricedPairing>
         ensures value { option_copied result ≡ self.now.best }
         ensures right { IsRight self.now }
     {
-        self.best.as_ref()
+        match &self.solution {
+            None => None,
+            Some(solution) => solution.best(),
+        }
+    }
+
+    /// The front of a base and the duty of a key, in order of vector: each vector with its walk.
+    /// `None` where the code is no base, or no legal duty has the key.
+    pub fn front(
+        &self,
+        alloc: Global,
+        base: Code,
+        key: &Key,
+    ) -> Result<Option<Vec<(PairingVector, Walk)>>, AllocError>
+        ensures { IfOk result (λ front. IsFrontByKey self.now.settings
+            (Spec.timetable_of self.now.entries) base key.now (option_map (λ v. v.items) front)) }
+    {
+        match &self.solution {
+            None => Ok(None),
+            Some(solution) => solution.front(alloc, base, key),
+        }
     }
 
     /// The timetable that its entries come to with these entries more.
@@ -188,12 +214,12 @@ impl Version {
         Ok(fold.into_timetable())
     }
 
-    /// An equal version.
+    /// An equal version, which shares the fronts.
     pub fn copy(&self, alloc: Global) -> Result<Version, AllocError>
         ensures { IfOk result (λ version. version ≡ self.now) }
     {
-        let best = match &self.best {
-            Some(best) => Some(best.copy(alloc)?),
+        let solution = match &self.solution {
+            Some(solution) => Some(Arc::try_clone(solution)?),
             None => None,
         };
         Ok(Version {
@@ -202,7 +228,7 @@ impl Version {
             entries: copied(alloc, &self.entries)?,
             verdicts: copied(alloc, &self.verdicts)?,
             fold: self.fold.copy(alloc)?,
-            best,
+            solution,
         })
     }
 
@@ -227,13 +253,13 @@ impl Version {
             return Err(EngineFault::LastVersion);
         };
         let (fold, verdicts) = fold_on(alloc, &self.fold, entries)?;
-        let best = find_best(rt, alloc, &self.settings, fold.timetable())?;
+        let solution = find_solution(rt, alloc, &self.settings, fold.timetable())?;
         self.verdicts.reserve(verdicts.len())?;
         move_all(&mut self.entries, entries)?;
         append(&mut self.verdicts, &verdicts);
         self.number = number;
         self.fold = fold;
-        self.best = best;
+        self.solution = Some(solution);
         Ok(())
     }
 }

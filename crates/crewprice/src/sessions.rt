@@ -108,7 +108,7 @@ settle\n\
 best\n\
 ";
 
-// Two duties with a rest of 1,290 minutes between them, and no pairing of one duty.
+// Two duties with a rest of 1,290 minutes between them: its only pairing.
 pub const TWO_DUTIES: &[u8] = b"\
 zone,JFK,\"EST5EDT,M3.2.0,M11.1.0\"\n\
 zone,BOS,\"EST5EDT,M3.2.0,M11.1.0\"\n\

@@ -1,5 +1,5 @@
 use Rattle.std.proofs.Common.{refl}
-use Rattle.crew_session.proofs.SessionFacts.{audited, did}
+use Rattle.crew_session.proofs.SessionFacts.{audited, did, fronted}
 use Rattle.crew_session.proofs.session.obey.Goals as goal
 
 pub returns-in-AddZone-clause-obeys : goal.returns-in-AddZone-clause-obeys
@@ -8,3 +8,7 @@ returns-in-AddZone-clause-obeys g c = did c.add_zone.result _ _ c.args.settings.
 pub returns-in-Audit-clause-obeys : goal.returns-in-Audit-clause-obeys
 returns-in-Audit-clause-obeys g c =
     audited c.answer_audit.result _ _ c.args.settings.now c.args.number _ _ c.args.journal.now _ _ _ c.in-Audit.is c.version-in-Audit.ensures c.answer_audit.ensures.answered
+
+pub returns-in-ShowFront-clause-obeys : goal.returns-in-ShowFront-clause-obeys
+returns-in-ShowFront-clause-obeys g c =
+    fronted c.answer_front.result _ _ c.args.settings.now c.args.number _ _ _ c.args.journal.now _ _ _ c.in-ShowFront.is c.version-in-ShowFront.ensures c.answer_front.ensures.answered
