@@ -3,14 +3,15 @@
 //! hold, and what is common to the jobs of one departure event is shared. `work` does a job: its
 //! type keeps that the entries of what is `Done` are exactly what the opening and all extensions of
 //! the entries before leave, each vector with its least walk, in order of vector. At events,
-//! `departure_pool` makes a departure's pool from what waits for it, `board_leaving` takes what
-//! boards there into the pools of its arrivals, and both promise what their candidates leave.
+//! `departure_pool` makes a departure's pool from what has been gathered for it, `board_leaving`
+//! takes what boards there into the pools of its arrivals, and both promise what their candidates
+//! leave.
 //! `laws` has it that entries of fronts are values of their walks, as a job wants them.
 #![tactic(auto)]
 
+mod departure;
 mod done;
 mod feed;
-mod gather;
 mod job;
 pub mod laws;
 mod offers;
@@ -19,9 +20,9 @@ mod send;
 mod step;
 mod waiting;
 
+pub use departure::departure_pool;
 pub use done::Done;
 pub use feed::{Feed, Predecessor};
-pub use gather::departure_pool;
 pub use job::Job;
 pub use send::board_leaving;
 pub use step::work;

@@ -14,8 +14,8 @@ use std::alloc::AllocError;
 /// into the pools of the arrivals where the items arrive: `places` has the arrival of each rank.
 ///
 /// If an arrival's labels were what a list of candidates leaves, they are then what that list
-/// leaves with those that arrive there after it, each with its walk a rank longer. On want of
-/// memory the arrivals' pools are of no further use.
+/// leaves with those that arrive there after it, each with its walk a rank longer. An arrival to
+/// which no rank goes is as it was. On want of memory the arrivals' pools are of no further use.
 pub fn board_leaving<P: Placed, R: Staged<P>>(
     resource: &R,
     room: &mut Workspace<R::Value>,
@@ -45,6 +45,9 @@ pub fn board_leaving<P: Placed, R: Staged<P>>(
         → IsPoolOf R.below (candidates ++ brought (R.boards resource.now) items.now places.now
         arrival (map (shown walks.now) pool.now) ranks.now)
         (map (shown walks.now) (get_or arrivals.new.items arrival []))) }
+    ensures others { OnOk result ((arrival : ℕ)
+        → ((rank : ℕ) → Member ranks.now rank → get_or places.now rank 0 ≡ arrival → ⊥)
+        → get_or arrivals.new.items arrival [] ≡ get_or arrivals.old.items arrival []) }
     ensures counts { OnOk result ((labels : List (R.Value × LabelWalk))
         → Member arrivals.new.items labels
         → AreCounted (R.count_of resource.now) walks.now false labels) }
@@ -86,6 +89,8 @@ fn board_rank<P: Placed, R: Staged<P>>(
         → IsPoolOf R.below (candidates ++ brought (R.boards resource.now) items.now places.now
         arrival (map (shown walks.now) pool.now) (rank ∷ []))
         (map (shown walks.now) (get_or arrivals.new.items arrival []))) }
+    ensures others { OnOk result ((arrival : ℕ) → (get_or places.now rank 0 ≡ arrival → ⊥)
+        → get_or arrivals.new.items arrival [] ≡ get_or arrivals.old.items arrival []) }
     ensures counts { OnOk result ((labels : List (R.Value × LabelWalk))
         → Member arrivals.new.items labels
         → AreCounted (R.count_of resource.now) walks.now false labels) }

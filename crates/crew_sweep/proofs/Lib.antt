@@ -9,3 +9,5 @@ pub mod Sending
 pub mod Steps
 pub mod Passable
 pub mod Ends
+pub mod Parts
+pub mod Slidings

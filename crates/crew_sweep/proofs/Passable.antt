@@ -27,7 +27,7 @@ use Rattle.crew_step.specs.Pools.{brought, waiting}
 use Rattle.crew_step.specs.Walks.{HasGrown}
 use Rattle.crew_step.proofs.Grown.{counted-grown}
 use Rattle.crew_sweep.specs.Machinery.Numbered.{idle_at}
-use Rattle.crew_sweep.specs.Machinery.Passing.{AreLabels, IsPassable, IsPassing}
+use Rattle.crew_sweep.specs.Machinery.Passing.{AreLabels, IsPassable, IsPassing, IsPooled}
 use Rattle.crew_sweep.specs.Sweeps.{in_order}
 use Rattle.crew_sweep.proofs.Numbers.{get-within}
 use Rattle.crew_sweep.proofs.Orders.{in-order-of, place-within}
@@ -37,11 +37,6 @@ use Rattle.crew_vector.specs.Dominance.{is_at_most}
 
 abbrev Labels : Type 0
 Labels = List (PairingVector × LabelWalk)
-
--- the pool is that of its departure
-abbrev pub IsPooled : Net → List ℕ → AnchoredResource → List (List ℕ) → List (List ℕ) → ℕ → List Labels → Labels → Type 0
-IsPooled net base r before after place held pool = (g : Departure) → slice_get net.departures place ≡ Some g → (w : Window) × IsWindow (λ x. may_wait net.settings x g) net.arrivals w
-    × IsPoolOf is_at_most (waiting before (take (w.end - w.from) (drop w.from held)) (idle_at r base (Some g))) (map (shown after) pool)
 
 -- what boards there has joined what had arrived
 abbrev pub IsSent : AnchoredResource → List (List ℕ) → List Duty → List ℕ → Labels → List ℕ → List Labels → List Labels → Type 0

@@ -1,4 +1,7 @@
--- Events by number, and what a sweep keeps of its labels.
+-- Events by number, the slides of windows, and what a sweep keeps of its labels.
 pub mod Numbered
 pub mod Kept
 pub mod Passing
+pub mod Parts
+pub mod Sliding
+pub mod Slides

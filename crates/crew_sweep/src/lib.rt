@@ -1,11 +1,14 @@
 //! One pass over the events of a base's network, in order of time. `sweep` makes the pool of each
 //! departure from the arrivals in its window, and boards the duties that leave there into their
-//! arrivals, with a duty to spare; it promises that the pools show each legal duty's front. `laws`
-//! has what this rests on.
+//! arrivals, with a duty to spare; it promises that the pools show each legal duty's front. The
+//! windows of an airport slide, so an arrival's labels are merged a constant number of times.
+//! `laws` has what this rests on.
 #![tactic(auto)]
 
 pub mod laws;
 mod pass;
+mod slide;
+mod slides;
 mod swept;
 
 pub use pass::sweep;

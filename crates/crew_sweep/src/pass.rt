@@ -1,32 +1,30 @@
 //! One pass over the departures of a base's network.
-ghost use Rattle.std.specs.Prelude.{◌≡◌, ◌<◌, ◌≤◌, ◌+◌, ◌-◌, ℕ, IfOk, List, OnOk, Some, [], drop, false, length, map, slice_get, take, true};
+ghost use Rattle.std.specs.Prelude.{◌≡◌, ◌<◌, ◌≤◌, ◌+◌, ◌⊎◌, ℕ, IfOk, List, OnOk, Some, [], length, slice_get, true};
 ghost use Rattle.std.specs.Arc.{arc_value};
 ghost use Rattle.crew_anchor.specs.Machinery.Bounds.{fits_in};
 ghost use Rattle.crew_flights.specs.Timetable as TimetableSpec;
-ghost use Rattle.crew_net.specs.Events.{IsWindow};
 ghost use Rattle.crew_net.specs.Machinery.Moments.{IsReal};
 ghost use Rattle.crew_net.specs.Nets.{AreArrivalPlaces};
-ghost use Rattle.crew_net.specs.declared.window.Window as WindowSpec;
 ghost use Rattle.crew_pairing.specs.Duties.{AreDuties, RiseByKey};
-ghost use Rattle.crew_pairing.specs.Events.{IsSound, may_wait};
+ghost use Rattle.crew_pairing.specs.Events.{IsSound};
 ghost use Rattle.crew_pairing.specs.declared.duty.Duty.{Duty};
 ghost use Rattle.crew_pairing.specs.declared.events.Departure.{Departure};
 ghost use Rattle.crew_pairing.specs.declared.vector.PairingVector.{PairingVector};
 ghost use Rattle.crew_pool.specs.Counted.{AreCounted};
-ghost use Rattle.crew_pool.specs.LabelWalks.{IsPoolOf, shown};
 ghost use Rattle.crew_pool.specs.declared.label_walk.LabelWalk.{LabelWalk};
 ghost use Rattle.crew_resource.specs.Members.{Member};
-ghost use Rattle.crew_step.specs.Pools.{waiting};
 ghost use Rattle.crew_step.specs.Walks.{HasGrown};
 ghost use Rattle.crew_sweep.specs.Machinery.Numbered.{idle_at};
-ghost use Rattle.crew_sweep.specs.Machinery.Passing.{HasPassed, IsPassable, IsPassing};
+ghost use Rattle.crew_sweep.specs.Machinery.Parts.{AreHeld};
+ghost use Rattle.crew_sweep.specs.Machinery.Passing.{HasPassed, IsPassable, IsPassing, IsPooled};
+ghost use Rattle.crew_sweep.specs.Machinery.Slides.{AreSliding, AreUnderWay, CoverAny, WaitsAt};
 ghost use Rattle.crew_sweep.specs.Sweeps.{ShowsFronts};
-ghost use Rattle.crew_vector.specs.Dominance.{is_at_most};
 
+use crate::slides::Slides;
 use crate::swept::Sweep;
 use crew_anchor::AnchoredResource;
 use crew_flights::Code;
-use crew_net::{Net, Window};
+use crew_net::Net;
 use crew_pairing::{Departure, PairingVector};
 use crew_pool::{Pool, Walks, Workspace};
 use crew_resource::Staged;
@@ -64,15 +62,6 @@ fn empty_pools(alloc: Global, count: usize) -> Result<Vec<Pool<AnchoredResource>
     Ok(pools)
 }
 
-// What stands in a window.
-fn those_in(held: &[Pool<AnchoredResource>], window: Window) -> &[Pool<AnchoredResource>]
-    requires ordered { window.from ≤ window.end }
-    requires within { window.end ≤ length held.now }
-    ensures { result.now ≡ take (window.end - window.from) (drop window.from held.now) }
-{
-    &held[window.from..window.end]
-}
-
 // The pool of the departure at a place, from what has arrived.
 fn pool_at(
     alloc: Global,
@@ -81,25 +70,30 @@ fn pool_at(
     base: Code,
     place: usize,
     room: &mut Workspace<PairingVector>,
+    slides: &mut Slides,
     held: &[Pool<AnchoredResource>],
     walks: &mut Walks,
 ) -> Result<Pool<AnchoredResource>, AllocError>
     requires fits { fits_in resource.now 1 }
     requires place { place < length net.now.departures }
+    requires airports { length slides.old.airports.items ≡ length net.now.departures }
     requires long { length held.now ≡ length net.now.arrivals }
-    requires pending { (labels : List (PairingVector × LabelWalk)) → Member held.now labels
-        → AreCounted (λ (v : PairingVector). v.duties) walks.old false labels }
-    ensures pooled { IfOk result (λ pool. (g : Departure)
-        → slice_get net.now.departures place ≡ Some g → (w : WindowSpec.Window)
-        × IsWindow (λ x. may_wait net.now.settings x g) net.now.arrivals w
-        × IsPoolOf is_at_most (waiting walks.old (take (w.end - w.from) (drop w.from held.now))
-        (idle_at resource.now base (Some g))) (map (shown walks.new) pool)) }
+    requires held { AreHeld walks.old held.now }
+    requires sliding { AreSliding walks.old held.now slides.old }
+    ensures pooled { IfOk result (IsPooled net.now base resource.now walks.old walks.new place
+        held.now) }
     ensures counts { IfOk result (AreCounted (λ (v : PairingVector). v.duties) walks.new true) }
     ensures grown { HasGrown walks.old walks.new }
+    ensures sliding { OnOk result (AreSliding walks.old held.now slides.new) }
+    ensures airports { slides.new.airports ≡ slides.old.airports }
+    ensures covers { OnOk result ((g : Departure)
+        → slice_get net.now.departures place ≡ Some g → (at : ℕ) → CoverAny slides.new at
+        → CoverAny slides.old at ⊎ WaitsAt net.now g at) }
 {
     let window = net.window(place);
+    let number = slides.slide_to(alloc, resource, place, held, window, walks)?;
     let idle = idle_label(resource, base, &net.departures()[place]);
-    departure_pool(alloc, resource, room, those_in(held, window), idle, walks)
+    departure_pool(alloc, resource, room, slides.pool(number), idle, walks)
 }
 
 // The pass goes on by one departure: its pool, and what boards there.
@@ -111,6 +105,7 @@ fn pass_one(
     base: Code,
     place: usize,
     room: &mut Workspace<PairingVector>,
+    slides: &mut Slides,
     walks: &mut Walks,
     held: &mut Vec<Pool<AnchoredResource>>,
     pools: &mut Vec<Pool<AnchoredResource>>,
@@ -121,11 +116,15 @@ fn pass_one(
     requires place { slice_get net.now.by_report (length pools.old.items) ≡ Some place }
     requires passing { IsPassing net.now base resource.now walks.old pools.old.items
         held.old.items }
+    requires sliding { AreUnderWay net.now walks.old (length pools.old.items) held.old.items
+        slides.old }
+    ensures sliding { OnOk result (AreUnderWay net.now walks.new (length pools.new.items)
+        held.new.items slides.new) }
     ensures passing { OnOk result (IsPassing net.now base resource.now walks.new pools.new.items
         held.new.items) }
     ensures more { OnOk result (length pools.new.items ≡ length pools.old.items + 1) }
 {
-    let pool = pool_at(alloc, net, resource, base, place, room, held, walks)?;
+    let pool = pool_at(alloc, net, resource, base, place, room, slides, held, walks)?;
     let duties = net.duties().as_slice();
     board_leaving(
         resource,
@@ -161,12 +160,23 @@ fn pass_all(
 {
     let mut room = Workspace::new(alloc);
     let mut walks = Walks::new(alloc);
+    let mut slides = Slides::new(alloc, net.departures())?;
     let mut held = empty_pools(alloc, net.arrivals().len())?;
     let mut pools = Vec::with_capacity(alloc, net.departures().len())?;
     for place in net.by_report() {
         let place = *place as usize;
         pass_one(
-            alloc, net, places, resource, base, place, &mut room, &mut walks, &mut held, &mut pools,
+            alloc,
+            net,
+            places,
+            resource,
+            base,
+            place,
+            &mut room,
+            &mut slides,
+            &mut walks,
+            &mut held,
+            &mut pools,
         )?;
     }
     Ok((walks, pools))

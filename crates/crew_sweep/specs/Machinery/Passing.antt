@@ -1,12 +1,13 @@
 -- Where a pass over the departures stands.
-use Rattle.std.specs.Prelude.{◌≡◌, ◌≤◌, ◌<◌, ℕ, true, false, List, [], get_or, length, map}
+use Rattle.std.specs.Prelude.{◌≡◌, ◌≤◌, ◌<◌, ◌-◌, ℕ, true, false, List, [], Some, drop, get_or, length, map, slice_get, take}
 use Rattle.crew_anchor.specs.Machinery.Bounds.{is_ready}
 use Rattle.crew_anchor.specs.declared.resource.AnchoredResource.{AnchoredResource}
-use Rattle.crew_net.specs.Events.{AreEvents, arrival_cmp, departure_cmp}
+use Rattle.crew_net.specs.Events.{AreEvents, IsWindow, arrival_cmp, departure_cmp}
 use Rattle.crew_net.specs.Machinery.Moments.{IsReal}
 use Rattle.crew_net.specs.Nets.{AreArrivalPlaces, AreByReport, Net}
+use Rattle.crew_net.specs.declared.window.Window.{Window}
 use Rattle.crew_pairing.specs.Duties.{RiseByKey}
-use Rattle.crew_pairing.specs.Events.{IsSound, arrival_of, departure_of}
+use Rattle.crew_pairing.specs.Events.{IsSound, arrival_of, departure_of, may_wait}
 use Rattle.crew_pairing.specs.Keys.{walk_at_most}
 use Rattle.crew_pairing.specs.Legs.{Leg}
 use Rattle.crew_pairing.specs.declared.duty.Duty.{Duty}
@@ -17,7 +18,8 @@ use Rattle.crew_pool.specs.LabelWalks.{IsPoolOf, shown}
 use Rattle.crew_pool.specs.declared.label_walk.LabelWalk.{LabelWalk}
 use Rattle.crew_resource.specs.Events.{Network, Swept}
 use Rattle.crew_resource.specs.Members.{Each, Member}
-use Rattle.crew_sweep.specs.Machinery.Numbered.{numbered}
+use Rattle.crew_step.specs.Pools.{waiting}
+use Rattle.crew_sweep.specs.Machinery.Numbered.{idle_at, numbered}
 use Rattle.crew_sweep.specs.Sweeps.{in_order, keyed}
 use Rattle.crew_vector.specs.Dominance.{is_at_most}
 
@@ -54,6 +56,15 @@ pub record IsPassing (net : Net) (base : List ℕ) (r : AnchoredResource) (walks
       → AreLabels r (length net.duties) walks labels
   pub arrived : (labels : List (PairingVector × LabelWalk)) → Member held labels
       → AreLabels r (length net.duties) walks labels
+
+-- the pool is that of the departure at a place, over what has arrived
+abbrev pub IsPooled : Net → List ℕ → AnchoredResource → List (List ℕ) → List (List ℕ) → ℕ
+    → List (List (PairingVector × LabelWalk)) → List (PairingVector × LabelWalk) → Type 0
+IsPooled net base r before after place held pool = (g : Departure)
+    → slice_get net.departures place ≡ Some g → (w : Window)
+    × IsWindow (λ x. may_wait net.settings x g) net.arrivals w
+    × IsPoolOf is_at_most (waiting before (take (w.end - w.from) (drop w.from held))
+    (idle_at r base (Some g))) (map (shown after) pool)
 
 -- a network over which a pass may go: its events, its duties, and where these arrive
 pub record IsPassable (net : Net) (places : List ℕ) : Type 0 where

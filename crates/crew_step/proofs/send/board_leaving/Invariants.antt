@@ -15,3 +15,4 @@ invariant-loop-rank g l =
     → IsPoolOf g.R.Resource.below candidates (map (shown {V = g.row.R-Value.Denot} l.walks) (get_or l.fn.arrivals.items arrival []))
     → IsPoolOf g.R.Resource.below (candidates ++ brought (g.R.Staged.boards l.resource) l.items l.places arrival (map (shown {V = g.row.R-Value.Denot} l.walks) l.pool) (take l.rank-index l.ranks))
     (map (shown {V = g.row.R-Value.Denot} l.walks) (get_or l.arrivals.items arrival [])))
+    × ((arrival : ℕ) → ((rank : ℕ) → Member l.ranks rank → get_or l.places rank 0 ≡ arrival → ⊥) → get_or l.arrivals.items arrival [] ≡ get_or l.fn.arrivals.items arrival [])

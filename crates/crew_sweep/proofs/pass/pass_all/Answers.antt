@@ -1,9 +1,11 @@
 use Rattle.std.proofs.Common.{◌≡◌, ◌∙◌, ◌+◌, ◌<◌, List, Some, ℕ, ap, arith, get_or, length, refl, subst, sym}
 use Rattle.std.specs.Prelude.{slice_get}
 use Rattle.crew_pairing.specs.declared.events.Arrival.{Arrival}
+use Rattle.crew_pairing.specs.declared.events.Departure.{Departure}
 use Rattle.crew_pairing.specs.declared.vector.PairingVector.{PairingVector}
 use Rattle.crew_pool.specs.declared.label_walk.LabelWalk.{LabelWalk}
 use Rattle.crew_sweep.specs.Machinery.Passing.{IsPassing}
+use Rattle.crew_sweep.specs.Machinery.Slides.{AreUnderWay}
 use Rattle.crew_sweep.proofs.Slices.{at-within}
 use Rattle.crew_sweep.proofs.Steps.{passing-none}
 use Rattle.crew_sweep.proofs.pass.pass_all.Goals as goal
@@ -14,8 +16,13 @@ loop-place-init c =
     let net = c.args.net.now in
     let held = c.in_ok-held.held.items in
     let long : length held ≡ length net.arrivals = c.in_ok-held.ensures.long ∙ ap (λ (xs : List Arrival). length xs) c.arrivals.ensures.events in
-    subst (λ (ps : List Labels). IsPassing net c.args.base c.args.resource.now c.new-walks.result ps held × (length ps ≡ 0)) (sym c.in_ok-pools.ensures.items)
-    (passing-none net c.args.base c.args.resource.now c.new-walks.result held long c.in_ok-held.ensures.empty, refl)
+    let under : AreUnderWay net c.new-walks.result 0 held c.in_ok-slides.slides = record {
+      long = c.in_ok-slides.ensures.long ∙ ap (λ (gs : List Departure). length gs) c.departures.ensures.events;
+      sliding = c.in_ok-slides.ensures.sliding c.new-walks.result held;
+      sealed = λ p covers. absurd (c.in_ok-slides.ensures.nowhere p covers);
+    } in
+    subst (λ (ps : List Labels). IsPassing net c.args.base c.args.resource.now c.new-walks.result ps held × (length ps ≡ 0) × AreUnderWay net c.new-walks.result (length ps) held c.in_ok-slides.slides) (sym c.in_ok-pools.ensures.items)
+    (passing-none net c.args.base c.args.resource.now c.new-walks.result held long c.in_ok-held.ensures.empty, refl, under)
 
 pub pass_one-requires-clause-place : goal.pass_one-requires-clause-place
 pass_one-requires-clause-place c =
@@ -25,7 +32,7 @@ pass_one-requires-clause-place c =
     ap (slice_get net.by_report) c.loop-place.invariant.1 ∙ (at-within net.by_report c.loop-place.place-index 0 within ∙ ap (λ (ns : List ℕ). Some (get_or ns c.loop-place.place-index 0)) (sym same))
 
 pub loop-place-preserved : goal.loop-place-preserved
-loop-place-preserved c = (c.in_ok-pass_one.ensures.passing, c.in_ok-pass_one.ensures.more ∙ ap (λ n. n + 1) c.loop-place.invariant.1)
+loop-place-preserved c = (c.in_ok-pass_one.ensures.passing, c.in_ok-pass_one.ensures.more ∙ ap (λ n. n + 1) c.loop-place.invariant.1, c.in_ok-pass_one.ensures.sliding)
 
 pub returns-clause-passed : goal.returns-clause-passed
 returns-clause-passed c =

@@ -1,7 +1,9 @@
 use Rattle.std.proofs.Common.{◌≡◌, length}
 use Rattle.crew_sweep.specs.Machinery.Passing.{IsPassing}
+use Rattle.crew_sweep.specs.Machinery.Slides.{AreUnderWay}
 use Rattle.crew_sweep.proofs.pass.pass_all.Given as goal
 
 -- so many departures are passed
 abbrev pub invariant-loop-place : goal.invariant-loop-place
 invariant-loop-place l = IsPassing l.net l.base l.resource l.walks l.pools.items l.held.items × (length l.pools.items ≡ l.place-index)
+    × AreUnderWay l.net l.walks (length l.pools.items) l.held.items l.slides

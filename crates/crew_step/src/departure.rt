@@ -1,10 +1,8 @@
 //! The pool of a departure.
 ghost use Rattle.std.specs.Prelude.{◌≡◌, ◌∷◌, ◌++◌, ℕ, [], IfOk, OnOk, List, Some, false, map, pos, true};
-ghost use Rattle.std.specs.List.{flat_map};
 ghost use Rattle.crew_pool.specs.Counted.{AreCounted};
 ghost use Rattle.crew_pool.specs.LabelWalks.{IsPoolOf, shown};
-ghost use Rattle.crew_resource.specs.Members.{Member};
-ghost use Rattle.crew_step.specs.Pools.{waiting};
+ghost use Rattle.crew_resource.specs.Events.{labelled};
 ghost use Rattle.crew_step.specs.Walks.{HasGrown};
 
 use crate::waiting::waiting_labels;
@@ -12,9 +10,9 @@ use crew_pool::{LabelWalk, NO_DUTY, Pool, Walks, Workspace};
 use crew_resource::{Placed, Resource, Staged};
 use std::alloc::{AllocError, Global};
 
-/// The pool of a departure, from the pools of the arrivals that it may wait on and from the empty
-/// label, where it has one: exactly the undominated of these labels, each vector with its least
-/// walk. The labels stand as of a common instant, so waiting changes none.
+/// The pool of a departure, from the labels of all arrivals that it may wait on, gathered in one
+/// pool, and from the empty label, where it has one: exactly the undominated of these labels, each
+/// vector with its least walk. The labels stand as of a common instant, so waiting changes none.
 ///
 /// Their walks are added to the walks, and stand whole there. Walks that were there stay where they
 /// are; on want of memory some may have been added.
@@ -22,46 +20,24 @@ pub fn departure_pool<P: Placed, R: Staged<P>>(
     alloc: Global,
     resource: &R,
     room: &mut Workspace<R::Value>,
-    arrivals: &[Pool<R>],
+    gathered: &Pool<R>,
     idle: Option<R::Value>,
     walks: &mut Walks,
 ) -> Result<Pool<R>, AllocError>
-    requires arrivals { (labels : List (R.Value × LabelWalk)) → Member arrivals.now labels
-        → AreCounted (R.count_of resource.now) walks.old false labels }
+    requires gathered { AreCounted (R.count_of resource.now) walks.old false gathered.now }
     requires idle { (value : R.Value) → idle ≡ Some value
         → R.count_of resource.now value ≡ pos 0 }
-    ensures local { IfOk result (λ pool. IsPoolOf R.below
-        (waiting walks.old arrivals.now idle) (map (shown walks.new) pool)) }
+    ensures local { IfOk result (λ pool. (candidates : List (R.Value × List ℕ))
+        → IsPoolOf R.below candidates (map (shown walks.old) gathered.now)
+        → IsPoolOf R.below (candidates ++ labelled idle []) (map (shown walks.new) pool)) }
     ensures counts { IfOk result (AreCounted (R.count_of resource.now) walks.new true) }
     ensures grown { HasGrown walks.old walks.new }
 {
-    let gathered = gather::<P, R>(alloc, resource, room, arrivals, walks)?;
-    let mut pool = waiting_labels::<P, R>(alloc, resource, &gathered, walks)?;
+    let mut pool = waiting_labels::<P, R>(alloc, resource, gathered, walks)?;
     if let Some(value) = idle {
         join_idle::<P, R>(alloc, resource, room, &mut pool, value, walks)?;
     }
     Ok(pool)
-}
-
-// The labels of the arrivals' pools, merged into one.
-fn gather<P: Placed, R: Staged<P>>(
-    alloc: Global,
-    resource: &R,
-    room: &mut Workspace<R::Value>,
-    arrivals: &[Pool<R>],
-    walks: &Walks,
-) -> Result<Pool<R>, AllocError>
-    requires { (labels : List (R.Value × LabelWalk)) → Member arrivals.now labels
-        → AreCounted (R.count_of resource.now) walks.now false labels }
-    ensures local { IfOk result (λ pool. IsPoolOf R.below
-        (flat_map (map (shown walks.now)) arrivals.now) (map (shown walks.now) pool)) }
-    ensures counts { IfOk result (AreCounted (R.count_of resource.now) walks.now false) }
-{
-    let mut gathered = Pool::new(alloc);
-    for arrival in arrivals {
-        gathered.merge(resource, room, arrival, walks)?;
-    }
-    Ok(gathered)
 }
 
 // Merges the empty label into a departure's pool.
