@@ -25,7 +25,7 @@ pub fn waiting_labels<P: Placed, R: Staged<P>>(
     ensures counts { IfOk result (AreCounted (R.count_of resource.now) walks.new true) }
     ensures grown { HasGrown walks.old walks.new }
 {
-    let mut labels = Vec::new(alloc);
+    let mut labels = Vec::with_capacity(alloc, pool.len())?;
     for label in pool.as_slice() {
         let whole = whole_label::<P, R>(resource, label, walks)?;
         labels.push(whole)?;

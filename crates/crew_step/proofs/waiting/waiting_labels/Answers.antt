@@ -15,8 +15,8 @@ loop-label-init g c =
     let Label = g.row.R-Value.Denot × LabelWalk in
     let count = g.R.Staged.count_of c.args.resource.now in
     let first = c.args.walks.now in
-    let none : (map (shown first) c.new-labels.result.items ≡ []) × ((l : Label) → Member c.new-labels.result.items l → IsCounted count first true l) =
-    subst (λ (es : List Label). (map (shown first) es ≡ []) × ((l : Label) → Member es l → IsCounted count first true l)) (sym c.new-labels.ensures.items) (refl, λ l m. absurd m) in
+    let none : (map (shown first) c.in_ok-labels.labels.items ≡ []) × ((l : Label) → Member c.in_ok-labels.labels.items l → IsCounted count first true l) =
+    subst (λ (es : List Label). (map (shown first) es ≡ []) × ((l : Label) → Member es l → IsCounted count first true l)) (sym c.in_ok-labels.ensures.items) (refl, λ l m. absurd m) in
     (grown-itself first, none.0, none.1)
 
 pub whole_label-requires : goal.whole_label-requires
