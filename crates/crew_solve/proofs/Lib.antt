@@ -11,3 +11,4 @@ pub mod Homing
 pub mod Solving
 pub mod Shown
 pub mod Entered
+pub mod Swept

@@ -8,5 +8,5 @@ mod scratch;
 mod solution;
 mod sweeps;
 
-pub use scratch::solve;
+pub use scratch::{solve, solve_with};
 pub use solution::Solution;

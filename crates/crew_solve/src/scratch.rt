@@ -35,11 +35,13 @@ fn net_of(
 }
 
 // All fronts and the best pairing, given all legal duties.
-fn solve_over(
+fn solve_over<R: Threads + Sync>(
+    rt: &R,
     alloc: Global,
     settings: &Settings,
     timetable: &Timetable,
     duties: Duties,
+    workers: usize,
 ) -> Result<Solution, AllocError>
     requires checked { IsChecked settings.now }
     requires duties { AreDuties settings.now timetable.now duties }
@@ -50,7 +52,7 @@ fn solve_over(
 {
     let net = net_of(alloc, settings, timetable, duties)?;
     let places = arrival_places(alloc, &net)?;
-    let sweeps = sweep_all(alloc, timetable, &net, &places)?;
+    let sweeps = sweep_all(rt, alloc, timetable, &net, &places, workers)?;
     let best = best_of(alloc, &sweeps, settings.trip_rig)?;
     Ok(Solution::new(net, sweeps, best))
 }
@@ -71,6 +73,28 @@ pub fn solve<R: Threads + Sync>(
     ensures too_many { result ≡ Err DutyFault.TooManyDuties
         → HasTooMany settings.now timetable.now }
 {
+    solve_with(rt, alloc, settings, timetable, 0)
+}
+
+/// As `solve`, by any number of workers: the passes over the bases are shared out among so many
+/// threads at most, whole bases to each, and to no more threads than bases. With 0 workers or 1,
+/// and for a timetable of few duties, the calling thread makes all of them; it also makes those for
+/// which no thread can be started. The answer is the same.
+pub fn solve_with<R: Threads + Sync>(
+    rt: &R,
+    alloc: Global,
+    settings: &Settings,
+    timetable: &Timetable,
+    workers: usize,
+) -> Result<Solution, DutyFault>
+    requires { IsChecked settings.now }
+    ensures scratch { IfOk result (λ solution. IsScratch settings.now timetable.now
+        (front_of solution) solution.best) }
+    ensures network { IfOk result (HasNetOf settings.now timetable.now) }
+    ensures few { OnOk result (HasFew settings.now timetable.now) }
+    ensures too_many { result ≡ Err DutyFault.TooManyDuties
+        → HasTooMany settings.now timetable.now }
+{
     let duties = list_duties(rt, alloc, settings, timetable)?;
-    Ok(solve_over(alloc, settings, timetable, duties)?)
+    Ok(solve_over(rt, alloc, settings, timetable, duties, workers)?)
 }

@@ -1,10 +1,12 @@
 -- The sweeps of all bases.
-use Rattle.std.specs.Prelude.{◌≡◌, ℕ, List, IsPermutation, map}
+use Rattle.std.specs.Prelude.{◌≡◌, ◌<◌, ◌≤◌, ℕ, ℤ, List, [], ◌∷◌, Option, IfSome, IsPermutation, length, map, slice_index_or}
 use Rattle.std.specs.FinMap as fin
 use Rattle.crew_anchor.specs.Sweeps.{shown_labels}
-use Rattle.crew_flights.specs.Timetable.{Timetable}
+use Rattle.crew_flights.specs.Timetable.{IsBasePrice, IsSound, Timetable}
 use Rattle.crew_net.specs.Events.{AreEvents, departure_cmp}
-use Rattle.crew_net.specs.Nets.{AreByReport, Net}
+use Rattle.crew_net.specs.Nets.{AreArrivalPlaces, AreByReport, Net}
+use Rattle.crew_pairing.specs.Duties.{AreDuties, RiseByKey}
+use Rattle.crew_pairing.specs.Events as Events
 use Rattle.crew_pairing.specs.Events.{departure_of}
 use Rattle.crew_pairing.specs.Legs.{Leg}
 use Rattle.crew_pairing.specs.declared.duty.Duty.{Duty}
@@ -42,3 +44,29 @@ pub record IsSolved (net : Net) (sweeps : List BaseSweep) : Type 0 where
   pub fit : Each IsFit sweeps
   pub departures : AreEvents departure_of departure_cmp net.duties net.departures
   pub by_report : AreByReport net.departures net.by_report
+
+-- what a pass over a network needs, whatever the base
+pub record IsSweepable (net : Net) (places : List ℕ) : Type 0 where
+  pub sound : (d : Duty) → Member net.duties d → Events.IsSound d
+  pub rise : RiseByKey net.duties
+  pub few : length net.duties ≤ 200_000
+  pub by_rank : AreArrivalPlaces net places
+
+-- the prices of bases
+abbrev pub HavePrices : List (List ℕ × ℤ) → Type 0
+HavePrices bases = (k : ℕ) (d : List ℕ × ℤ) → k < length bases
+    → IsBasePrice (slice_index_or bases k d).1
+
+-- the sweep of a base at its price, which shows the fronts of the timetable that the network is of
+pub record IsSwept (net : Net) (base : List ℕ × ℤ) (b : BaseSweep) : Type 0 where
+  pub own : (b.base, b.price) ≡ base
+  pub same : b.net ≡ net
+  pub fronts : (t : Timetable) → IsSound t → AreDuties net.settings t net.duties
+      → ShowsFronts t b
+
+-- the sweep of each base at the base's place, where it could be made
+abbrev pub AreSwept : Net → List (List ℕ × ℤ) → List (Option BaseSweep) → Type 0
+AreSwept net [] [] = Unit {0}
+AreSwept net [] (b ∷ bs) = ⊥
+AreSwept net (base ∷ bases) [] = ⊥
+AreSwept net (base ∷ bases) (b ∷ bs) = IfSome b (IsSwept net base) × AreSwept net bases bs

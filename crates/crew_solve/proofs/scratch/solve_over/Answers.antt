@@ -29,14 +29,14 @@ is-over s t ds net checked sound duties few built =
     }
 
 pub best_of-requires-clause-fit : goal.best_of-requires-clause-fit
-best_of-requires-clause-fit c =
+best_of-requires-clause-fit g c =
     let t = c.args.timetable.now in
     let net = arc_value c.in_ok-net.net in
     let over = is-over c.args.settings.now t c.args.duties net c.requires.checked c.sweep_all.ensures.sound c.requires.duties c.requires.few c.in_ok-net.ensures in
     subst (Each IsFit) (sym c.deref-3.ensures.value) (all-fit t net c.in_ok-sweeps.sweeps.items over c.in_ok-sweeps.ensures.sweeps)
 
 pub returns-clause-scratch : goal.returns-clause-scratch
-returns-clause-scratch c =
+returns-clause-scratch g c =
     let t = c.args.timetable.now in
     let net = arc_value c.in_ok-net.net in
     let over = is-over c.args.settings.now t c.args.duties net c.requires.checked c.sweep_all.ensures.sound c.requires.duties c.requires.few c.in_ok-net.ensures in
@@ -49,11 +49,11 @@ returns-clause-scratch c =
     subst (λ (x : Solution). IsScratch c.args.settings.now t (front_of x) x.best) (sym c.new.ensures) whole
 
 pub new-requires : goal.new-requires
-new-requires c =
+new-requires g c =
     let t = c.args.timetable.now in
     let net = arc_value c.in_ok-net.net in
     let over = is-over c.args.settings.now t c.args.duties net c.requires.checked c.sweep_all.ensures.sound c.requires.duties c.requires.few c.in_ok-net.ensures in
     solved t net c.in_ok-sweeps.sweeps.items over c.in_ok-sweeps.ensures.sweeps
 
 pub returns-clause-network : goal.returns-clause-network
-returns-clause-network c = subst (HasNetOf c.args.settings.now c.args.timetable.now) (sym c.new.ensures) (c.args.duties, c.requires.duties, c.in_ok-net.ensures)
+returns-clause-network g c = subst (HasNetOf c.args.settings.now c.args.timetable.now) (sym c.new.ensures) (c.args.duties, c.requires.duties, c.in_ok-net.ensures)
