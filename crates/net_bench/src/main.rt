@@ -1,20 +1,31 @@
-//! Builds the network of a timetable, for `bench/net`.
+//! Builds the network of a timetable, and solves it by so many workers, for `bench/workers`.
 //!
 //! The input is the records `zone`, `base` and `flight` of a session; others are passed over. The
 //! settings are the standard ones, with 80 minutes at most between two legs and at most four duties
 //! in a pairing. It prints how many duties, nodes, departures and arrivals there are, and on
 //! standard error the microseconds that it took to list the duties and to build their network, the
 //! least of ten times each.
+//!
+//! Of the words after the program's name the first number is the most minutes between two legs, in
+//! place of 80. For each number after it the timetable is solved by so many workers: the cost of the
+//! best pairing goes to standard output, and the microseconds that it took to standard error.
 #![tactic(auto)]
+
+ghost use Rattle.crew_rules.specs.Settings.{IsChecked};
 
 use crew_duty::list_duties;
 use crew_flights::{Code, Edit, Flight, FlightId, Timetable};
 use crew_net::Net;
 use crew_rules::Settings;
+use crew_solve::solve_with;
 use crew_time::{Minute, Zone, read_minute};
-use std::io::{self, BufRead, BufReader};
+use std::alloc::Global;
+use std::env;
+use std::io::{self, BufRead, BufReader, Eprint, Print};
+use std::rt::Env;
 use std::sync::Arc;
-use std::time::Instant;
+use std::thread::Threads;
+use std::time::{Clock, Instant};
 
 // How often each is measured.
 const ROUNDS: u32 = 10;
@@ -78,10 +89,81 @@ fn read_flight(settings: &Settings, zones: &[(Code, Zone)], line: &str) -> Optio
     }))
 }
 
+// Lists the duties and builds their network, and prints what there is and what it took.
+fn measure<R: Threads + Sync + Clock + Eprint + Print>(
+    rt: &R,
+    alloc: Global,
+    settings: &Settings,
+    timetable: &Timetable,
+) -> io::Result<()>
+    requires { IsChecked settings.now }
+{
+    let mut list = u128::MAX;
+    let mut build = u128::MAX;
+    for round in 0..ROUNDS {
+        let start = Instant::now(rt)?;
+        let Ok(duties) = list_duties(rt, alloc, settings, timetable) else {
+            return Ok(());
+        };
+        let listed = start.elapsed(rt)?.as_micros();
+        let shared = Arc::new(alloc, duties)?;
+        let start = Instant::now(rt)?;
+        let net = Net::build(alloc, settings, timetable, shared)?;
+        let built = start.elapsed(rt)?.as_micros();
+        list = list.min(listed);
+        build = build.min(built);
+        if round + 1 == ROUNDS {
+            println!(rt;
+                "duties {} nodes {} departures {} arrivals {}",
+                net.duties().len(),
+                net.len(),
+                net.departures().len(),
+                net.arrivals().len()
+            )?;
+        }
+    }
+    eprintln!(rt; "list {list} build {build}")?;
+    Ok(())
+}
+
+// The numbers among the words of the command line.
+fn numbers_of<R: Env + AllocGlobal>(rt: &R) -> io::Result<Vec<u32>> {
+    let mut numbers = Vec::new(rt.alloc());
+    for word in env::args(rt)? {
+        if let Ok(number) = word.parse::<u32>() {
+            numbers.push(number)?;
+        }
+    }
+    Ok(numbers)
+}
+
+// Solves a timetable by so many workers, and prints what its best pairing costs.
+fn solve_by<R: Threads + Sync + Clock + Eprint + Print>(
+    rt: &R,
+    alloc: Global,
+    settings: &Settings,
+    timetable: &Timetable,
+    workers: u32,
+) -> io::Result<()>
+    requires { IsChecked settings.now }
+{
+    let start = Instant::now(rt)?;
+    let Ok(solution) = solve_with(rt, alloc, settings, timetable, workers as usize) else {
+        return Ok(());
+    };
+    let taken = start.elapsed(rt)?.as_micros();
+    if let Some(best) = solution.best() {
+        println!(rt; "workers {workers} cost {}", best.cost)?;
+    }
+    eprintln!(rt; "workers {workers} solve {taken}")?;
+    Ok(())
+}
+
 fn main(rt: HostRuntime) -> io::Result<()> {
     let alloc = rt.alloc();
+    let numbers = numbers_of(&rt)?;
     let settings = Settings {
-        sit: 80,
+        sit: numbers.first().copied().unwrap_or(80),
         max_duties: 4,
         ..Settings::standard()
     };
@@ -100,30 +182,9 @@ fn main(rt: HostRuntime) -> io::Result<()> {
             timetable.apply(&flight)?;
         }
     }
-    let mut list = u128::MAX;
-    let mut build = u128::MAX;
-    for round in 0..ROUNDS {
-        let start = Instant::now(&rt)?;
-        let Ok(duties) = list_duties(&rt, alloc, &settings, &timetable) else {
-            return Ok(());
-        };
-        let listed = start.elapsed(&rt)?.as_micros();
-        let shared = Arc::new(alloc, duties)?;
-        let start = Instant::now(&rt)?;
-        let net = Net::build(alloc, &settings, &timetable, shared)?;
-        let built = start.elapsed(&rt)?.as_micros();
-        list = list.min(listed);
-        build = build.min(built);
-        if round + 1 == ROUNDS {
-            println!(&rt;
-                "duties {} nodes {} departures {} arrivals {}",
-                net.duties().len(),
-                net.len(),
-                net.departures().len(),
-                net.arrivals().len()
-            )?;
-        }
+    measure(&rt, alloc, &settings, &timetable)?;
+    for workers in numbers.iter().skip(1) {
+        solve_by(&rt, alloc, &settings, &timetable, *workers)?;
     }
-    eprintln!(&rt; "list {list} build {build}")?;
     Ok(())
 }
