@@ -21,6 +21,8 @@ use std::{env, io};
 use streams::Outlet;
 
 #[cfg(test)]
+mod rows;
+#[cfg(test)]
 mod sessions;
 #[cfg(test)]
 mod tests;

@@ -42,61 +42,6 @@ best JFK cost 200 pay 4200 away 285 101-102\n\
 ",
 );
 
-pub const CANCEL: (&[u8], &[u8]) = (
-    b"\
-zone,JFK,\"EST5EDT,M3.2.0,M11.1.0\"\n\
-zone,BOS,\"EST5EDT,M3.2.0,M11.1.0\"\n\
-base,JFK,0\n\
-flight,101,JFK,BOS,2025-07-01T12:00,2025-07-01T13:10,3000\n\
-flight,102,BOS,JFK,2025-07-01T14:00,2025-07-01T15:15,2000\n\
-settle\n\
-best\n\
-cancel,101\n\
-flight,101,JFK,BOS,2025-07-01T12:00,2025-07-01T13:10,3000\n\
-retime,102,JFK,2025-07-01T14:10,2025-07-01T15:25\n\
-settle\n\
-best\n\
-",
-    b"\
-version 1 entries 3 flights 2\n\
-best JFK cost -800 pay 4200 away 285 101-102\n\
-record 10 refused 27\n\
-version 2 entries 6 flights 2\n\
-best JFK cost -800 pay 4200 away 285 101-102\n\
-",
-);
-
-pub const BAD_RECORDS: (&[u8], &[u8]) = (
-    b"\
-zone,JFK,\"EST5EDT,M3.2.0,M11.1.0\"\n\
-zone,BOS,\"EST5EDT,M3.2.0,M11.1.0\"\n\
-base,JFK,0\n\
-flight,0,JFK,BOS,2025-07-01T12:00,2025-07-01T13:00,5\n\
-flight,701,JFK,BOS,2025-07-01T12:00,2025-07-01T13:00,1000000001\n\
-Flight,701\n\
-cancel\n\
-flight,702,LGA,BOS,2025-07-01T12:00,2025-07-01T13:00,5\n\
-flight,703,JFK,BOS,2025-02-29T12:00,2025-07-01T13:00,5\n\
-flight,704,JFK,BOS,2025-07-01 12:00,2025-07-01T13:00,5\n\
-flight,705,JFK,BOS,1999-07-01T12:00,2025-07-01T13:00,5\n\
-settle\n\
-best\n\
-pri",
-    b"\
-record 4 refused 72\n\
-record 6 refused 70\n\
-record 7 refused 71\n\
-record 8 refused 73\n\
-record 9 refused 2\n\
-record 10 refused 1\n\
-record 11 refused 3\n\
-record 5 refused 28\n\
-version 1 entries 2 flights 0\n\
-best none\n\
-record 14 refused 70\n\
-",
-);
-
 // One duty with four hours on the ground: 450 minutes from report to release, 120 of flight.
 pub const LONG_SIT: &[u8] = b"\
 zone,JFK,\"EST5EDT,M3.2.0,M11.1.0\"\n\

@@ -1,5 +1,6 @@
 use crate::program::command;
-use crate::sessions::{BAD_RECORDS, CANCEL, LONG_SIT, ONE_DUTY, PRICES, TEN_HOURS, TWO_DUTIES};
+use crate::rows::ROWS;
+use crate::sessions::{LONG_SIT, ONE_DUTY, PRICES, TEN_HOURS, TWO_DUTIES};
 use crate::streams::Outlet;
 use crate::texts;
 use std::cell::RefCell;
@@ -333,31 +334,26 @@ fn with_ends<T: AllocGlobal>(rt: &T, input: &[u8], end: &[u8]) -> Result<Vec<u8>
     Ok(text)
 }
 
+// A session with other ends of lines, or with empty lines, writes the same.
 #[test]
-fn sessions_and_what_they_write(rt: HostRuntime) -> Result<(), Fail> {
+fn ends_of_lines(rt: HostRuntime) -> Result<(), Fail> {
     let (input, wanted) = ONE_DUTY;
-    let returns = with_ends(&rt, input, b"\r\n")?;
-    let empty_lines = with_ends(&rt, input, b"\n\n\n")?;
-    let cases: [(&[u8], &[u8]); 8] = [
-        ONE_DUTY,
-        PRICES,
-        CANCEL,
-        BAD_RECORDS,
-        (returns.as_slice(), wanted),
-        (empty_lines.as_slice(), wanted),
-        (b"", b""),
-        (
-            b"settle\nbest\n",
-            b"version 1 entries 0 flights 0\nbest none\n",
-        ),
-    ];
-    for (input, wanted) in cases {
-        let ended = run(&rt, &["crewprice", "run"], input);
-        assert_eq!(rt; ended.status, 0);
-        assert!(rt; ended.faults.is_empty());
+    for end in [b"\r\n".as_slice(), b"\n\n\n".as_slice()] {
+        let ended = run(&rt, &["crewprice", "run"], &with_ends(&rt, input, end)?);
+        assert_eq!(rt; (ended.status, ended.faults.len()), (0, 0));
         assert_eq!(rt; ended.written.as_slice(), wanted);
     }
     Ok(())
+}
+
+// Each worked session writes what it has to, and ends well.
+#[test]
+fn worked_sessions(rt: HostRuntime) {
+    for row in &ROWS {
+        let ended = run(&rt, row.words, row.session);
+        assert_eq!(rt; ended.written.as_slice(), row.written, "{}", row.name);
+        assert_eq!(rt; (ended.status, ended.faults.len()), (0, 0), "{}", row.name);
+    }
 }
 
 // A stream that gives and takes nothing.
