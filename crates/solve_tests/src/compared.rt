@@ -45,9 +45,12 @@ fn has_best(solution: &Solution, clean: &[&Partial]) -> bool {
 
 // Whether the entries of a front are those that were picked, in the same order.
 fn are_picked(entries: &[(PairingVector, Walk)], picked: &[(PairingVector, &Walk)]) -> bool {
+    for (entry, wanted) in entries.iter().zip(picked) {
+        if entry.0 != wanted.0 || entry.1 != *wanted.1 {
+            return false;
+        }
+    }
     entries.len() == picked.len()
-        && entries.iter().zip(picked).all(|(entry, wanted)| entry.0 == wanted.0
-            && entry.1 == *wanted.1)
 }
 
 // Whether the front of a base and a duty is the one that was picked.

@@ -15,40 +15,31 @@ fn is_at_most(a: &PairingVector, b: &PairingVector) -> bool {
         && a.away <= b.away
 }
 
-// Whether a partial is one of a base, and this duty is its last.
-fn ends_with(partial: &Partial, base: Code, key: &Key) -> bool {
-    partial.base == base && partial.walk.keys().last() == Some(key)
-}
-
-// Whether two partials are of one node: the same base and the same last duty.
-fn share_a_node(a: &Partial, b: &Partial) -> bool {
-    a.base == b.base && a.walk.keys().last() == b.walk.keys().last()
-}
-
-// Whether a partial of the same node has a vector that beats this one's.
+// Whether a partial of the same base and last duty has a vector that beats this one's.
 fn is_beaten(partials: &[Partial], partial: &Partial) -> bool {
-    partials.iter().any(|other| {
-        share_a_node(other, partial)
+    for other in partials {
+        if other.base == partial.base
+            && other.walk.keys().last() == partial.walk.keys().last()
             && is_at_most(&other.vector, &partial.vector)
             && other.vector != partial.vector
-    })
+        {
+            return true;
+        }
+    }
+    false
 }
 
-// Whether a partial is another, or begins it.
-fn begins(beginning: &Partial, partial: &Partial) -> bool {
-    beginning.base == partial.base && partial.walk.keys().starts_with(beginning.walk.keys())
-}
-
-// Whether neither the partial nor one that begins it is beaten at its own node.
+// Whether neither the partial nor one that begins it is beaten by one of its own base and last duty.
 fn is_clean(partials: &[Partial], partial: &Partial) -> bool {
-    !partials.iter().any(|other| begins(other, partial) && is_beaten(partials, other))
-}
-
-// Whether the walk of a clean partial is the least of those of its node with its vector.
-fn is_least(clean: &[&Partial], partial: &Partial) -> bool {
-    !clean.iter().any(|other| {
-        share_a_node(other, partial) && other.vector == partial.vector && other.walk < partial.walk
-    })
+    for other in partials {
+        if other.base == partial.base
+            && partial.walk.keys().starts_with(other.walk.keys())
+            && is_beaten(partials, other)
+        {
+            return false;
+        }
+    }
+    true
 }
 
 /// The clean ones of all partials.
@@ -74,12 +65,19 @@ pub fn front_of<'a>(
 ) -> Result<Vec<(PairingVector, &'a Walk)>, AllocError> {
     let mut entries = Vec::new(alloc);
     for partial in clean {
-        if ends_with(partial, base, key) && is_least(clean, partial) {
+        if partial.base == base && partial.walk.keys().last() == Some(key) {
             entries.push((partial.vector, &partial.walk))?;
         }
     }
     entries.sort()?;
-    Ok(entries)
+    let mut front: Vec<(PairingVector, &'a Walk)> = Vec::new(alloc);
+    for entry in &entries {
+        match front.last() {
+            Some(last) if last.0 == entry.0 => {}
+            _ => front.push(*entry)?,
+        }
+    }
+    Ok(front)
 }
 
 /// The least clean pairing of all bases, by cost and then by walk.
