@@ -12,4 +12,3 @@ pub mod Shown
 pub mod Ranking
 pub mod NodeList
 pub mod ByReport
-pub mod ArrivalPlaces

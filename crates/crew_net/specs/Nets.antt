@@ -1,5 +1,5 @@
 -- The network of the legal duties of a timetable, and what a contract sees of it.
-use Rattle.std.specs.Prelude.{◌≡◌, ◌≤◌, ◌≤ℤ◌, ℕ, List, Option, Some, None, Vec, IsPermutation, get_or, length, map, slice_get}
+use Rattle.std.specs.Prelude.{◌≡◌, ◌≤◌, ◌≤ℤ◌, ℕ, List, Option, Some, None, Vec, IsPermutation, length, map, slice_get}
 use Rattle.std.specs.Global.{Global}
 use Rattle.std.specs.FinMap as fin
 use Rattle.std.specs.List.{flat_map, range_with_len}
@@ -65,9 +65,3 @@ abbrev pub ArePreds : Net → Node → Option (Vec ℕ Global) → Type 0
 ArePreds net node None = (d : Duty) → IsNodeOf net node d → ⊥
 ArePreds net node (Some ranks) = (d : Duty) × IsNodeOf net node d
     × (ranks.items ≡ ranks_before net.settings net.duties d)
-
--- the place of each duty's arrival, by rank
-pub record AreArrivalPlaces (net : Net) (places : List ℕ) : Type 0 where
-  pub long : length places ≡ length net.duties
-  pub exact : (rank : ℕ) (d : Duty) → slice_get net.duties rank ≡ Some d
-      → slice_get net.arrivals (get_or places rank 0) ≡ Some (arrival_of d)

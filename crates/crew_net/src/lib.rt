@@ -10,12 +10,10 @@ pub mod laws;
 mod net;
 mod node;
 mod ranks;
-mod reached;
 mod timeline;
 mod window;
 mod windows;
 
 pub use net::Net;
 pub use node::Node;
-pub use reached::arrival_places;
 pub use window::Window;

@@ -151,6 +151,7 @@ impl Net {
         ensures events { result.now ≡ self.now.departures }
         ensures exact { AreEvents departure_of departure_cmp self.now.duties self.now.departures }
         ensures real { (g : Departure) → Member self.now.departures g → IsReal g.report }
+        ensures few { length self.now.departures ≤ 200_000 }
     {
         &self.departures
     }

@@ -1,8 +1,8 @@
 -- The sweep over the events: pools that are local at each event give each duty its front.
-use Rattle.std.proofs.Common.{ℕ, zero, suc, ◌+◌, ◌<◌, Bool, List, [], get_or, Option, sym, ◌∙◌, ap, subst, ⊎_elim, arith}
+use Rattle.std.proofs.Common.{ℕ, zero, suc, ◌+◌, ◌<◌, Bool, List, Option, sym, ◌∙◌, ap, subst, ⊎_elim, arith}
 use Rattle.crew_resource.specs.Members.{Member}
 use Rattle.crew_resource.specs.Labels.{IsFront, IsLocal}
-use Rattle.crew_resource.specs.Events.{Network, WaitLaws, BoardLaws, Reflects, CountLaws, StageLaws, view, FromFronts, FromPools, Arriving, Views, Swept}
+use Rattle.crew_resource.specs.Events.{Network, WaitLaws, BoardLaws, Reflects, CountLaws, StageLaws, view, FromFronts, FromPools, Arriving}
 use Rattle.crew_resource.proofs.Order.{IsOrder}
 use Rattle.crew_resource.proofs.Step.{Rules, Covers, step_covers, step_front}
 use Rattle.crew_resource.proofs.Covering.{IsCovering, local_of_part}
@@ -110,17 +110,3 @@ module _ (N V W G X : Type 0) (net : Network N V W G X) (le : V → V → Bool) 
 
   pub arrival_of_fronts : (entries : List (V × W)) → IsLocal le wle (Arriving net views x) entries → IsLocal le wle (Arriving net fronts x) entries
   arrival_of_fronts entries = local_of_part V W le wle order walks (Arriving net fronts x) (Arriving net views x) fronts_cover_views entries
-
--- what the loop over the departures leaves
-module _ (N V W X : Type 0) (net : Network N V W ℕ X) (one : N → W) (opens : N → Option V) (ext : V → N → N → Option V) (Arc : N → N → Type 0)
-    (stages : StageLaws net one opens ext Arc)
-    (le : V → V → Bool) (wle : W → W → Bool) (At Clean : N → V → W → Type 0)
-    (rules : Rules N V W one net.more opens ext Arc le wle At Clean)
-    (rank : N → ℕ) (rises : (e d : N) → Arc e d → rank e < rank d)
-    (Fits : V → W → Type 0) (counts : CountLaws net wle Fits) (boards : BoardLaws le net.board) (reflects : Reflects le net.board) where
-  pub swept_right : (count : ℕ) (pools : List (List (V × W))) (arrivals : X → List (V × W)) → Swept net le wle count pools arrivals
-      → (d : N) → Member net.known d → ((e : N) → Member net.known e → net.leaves e < count)
-      → Right N V W ℕ X net one opens ext Arc stages le wle At Clean rules rank rises Fits counts boards d (Views net pools d)
-  swept_right count pools arrivals swept d known within =
-      views_right N V W ℕ X net one opens ext Arc stages le wle At Clean rules rank rises Fits counts boards reflects (λ g. get_or pools g [])
-      (λ e k. swept.pooled (net.leaves e) (within e k)) d known

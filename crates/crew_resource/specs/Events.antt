@@ -94,24 +94,15 @@ Arriving {N} net fronts x u w = (e : N) × Member net.known e × (net.arrives e 
 abbrev pub Views : {N V W X : Type 0} → Network N V W ℕ X → List (List (V × W)) → N → List (V × W)
 Views net pools d = view net d (get_or pools (net.leaves d) [])
 
--- the entries that arrive at x of the duties that leave before the event i
-abbrev pub SoFar : {N V W X : Type 0} → Network N V W ℕ X → ℕ → List (List (V × W)) → X → V → W
-    → Type 0
-SoFar {N} net i pools x u w = (e : N) × Member net.known e × (net.leaves e < i)
-    × (net.arrives e ≡ x) × Member (Views net pools e) (u, w)
-
--- the entries so far, and those of the duties that leave at the event i
-abbrev pub Sent : {N V W X : Type 0} → Network N V W ℕ X → ℕ → (X → List (V × W)) → List (V × W)
-    → X → V → W → Type 0
-Sent {N} net i arrivals pool x u w = Member (arrivals x) (u, w)
-    ⊎ ((e : N) × Member net.known e × (net.leaves e ≡ i) × (net.arrives e ≡ x)
-    × Member (view net e pool) (u, w))
-
--- after the events before i
+-- after the departures before i: their pools, and the arrivals whose pools are made. From each duty
+-- that arrives there nothing more comes, and what a departure so far has waited on is made
 pub record Swept {N V W X : Type 0} (net : Network N V W ℕ X) (le : V → V → Bool)
-    (wle : W → W → Bool) (i : ℕ) (pools : List (List (V × W))) (arrivals : X → List (V × W)) :
-    Type 0 where
+    (wle : W → W → Bool) (i : ℕ) (pools : List (List (V × W))) (IsMade : X → Type 0)
+    (arrivals : X → List (V × W)) : Type 0 where
   pub long : length pools ≡ i
-  pub arrived : (x : X) → IsLocal le wle (SoFar net i pools x) (arrivals x)
+  pub sealed : (x : X) → IsMade x → (e : N) → Member net.known e → net.arrives e ≡ x
+      → net.leaves e < i
+  pub arrived : (x : X) → IsMade x → IsLocal le wle (Arriving net (Views net pools) x) (arrivals x)
+  pub waited : (g : ℕ) → g < i → (x : X) → net.window x g ≡ true → IsMade x
   pub pooled : (g : ℕ) → g < i → IsLocal le wle (FromFronts net (Views net pools) g)
       (get_or pools g [])

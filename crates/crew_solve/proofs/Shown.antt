@@ -1,8 +1,7 @@
 -- The entries of a front, in order of vector.
-use Rattle.std.proofs.Common.{◌≡◌, ◌∙◌, ◌<◌, ◌≤◌, ◌+◌, ℕ, zero, suc, ℤ, Bool, true, false, cond, List, [], ◌∷◌, ◌++◌, Some, refl, sym, ap, inl, inr, length, map, take, arith, pos, ◌*ℤ◌}
+use Rattle.std.proofs.Common.{◌≡◌, ◌∙◌, ◌≤◌, ◌+◌, ℕ, zero, suc, ℤ, Bool, true, false, cond, List, [], ◌∷◌, Some, refl, sym, ap, inl, inr, length, map, take, arith, pos, ◌*ℤ◌}
 use Rattle.std.specs.Prelude.{slice_get}
 use Rattle.std.specs.Ordering.{eq_by_cmp, int_cmp, ordering_then}
-use Rattle.std.specs.declared.cmp.Ordering.{Ordering}
 use Rattle.std.specs.declared.cmp.Ordering.TheVariants.{Less}
 use Rattle.crew_anchor.specs.Anchors.{shown}
 use Rattle.crew_anchor.specs.Machinery.Shifts.{cmp_more}

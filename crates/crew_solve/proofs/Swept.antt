@@ -1,5 +1,5 @@
 -- What stands at the places of bases, and the sweeps of all bases.
-use Rattle.std.proofs.Common.{◌≡◌, ◌∙◌, ◌<◌, ℕ, zero, suc, ℤ, List, [], ◌∷◌, Option, Some, IfSome, length, get_or, map, arith, refl}
+use Rattle.std.proofs.Common.{◌≡◌, ◌∙◌, ◌<◌, ℕ, suc, ℤ, List, [], ◌∷◌, Option, Some, IfSome, length, get_or, map, arith, refl}
 use Rattle.std.specs.FinMap as fin
 use Rattle.crew_flights.specs.Timetable.{IsSound, Timetable}
 use Rattle.crew_net.specs.Nets.{Net}

@@ -12,8 +12,9 @@ use crate::solution::Solution;
 use crate::sweeps::sweep_all;
 use crew_duty::{Duties, DutyFault, list_duties};
 use crew_flights::Timetable;
-use crew_net::{Net, arrival_places};
+use crew_net::Net;
 use crew_rules::Settings;
+use crew_sweep::departure_turns;
 use std::alloc::{AllocError, Global};
 use std::sync::Arc;
 use std::thread::Threads;
@@ -51,8 +52,8 @@ fn solve_over<R: Threads + Sync>(
     ensures network { IfOk result (HasNetOf settings.now timetable.now) }
 {
     let net = net_of(alloc, settings, timetable, duties)?;
-    let places = arrival_places(alloc, &net)?;
-    let sweeps = sweep_all(rt, alloc, timetable, &net, &places, workers)?;
+    let turns = departure_turns(alloc, &net)?;
+    let sweeps = sweep_all(rt, alloc, timetable, &net, &turns, workers)?;
     let best = best_of(alloc, &sweeps, settings.trip_rig)?;
     Ok(Solution::new(net, sweeps, best))
 }

@@ -3,10 +3,11 @@ ghost use Rattle.std.specs.Prelude.{◌≡◌, ◌<◌, ◌≤◌, IfOk, IfSome,
 ghost use Rattle.std.specs.Arc.{arc_value};
 ghost use Rattle.std.specs.FinMap as fin;
 ghost use Rattle.crew_flights.specs.Timetable.{IsBasePrice, IsSound};
-ghost use Rattle.crew_net.specs.Nets.{AreArrivalPlaces, IsNetOf};
+ghost use Rattle.crew_net.specs.Nets.{IsNetOf};
 ghost use Rattle.crew_pairing.specs.Duties.{AreDuties};
 ghost use Rattle.crew_rules.specs.Settings.{IsChecked};
 ghost use Rattle.crew_solve.specs.Machinery.Solved.{AreSweeps, AreSwept, HavePrices, IsSweepable, IsSwept};
+ghost use Rattle.crew_sweep.specs.Sweeps.{AreTurns};
 
 use crew_flights::{Code, Timetable};
 use crew_net::Net;
@@ -52,15 +53,15 @@ fn unswept(alloc: Global, count: usize) -> Result<Vec<Option<Sweep>>, AllocError
 fn sweep_base(
     alloc: Global,
     net: &Arc<Net, Global>,
-    places: &[u32],
+    turns: &[u32],
     base: Code,
     price: i64,
 ) -> Result<Sweep, AllocError>
-    requires sweepable { IsSweepable (arc_value net.now) places.now }
+    requires sweepable { IsSweepable (arc_value net.now) turns.now }
     requires price { IsBasePrice price }
     ensures { IfOk result (IsSwept (arc_value net.now) (base, price)) }
 {
-    sweep(alloc, Arc::try_clone(net)?, places, base, price)
+    sweep(alloc, Arc::try_clone(net)?, turns, base, price)
 }
 
 // Sweeps each base into its place, in at most so many threads, this one among them.
@@ -68,12 +69,12 @@ fn sweep_in<R: Threads + Sync>(
     rt: &R,
     alloc: Global,
     net: &Arc<Net, Global>,
-    places: &[u32],
+    turns: &[u32],
     bases: &[(Code, i64)],
     threads: usize,
     swept: &mut [Option<Sweep>],
 )
-    requires sweepable { IsSweepable (arc_value net.now) places.now }
+    requires sweepable { IsSweepable (arc_value net.now) turns.now }
     requires prices { HavePrices bases.now }
     requires threads { 0 < threads }
     requires long { length swept.old ≡ length bases.now }
@@ -85,12 +86,12 @@ fn sweep_in<R: Threads + Sync>(
         threads,
         &|place: usize, swept: &mut Option<Sweep>|
             requires { (place < length bases.now) × HavePrices bases.now
-                × IsSweepable (arc_value net.now) places.now }
+                × IsSweepable (arc_value net.now) turns.now }
             ensures { (d : _) → IfSome swept.new (IsSwept (arc_value net.entry.now)
                 (slice_index_or bases.entry.now place d)) }
         {
             let (base, price) = bases[place];
-            *swept = sweep_base(alloc, net, places, base, price).ok();
+            *swept = sweep_base(alloc, net, turns, base, price).ok();
         },
     );
 }
@@ -116,7 +117,7 @@ pub(crate) fn sweep_all<R: Threads + Sync>(
     alloc: Global,
     timetable: &Timetable,
     net: &Arc<Net, Global>,
-    places: &[u32],
+    turns: &[u32],
     workers: usize,
 ) -> Result<Vec<Sweep>, AllocError>
     requires checked { IsChecked (arc_value net.now).settings }
@@ -125,7 +126,7 @@ pub(crate) fn sweep_all<R: Threads + Sync>(
     requires duties { AreDuties (arc_value net.now).settings timetable.now
         (arc_value net.now).duties }
     requires few { length (arc_value net.now).duties ≤ 200_000 }
-    requires places { AreArrivalPlaces (arc_value net.now) places.now }
+    requires turns { AreTurns (arc_value net.now) turns.now }
     ensures sweeps { IfOk result (λ sweeps. AreSweeps timetable.now (arc_value net.now)
         sweeps.items) }
     ensures sound { IsSound timetable.now }
@@ -133,6 +134,6 @@ pub(crate) fn sweep_all<R: Threads + Sync>(
     let bases = bases_of(alloc, timetable)?;
     let mut swept = unswept(alloc, bases.len())?;
     let threads = threads_for(workers, net.duties().len());
-    sweep_in(rt, alloc, net, places, &bases, threads, &mut swept);
+    sweep_in(rt, alloc, net, turns, &bases, threads, &mut swept);
     all_made(alloc, swept)
 }

@@ -3,6 +3,5 @@ pub mod Grown
 pub mod Loops
 pub mod Rooms
 pub mod Sames
-pub mod Sent
 pub mod Listed
 pub mod Values

@@ -1,6 +1,6 @@
 -- What pools at events are made from. Labels wait from arrivals to a departure, and board there.
 -- They stand as of a common instant, so waiting changes no vector.
-use Rattle.std.specs.Prelude.{ℕ, cond, nat_eq, get_or, List, [], ◌∷◌, ◌++◌, Option, Some, None, map, slice_get}
+use Rattle.std.specs.Prelude.{ℕ, get_or, List, [], ◌∷◌, ◌++◌, Option, Some, None, map, slice_get}
 use Rattle.std.specs.List.{flat_map}
 use Rattle.crew_pool.specs.LabelWalks.{shown}
 use Rattle.crew_pool.specs.declared.label_walk.LabelWalk.{LabelWalk}
@@ -18,9 +18,9 @@ boarding board None rank labels = []
 boarding board (Some item) rank labels =
     flat_map (λ l. labelled (board l.0 item) (l.1 ++ rank ∷ [])) labels
 
--- what the items of some ranks bring to an arrival, each rank to its own
-abbrev pub brought : {I V : Type 0} → (V → I → Option V) → List I → List ℕ → ℕ → List (V × List ℕ)
-    → List ℕ → List (V × List ℕ)
-brought board items places arrival labels ranks =
-    flat_map (λ rank. cond (nat_eq (get_or places rank 0) arrival)
-    (boarding board (slice_get items rank) rank labels) []) ranks
+-- what boards the items of some ranks, each from the pool whose place its turn is
+abbrev pub boarded : {I V : Type 0} → List (List ℕ) → (V → I → Option V) → List I → List ℕ
+    → List (List (V × LabelWalk)) → List ℕ → List (V × List ℕ)
+boarded walks board items turns pools ranks =
+    flat_map (λ rank. boarding board (slice_get items rank) rank
+    (map (shown walks) (get_or pools (get_or turns rank 0) []))) ranks

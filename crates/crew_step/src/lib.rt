@@ -9,6 +9,7 @@
 //! `laws` has it that entries of fronts are values of their walks, as a job wants them.
 #![tactic(auto)]
 
+mod arrival;
 mod departure;
 mod done;
 mod feed;
@@ -16,14 +17,13 @@ mod job;
 pub mod laws;
 mod offers;
 mod same;
-mod send;
 mod step;
 mod waiting;
 
+pub use arrival::arrival_pool;
 pub use departure::departure_pool;
 pub use done::Done;
 pub use feed::{Feed, Predecessor};
 pub use job::Job;
-pub use send::board_leaving;
 pub use step::work;
 pub use waiting::waiting_labels;

@@ -18,7 +18,7 @@ use Rattle.crew_resource.proofs.Members.{Member-map_out}
 use Rattle.crew_rules.specs.Settings.{IsChecked}
 use Rattle.crew_sweep.specs.Machinery.Kept.{IsKept}
 use Rattle.crew_sweep.specs.Machinery.Numbered.{departure_place}
-use Rattle.crew_sweep.specs.Machinery.Passing.{HasPassed, IsPassable, passed_network}
+use Rattle.crew_sweep.specs.Machinery.Passing.{HasPassed, IsMade, IsPassable, passed_network}
 use Rattle.crew_sweep.specs.Sweeps.{BaseSweep, ShowsFronts, in_order, keyed}
 use Rattle.crew_sweep.proofs.Fronts.{swept-fronts}
 use Rattle.crew_sweep.proofs.Numbers.{at-departure, get-within}
@@ -42,7 +42,7 @@ lesser r most = record r { max_duties = most }
 abbrev pub made : Net → List ℕ → ℤ → List (List ℕ) → List Labels → BaseSweep
 made net base price walks pools = record { net = net; base = base; price = price; walks = walks; pools = pools }
 
-module _ (net : Net) (places : List ℕ) (passable : IsPassable net places) (base : List ℕ) (price : ℤ) (most : ℕ) (few : most ≤ 12) (less : most + 1 ≡ net.settings.max_duties)
+module _ (net : Net) (turns : List ℕ) (passable : IsPassable net turns) (base : List ℕ) (price : ℤ) (most : ℕ) (few : most ≤ 12) (less : most + 1 ≡ net.settings.max_duties)
     (fits : (n : ℕ) → n ≤ 100_000 → fits_in (anchored_resource net.settings price) n) (walks : List (List ℕ)) (pools : List Labels)
     (passed : HasPassed net base (lesser (anchored_resource net.settings price) most) walks pools) where
   pub kept : IsKept (made net base price walks pools) (anchored_resource net.settings price)
@@ -65,14 +65,14 @@ module _ (net : Net) (places : List ℕ) (passable : IsPassable net places) (bas
   right checked t sound exactly d legal =
       let place = departure_place (in_order net) (departure_of d) in
       let known = subst (Member net.duties) (sym legal.3) (exactly.every legal.0 legal.1 legal.2) in
-      let leaves = leaves-in net passable.departs passable.arrives passable.ordered in
-      let long = in-order-long net passable.departs passable.arrives passable.ordered in
+      let leaves = leaves-in net passable.departs passable.ordered in
+      let long = in-order-long net passable.departs passable.ordered in
       let within : place < length pools = subst (λ n. place < n) (long ∙ sym passed.all) (get-within (in_order net) place (departure_of d) (at-departure (in_order net) (departure_of d) (leaves d known))) in
       let all : length pools ≡ length (in_order net) = passed.all ∙ sym long in
-      let swept = subst (λ n. Swept (passed_network net base (lesser (anchored_resource net.settings price) most)) is_at_most walk_at_most n (map (keyed net walks) pools) (λ x. get_or (map (keyed net walks) passed.held) x [])) all passed.passing.swept in
+      let swept = subst (λ n. Swept (passed_network net base (lesser (anchored_resource net.settings price) most)) is_at_most walk_at_most n (map (keyed net walks) pools) (IsMade passed.made) (λ x. get_or (map (keyed net walks) passed.held) x [])) all passed.passing.swept in
       let held-long : length (map (keyed net walks) passed.held) ≡ length net.arrivals = length-map passed.held (keyed net walks) ∙ passed.passing.long in
-      let front = swept-fronts net.settings t base price net.duties (in_order net) net.arrivals most (map (keyed net walks) pools) (map (keyed net walks) passed.held) checked sound exactly
-      (in-order-distinct net passable.departs passable.arrives passable.ordered) (arrivals-distinct net passable.departs passable.arrives passable.ordered) leaves passable.arrives.every
+      let front = swept-fronts net.settings t base price net.duties (in_order net) net.arrivals most (map (keyed net walks) pools) passed.made (map (keyed net walks) passed.held) checked sound exactly
+      (in-order-distinct net passable.departs passable.ordered) (arrivals-distinct net passable.arrives) leaves passable.arrives.every
       (omega (arith, held-long)) less swept d legal in
       subst (λ (ls : List (PairingVector × List (List Leg))). IsFrontAt net.settings t base price d (shown_labels net.settings.trip_rig d.release (view (anchored_network net.settings base price net.duties) d ls)))
       (map-or (keyed net walks) pools place within) front
@@ -100,14 +100,14 @@ module _ (net : Net) (checked : IsChecked net.settings) (price : ℤ) (full spar
   pub spare-few : spare.max_duties ≤ 12
   spare-few = subst (λ (r : AnchoredResource). r.max_duties ≤ 12) (sym spare-is) few-less
 
-  module _ (places : List ℕ) (passable : IsPassable net places) (base : List ℕ) (walks : List (List ℕ)) (pools : List Labels) (passed : HasPassed net base spare walks pools) where
+  module _ (turns : List ℕ) (passable : IsPassable net turns) (base : List ℕ) (walks : List (List ℕ)) (pools : List Labels) (passed : HasPassed net base spare walks pools) where
     through : HasPassed net base (lesser (anchored_resource net.settings price) most-less) walks pools
     through = subst (λ (r : AnchoredResource). HasPassed net base r walks pools) spare-is passed
 
     pub all-kept : IsKept (made net base price walks pools) full
     all-kept = subst (IsKept (made net base price walks pools)) (sym full-is)
-        (kept net places passable base price most-less few-less (one-less net.settings.max_duties checked.max_duties) full-fits walks pools through)
+        (kept net turns passable base price most-less few-less (one-less net.settings.max_duties checked.max_duties) full-fits walks pools through)
 
     pub all-right : (t : Timetable) → IsSound t → AreDuties net.settings t net.duties
         → ShowsFronts t (made net base price walks pools)
-    all-right = right net places passable base price most-less few-less (one-less net.settings.max_duties checked.max_duties) full-fits walks pools through checked
+    all-right = right net turns passable base price most-less few-less (one-less net.settings.max_duties checked.max_duties) full-fits walks pools through checked

@@ -1,5 +1,5 @@
 -- A sweep over the events by number shows the fronts.
-use Rattle.std.proofs.Common.{◌≡◌, ◌∙◌, ◌<◌, ◌≤◌, ◌+◌, ℕ, Bool, true, cond, ℤ, pos, List, [], ◌&&◌, length, get_or, Option, Some, None, inl, inr, refl, sym, ap, subst, ⊎_elim, arith}
+use Rattle.std.proofs.Common.{◌≡◌, ◌∙◌, ◌<◌, ◌≤◌, ◌+◌, ◌⊎◌, ℕ, Bool, true, cond, ℤ, pos, List, [], ◌&&◌, length, get_or, Option, Some, None, inl, inr, refl, sym, ap, subst, ⊎_elim, arith}
 use Rattle.std.specs.Prelude.{slice_get, int_le, ◌<ℤ◌, ◌+ℤ◌}
 use Rattle.std.proofs.lemmas.Bool.{and_parts}
 use Rattle.std.proofs.lemmas.Int.{ints}
@@ -18,7 +18,7 @@ use Rattle.crew_pairing.specs.declared.duty.Duty.{Duty}
 use Rattle.crew_pairing.specs.declared.events.Arrival.{Arrival}
 use Rattle.crew_pairing.specs.declared.events.Departure.{Departure}
 use Rattle.crew_pairing.specs.declared.vector.PairingVector.{PairingVector}
-use Rattle.crew_resource.specs.Events.{Arriving, FromFronts, FromPools, Network, SoFar, Swept, Views, WaitLaws, view}
+use Rattle.crew_resource.specs.Events.{Arriving, FromFronts, FromPools, Network, Swept, Views, WaitLaws, view}
 use Rattle.crew_resource.specs.Labels.{IsLocal}
 use Rattle.crew_resource.specs.Members.{Member}
 use Rattle.crew_resource.proofs.Covering.{local_of_part}
@@ -33,6 +33,8 @@ use Rattle.crew_vector.proofs.Paths.{legal-in-range}
 use Rattle.crew_vector.proofs.Pooled.{left-before}
 use Rattle.crew_vector.proofs.Steps.{vector-order}
 use Rattle.crew_sweep.specs.Machinery.Numbered.{AreDistinct, arrival_place, departure_place, idle_at, numbered, window_at}
+use Rattle.crew_sweep.specs.Machinery.Passing.{IsMade}
+use Rattle.crew_sweep.proofs.Slices.{at-within, past-none}
 use Rattle.crew_sweep.proofs.Numbers.{arrival-at, at-arrival, at-departure, get-within, held-within, place-arrival}
 
 abbrev Labelled : Type 0
@@ -93,11 +95,11 @@ board-more s price most less u v e h room =
 pub waits : WaitLaws {V = PairingVector} {G = ℕ} {X = ℕ} is_at_most (λ v x g. v)
 waits = record { monotone = λ a b x g h. h; strict = λ a b x g h e. e }
 
-module _ (s : Settings) (t : Timetable) (base : List ℕ) (price : ℤ) (duties : List Duty) (departures : List Departure) (arrivals : List Arrival) (most : ℕ) (pools held : List Labelled)
+module _ (s : Settings) (t : Timetable) (base : List ℕ) (price : ℤ) (duties : List Duty) (departures : List Departure) (arrivals : List Arrival) (most : ℕ) (pools : List Labelled) (made : List Bool) (held : List Labelled)
     (checked : IsChecked s) (sound : IsSound t) (exactly : AreDuties s t duties) (gs-distinct : AreDistinct departures) (xs-distinct : AreDistinct arrivals)
     (leaves-in : (d : Duty) → Member duties d → Member departures (departure_of d)) (arrives-in : (d : Duty) → Member duties d → Member arrivals (arrival_of d))
     (long : length held ≤ length arrivals) (less : most + 1 ≡ s.max_duties)
-    (swept : Swept (numbered s (lesser s price most) base duties departures arrivals) is_at_most walk_at_most (length departures) pools (λ x. get_or held x [])) where
+    (swept : Swept (numbered s (lesser s price most) base duties departures arrivals) is_at_most walk_at_most (length departures) pools (IsMade made) (λ x. get_or held x [])) where
   abbrev Num : Network Duty PairingVector (List (List Leg)) ℕ ℕ
   Num = numbered s (lesser s price most) base duties departures arrivals
 
@@ -122,14 +124,9 @@ module _ (s : Settings) (t : Timetable) (base : List ℕ) (price : ℤ) (duties 
   left-within : (d : Duty) → Member duties d → departure_place departures (departure_of d) < length departures
   left-within d m = get-within departures (departure_place departures (departure_of d)) (departure_of d) (left d m)
 
-  -- the pools are made from all that arrives
-  arriving : (x : ℕ) → IsLocal is_at_most walk_at_most (Arriving Num (Views Num pools) x) (held_at x)
-  arriving x = local-same is_at_most walk_at_most (SoFar Num (length departures) pools x) (Arriving Num (Views Num pools) x) (held_at x)
-      (λ v w c. (c.0, c.1, c.3, c.4)) (λ v w c. (c.0, c.1, left-within c.0 c.1, c.2, c.3)) (swept.arrived x)
-
   pools-from : (i : ℕ) → i < length departures → IsLocal is_at_most walk_at_most (FromPools Num held_at i) (get_or pools i [])
   pools-from i lt = local_of_part PairingVector (List (List Leg)) is_at_most walk_at_most vector-order walk-order (FromPools Num held_at i) (FromFronts Num (Views Num pools) i)
-      (pools_cover Duty PairingVector (List (List Leg)) ℕ ℕ Num is_at_most walk_at_most vector-order walk-order waits (Views Num pools) held_at i (λ x open'. arriving x))
+      (pools_cover Duty PairingVector (List (List Leg)) ℕ ℕ Num is_at_most walk_at_most vector-order walk-order waits (Views Num pools) held_at i (λ x open'. swept.arrived x (swept.waited i lt x open')))
       (get_or pools i []) (swept.pooled i lt)
 
   -- the candidates of a departure, by number and by event
@@ -178,21 +175,47 @@ module _ (s : Settings) (t : Timetable) (base : List ℕ) (price : ℤ) (duties 
   arrived-there : (e : Duty) (x : Arrival) → Member duties e → arrival_place arrivals (arrival_of e) ≡ arrival_place arrivals x → arrival_of e ≡ x
   arrived-there e x m q = arrival-at arrivals x (arrival_of e) (ap (slice_get arrivals) (sym q) ∙ at-arrival arrivals (arrival_of e) (arrives-in e m))
 
-  arrival-local : (d : Duty) (x : Arrival) → IsDuty s (flights_of t) d → may_wait s x (departure_of d) ≡ true
+  either : (a b : ℕ) → (a < b) ⊎ (b ≤ a)
+  either a b = grind arith
+
+  -- nothing arrives at what isn't an arrival of the network
+  outside : (d : Duty) (x : Arrival) → length arrivals ≤ arrival_place arrivals x → IsLocal is_at_most walk_at_most (ArrivedToSpare s Net (λ e. view Net e (pool_of (departure_of e))) d.report x) (arrived_of x)
+  outside d x far =
+      let none : arrived_of x ≡ [] = past-none held (arrival_place arrivals x) (omega (arith, far, long)) in
+      subst (IsLocal is_at_most walk_at_most (ArrivedToSpare s Net (λ e. view Net e (pool_of (departure_of e))) d.report x)) (sym none) (record {
+        among = λ v w m. absurd m;
+        covers = λ v w c.
+            let e = c.0.0 in
+            let within = get-within arrivals (arrival_place arrivals (arrival_of e)) (arrival_of e) (at-arrival arrivals (arrival_of e) (arrives-in e c.0.1)) in
+            let near : arrival_place arrivals x < length arrivals = subst (λ (y : Arrival). arrival_place arrivals y < length arrivals) c.0.3 within in
+            absurd (omega (arith, near, far));
+        alone = λ v w a b m. absurd m;
+      })
+
+  inside : (d : Duty) (x : Arrival) → IsDuty s (flights_of t) d → may_wait s x (departure_of d) ≡ true → arrival_place arrivals x < length arrivals
       → IsLocal is_at_most walk_at_most (ArrivedToSpare s Net (λ e. view Net e (pool_of (departure_of e))) d.report x) (arrived_of x)
-  arrival-local d x l window =
+  inside d x l window near =
       let place = arrival_place arrivals x in
-      local-same is_at_most walk_at_most (SoFar Num (length departures) pools place) (ArrivedToSpare s Net (λ e. view Net e (pool_of (departure_of e))) d.report x) (held_at place)
+      let there = at-within arrivals place x near in
+      let is : slice_get arrivals place ≡ Some x = there ∙ ap Some (arrival-at arrivals x (get_or arrivals place x) there) in
+      let i = departure_place departures (departure_of d) in
+      let at = left d (listed d l) in
+      let open' : window_at s (slice_get arrivals place) (slice_get departures i) ≡ true = ap (λ (o : Option Arrival). window_at s o (slice_get departures i)) is ∙ (ap (λ (o : Option Departure). window_at s (Some x) o) at ∙ window) in
+      local-same is_at_most walk_at_most (Arriving Num (Views Num pools) place) (ArrivedToSpare s Net (λ e. view Net e (pool_of (departure_of e))) d.report x) (held_at place)
       (λ v w c.
       let e = c.0 in
-      let at = arrived-there e x c.1 c.3 in
+      let to = arrived-there e x c.1 c.2 in
       let in-range = legal-in-range s t base price checked sound e (exactly.sound e c.1) in
-      let k = seen-less e (pool_of (departure_of e)) v w c.4 in
-      ((e, c.1, left-before s e x (departure_of d) in-range at window, at, k.0), k.1))
+      let k = seen-less e (pool_of (departure_of e)) v w c.3 in
+      ((e, c.1, left-before s e x (departure_of d) in-range to window, to, k.0), k.1))
       (λ v w c.
       let e = c.0.0 in
-      (e, c.0.1, left-within e c.0.1, ap (arrival_place arrivals) c.0.3, seen-more e (pool_of (departure_of e)) v w c.0.4 c.1))
-      (swept.arrived place)
+      (e, c.0.1, ap (arrival_place arrivals) c.0.3, seen-more e (pool_of (departure_of e)) v w c.0.4 c.1))
+      (swept.arrived place (swept.waited i (left-within d (listed d l)) place open'))
+
+  arrival-local : (d : Duty) (x : Arrival) → IsDuty s (flights_of t) d → may_wait s x (departure_of d) ≡ true
+      → IsLocal is_at_most walk_at_most (ArrivedToSpare s Net (λ e. view Net e (pool_of (departure_of e))) d.report x) (arrived_of x)
+  arrival-local d x l window = ⊎_elim {C = IsLocal is_at_most walk_at_most (ArrivedToSpare s Net (λ e. view Net e (pool_of (departure_of e))) d.report x) (arrived_of x)} (inside d x l window) (λ le. outside d x le) (either (arrival_place arrivals x) (length arrivals))
 
   pub swept-fronts : (d : Duty) → IsDuty s (flights_of t) d → IsFrontAt s t base price d (shown_labels s.trip_rig d.release (view Net d (pool_of (departure_of d))))
   swept-fronts d l = to-spare s t base price duties checked sound exactly pool_of (λ g x. arrived_of x) pool-local arrival-local d l

@@ -5,9 +5,10 @@ pub mod Slices
 pub mod Orders
 pub mod Shown
 pub mod Gathered
-pub mod Sending
+pub mod Parts
+pub mod Making
 pub mod Steps
 pub mod Passable
 pub mod Ends
-pub mod Parts
 pub mod Slidings
+pub mod DutyTurns

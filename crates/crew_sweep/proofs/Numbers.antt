@@ -48,7 +48,7 @@ same-departure g h e =
     let p = and_parts _ _ e in
     ap₂ {C = Departure} (λ a m. record { airport = a; report = m }) (same-code g.airport h.airport p.0) (same-int g.report h.report p.1)
 
-same-arrival : (x y : Arrival) → is_arrival x y ≡ true → x ≡ y
+pub same-arrival : (x y : Arrival) → is_arrival x y ≡ true → x ≡ y
 same-arrival x y e =
     let p = and_parts _ _ e in
     ap₂ {C = Arrival} (λ a m. record { airport = a; release = m }) (same-code x.airport y.airport p.0) (same-int x.release y.release p.1)
@@ -56,7 +56,7 @@ same-arrival x y e =
 pub departure-itself : (g : Departure) → is_departure g g ≡ true
 departure-itself g = both _ _ (code-itself g.airport g.airport refl) (int-itself g.report)
 
-arrival-itself : (x : Arrival) → is_arrival x x ≡ true
+pub arrival-itself : (x : Arrival) → is_arrival x x ≡ true
 arrival-itself x = both _ _ (code-itself x.airport x.airport refl) (int-itself x.release)
 
 -- the event stands at its place

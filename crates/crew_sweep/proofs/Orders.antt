@@ -10,7 +10,7 @@ use Rattle.std.proofs.lemmas.Cmp.{tied_itself}
 use Rattle.std.proofs.lemmas.Int.{ints}
 use Rattle.std.proofs.lemmas.List.{length-map}
 use Rattle.std.proofs.lemmas.List.FromFn.{get_or-range_with_len, length-range_with_len}
-use Rattle.std.proofs.lemmas.List.Sorted.{IsPermutation-sym}
+use Rattle.std.proofs.lemmas.List.Sorted.{IsPermutation-sym, length_permutation}
 use Rattle.crew_flights.specs.Codes.{code_cmp_total}
 use Rattle.crew_net.specs.Events.{AreEvents, arrival_cmp, departure_cmp}
 use Rattle.crew_net.specs.Nets.{AreByReport, Net}
@@ -59,11 +59,10 @@ later i j h = ⊎_elim (λ l. absurd (h l)) (λ l. l) (either i j)
     either : (i j : ℕ) → (j ≤ i) ⊎ (i < j)
     either i j = grind arith
 
-module _ (net : Net) (departs : AreEvents departure_of departure_cmp net.duties net.departures) (arrives : AreEvents arrival_of arrival_cmp net.duties net.arrivals)
-    (ordered : AreByReport net.departures net.by_report) where
-  pub arrivals-distinct : AreDistinct net.arrivals
-  arrivals-distinct = rising-distinct arrival_cmp net.arrivals arrival-total arrives.rising
+pub arrivals-distinct : (net : Net) → AreEvents arrival_of arrival_cmp net.duties net.arrivals → AreDistinct net.arrivals
+arrivals-distinct net arrives = rising-distinct arrival_cmp net.arrivals arrival-total arrives.rising
 
+module _ (net : Net) (departs : AreEvents departure_of departure_cmp net.duties net.departures) (ordered : AreByReport net.departures net.by_report) where
   departures-distinct : AreDistinct net.departures
   departures-distinct = rising-distinct departure_cmp net.departures departure-total departs.rising
 
@@ -111,10 +110,13 @@ module _ (net : Net) (departs : AreEvents departure_of departure_cmp net.duties 
   pub in-order-long : length (in_order net) ≡ length net.by_report
   in-order-long = length-map net.by_report (departure_at net.departures)
 
+  pub by-report-long : length net.by_report ≡ length net.departures
+  by-report-long = length_permutation (range_with_len 0 (length net.departures)) net.by_report ordered.all ∙ length-range_with_len 0 (length net.departures)
+
   -- what may be waited on leaves before
-  pub sealed-at : (e : Duty) (g : ℕ) → Member net.duties e → IsSound e → window_at net.settings (slice_get net.arrivals (arrival_place net.arrivals (arrival_of e))) (slice_get (in_order net) g) ≡ true
+  pub sealed-at : AreEvents arrival_of arrival_cmp net.duties net.arrivals → (e : Duty) (g : ℕ) → Member net.duties e → IsSound e → window_at net.settings (slice_get net.arrivals (arrival_place net.arrivals (arrival_of e))) (slice_get (in_order net) g) ≡ true
       → departure_place (in_order net) (departure_of e) < g
-  sealed-at e g m sound open' =
+  sealed-at arrives e g m sound open' =
       let x = at-arrival net.arrivals (arrival_of e) (arrives.every e m) in
       later (departure_place (in_order net) (departure_of e)) g (λ before.
       let i = departure_place (in_order net) (departure_of e) in

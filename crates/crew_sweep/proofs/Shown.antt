@@ -13,7 +13,7 @@ use Rattle.crew_resource.specs.Members.{Member}
 use Rattle.crew_resource.proofs.Members.{Member-map_in, Member-map_out}
 use Rattle.crew_step.specs.Walks.{HasGrown}
 use Rattle.crew_step.proofs.Grown.{all-shown-grown, counted-grown, shown-grown}
-use Rattle.crew_sweep.specs.Machinery.Passing.{AreLabels, IsLabel, IsPassing, passed_network}
+use Rattle.crew_sweep.specs.Machinery.Passing.{AreLabels, IsLabel, IsMade, IsPassing, passed_network}
 use Rattle.crew_sweep.specs.Sweeps.{keyed}
 use Rattle.crew_anchor.specs.declared.resource.AnchoredResource.{AnchoredResource}
 use Rattle.crew_pairing.specs.Keys.{walk_at_most}
@@ -52,16 +52,17 @@ module _ (before after : List (List ℕ)) (grown : HasGrown before after) where
   labels-grown r count whole labels c k l m = subst (IsLabel r count) (sym (shown-grown before after grown l (c l m).there)) (k l m)
 
   -- a pass stands where it stood
-  pub passing-grown : (net : Net) (base : List ℕ) (r : AnchoredResource) (pools held : List Labels) → IsPassing net base r before pools held → IsPassing net base r after pools held
-  passing-grown net base r pools held p =
+  pub passing-grown : (net : Net) (base : List ℕ) (r : AnchoredResource) (pools : List Labels) (made : List Bool) (held : List Labels) → IsPassing net base r before pools made held → IsPassing net base r after pools made held
+  passing-grown net base r pools made held p =
       let pools-same : map (keyed net after) pools ≡ map (keyed net before) pools = same-map (keyed net after) (keyed net before) pools (λ labels m. keyed-grown net true labels (p.whole labels m)) in
       let held-same : map (keyed net after) held ≡ map (keyed net before) held = same-map (keyed net after) (keyed net before) held (λ labels m. keyed-grown net false labels (p.pending labels m)) in
       record {
         settled = λ labels m.
             let same = all-shown-grown (λ (v : PairingVector). v.duties) before after false grown labels (p.pending labels m) in
             subst (λ (es : List (PairingVector × List ℕ)). IsPoolOf is_at_most es es) (sym same) (p.settled labels m);
-        swept = subst (λ (hs : List (List (PairingVector × List (List Leg)))). Swept (passed_network net base r) is_at_most walk_at_most (length pools) (map (keyed net after) pools) (λ x. get_or hs x [])) (sym held-same)
-            (subst (λ (ps : List (List (PairingVector × List (List Leg)))). Swept (passed_network net base r) is_at_most walk_at_most (length pools) ps (λ x. get_or (map (keyed net before) held) x [])) (sym pools-same) p.swept);
+        swept = subst (λ (hs : List (List (PairingVector × List (List Leg)))). Swept (passed_network net base r) is_at_most walk_at_most (length pools) (map (keyed net after) pools) (IsMade made) (λ x. get_or hs x [])) (sym held-same)
+            (subst (λ (ps : List (List (PairingVector × List (List Leg)))). Swept (passed_network net base r) is_at_most walk_at_most (length pools) ps (IsMade made) (λ x. get_or (map (keyed net before) held) x [])) (sym pools-same) p.swept);
+        marks = p.marks;
         long = p.long;
         whole = λ labels m l k. counted-grown (λ (v : PairingVector). v.duties) before after true grown l (p.whole labels m l k);
         pending = λ labels m l k. counted-grown (λ (v : PairingVector). v.duties) before after false grown l (p.pending labels m l k);

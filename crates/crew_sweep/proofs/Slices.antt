@@ -1,5 +1,5 @@
 -- What stands at a place of a list, of a part of it, and of what is made from it.
-use Rattle.std.proofs.Common.{◌≡◌, ◌∙◌, ◌<◌, ◌≤◌, ◌+◌, ◌-◌, ℕ, zero, suc, Bool, true, false, cond, List, [], ◌∷◌, length, take, drop, map, get_or, Option, Some, inl, inr, refl, sym, ap, subst, arith, true≢false}
+use Rattle.std.proofs.Common.{◌≡◌, ◌∙◌, ◌<◌, ◌≤◌, ◌+◌, ◌-◌, ℕ, zero, suc, Bool, true, false, cond, List, [], ◌∷◌, length, take, drop, set, map, get_or, Option, Some, inl, inr, refl, sym, ap, subst, arith, true≢false}
 use Rattle.std.specs.Prelude.{nat_eq, slice_get}
 use Rattle.std.specs.List.{AllByRecursion, IsDistinct, range_with_len}
 use Rattle.std.specs.List.Sorted.{IsPermutation}
@@ -172,3 +172,8 @@ item-in xs ys i x h same e = at-within xs i x h ∙ ap Some (sym (subst (λ zs. 
 
 pub some-same : {A : Type 0} (o : Option A) (a b : A) → o ≡ Some a → o ≡ Some b → a ≡ b
 some-same o a b p q = let e : Some a ≡ Some b = sym p ∙ q in (cc)
+
+pub set-long : {A : Type 0} (xs : List A) (i : ℕ) (y : A) → length (set xs i y) ≡ length xs
+set-long [] i y = refl
+set-long (x ∷ xs) zero y = refl
+set-long (x ∷ xs) (suc i) y = ap suc (set-long xs i y)

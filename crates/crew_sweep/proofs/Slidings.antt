@@ -1,30 +1,23 @@
 -- Slides where the row changes elsewhere, over walks that have grown, and which places stay as they are.
-use Rattle.std.proofs.Common.{◌≡◌, ◌∙◌, ◌<◌, ◌≤◌, ◌+◌, ◌-◌, ℕ, zero, suc, false, List, [], ◌∷◌, ◌++◌, length, set, get_or, Option, Some, inl, inr, refl, sym, ap, subst, ⊎_elim, arith, ◌⊎◌}
+use Rattle.std.proofs.Common.{◌≡◌, ◌∙◌, ◌<◌, ◌≤◌, ◌+◌, ◌-◌, ℕ, zero, suc, Bool, false, List, [], ◌∷◌, ◌++◌, length, set, get_or, Some, inl, inr, refl, ap, subst, ⊎_elim, arith, ◌⊎◌}
 use Rattle.std.specs.Prelude.{slice_get}
-use Rattle.crew_net.specs.Events.{leaves_at}
 use Rattle.crew_net.specs.Nets.{Net}
-use Rattle.crew_net.specs.Ranks.{ranks_where}
-use Rattle.crew_pairing.specs.Events.{arrival_of, departure_of}
-use Rattle.crew_pairing.specs.declared.events.Arrival.{Arrival}
-use Rattle.crew_pairing.specs.declared.events.Departure.{Departure}
+use Rattle.crew_net.specs.declared.window.Window.{Window}
 use Rattle.crew_pairing.specs.declared.vector.PairingVector.{PairingVector}
 use Rattle.crew_pool.specs.Counted.{AreCounted}
 use Rattle.crew_pool.specs.declared.label_walk.LabelWalk.{LabelWalk}
 use Rattle.crew_resource.specs.Members.{Member}
 use Rattle.crew_resource.proofs.Members.{Member-append}
 use Rattle.crew_step.specs.Walks.{HasGrown}
-use Rattle.crew_sweep.specs.Machinery.Numbered.{arrival_place, departure_place, window_at}
 use Rattle.crew_sweep.specs.Machinery.Parts.{AreEnds, IsPart}
-use Rattle.crew_sweep.specs.Machinery.Passing.{IsPassable}
+use Rattle.crew_sweep.specs.Machinery.Passing.{AreMade, HaveStayed, IsMade}
 use Rattle.crew_sweep.specs.Machinery.Sliding.{Covers, IsSliding, Stacks}
-use Rattle.crew_sweep.specs.Machinery.Slides.{AreIdle, AreSliding, AreUnderWay, CoverAny, IsSealed, WaitsAt}
-use Rattle.crew_sweep.specs.Sweeps.{in_order}
+use Rattle.crew_sweep.specs.Machinery.Slides.{AreIdle, AreSliding, AreUnderWay, CoverAny}
 use Rattle.crew_sweep.specs.declared.slide.Slide.{Slide}
 use Rattle.crew_sweep.specs.declared.slides.Slides.{Slides}
-use Rattle.crew_sweep.proofs.Numbers.{get-within, place-arrival, place-departure, same-departure}
-use Rattle.crew_sweep.proofs.Orders.{arrivals-distinct, in-order-distinct, sealed-at}
+use Rattle.crew_sweep.proofs.Numbers.{get-within}
 use Rattle.crew_sweep.proofs.Parts.{part-framed, part-grown}
-use Rattle.crew_sweep.proofs.Slices.{item-in, member-got, ranks-out}
+use Rattle.crew_sweep.proofs.Slices.{item-in}
 
 abbrev Labels : Type 0
 Labels = List (PairingVector × LabelWalk)
@@ -94,11 +87,6 @@ stands [] i h = absurd (omega (arith, h))
 stands (a ∷ xs) zero h = (a, refl)
 stands (a ∷ xs) (suc i) h = stands xs i (omega (arith, h))
 
-pub set-long : {A : Type 0} (xs : List A) (i : ℕ) (y : A) → length (set xs i y) ≡ length xs
-set-long [] i y = refl
-set-long (x ∷ xs) zero y = refl
-set-long (x ∷ xs) (suc i) y = ap suc (set-long xs i y)
-
 pub set-got : {A : Type 0} (xs : List A) (i : ℕ) (y z : A) → slice_get (set xs i y) i ≡ Some z → y ≡ z
 set-got [] i y z h = absurd (let q : ⊥ = (cc) in q)
 set-got (x ∷ xs) zero y z h = (cc)
@@ -114,45 +102,33 @@ idle-more slides slide idle sliding nowhere s m = ⊎_elim {C = Idle s} (idle s)
     Idle : Slide → Type 0
     Idle s = ((walks : List (List ℕ)) (held : List Labels) → IsSliding walks held s) × ((place : ℕ) → Covers s place → ⊥)
 
--- over a network
-module _ (net : Net) (places : List ℕ) (passable : IsPassable net places) where
-  -- what may be waited on stays as it is
-  pub waits-sealed : (i : ℕ) (g : Departure) → slice_get (in_order net) i ≡ Some g → (p : ℕ) → WaitsAt net g p → IsSealed net i p
-  waits-sealed i g at p w d m arrives =
-      sealed-at net passable.departs passable.arrives passable.ordered d i m (passable.sound d m)
-      (ap (λ n. window_at net.settings (slice_get net.arrivals n) (slice_get (in_order net) i)) arrives
-      ∙ (ap (λ (o : Option Arrival). window_at net.settings o (slice_get (in_order net) i)) w.1
-      ∙ (ap (window_at net.settings (Some w.0)) at ∙ w.2)))
+pub stayed-itself : (made : List Bool) (held : List Labels) → HaveStayed made held made held
+stayed-itself made held p m = (m, refl)
 
-  -- no rank goes there
-  pub none-goes : (i : ℕ) (g : Departure) → slice_get (in_order net) i ≡ Some g → (p : ℕ) → IsSealed net i p → (rank : ℕ) → Member (ranks_where (leaves_at g) net.duties) rank → get_or places rank 0 ≡ p → ⊥
-  none-goes i g at p sealed rank m goes =
-      let q = ranks-out (leaves_at g) net.duties rank m in
-      let d = q.0 in
-      let arrives : arrival_place net.arrivals (arrival_of d) ≡ p =
-      place-arrival net.arrivals (arrival_of d) (get_or places rank 0) (arrivals-distinct net passable.departs passable.arrives passable.ordered) (passable.are_places.exact rank d q.1) ∙ goes in
-      let leaves : departure_place (in_order net) (departure_of d) ≡ i =
-      ap (departure_place (in_order net)) (sym (same-departure g (departure_of d) q.2)) ∙ place-departure (in_order net) g i (in-order-distinct net passable.departs passable.arrives passable.ordered) at in
-      let before = sealed d (member-got net.duties rank d q.1) arrives in
-      omega (arith, leaves, before)
+pub stayed-through : (made : List Bool) (held : List Labels) (made' : List Bool) (held' : List Labels) (made'' : List Bool) (held'' : List Labels) → HaveStayed made held made' held' → HaveStayed made' held' made'' held'' → HaveStayed made held made'' held''
+stayed-through made held made' held' made'' held'' first then' p m =
+    let k = first p m in
+    let l = then' p k.0 in
+    (l.0, l.1 ∙ k.1)
 
-  sealed-more : (i p : ℕ) → IsSealed net i p → IsSealed net (i + 1) p
-  sealed-more i p sealed d m arrives = let k = sealed d m arrives in omega (arith, k)
+-- what the slides have merged is made, and stays
+pub sliding-stayed : (walks : List (List ℕ)) (made : List Bool) (held : List Labels) (made' : List Bool) (held' : List Labels) → HaveStayed made held made' held' → (s : Slides) → ((p : ℕ) → CoverAny s p → IsMade made p)
+    → AreSliding walks held s → AreSliding walks held' s
+sliding-stayed walks made held made' held' stayed s covered sliding = record {
+  numbers = sliding.numbers;
+  each = λ slide m. sliding-framed walks held held' slide (λ p c. (stayed p (covered p (slide, m, c))).1) (sliding.each slide m);
+}
 
-  -- one departure more
-  pub under-way-more : (before after : List (List ℕ)) → HasGrown before after → (i : ℕ) (held new : List Labels) (old now : Slides)
-      → ((labels : Labels) → Member held labels → AreCounted (λ (v : PairingVector). v.duties) before false labels)
-      → AreUnderWay net before i held old → (g : Departure) → slice_get (in_order net) i ≡ Some g → AreSliding before held now → now.airports ≡ old.airports
-      → ((at : ℕ) → CoverAny now at → CoverAny old at ⊎ WaitsAt net g at)
-      → ((at : ℕ) → ((rank : ℕ) → Member (ranks_where (leaves_at g) net.duties) rank → get_or places rank 0 ≡ at → ⊥) → get_or new at [] ≡ get_or held at [])
-      → AreUnderWay net after (i + 1) new now
-  under-way-more before after grown i held new old now pending under g at sliding airports covers others =
-      let sealed : (p : ℕ) → CoverAny now p → IsSealed net i p = λ p c. ⊎_elim {C = IsSealed net i p} (under.sealed p) (waits-sealed i g at p) (covers p c) in
-      record {
-        long = ap (λ a. length a.items) airports ∙ under.long;
-        sliding = record {
-          numbers = sliding.numbers;
-          each = λ slide m. sliding-framed after held new slide (λ p c. others p (none-goes i g at p (sealed p (slide, m, c)))) (sliding-grown before after grown held pending slide (sliding.each slide m));
-        };
-        sealed = λ p c. sealed-more i p (sealed p c);
-      }
+-- one departure more
+pub under-way-more : (net : Net) (before after : List (List ℕ)) → HasGrown before after → (made : List Bool) (held : List Labels) (made' : List Bool) (held' : List Labels) → HaveStayed made held made' held' → (old now : Slides)
+    → ((labels : Labels) → Member held' labels → AreCounted (λ (v : PairingVector). v.duties) before false labels)
+    → AreUnderWay net before made held old → AreSliding before held' now → now.airports ≡ old.airports → (w : Window) → AreMade made' w
+    → ((p : ℕ) → CoverAny now p → CoverAny old p ⊎ ((w.from ≤ p) × (p < w.end))) → AreUnderWay net after made' held' now
+under-way-more net before after grown made held made' held' stayed old now pending under sliding airports w are-made covers = record {
+  long = ap (λ a. length a.items) airports ∙ under.long;
+  sliding = record {
+    numbers = sliding.numbers;
+    each = λ slide m. sliding-grown before after grown held' pending slide (sliding.each slide m);
+  };
+  covered = λ p c. ⊎_elim {C = IsMade made' p} (λ k. (stayed p (under.covered p k)).0) (λ k. are-made p k.0 k.1) (covers p c);
+}

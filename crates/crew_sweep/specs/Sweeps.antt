@@ -1,7 +1,7 @@
 -- One pass over the departures of a base's network, in order of time: its pools, and the fronts
 -- that these show. Networks of duties along time are described in Barnhart et al. 2003, "Airline
 -- crew scheduling".
-use Rattle.std.specs.Prelude.{ℕ, ℤ, pos, List, [], get_or, map}
+use Rattle.std.specs.Prelude.{◌≡◌, ℕ, ℤ, pos, List, [], Some, get_or, length, map, slice_get}
 use Rattle.crew_anchor.specs.Sweeps.{anchored_network, shown_labels}
 use Rattle.crew_flights.specs.Timetable.{Timetable}
 use Rattle.crew_net.specs.Nets.{Net}
@@ -34,6 +34,12 @@ departure_at departures place = get_or departures place (record { airport = []; 
 -- the departures of a network in order of report
 abbrev pub in_order : Net → List Departure
 in_order net = map (departure_at net.departures) net.by_report
+
+-- the turn of each duty's departure by rank: its place among all, in order of report
+pub record AreTurns (net : Net) (turns : List ℕ) : Type 0 where
+  pub long : length turns ≡ length net.duties
+  pub exact : (rank : ℕ) (d : Duty) → slice_get net.duties rank ≡ Some d
+      → slice_get (in_order net) (get_or turns rank 0) ≡ Some (departure_of d)
 
 -- labels with the keys of their walks
 abbrev pub keyed : Net → List (List ℕ) → List (PairingVector × LabelWalk)

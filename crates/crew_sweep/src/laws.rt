@@ -1,5 +1,5 @@
 //! Laws over the definitions alone.
-ghost use Rattle.std.specs.Prelude.{◌≡◌, ◌<◌, ◌+◌, ◌≤◌, ℕ, ℤ, List, [], length, get_or};
+ghost use Rattle.std.specs.Prelude.{◌≡◌, ◌<◌, ◌+◌, ◌≤◌, ℕ, ℤ, Bool, List, [], length, get_or};
 ghost use Rattle.crew_anchor.specs.Stages.{anchored_resource};
 ghost use Rattle.crew_anchor.specs.Sweeps.{anchored_network, shown_labels};
 ghost use Rattle.crew_anchor.specs.declared.resource.AnchoredResource.{AnchoredResource};
@@ -18,6 +18,7 @@ ghost use Rattle.crew_resource.specs.Members.{Member};
 ghost use Rattle.crew_rules.specs.Settings.{IsChecked};
 ghost use Rattle.crew_rules.specs.declared.settings.Settings.{Settings};
 ghost use Rattle.crew_sweep.specs.Machinery.Numbered.{AreDistinct, departure_place, numbered};
+ghost use Rattle.crew_sweep.specs.Machinery.Passing.{IsMade};
 ghost use Rattle.crew_vector.specs.Dominance.{is_at_most};
 ghost use Rattle.crew_vector.specs.Fronts.{IsFrontAt};
 
@@ -26,7 +27,8 @@ ghost use Rattle.crew_vector.specs.Fronts.{IsFrontAt};
 pub fn swept_pools_show_all_fronts()
     ensures { (s : Settings) (t : Timetable) (base : List ℕ) (price : ℤ) (duties : List Duty)
         (departures : List Departure) (arrivals : List Arrival) (most : ℕ)
-        (pools held : List (List (PairingVector × List (List Leg))))
+        (pools : List (List (PairingVector × List (List Leg)))) (made : List Bool)
+        (held : List (List (PairingVector × List (List Leg))))
         → IsChecked s → IsSound t → AreDuties s t duties
         → AreDistinct departures → AreDistinct arrivals
         → ((d : Duty) → Member duties d → Member departures (departure_of d))
@@ -34,7 +36,7 @@ pub fn swept_pools_show_all_fronts()
         → length held ≤ length arrivals → most + 1 ≡ s.max_duties
         → Swept (numbered s (record (anchored_resource s price) { max_duties = most }) base duties
         departures arrivals) is_at_most walk_at_most (length departures) pools
-        (λ x. get_or held x [])
+        (IsMade made) (λ x. get_or held x [])
         → (d : Duty) → IsDuty s (flights_of t) d
         → IsFrontAt s t base price d (shown_labels s.trip_rig d.release
         (view (anchored_network s base price duties) d

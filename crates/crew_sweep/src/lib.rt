@@ -5,11 +5,14 @@
 //! `laws` has what this rests on.
 #![tactic(auto)]
 
+mod arrivals;
 pub mod laws;
 mod pass;
 mod slide;
 mod slides;
 mod swept;
+mod turns;
 
 pub use pass::sweep;
 pub use swept::Sweep;
+pub use turns::departure_turns;

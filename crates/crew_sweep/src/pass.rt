@@ -4,9 +4,9 @@ ghost use Rattle.std.specs.Arc.{arc_value};
 ghost use Rattle.crew_anchor.specs.Machinery.Bounds.{fits_in};
 ghost use Rattle.crew_flights.specs.Timetable as TimetableSpec;
 ghost use Rattle.crew_net.specs.Machinery.Moments.{IsReal};
-ghost use Rattle.crew_net.specs.Nets.{AreArrivalPlaces};
+ghost use Rattle.crew_net.specs.Events.{IsWindow};
 ghost use Rattle.crew_pairing.specs.Duties.{AreDuties, RiseByKey};
-ghost use Rattle.crew_pairing.specs.Events.{IsSound};
+ghost use Rattle.crew_pairing.specs.Events.{IsSound, may_wait};
 ghost use Rattle.crew_pairing.specs.declared.duty.Duty.{Duty};
 ghost use Rattle.crew_pairing.specs.declared.events.Departure.{Departure};
 ghost use Rattle.crew_pairing.specs.declared.vector.PairingVector.{PairingVector};
@@ -17,18 +17,19 @@ ghost use Rattle.crew_step.specs.Walks.{HasGrown};
 ghost use Rattle.crew_sweep.specs.Machinery.Numbered.{idle_at};
 ghost use Rattle.crew_sweep.specs.Machinery.Parts.{AreHeld};
 ghost use Rattle.crew_sweep.specs.Machinery.Passing.{HasPassed, IsPassable, IsPassing, IsPooled};
-ghost use Rattle.crew_sweep.specs.Machinery.Slides.{AreSliding, AreUnderWay, CoverAny, WaitsAt};
-ghost use Rattle.crew_sweep.specs.Sweeps.{ShowsFronts};
+ghost use Rattle.crew_sweep.specs.Machinery.Slides.{AreSliding, AreUnderWay, CoverAny};
+ghost use Rattle.crew_sweep.specs.Sweeps.{AreTurns, ShowsFronts};
 
+use crate::arrivals::Arrivals;
 use crate::slides::Slides;
 use crate::swept::Sweep;
 use crew_anchor::AnchoredResource;
 use crew_flights::Code;
-use crew_net::Net;
+use crew_net::{Net, Window};
 use crew_pairing::{Departure, PairingVector};
 use crew_pool::{Pool, Walks, Workspace};
 use crew_resource::Staged;
-use crew_step::{board_leaving, departure_pool};
+use crew_step::departure_pool;
 use std::alloc::{AllocError, Global};
 use std::sync::Arc;
 
@@ -49,19 +50,6 @@ fn idle_label(
     }
 }
 
-// No labels yet at so many arrivals.
-fn empty_pools(alloc: Global, count: usize) -> Result<Vec<Pool<AnchoredResource>>, AllocError>
-    ensures long { IfOk result (λ pools. length pools.items ≡ count) }
-    ensures empty { IfOk result (λ pools. (labels : List (PairingVector × LabelWalk))
-        → Member pools.items labels → labels ≡ []) }
-{
-    let mut pools = Vec::with_capacity(alloc, count)?;
-    for _ in 0..count {
-        pools.push(Pool::new(alloc))?;
-    }
-    Ok(pools)
-}
-
 // The pool of the departure at a place, from what has arrived.
 fn pool_at(
     alloc: Global,
@@ -69,6 +57,7 @@ fn pool_at(
     resource: &AnchoredResource,
     base: Code,
     place: usize,
+    window: Window,
     room: &mut Workspace<PairingVector>,
     slides: &mut Slides,
     held: &[Pool<AnchoredResource>],
@@ -76,65 +65,59 @@ fn pool_at(
 ) -> Result<Pool<AnchoredResource>, AllocError>
     requires fits { fits_in resource.now 1 }
     requires place { place < length net.now.departures }
+    requires window { (g : Departure) → slice_get net.now.departures place ≡ Some g
+        → IsWindow (λ x. may_wait net.now.settings x g) net.now.arrivals window }
     requires airports { length slides.old.airports.items ≡ length net.now.departures }
     requires long { length held.now ≡ length net.now.arrivals }
     requires held { AreHeld walks.old held.now }
     requires sliding { AreSliding walks.old held.now slides.old }
     ensures pooled { IfOk result (IsPooled net.now base resource.now walks.old walks.new place
-        held.now) }
+        window held.now) }
     ensures counts { IfOk result (AreCounted (λ (v : PairingVector). v.duties) walks.new true) }
     ensures grown { HasGrown walks.old walks.new }
     ensures sliding { OnOk result (AreSliding walks.old held.now slides.new) }
     ensures airports { slides.new.airports ≡ slides.old.airports }
-    ensures covers { OnOk result ((g : Departure)
-        → slice_get net.now.departures place ≡ Some g → (at : ℕ) → CoverAny slides.new at
-        → CoverAny slides.old at ⊎ WaitsAt net.now g at) }
+    ensures covers { OnOk result ((at : ℕ) → CoverAny slides.new at
+        → CoverAny slides.old at ⊎ ((window.from ≤ at) × (at < window.end))) }
 {
-    let window = net.window(place);
     let number = slides.slide_to(alloc, resource, place, held, window, walks)?;
     let idle = idle_label(resource, base, &net.departures()[place]);
     departure_pool(alloc, resource, room, slides.pool(number), idle, walks)
 }
 
-// The pass goes on by one departure: its pool, and what boards there.
+// The pass goes on by one departure: the arrivals on which it waits, and its pool.
 fn pass_one(
     alloc: Global,
     net: &Net,
-    places: &[u32],
+    turns: &[u32],
     resource: &AnchoredResource,
     base: Code,
     place: usize,
     room: &mut Workspace<PairingVector>,
     slides: &mut Slides,
     walks: &mut Walks,
-    held: &mut Vec<Pool<AnchoredResource>>,
+    arrivals: &mut Arrivals,
     pools: &mut Vec<Pool<AnchoredResource>>,
 ) -> Result<(), AllocError>
-    requires passable { IsPassable net.now places.now }
+    requires passable { IsPassable net.now turns.now }
     requires fits { (n : ℕ) → n ≤ 100_000 → fits_in resource.now n }
     requires most { resource.now.max_duties ≤ 12 }
     requires place { slice_get net.now.by_report (length pools.old.items) ≡ Some place }
     requires passing { IsPassing net.now base resource.now walks.old pools.old.items
-        held.old.items }
-    requires sliding { AreUnderWay net.now walks.old (length pools.old.items) held.old.items
-        slides.old }
-    ensures sliding { OnOk result (AreUnderWay net.now walks.new (length pools.new.items)
-        held.new.items slides.new) }
+        arrivals.old.made.items arrivals.old.pools.items }
+    requires sliding { AreUnderWay net.now walks.old arrivals.old.made.items
+        arrivals.old.pools.items slides.old }
+    ensures sliding { OnOk result (AreUnderWay net.now walks.new arrivals.new.made.items
+        arrivals.new.pools.items slides.new) }
     ensures passing { OnOk result (IsPassing net.now base resource.now walks.new pools.new.items
-        held.new.items) }
+        arrivals.new.made.items arrivals.new.pools.items) }
     ensures more { OnOk result (length pools.new.items ≡ length pools.old.items + 1) }
 {
-    let pool = pool_at(alloc, net, resource, base, place, room, slides, held, walks)?;
-    let duties = net.duties().as_slice();
-    board_leaving(
-        resource,
-        room,
-        held,
-        &pool,
-        duties,
-        places,
-        net.leaving(place),
-        walks,
+    let window = net.window(place);
+    arrivals.make_window(alloc, net, turns, resource, window, room, pools, walks)?;
+    let held = &arrivals.pools;
+    let pool = pool_at(
+        alloc, net, resource, base, place, window, room, slides, held, walks,
     )?;
     pools.push(pool)?;
     Ok(())
@@ -144,38 +127,38 @@ fn pass_one(
 fn pass_all(
     alloc: Global,
     net: &Net,
-    places: &[u32],
+    turns: &[u32],
     resource: &AnchoredResource,
     base: Code,
 ) -> Result<(Walks, Vec<Pool<AnchoredResource>>), AllocError>
     requires sound { (d : Duty) → Member net.now.duties d → IsSound d }
     requires rise { RiseByKey net.now.duties }
     requires few { length net.now.duties ≤ 200_000 }
-    requires places { AreArrivalPlaces net.now places.now }
+    requires turns { AreTurns net.now turns.now }
     requires fits { (n : ℕ) → n ≤ 100_000 → fits_in resource.now n }
     requires most { resource.now.max_duties ≤ 12 }
-    ensures passable { OnOk result (IsPassable net.now places.now) }
+    ensures passable { OnOk result (IsPassable net.now turns.now) }
     ensures passed { IfOk result (λ passed. HasPassed net.now base resource.now passed.0
         passed.1.items) }
 {
     let mut room = Workspace::new(alloc);
     let mut walks = Walks::new(alloc);
     let mut slides = Slides::new(alloc, net.departures())?;
-    let mut held = empty_pools(alloc, net.arrivals().len())?;
+    let mut arrivals = Arrivals::new(alloc, net.arrivals().len())?;
     let mut pools = Vec::with_capacity(alloc, net.departures().len())?;
     for place in net.by_report() {
         let place = *place as usize;
         pass_one(
             alloc,
             net,
-            places,
+            turns,
             resource,
             base,
             place,
             &mut room,
             &mut slides,
             &mut walks,
-            &mut held,
+            &mut arrivals,
             &mut pools,
         )?;
     }
@@ -183,18 +166,18 @@ fn pass_all(
 }
 
 /// The pools of a base, one for each departure of its network: at each legal duty they show the
-/// duty's front. `places` has the place of each duty's arrival, by rank.
+/// duty's front. `turns` has the turn of each duty's departure, by rank.
 pub fn sweep(
     alloc: Global,
     net: Arc<Net, Global>,
-    places: &[u32],
+    turns: &[u32],
     base: Code,
     price: i64,
 ) -> Result<Sweep, AllocError>
     requires sound { (d : Duty) → Member (arc_value net).duties d → IsSound d }
     requires rise { RiseByKey (arc_value net).duties }
     requires few { length (arc_value net).duties ≤ 200_000 }
-    requires places { AreArrivalPlaces (arc_value net) places.now }
+    requires turns { AreTurns (arc_value net) turns.now }
     requires price { TimetableSpec.IsBasePrice price }
     ensures net { IfOk result (λ sweep. sweep.net ≡ arc_value net) }
     ensures base { IfOk result (λ sweep. (sweep.base ≡ base) × (sweep.price ≡ price)) }
@@ -202,6 +185,6 @@ pub fn sweep(
         → AreDuties sweep.net.settings t sweep.net.duties → ShowsFronts t sweep) }
 {
     let full = AnchoredResource::new(net.settings(), price);
-    let (walks, pools) = pass_all(alloc, &net, places, &full.sparing(), base)?;
+    let (walks, pools) = pass_all(alloc, &net, turns, &full.sparing(), base)?;
     Ok(Sweep::new(net, base, price, full, walks, pools))
 }

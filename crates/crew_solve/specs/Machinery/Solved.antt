@@ -4,7 +4,7 @@ use Rattle.std.specs.FinMap as fin
 use Rattle.crew_anchor.specs.Sweeps.{shown_labels}
 use Rattle.crew_flights.specs.Timetable.{IsBasePrice, IsSound, Timetable}
 use Rattle.crew_net.specs.Events.{AreEvents, departure_cmp}
-use Rattle.crew_net.specs.Nets.{AreArrivalPlaces, AreByReport, Net}
+use Rattle.crew_net.specs.Nets.{AreByReport, Net}
 use Rattle.crew_pairing.specs.Duties.{AreDuties, RiseByKey}
 use Rattle.crew_pairing.specs.Events as Events
 use Rattle.crew_pairing.specs.Events.{departure_of}
@@ -14,7 +14,7 @@ use Rattle.crew_pairing.specs.declared.vector.PairingVector.{PairingVector}
 use Rattle.crew_resource.specs.Members.{Each, Member}
 use Rattle.crew_solve.specs.Machinery.Homes.{IsFit, boarding}
 use Rattle.crew_solve.specs.Solutions.{front_among}
-use Rattle.crew_sweep.specs.Sweeps.{BaseSweep, ShowsFronts, front_at}
+use Rattle.crew_sweep.specs.Sweeps.{AreTurns, BaseSweep, ShowsFronts, front_at}
 use Rattle.crew_vector.specs.Fronts.{RiseByVector}
 
 -- one sweep of the network for each base, in order, each of which shows the fronts
@@ -46,11 +46,11 @@ pub record IsSolved (net : Net) (sweeps : List BaseSweep) : Type 0 where
   pub by_report : AreByReport net.departures net.by_report
 
 -- what a pass over a network needs, whatever the base
-pub record IsSweepable (net : Net) (places : List ℕ) : Type 0 where
+pub record IsSweepable (net : Net) (turns : List ℕ) : Type 0 where
   pub sound : (d : Duty) → Member net.duties d → Events.IsSound d
   pub rise : RiseByKey net.duties
   pub few : length net.duties ≤ 200_000
-  pub by_rank : AreArrivalPlaces net places
+  pub by_rank : AreTurns net turns
 
 -- the prices of bases
 abbrev pub HavePrices : List (List ℕ × ℤ) → Type 0

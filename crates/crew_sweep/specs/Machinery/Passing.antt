@@ -1,13 +1,13 @@
 -- Where a pass over the departures stands.
-use Rattle.std.specs.Prelude.{◌≡◌, ◌≤◌, ◌<◌, ◌-◌, ℕ, true, false, List, [], Some, drop, get_or, length, map, slice_get, take}
+use Rattle.std.specs.Prelude.{◌≡◌, ◌≤◌, ◌<◌, ◌-◌, ℕ, Bool, true, false, List, [], Some, drop, get_or, length, map, slice_get, take}
 use Rattle.crew_anchor.specs.Machinery.Bounds.{is_ready}
 use Rattle.crew_anchor.specs.declared.resource.AnchoredResource.{AnchoredResource}
-use Rattle.crew_net.specs.Events.{AreEvents, IsWindow, arrival_cmp, departure_cmp}
+use Rattle.crew_net.specs.Events.{AreEvents, arrival_cmp, departure_cmp}
 use Rattle.crew_net.specs.Machinery.Moments.{IsReal}
-use Rattle.crew_net.specs.Nets.{AreArrivalPlaces, AreByReport, Net}
+use Rattle.crew_net.specs.Nets.{AreByReport, Net}
 use Rattle.crew_net.specs.declared.window.Window.{Window}
 use Rattle.crew_pairing.specs.Duties.{RiseByKey}
-use Rattle.crew_pairing.specs.Events.{IsSound, arrival_of, departure_of, may_wait}
+use Rattle.crew_pairing.specs.Events.{IsSound, arrival_of, departure_of}
 use Rattle.crew_pairing.specs.Keys.{walk_at_most}
 use Rattle.crew_pairing.specs.Legs.{Leg}
 use Rattle.crew_pairing.specs.declared.duty.Duty.{Duty}
@@ -19,8 +19,8 @@ use Rattle.crew_pool.specs.declared.label_walk.LabelWalk.{LabelWalk}
 use Rattle.crew_resource.specs.Events.{Network, Swept}
 use Rattle.crew_resource.specs.Members.{Each, Member}
 use Rattle.crew_step.specs.Pools.{waiting}
-use Rattle.crew_sweep.specs.Machinery.Numbered.{idle_at, numbered}
-use Rattle.crew_sweep.specs.Sweeps.{in_order, keyed}
+use Rattle.crew_sweep.specs.Machinery.Numbered.{arrival_place, departure_place, idle_at, numbered}
+use Rattle.crew_sweep.specs.Sweeps.{AreTurns, in_order, keyed}
 use Rattle.crew_vector.specs.Dominance.{is_at_most}
 
 -- a base's network with its departures in order of report, under a resource
@@ -40,11 +40,17 @@ abbrev pub AreLabels : AnchoredResource → ℕ → List (List ℕ) → List (Pa
 AreLabels r count walks labels = (l : PairingVector × LabelWalk) → Member labels l
     → IsLabel r count (shown walks l)
 
--- after so many departures: the pools of these, and what has arrived
+-- the pool of the arrival at a place is made
+abbrev pub IsMade : List Bool → ℕ → Type 0
+IsMade made place = get_or made place false ≡ true
+
+-- after so many departures: the pools of these, and of the arrivals that are made
 pub record IsPassing (net : Net) (base : List ℕ) (r : AnchoredResource) (walks : List (List ℕ))
-    (pools held : List (List (PairingVector × LabelWalk))) : Type 0 where
+    (pools : List (List (PairingVector × LabelWalk))) (made : List Bool)
+    (held : List (List (PairingVector × LabelWalk))) : Type 0 where
   pub swept : Swept (passed_network net base r) is_at_most walk_at_most (length pools)
-      (map (keyed net walks) pools) (λ x. get_or (map (keyed net walks) held) x [])
+      (map (keyed net walks) pools) (IsMade made) (λ x. get_or (map (keyed net walks) held) x [])
+  pub marks : length made ≡ length net.arrivals
   pub long : length held ≡ length net.arrivals
   pub settled : (labels : List (PairingVector × LabelWalk)) → Member held labels
       → IsPoolOf is_at_most (map (shown walks) labels) (map (shown walks) labels)
@@ -57,17 +63,32 @@ pub record IsPassing (net : Net) (base : List ℕ) (r : AnchoredResource) (walks
   pub arrived : (labels : List (PairingVector × LabelWalk)) → Member held labels
       → AreLabels r (length net.duties) walks labels
 
--- the pool is that of the departure at a place, over what has arrived
-abbrev pub IsPooled : Net → List ℕ → AnchoredResource → List (List ℕ) → List (List ℕ) → ℕ
+-- the pool is that of the departure at a place, over what stands in its window
+abbrev pub IsPooled : Net → List ℕ → AnchoredResource → List (List ℕ) → List (List ℕ) → ℕ → Window
     → List (List (PairingVector × LabelWalk)) → List (PairingVector × LabelWalk) → Type 0
-IsPooled net base r before after place held pool = (g : Departure)
-    → slice_get net.departures place ≡ Some g → (w : Window)
-    × IsWindow (λ x. may_wait net.settings x g) net.arrivals w
-    × IsPoolOf is_at_most (waiting before (take (w.end - w.from) (drop w.from held))
+IsPooled net base r before after place w held pool = (g : Departure)
+    → slice_get net.departures place ≡ Some g
+    → IsPoolOf is_at_most (waiting before (take (w.end - w.from) (drop w.from held))
     (idle_at r base (Some g))) (map (shown after) pool)
 
--- a network over which a pass may go: its events, its duties, and where these arrive
-pub record IsPassable (net : Net) (places : List ℕ) : Type 0 where
+-- after so many departures nothing more will arrive there
+abbrev pub IsSealed : Net → ℕ → ℕ → Type 0
+IsSealed net passed place = (d : Duty) → Member net.duties d
+    → arrival_place net.arrivals (arrival_of d) ≡ place
+    → departure_place (in_order net) (departure_of d) < passed
+
+-- what a window holds is made
+abbrev pub AreMade : List Bool → Window → Type 0
+AreMade made w = (place : ℕ) → w.from ≤ place → place < w.end → IsMade made place
+
+-- what was made stays made, and as it was
+abbrev pub HaveStayed : List Bool → List (List (PairingVector × LabelWalk)) → List Bool
+    → List (List (PairingVector × LabelWalk)) → Type 0
+HaveStayed made held made' held' = (place : ℕ) → IsMade made place → IsMade made' place
+    × (get_or held' place [] ≡ get_or held place [])
+
+-- a network over which a pass may go: its events, its duties, and the turns of these
+pub record IsPassable (net : Net) (turns : List ℕ) : Type 0 where
   pub departs : AreEvents departure_of departure_cmp net.duties net.departures
   pub arrives : AreEvents arrival_of arrival_cmp net.duties net.arrivals
   pub ordered : AreByReport net.departures net.by_report
@@ -75,11 +96,12 @@ pub record IsPassable (net : Net) (places : List ℕ) : Type 0 where
   pub rise : RiseByKey net.duties
   pub sound : (d : Duty) → Member net.duties d → IsSound d
   pub few : length net.duties ≤ 200_000
-  pub are_places : AreArrivalPlaces net places
+  pub are_turns : AreTurns net turns
 
 -- all departures are passed
 pub record HasPassed (net : Net) (base : List ℕ) (r : AnchoredResource) (walks : List (List ℕ))
     (pools : List (List (PairingVector × LabelWalk))) : Type 0 where
+  pub made : List Bool
   pub held : List (List (PairingVector × LabelWalk))
   pub all : length pools ≡ length net.by_report
-  pub passing : IsPassing net base r walks pools held
+  pub passing : IsPassing net base r walks pools made held

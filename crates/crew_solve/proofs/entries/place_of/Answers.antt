@@ -1,4 +1,4 @@
-use Rattle.std.proofs.Common.{◌≡◌, ◌∙◌, ◌<◌, List, ap, sym, length, get_or, true, false, arith}
+use Rattle.std.proofs.Common.{◌∙◌, ◌<◌, ap, sym, length, get_or, arith}
 use Rattle.crew_net.specs.Events.{leaves_at}
 use Rattle.crew_pairing.specs.Events.{departure_of}
 use Rattle.crew_pairing.specs.declared.events.Departure.{Departure}

@@ -2,7 +2,6 @@ use Rattle.std.proofs.Common.{◌≡◌, ◌∙◌, ◌++◌, Some, ap, arith, d
 use Rattle.std.proofs.Math.Seq.{take-append_seam}
 use Rattle.std.proofs.lemmas.Result.{IfOk-weaker}
 use Rattle.std.specs.Arc.{arc_value}
-use Rattle.std.specs.FinMap as fin
 use Rattle.crew_solve.specs.Machinery.Solved.{AreSwept, HavePrices}
 use Rattle.crew_vector.proofs.LegalDuties.{duties-sound}
 use Rattle.crew_solve.proofs.Swept.{as-many, prices-of, swept-all}
@@ -15,7 +14,7 @@ sweep_in-requires-clause-sweepable g c κs out =
       sound = duties-sound net.settings c.args.timetable.now net.duties c.requires.checked c.bases_of.ensures.sound c.requires.duties;
       rise = c.requires.duties.rising;
       few = c.requires.few;
-      by_rank = c.requires.places;
+      by_rank = c.requires.turns;
     }
 
 pub sweep_in-requires-clause-prices : goal.sweep_in-requires-clause-prices

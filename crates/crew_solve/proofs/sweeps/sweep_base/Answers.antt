@@ -7,10 +7,10 @@ use Rattle.crew_solve.specs.Machinery.Solved.{IsSweepable, IsSwept}
 use Rattle.crew_solve.proofs.sweeps.sweep_base.Goals as goal
 
 pub sweep-requires-clause-sound : goal.sweep-requires-clause-sound
-sweep-requires-clause-sound c = (subst (λ (n : Net). IsSweepable n c.args.places.now) (sym c.in_ok-try_clone.ensures) c.requires.sweepable).sound
+sweep-requires-clause-sound c = (subst (λ (n : Net). IsSweepable n c.args.turns.now) (sym c.in_ok-try_clone.ensures) c.requires.sweepable).sound
 
 pub sweep-requires-clause-rise : goal.sweep-requires-clause-rise
-sweep-requires-clause-rise c = (subst (λ (n : Net). IsSweepable n c.args.places.now) (sym c.in_ok-try_clone.ensures) c.requires.sweepable).rise
+sweep-requires-clause-rise c = (subst (λ (n : Net). IsSweepable n c.args.turns.now) (sym c.in_ok-try_clone.ensures) c.requires.sweepable).rise
 
 both : {X E : Type 0} (r : Result X E) (P Q R S : X → Type 0) → ((x : X) → P x → Q x → R x → S x) → IfOk r P → IfOk r Q → IfOk r R → IfOk r S
 both (Ok x) P Q R S h p q k = h x p q k

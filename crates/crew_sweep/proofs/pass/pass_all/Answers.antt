@@ -14,15 +14,17 @@ pub loop-place-init : goal.loop-place-init
 loop-place-init c =
     let Labels = List (PairingVector × LabelWalk) in
     let net = c.args.net.now in
-    let held = c.in_ok-held.held.items in
-    let long : length held ≡ length net.arrivals = c.in_ok-held.ensures.long ∙ ap (λ (xs : List Arrival). length xs) c.arrivals.ensures.events in
-    let under : AreUnderWay net c.new-walks.result 0 held c.in_ok-slides.slides = record {
+    let walks = c.new-walks.result in
+    let made = c.in_ok-arrivals.arrivals.made.items in
+    let held = c.in_ok-arrivals.arrivals.pools.items in
+    let events = ap (λ (xs : List Arrival). length xs) c.arrivals.ensures.events in
+    let under : AreUnderWay net walks made held c.in_ok-slides.slides = record {
       long = c.in_ok-slides.ensures.long ∙ ap (λ (gs : List Departure). length gs) c.departures.ensures.events;
-      sliding = c.in_ok-slides.ensures.sliding c.new-walks.result held;
-      sealed = λ p covers. absurd (c.in_ok-slides.ensures.nowhere p covers);
+      sliding = c.in_ok-slides.ensures.sliding walks held;
+      covered = λ p covers. absurd (c.in_ok-slides.ensures.nowhere p covers);
     } in
-    subst (λ (ps : List Labels). IsPassing net c.args.base c.args.resource.now c.new-walks.result ps held × (length ps ≡ 0) × AreUnderWay net c.new-walks.result (length ps) held c.in_ok-slides.slides) (sym c.in_ok-pools.ensures.items)
-    (passing-none net c.args.base c.args.resource.now c.new-walks.result held long c.in_ok-held.ensures.empty, refl, under)
+    subst (λ (ps : List Labels). IsPassing net c.args.base c.args.resource.now walks ps made held × (length ps ≡ 0) × AreUnderWay net walks made held c.in_ok-slides.slides) (sym c.in_ok-pools.ensures.items)
+    (passing-none net c.args.base c.args.resource.now walks made held (c.in_ok-arrivals.ensures.made ∙ events) (c.in_ok-arrivals.ensures.pools ∙ events) c.in_ok-arrivals.ensures.none c.in_ok-arrivals.ensures.empty, refl, under)
 
 pub pass_one-requires-clause-place : goal.pass_one-requires-clause-place
 pass_one-requires-clause-place c =
@@ -38,7 +40,8 @@ pub returns-clause-passed : goal.returns-clause-passed
 returns-clause-passed c =
     let all : c.loop-place.place-index ≡ length c.by_report-place-items.result.now = omega arith in
     record {
-      held = c.loop-place.held.items;
+      made = c.loop-place.arrivals.made.items;
+      held = c.loop-place.arrivals.pools.items;
       all = c.loop-place.invariant.1 ∙ (all ∙ ap (λ (ns : List ℕ). length ns) c.by_report-place-items.ensures.places);
       passing = c.loop-place.invariant.0;
     }

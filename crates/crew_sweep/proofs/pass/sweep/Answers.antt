@@ -33,9 +33,9 @@ new-requires c =
     let price = to_z w64 (of_z w64 c.args.price) in
     let own = ap (λ (n : Net). n.settings) c.deref.ensures in
     let full = c.new-full.ensures.made ∙ ap (λ (s : Settings). anchored_resource s price) (c.settings.ensures.value ∙ own) in
-    let passable = subst (λ (n : Net). IsPassable n c.args.places.now) c.deref-2.ensures c.in_ok-walks.ensures.passable in
+    let passable = subst (λ (n : Net). IsPassable n c.args.turns.now) c.deref-2.ensures c.in_ok-walks.ensures.passable in
     let passed = subst (λ (n : Net). HasPassed n c.args.base c.sparing.result c.in_ok-walks.walks c.in_ok-walks.pools.items) c.deref-2.ensures c.in_ok-walks.ensures.passed in
-    ends.all-kept net (subst IsChecked own c.settings.ensures.checked) price c.new-full.result c.sparing.result full c.sparing.ensures c.new-full.ensures.fits c.args.places.now passable c.args.base c.in_ok-walks.walks
+    ends.all-kept net (subst IsChecked own c.settings.ensures.checked) price c.new-full.result c.sparing.result full c.sparing.ensures c.new-full.ensures.fits c.args.turns.now passable c.args.base c.in_ok-walks.walks
     c.in_ok-walks.pools.items passed
 
 pub returns-clause-right : goal.returns-clause-right
@@ -44,8 +44,8 @@ returns-clause-right c =
     let price = to_z w64 (of_z w64 c.args.price) in
     let own = ap (λ (n : Net). n.settings) c.deref.ensures in
     let full = c.new-full.ensures.made ∙ ap (λ (s : Settings). anchored_resource s price) (c.settings.ensures.value ∙ own) in
-    let passable = subst (λ (n : Net). IsPassable n c.args.places.now) c.deref-2.ensures c.in_ok-walks.ensures.passable in
+    let passable = subst (λ (n : Net). IsPassable n c.args.turns.now) c.deref-2.ensures c.in_ok-walks.ensures.passable in
     let passed = subst (λ (n : Net). HasPassed n c.args.base c.sparing.result c.in_ok-walks.walks c.in_ok-walks.pools.items) c.deref-2.ensures c.in_ok-walks.ensures.passed in
     subst (λ (b : BaseSweep). (t : Timetable) → IsSound t → AreDuties b.net.settings t b.net.duties → ShowsFronts t b) (sym c.new.ensures)
-    (ends.all-right net (subst IsChecked own c.settings.ensures.checked) price c.new-full.result c.sparing.result full c.sparing.ensures c.new-full.ensures.fits c.args.places.now passable c.args.base c.in_ok-walks.walks
+    (ends.all-right net (subst IsChecked own c.settings.ensures.checked) price c.new-full.result c.sparing.result full c.sparing.ensures c.new-full.ensures.fits c.args.turns.now passable c.args.base c.in_ok-walks.walks
     c.in_ok-walks.pools.items passed)

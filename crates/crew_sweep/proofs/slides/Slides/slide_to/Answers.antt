@@ -5,7 +5,8 @@ use Rattle.crew_sweep.specs.Machinery.Parts.{IsPart}
 use Rattle.crew_sweep.specs.Machinery.Sliding.{Covers, IsSliding}
 use Rattle.crew_sweep.specs.Machinery.Slides.{CoverAny}
 use Rattle.crew_sweep.specs.declared.slide.Slide.{Slide}
-use Rattle.crew_sweep.proofs.Slidings.{set-got, set-long}
+use Rattle.crew_sweep.proofs.Slices.{set-long}
+use Rattle.crew_sweep.proofs.Slidings.{set-got}
 use Rattle.crew_sweep.proofs.slides.Slides.slide_to.Goals as goal
 
 pub index_mut-slide-requires : goal.index_mut-slide-requires

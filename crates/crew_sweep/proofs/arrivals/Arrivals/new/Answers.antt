@@ -3,7 +3,7 @@ use Rattle.crew_pairing.specs.declared.vector.PairingVector.{PairingVector}
 use Rattle.crew_pool.specs.declared.label_walk.LabelWalk.{LabelWalk}
 use Rattle.crew_resource.specs.Members.{Member}
 use Rattle.crew_resource.proofs.Members.{Member-append}
-use Rattle.crew_sweep.proofs.pass.empty_pools.Goals as goal
+use Rattle.crew_sweep.proofs.arrivals.Arrivals.new.Goals as goal
 
 pub loop-preserved : goal.loop-preserved
 loop-preserved c =

@@ -1,0 +1,50 @@
+//! The pool of an arrival.
+ghost use Rattle.std.specs.Prelude.{◌≡◌, ◌<◌, ℕ, IfOk, List, Some, false, get_or, length, map, true};
+ghost use Rattle.crew_pool.specs.Counted.{AreCounted};
+ghost use Rattle.crew_pool.specs.LabelWalks.{IsPoolOf, shown};
+ghost use Rattle.crew_pool.specs.declared.label_walk.LabelWalk.{LabelWalk};
+ghost use Rattle.crew_resource.specs.Members.{Member};
+ghost use Rattle.crew_step.specs.Pools.{boarded};
+
+use crew_pool::{Pool, Walks, Workspace, absorb_boarding};
+use crew_resource::{Placed, Resource, Staged};
+use std::alloc::{AllocError, Global};
+
+/// The pool of an arrival, from the labels that board the items of some ranks, each from the pool
+/// of its departure: `turns` has the place of that pool, by rank. It has exactly the undominated
+/// of these labels, each vector with its least walk, whatever the order of the ranks; it takes the
+/// least time where ranks come first whose labels are at most those of the others.
+pub fn arrival_pool<P: Placed, R: Staged<P>>(
+    alloc: Global,
+    resource: &R,
+    room: &mut Workspace<R::Value>,
+    pools: &[Pool<R>],
+    items: &[P],
+    turns: &[u32],
+    ranks: &[u32],
+    walks: &Walks,
+) -> Result<Pool<R>, AllocError>
+    requires shift { R.is_shift resource.now }
+    requires counting { (most : ℕ) × (R.most resource.now ≡ Some most) }
+    requires few { length items.now < 4_294_967_295 }
+    requires turns { length turns.now ≡ length items.now }
+    requires within { (rank : ℕ) → Member ranks.now rank
+        → (rank < length items.now) × (get_or turns.now rank 0 < length pools.now) }
+    requires can { (labels : List (R.Value × LabelWalk)) (l : R.Value × LabelWalk) (item : P)
+        → Member pools.now labels → Member labels l → Member items.now item
+        → R.can_board resource.now l.0 item }
+    requires whole { (labels : List (R.Value × LabelWalk)) → Member pools.now labels
+        → AreCounted (R.count_of resource.now) walks.now true labels }
+    ensures local { IfOk result (λ pool. IsPoolOf R.below (boarded walks.now
+        (R.boards resource.now) items.now turns.now pools.now ranks.now)
+        (map (shown walks.now) pool)) }
+    ensures counts { IfOk result (AreCounted (R.count_of resource.now) walks.now false) }
+{
+    let mut pool = Pool::new(alloc);
+    for rank in ranks {
+        let item = &items[*rank as usize];
+        let from = &pools[turns[*rank as usize] as usize];
+        absorb_boarding(resource, &mut pool, room, from, item, *rank, walks)?;
+    }
+    Ok(pool)
+}
