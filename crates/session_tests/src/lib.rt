@@ -7,6 +7,8 @@ mod engines;
 #[cfg(test)]
 mod limits;
 #[cfg(test)]
+mod rows;
+#[cfg(test)]
 mod sessions;
 #[cfg(test)]
 mod strange;

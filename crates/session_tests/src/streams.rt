@@ -1,10 +1,10 @@
 //! Readers and writers that fail.
 
+use crate::sessions::play;
 use crew_rules::Settings;
-use crew_session::{Plain, SessionFault, run};
+use crew_session::SessionFault;
 use std::io;
 use std::io::{Read, Write};
-use std::test::Fail;
 
 // A reader that gives a byte at a time, and fails at a place.
 #[derive(Drop)]
@@ -62,40 +62,32 @@ const INPUT: &[u8] = b"x\nbase,JFK,0\nbase,JFK,0\nsettle\n";
 const LINES: &[u8] = b"record 1 refused 70\nrecord 3 refused 21\nversion 1 entries 2 flights 0\n";
 
 #[test]
-fn reads_that_fail(rt: HostRuntime) -> Result<(), Fail> {
+fn reads_that_fail(rt: HostRuntime) {
+    let settings = Settings::standard();
     for fails_at in 0..INPUT.len() + 2 {
-        let mut engine = Plain::new(rt.alloc(), &Settings::standard());
-        let mut out = Vec::new(rt.alloc());
         let mut reader = Slow {
             bytes: INPUT,
             fails_at,
             at: 0,
         };
-        let ended = run(
-            &rt,
-            rt.alloc(),
-            &mut reader,
-            &mut out,
-            &Settings::standard(),
-            &mut engine,
-        );
+        let mut written = Vec::new(rt.alloc());
+        let ended = play(&rt, rt.alloc(), &settings, &mut reader, &mut written);
         if fails_at <= INPUT.len() {
-            assert_eq!(rt; ended, Err(SessionFault::Read), "{fails_at}");
-            assert!(rt; LINES.starts_with(&out), "{fails_at}");
+            assert_eq!(rt; ended, Some(Err(SessionFault::Read)), "{fails_at}");
+            assert!(rt; LINES.starts_with(&written), "{fails_at}");
         } else {
-            assert_eq!(rt; ended, Ok(()));
-            assert_eq!(rt; out.as_slice(), LINES);
+            assert_eq!(rt; ended, Some(Ok(())));
+            assert_eq!(rt; written.as_slice(), LINES);
         }
     }
-    Ok(())
 }
 
 // Each line is one write.
 #[test]
-fn writes_that_fail(rt: HostRuntime) -> Result<(), Fail> {
+fn writes_that_fail(rt: HostRuntime) {
+    let settings = Settings::standard();
     for most in 0..4usize {
         for flushes in [false, true] {
-            let mut engine = Plain::new(rt.alloc(), &Settings::standard());
             let mut reader = INPUT;
             let mut writer = Short {
                 taken: Vec::new(rt.alloc()),
@@ -103,22 +95,14 @@ fn writes_that_fail(rt: HostRuntime) -> Result<(), Fail> {
                 most,
                 flushes,
             };
-            let ended = run(
-                &rt,
-                rt.alloc(),
-                &mut reader,
-                &mut writer,
-                &Settings::standard(),
-                &mut engine,
-            );
+            let ended = play(&rt, rt.alloc(), &settings, &mut reader, &mut writer);
             if most == 3 && flushes {
-                assert_eq!(rt; ended, Ok(()));
+                assert_eq!(rt; ended, Some(Ok(())));
                 assert_eq!(rt; writer.taken.as_slice(), LINES);
             } else {
-                assert_eq!(rt; ended, Err(SessionFault::Write), "{most}");
+                assert_eq!(rt; ended, Some(Err(SessionFault::Write)), "{most}");
                 assert!(rt; LINES.starts_with(&writer.taken), "{most}");
             }
         }
     }
-    Ok(())
 }
