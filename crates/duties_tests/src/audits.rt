@@ -1,4 +1,4 @@
-use crate::rows::{Row, timetable_of};
+use crate::rows::{Row, timetable_of, write_key};
 use crew_audit::{AuditFault, Partial, Tally, enumerate, tally_all};
 use crew_flights::Timetable;
 use crew_pairing::PairingVector;
@@ -6,28 +6,21 @@ use crew_rules::Settings;
 use std::alloc::Global;
 use std::test::Fail;
 
-// A partial as text: its base, its duties' ids joined by `-`, with `d` behind a deadheaded one, and
-// whether it is a pairing.
-fn partial_text(alloc: Global, partial: &Partial) -> Result<String, Fail> {
-    let mut text = String::new(alloc);
+// Writes a partial as a line: its base, its duties' ids joined by `-`, with `d` behind a deadheaded
+// one, and whether it is a pairing.
+fn write_partial(text: &mut String, partial: &Partial) -> Result<(), Fail> {
     for letter in partial.base.get() {
         text.push(char::from(letter))?;
     }
     for key in partial.walk.keys() {
-        let mut between = ' ';
-        for leg in key.legs() {
-            text.push(between)?;
-            text.push_str(format!(in alloc; "{}", leg.flight().get())?.as_str())?;
-            if leg.is_deadhead() {
-                text.push('d')?;
-            }
-            between = '-';
-        }
+        text.push(' ')?;
+        write_key(text, key)?;
     }
     if partial.pairing {
         text.push_str(" pairing")?;
     }
-    Ok(text)
+    text.push('\n')?;
+    Ok(())
 }
 
 // The partials, one a line.
@@ -41,8 +34,7 @@ fn listing(
     let partials = enumerate(alloc, settings, timetable, limit)?;
     let mut text = String::new(alloc);
     for partial in &partials {
-        text.push_str(partial_text(alloc, partial)?.as_str())?;
-        text.push('\n')?;
+        write_partial(&mut text, partial)?;
     }
     Ok(text)
 }

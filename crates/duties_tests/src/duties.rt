@@ -1,27 +1,10 @@
-use crate::rows::{Row, flight, timetable_of};
+use crate::rows::{Row, flight, timetable_of, write_key};
 use crew_duty::{DutyFault, list_duties};
 use crew_flights::{Code, Edit, Flight, FlightId, Timetable};
-use crew_pairing::Duty;
 use crew_rules::Settings;
 use crew_time::{Minute, Zone, read_minute};
-use std::alloc::Global;
 use std::test::Fail;
 use std::thread::Threads;
-
-// A key as text: ids joined by `-`, with `d` behind a deadheaded one.
-fn key_text(alloc: Global, duty: &Duty) -> Result<String, Fail> {
-    let mut text = String::new(alloc);
-    for leg in duty.key.legs() {
-        if !text.is_empty() {
-            text.push('-')?;
-        }
-        text.push_str(format!(in alloc; "{}", leg.flight().get())?.as_str())?;
-        if leg.is_deadhead() {
-            text.push('d')?;
-        }
-    }
-    Ok(text)
-}
 
 // The keys of the legal duties, one a line.
 fn keys<R: Threads + Sync + AllocGlobal>(
@@ -34,7 +17,7 @@ fn keys<R: Threads + Sync + AllocGlobal>(
     let duties = list_duties(rt, rt.alloc(), settings, &timetable)?;
     let mut text = String::new(rt.alloc());
     for duty in duties.as_slice() {
-        text.push_str(key_text(rt.alloc(), duty)?.as_str())?;
+        write_key(&mut text, &duty.key)?;
         text.push('\n')?;
     }
     Ok(text)

@@ -1,25 +1,31 @@
-//! Timetables of a few rows.
+//! Timetables of a few rows, and keys as texts.
 use crew_flights::{Code, Edit, Flight, FlightId, Timetable};
+use crew_pairing::Key;
 use crew_rules::Settings;
 use crew_time::{Minute, Zone, read_minute};
 use std::alloc::Global;
+use std::fmt::Write;
 use std::test::Fail;
 
 /// A flight: its number, airports, times and price.
 pub type Row<'a> = (u32, &'a [u8; 3], &'a [u8; 3], &'a str, &'a str, i64);
 
+fn instant(text: &str) -> Result<Minute, Fail> {
+    Ok(read_minute(text.as_bytes())?)
+}
+
 /// A flight between airports on the clock of New York.
 pub fn flight(settings: &Settings, row: Row<'_>) -> Result<Flight, Fail> {
     let (id, from, to, dep, arr, price) = row;
     let zone = Zone::read(b"EST5EDT,M3.2.0,M11.1.0")?;
-    let dep = read_minute(dep.as_bytes())?;
+    let dep = instant(dep)?;
     let report = Minute::new(dep.get() - i64::from(settings.lead)).ok_or("report")?;
     Ok(Flight {
         id: FlightId::new(id).ok_or("id")?,
         from: Code::new(*from).ok_or("from")?,
         to: Code::new(*to).ok_or("to")?,
         dep,
-        arr: read_minute(arr.as_bytes())?,
+        arr: instant(arr)?,
         report_clock: zone.clock(report),
         price,
     })
@@ -43,4 +49,20 @@ pub fn timetable_of(
         timetable.apply(&Edit::AddFlight(flight(settings, *row)?))?;
     }
     Ok(timetable)
+}
+
+/// Writes a key: ids joined by `-`, with `d` behind a deadheaded one.
+pub fn write_key(text: &mut String, key: &Key) -> Result<(), Fail> {
+    let mut is_first = true;
+    for leg in key.legs() {
+        if !is_first {
+            text.push('-')?;
+        }
+        write!(text, "{}", leg.flight().get())?;
+        if leg.is_deadhead() {
+            text.push('d')?;
+        }
+        is_first = false;
+    }
+    Ok(())
 }
