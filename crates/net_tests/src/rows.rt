@@ -8,18 +8,22 @@ use std::test::Fail;
 /// A flight: its number, airports, times and price.
 pub type Row<'a> = (u32, &'a [u8; 3], &'a [u8; 3], &'a str, &'a str, i64);
 
+fn instant(text: &str) -> Result<Minute, Fail> {
+    Ok(read_minute(text.as_bytes())?)
+}
+
 /// A flight between airports on the clock of New York.
 pub fn flight(settings: &Settings, row: Row<'_>) -> Result<Flight, Fail> {
     let (id, from, to, dep, arr, price) = row;
     let zone = Zone::read(b"EST5EDT,M3.2.0,M11.1.0")?;
-    let dep = read_minute(dep.as_bytes())?;
+    let dep = instant(dep)?;
     let report = Minute::new(dep.get() - i64::from(settings.lead)).ok_or("report")?;
     Ok(Flight {
         id: FlightId::new(id).ok_or("id")?,
         from: Code::new(*from).ok_or("from")?,
         to: Code::new(*to).ok_or("to")?,
         dep,
-        arr: read_minute(arr.as_bytes())?,
+        arr: instant(arr)?,
         report_clock: zone.clock(report),
         price,
     })
