@@ -7,8 +7,16 @@ pub mod Named
 pub mod Firsts
 pub mod AtMoments
 pub mod Geometry
+pub mod Forward
 pub mod EventOrder
 pub mod Shown
 pub mod Ranking
+pub mod Slots
 pub mod NodeList
 pub mod ByReport
+pub mod ArrivalPlaces
+pub mod InWindow
+pub mod Raised
+pub mod Longest
+pub mod Laid
+pub mod InTime

@@ -1,5 +1,6 @@
 pub mod Nodes
 pub mod Events
 pub mod Nets
+pub mod Layers
 pub mod Ranks
 pub mod Machinery

@@ -1,5 +1,6 @@
 -- What the network works with.
 pub mod Held
 pub mod Moments
+pub mod Raised
 pub mod Ranking
 pub mod Timelines

@@ -1,5 +1,5 @@
 -- The network of the legal duties of a timetable, and what a contract sees of it.
-use Rattle.std.specs.Prelude.{◌≡◌, ◌≤◌, ◌≤ℤ◌, ℕ, List, Option, Some, None, Vec, IsPermutation, length, map, slice_get}
+use Rattle.std.specs.Prelude.{◌≡◌, ◌≤◌, ◌<◌, ◌+◌, ◌*◌, ◌≤ℤ◌, ℕ, List, Option, Some, None, Vec, IsPermutation, get_or, length, map, slice_get}
 use Rattle.std.specs.Global.{Global}
 use Rattle.std.specs.FinMap as fin
 use Rattle.std.specs.List.{flat_map, range_with_len}
@@ -65,3 +65,18 @@ abbrev pub ArePreds : Net → Node → Option (Vec ℕ Global) → Type 0
 ArePreds net node None = (d : Duty) → IsNodeOf net node d → ⊥
 ArePreds net node (Some ranks) = (d : Duty) × IsNodeOf net node d
     × (ranks.items ≡ ranks_before net.settings net.duties d)
+
+-- the slot of a node: sixteen for each duty by rank, one for each base by its place
+pub record IsSlot (net : Net) (node : Node) (slot : ℕ) : Type 0 where
+  pub rank : ℕ
+  pub is_rank : IsRank net node (Some rank)
+  pub base : ℕ
+  pub is_base : slice_get net.bases base ≡ Some node.base
+  pub few_bases : base < 16
+  pub value : slot ≡ 16 * rank + base
+
+-- the place of each duty's arrival, by rank
+pub record AreArrivalPlaces (net : Net) (places : List ℕ) : Type 0 where
+  pub long : length places ≡ length net.duties
+  pub exact : (rank : ℕ) (d : Duty) → slice_get net.duties rank ≡ Some d
+      → slice_get net.arrivals (get_or places rank 0) ≡ Some (arrival_of d)

@@ -7,6 +7,7 @@
 
 mod events;
 pub mod laws;
+mod layers;
 mod net;
 mod node;
 mod ranks;

@@ -1,11 +1,16 @@
 //! The network.
 
-ghost use Rattle.std.specs.Prelude.{◌≡◌, ◌≤◌, ◌<◌, ◌*◌, IfOk, Some, length, map, slice_get};
+ghost use Rattle.std.specs.Prelude.{◌≡◌, ◌≤◌, ◌<◌, ◌*◌, ◌↔◌, IfOk, IfSome, IsNone, Some, length, map, slice_get};
 ghost use Rattle.std.specs.Arc.{arc_value};
 ghost use Rattle.std.specs.FinMap as fin;
+ghost use Rattle.std.specs.List.{position};
+ghost use Rattle.std.specs.Ordering.{eq_by_cmp};
+ghost use Rattle.crew_flights.specs.Codes.{code_cmp};
+ghost use Rattle.crew_flights.specs.Timetable as TimetableSpec;
 ghost use Rattle.crew_net.specs.Events.{AreEvents, IsWindow, arrival_cmp, arrives_at, departure_cmp, leaves_at};
+ghost use Rattle.crew_net.specs.Layers.{AreLayers};
 ghost use Rattle.crew_net.specs.Machinery.Moments.{IsReal};
-ghost use Rattle.crew_net.specs.Nets.{AreByReport, ArePreds, IsNetOf, IsRank, nodes_of, ranks_before};
+ghost use Rattle.crew_net.specs.Nets.{AreByReport, ArePreds, IsNetOf, IsNodeOf, IsRank, IsSlot, nodes_of, ranks_before};
 ghost use Rattle.crew_net.specs.Ranks.{ranks_where};
 ghost use Rattle.crew_pairing.specs.Events.{arrival_of, departure_of, may_wait};
 ghost use Rattle.crew_pairing.specs.Duties.{AreDuties};
@@ -16,8 +21,10 @@ ghost use Rattle.crew_resource.specs.Members.{Member};
 ghost use Rattle.crew_rules.specs.Settings.{IsChecked};
 
 use crate::events::{arrivals_of, arrive_moments, by_report, departures_of, leave_moments};
+use crate::layers::{greatest, raise};
 use crate::node::Node;
 use crate::ranks::rank_of;
+use crate::reached::{arrival_places, put};
 use crate::timeline::Timeline;
 use crate::window::Window;
 use crate::windows::{following, waiting};
@@ -70,8 +77,16 @@ impl Model for Net {
 fn held_bases(alloc: Global, timetable: &Timetable) -> Result<Vec<Code>, AllocError>
     ensures bases { IfOk result (λ bases. bases.items ≡ fin.keys timetable.now.bases) }
     ensures few { length (fin.keys timetable.now.bases) ≤ 16 }
+    ensures sound { TimetableSpec.IsSound timetable.now }
 {
     timetable.bases().map(|(code, _)| *code).collect(alloc)
+}
+
+// The place of a base.
+fn base_place(bases: &[Code], base: Code) -> Option<usize>
+    ensures { result ≡ position (λ b. eq_by_cmp code_cmp b base) bases.now }
+{
+    bases.iter().position(|each| *each == base)
 }
 
 // The node at a place among those of some bases and duties.
@@ -239,6 +254,36 @@ impl Net {
             return None;
         }
         rank_of(self.duties.as_slice(), &node.key)
+    }
+
+    /// The layer of each duty, by rank.
+    ///
+    /// Each departure is gone to once, in order of report: its layer is the greatest to which its
+    /// arrivals lead, and what leaves there leads one further.
+    pub fn layers(&self, alloc: Global) -> Result<Vec<u32>, AllocError>
+        ensures { IfOk result (λ layers. AreLayers self.now layers.items) }
+    {
+        let places = arrival_places(alloc, self)?;
+        let mut layers = vec![in alloc; 0; self.duties.len()]?;
+        let mut next = vec![in alloc; 0; self.arrivals.len()]?;
+        for departure in self.by_report() {
+            let departure = *departure as usize;
+            let layer = greatest(&next, self.window(departure));
+            put(&mut layers, self.leaving(departure), layer);
+            raise(&mut next, &places, self.leaving(departure), layer + 1);
+        }
+        Ok(layers)
+    }
+
+    /// A number under which a node can keep its place in tables, and `None` where it isn't a node
+    /// of the network.
+    pub fn slot(&self, node: &Node) -> Option<usize>
+        ensures is { IfSome result (IsSlot self.now node.now) }
+        ensures none { IsNone result ↔ ((d : Duty) → IsNodeOf self.now node.now d → ⊥) }
+    {
+        let rank = self.rank(node)?;
+        let base = base_place(&self.bases, node.base)?;
+        Some(16 * rank + base)
     }
 
     // The duties that may stand just before the one of a rank.

@@ -152,6 +152,48 @@ fn events_of_three_duties(rt: HostRuntime) -> Result<(), Fail> {
     Ok(())
 }
 
+// Each leg is a duty of its own. The arcs are 1-2, 2-3, 3-4, 6-4 and 1-5.
+const LAYERS: [Row<'static>; 6] = [
+    (1, b"JFK", b"BOS", "2025-07-01T12:00", "2025-07-01T13:00", 0),
+    (2, b"BOS", b"JFK", "2025-07-02T12:00", "2025-07-02T13:00", 0),
+    (3, b"JFK", b"BOS", "2025-07-03T12:00", "2025-07-03T13:00", 0),
+    (4, b"BOS", b"JFK", "2025-07-04T12:00", "2025-07-04T13:00", 0),
+    (5, b"BOS", b"LAX", "2025-07-02T13:00", "2025-07-02T19:00", 0),
+    (6, b"MIA", b"BOS", "2025-07-03T12:00", "2025-07-03T15:00", 0),
+];
+
+#[test]
+fn layers_of_six_duties(rt: HostRuntime) -> Result<(), Fail> {
+    let net = net_of(&rt, &[(b"JFK", 0)], &LAYERS)?;
+    assert_eq!(rt; net.duties().len(), 6);
+    let layers = net.layers(rt.alloc())?;
+    assert_eq!(rt; layers.as_slice(), [0, 1, 2, 3, 1, 0].as_slice());
+    Ok(())
+}
+
+// Two duties of one layer lead to a third, which is one further.
+#[test]
+fn layers_of_three_duties(rt: HostRuntime) -> Result<(), Fail> {
+    let net = net_of(&rt, &[(b"JFK", 0)], &EVENTS)?;
+    assert_eq!(rt; net.layers(rt.alloc())?.as_slice(), [0, 0, 1].as_slice());
+    let empty = net_of(&rt, &[(b"JFK", 0)], &[])?;
+    assert!(rt; empty.layers(rt.alloc())?.is_empty());
+    Ok(())
+}
+
+// Sixteen slots for each duty, by rank, and in each the bases by their places.
+#[test]
+fn slots_of_two_bases(rt: HostRuntime) -> Result<(), Fail> {
+    let net = net_of(&rt, &[(b"JFK", 0), (b"BOS", 0)], &EVENTS)?;
+    assert_eq!(rt; net.slot(&node_of(b"BOS", 1)?), Some(0));
+    assert_eq!(rt; net.slot(&node_of(b"JFK", 1)?), Some(1));
+    assert_eq!(rt; net.slot(&node_of(b"BOS", 3)?), Some(32));
+    assert_eq!(rt; net.slot(&node_of(b"JFK", 3)?), Some(33));
+    assert_eq!(rt; net.slot(&node_of(b"JFK", 4)?), None);
+    assert_eq!(rt; net.slot(&node_of(b"LAX", 1)?), None);
+    Ok(())
+}
+
 // Sixteen bases and no flight: no node.
 #[test]
 fn bases_without_flights(rt: HostRuntime) -> Result<(), Fail> {

@@ -1,5 +1,5 @@
 -- What a network keeps of its duties.
-use Rattle.std.specs.Prelude.{◌≡◌, ◌≤◌, ◌<◌, ℕ, ℤ, true, List, length, map, get_or}
+use Rattle.std.specs.Prelude.{◌≡◌, ◌≤◌, ◌<◌, ◌≤ℤ◌, ℕ, ℤ, true, List, length, map, get_or}
 use Rattle.crew_pairing.specs.Events.{arrival_of, departure_of}
 use Rattle.crew_flights.specs.Codes.{is_code}
 use Rattle.crew_net.specs.Machinery.Moments.{IsReal, moment}
@@ -57,6 +57,8 @@ pub record IsHeld (s : Settings) (bases : List (List ℕ)) (duties : List Duty)
   pub few_bases : length bases ≤ 16
   pub left : Each IsLeft duties
   pub reached : Each IsReached duties
+  -- no duty ends before it begins
+  pub forward : (d : Duty) → Member duties d → d.report ≤ℤ d.release
   pub leave : IsTimeline (map leave_at duties) leaving
   pub arrive : IsTimeline (map arrive_at duties) arriving
   pub leave_events : AreAt departure_of leave_at duties leaving.moments.items departures
