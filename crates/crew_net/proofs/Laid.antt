@@ -22,7 +22,7 @@ use Rattle.crew_pairing.specs.declared.events.Departure.{Departure}
 use Rattle.crew_resource.specs.Members.{Member}
 use Rattle.crew_resource.proofs.Members.{Member-at, Member-get}
 use Rattle.crew_net.specs.Events.{AreEvents, IsWindow, arrival_cmp, departure_cmp, leaves_at}
-use Rattle.crew_net.specs.Layers.{AreLayers, IsNextLayer}
+use Rattle.crew_net.specs.Layers.{AreLayers}
 use Rattle.crew_net.specs.Machinery.Raised.{IsRaised}
 use Rattle.crew_net.specs.Nets.{AreArrivalPlaces, AreByReport, Net}
 use Rattle.crew_net.specs.Ranks.{ranks_where}
@@ -30,6 +30,7 @@ use Rattle.crew_net.specs.declared.window.Window.{Window}
 use Rattle.crew_net.proofs.ArrivalPlaces.{ranks-in, ranks-out}
 use Rattle.crew_net.proofs.EventOrder.{code-tie}
 use Rattle.crew_net.proofs.Geometry.{code-equal, equal-code, rests-parts}
+use Rattle.crew_net.proofs.Longest.{IsNextLayer, is-layer, stands}
 use Rattle.crew_net.proofs.Segments.{le-or-lt}
 
 -- what the network shows of its events, in order of time
@@ -63,11 +64,6 @@ pub record AreLaid (net : Net) (count : ℕ) (layers next : List ℕ) : Type 0 w
 
 some-is : {X : Type 0} (o : Option X) (a b : X) → o ≡ Some a → o ≡ Some b → a ≡ b
 some-is o a b p q = let e : Some a ≡ Some b = sym p ∙ q in (cc)
-
-stands : {X : Type 0} (xs : List X) (x : X) → Member xs x → (k : ℕ) × (slice_get xs k ≡ Some x)
-stands [] x m = absurd m
-stands {X} (y ∷ ys) x (inl e) = (0, ap (λ (z : X). Some z) e)
-stands (y ∷ ys) x (inr m) = let k = stands ys x m in (suc k.0, k.1)
 
 -- events that rise stand in one place each
 one-place : {E : Type 0} (cmp : E → E → Ordering) (itself : (e : E) → cmp e e ≡ Less → ⊥) (events : List E)
@@ -327,10 +323,12 @@ module _ (net : Net) (timed : IsInTime net) where
       (let own = leaves-once e (Member-at net.duties b e eb) in
       let within = slice_get-within net.by_report own.0 own.1.0 own.1.1 in
       (own.0, omega (arith, within, all), own.1)) in
+      let rising = λ (a b : ℕ) (d e : Duty) (da : slice_get net.duties a ≡ Some d) (eb : slice_get net.duties b ≡ Some e) (may : may_stand_after net.settings d e ≡ true). laid.rising a b d e da eb may (done b e eb) in
+      let least = λ (b : ℕ) (e : Duty) (eb : slice_get net.duties b ≡ Some e). laid.least b e eb (done b e eb) in
       record {
         long = laid.long;
-        rising = λ a b d e da eb may. laid.rising a b d e da eb may (done b e eb);
-        least = λ b e eb. laid.least b e eb (done b e eb);
+        exact = is-layer net layers rising least;
+        rising = rising;
       }
 
 -- before any departure
