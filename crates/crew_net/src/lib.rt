@@ -12,10 +12,12 @@ mod layers;
 mod net;
 mod node;
 mod ranks;
+mod reached;
 mod timeline;
 mod window;
 mod windows;
 
 pub use net::Net;
 pub use node::Node;
+pub use reached::arrival_places;
 pub use window::Window;

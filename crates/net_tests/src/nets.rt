@@ -1,7 +1,7 @@
 use crate::rows::{Row, timetable_of};
 use crew_duty::list_duties;
 use crew_flights::{Code, FlightId};
-use crew_net::{Net, Node, Window};
+use crew_net::{Net, Node, Window, arrival_places};
 use crew_pairing::{Key, Leg};
 use crew_rules::Settings;
 use std::alloc::Global;
@@ -149,6 +149,8 @@ fn events_of_three_duties(rt: HostRuntime) -> Result<(), Fail> {
     assert!(rt; net.followers(0) == Window { from: 0, end: 1 });
     assert_eq!(rt; net.by_report(), [1, 0].as_slice());
     assert_eq!(rt; net.rank(&node_of(b"JFK", 3)?), Some(2));
+    let places = arrival_places(rt.alloc(), &net)?;
+    assert_eq!(rt; places.as_slice(), [0, 0, 1].as_slice());
     Ok(())
 }
 
