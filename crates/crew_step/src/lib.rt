@@ -3,9 +3,8 @@
 //! hold, and what is common to the jobs of one departure event is shared. `work` does a job: its
 //! type keeps that the entries of what is `Done` are exactly what the opening and all extensions of
 //! the entries before leave, each vector with its least walk, in order of vector. At events,
-//! `departure_pool` makes a departure's pool from what has been gathered for it, `board_leaving`
-//! takes what boards there into the pools of its arrivals, and both promise what their candidates
-//! leave.
+//! `departure_pool` makes a departure's pool from what has been gathered for it, `arrival_pool` an
+//! arrival's from what boards into it, and both promise what their candidates leave.
 //! `laws` has it that entries of fronts are values of their walks, as a job wants them.
 #![tactic(auto)]
 

@@ -1,7 +1,8 @@
 //! One pass over the events of a base's network, in order of time. `sweep` makes the pool of each
-//! departure from the arrivals in its window, and boards the duties that leave there into their
-//! arrivals, with a duty to spare; it promises that the pools show each legal duty's front. The
-//! windows of an airport slide, so an arrival's labels are merged a constant number of times.
+//! departure from the arrivals in its window, and the pool of an arrival, when it is first waited
+//! on, from all duties that arrive there, with a duty to spare; it promises that the pools show
+//! each legal duty's front. The windows of an airport slide, so an arrival's labels are merged a
+//! constant number of times.
 //! `laws` has what this rests on.
 #![tactic(auto)]
 

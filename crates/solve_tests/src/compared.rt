@@ -8,22 +8,23 @@ use crew_duty::list_duties;
 use crew_flights::{Code, Timetable};
 use crew_pairing::{Key, PairingVector, Walk};
 use crew_rules::Settings;
-use crew_solve::{Solution, solve};
+use crew_solve::{Solution, solve_with};
 use crew_vector::PricedPairing;
 use std::alloc::Global;
 use std::test::Fail;
 use std::thread::Threads;
 
-// All fronts and the best pairing, from scratch.
+// All fronts and the best pairing, from scratch, by so many workers.
 fn solved<R: Threads + Sync>(
     rt: &R,
     alloc: Global,
     settings: &Settings,
     timetable: &Timetable,
+    workers: usize,
 ) -> Result<Solution, Fail>
     requires { IsChecked settings.now }
 {
-    Ok(solve(rt, alloc, settings, timetable)?)
+    Ok(solve_with(rt, alloc, settings, timetable, workers)?)
 }
 
 // Whether a pairing is the partial that was picked.
@@ -72,9 +73,10 @@ fn is_as_picked<R: Threads + Sync>(
     alloc: Global,
     settings: &Settings,
     timetable: &Timetable,
+    workers: usize,
 ) -> Result<bool, Fail> {
     settings.check()?;
-    let solution = solved(rt, alloc, settings, timetable)?;
+    let solution = solved(rt, alloc, settings, timetable, workers)?;
     let partials = enumerate(alloc, settings, timetable, 1_000)?;
     let clean = clean_of(alloc, &partials)?;
     let duties = list_duties(rt, alloc, settings, timetable)?;
@@ -94,8 +96,10 @@ fn fronts_and_best_of_all_partials(rt: HostRuntime) -> Result<(), Fail> {
         assert_eq!(rt; timetable.flight_count(), sample.flights.len());
         for limits in &LIMITS {
             let settings = settings_of(limits);
-            let is_same = is_as_picked(&rt, rt.alloc(), &settings, &timetable)?;
-            assert!(rt; is_same, "{}, limits {limits:?}", sample.name);
+            for workers in [0, 1, 8] {
+                let is_same = is_as_picked(&rt, rt.alloc(), &settings, &timetable, workers)?;
+                assert!(rt; is_same, "{}, limits {limits:?}, {workers} workers", sample.name);
+            }
         }
     }
     Ok(())
