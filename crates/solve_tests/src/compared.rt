@@ -98,7 +98,11 @@ fn fronts_and_best_of_all_partials(rt: HostRuntime) -> Result<(), Fail> {
             let settings = settings_of(limits);
             for workers in [0, 1, 8] {
                 let is_same = is_as_picked(&rt, rt.alloc(), &settings, &timetable, workers)?;
-                assert!(rt; is_same, "{}, limits {limits:?}, {workers} workers", sample.name);
+                assert!(rt;
+                    is_same,
+                    "{}, limits {limits:?}, {workers} workers",
+                    sample.name
+                );
             }
         }
     }
