@@ -3,7 +3,7 @@ from pathlib import Path
 
 import matplotlib
 matplotlib.use('Agg')
-from matplotlib import pyplot
+from matplotlib import dates, pyplot
 
 from engine import Pairing
 from generation import Result
@@ -21,13 +21,16 @@ def draw_rounds(path: Path, result: Result) -> None:
     above.set_yscale('log')
     above.legend()
     below.plot(numbers, [turn.least / POINTS / 60 for turn in result.rounds])
+    below.set_yscale('symlog', linthresh=1)
     below.set_ylabel('least reduced cost, hours')
     below.set_xlabel('round')
     figure.savefig(path, dpi=100, bbox_inches='tight')
 
 
-def span(timetable: Timetable, duty: tuple[int, ...]):
-    return (instant(timetable.flights[duty[0]].departure), instant(timetable.flights[duty[-1]].arrival))
+def span(timetable: Timetable, duty: tuple[int, ...]) -> tuple[float, float]:
+    """From the first departure to the last arrival, in days."""
+    first, last = timetable.flights[duty[0]], timetable.flights[duty[-1]]
+    return dates.date2num(instant(first.departure)), dates.date2num(instant(last.arrival))
 
 
 def draw_plan(path: Path, timetable: Timetable, plan: Plan) -> None:
@@ -42,7 +45,10 @@ def draw_plan(path: Path, timetable: Timetable, plan: Plan) -> None:
         for start, end in spans:
             axes.barh(row, end - start, left=start, height=0.7, color=colours[pairing.base], zorder=2)
     bars = [pyplot.Rectangle((0, 0), 1, 1, color=colour) for colour in colours.values()]
-    axes.legend(bars, list(colours), title='base', loc='lower right')
+    axes.legend(bars, list(colours), title='base', loc='upper left', bbox_to_anchor=(1, 1))
+    axes.use_sticky_edges = False
+    axes.autoscale_view()
+    axes.xaxis_date()
     axes.set_yticks([])
     axes.set_ylabel('pairings')
     axes.set_xlabel('UTC')

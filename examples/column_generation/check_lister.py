@@ -1,0 +1,163 @@
+#!/usr/bin/env python3
+"""Compares `lister.py` with the program, on small random timetables that are the same at each run.
+
+Usage: check_lister.py [PROGRAM]
+
+Of each timetable the program says which pairing is best and how many there are. The lister has to list
+as many, and one of the program's best's base, walk, pay and minutes away, which costs what the program
+says it does and no more than any other. Ends with status 0 where all timetables agree.
+"""
+
+import os
+import random
+import re
+import subprocess
+import sys
+from dataclasses import dataclass
+from datetime import datetime, timedelta
+
+import lister
+
+HERE = os.path.dirname(os.path.abspath(__file__))
+PATIENCE = 60.0
+SEED = 117
+TIMETABLES = 40
+
+ZONES = {
+    "YYT": "NST3:30NDT,M3.2.0,M11.1.0",
+    "JFK": "EST5EDT,M3.2.0,M11.1.0",
+    "DEN": "MST7MDT,M3.2.0,M11.1.0",
+    "PHX": "MST7",
+    "LAX": "PST8PDT,M3.2.0,M11.1.0",
+}
+# A day in summer, the eves of both changes of the clock, and the eve of a year.
+DAYS = (datetime(2025, 7, 1), datetime(2025, 3, 8), datetime(2025, 11, 1), datetime(2025, 12, 31))
+SETTINGS = (
+    {},
+    {"max_duties": 2},
+    {"connect": 45, "sit": 120, "lead": 45},
+    {"duty_rig": 14, "duty_min": 0, "guarantee": 0},
+    {"trip_rig": 2, "guarantee": 0},
+    {"trip_rig": 14, "max_rest": 900, "debrief": 15},
+    {"fdp_cap": 660},
+    {"fly_cap": 480, "away_cap": 1800},
+)
+LENGTHS = (45, 45, 60, 75, 75, 130, 160, 240, 240, 241, 300)  # of a flight: pairs of some reach Table A
+PERIODS = (540, 600, 660, 690, 720, 750, 780, 840)  # from report to an arrival: the limits of Table B
+
+BEST = re.compile(r"best ([A-Z]{3}) cost (-?\d+) pay (\d+) away (\d+) ([\d -]+)")
+AUDIT = re.compile(r"audit partials \d+ pairings (\d+) cost (?:-?\d+|none)")
+
+
+@dataclass
+class Crew:
+    """Where a crew is as it flies from one flight to the next, to make flights that connect."""
+
+    place: str
+    report: datetime
+    arrival: datetime | None = None
+
+
+def minutes(count: int) -> timedelta:
+    return timedelta(minutes=count)
+
+
+def departure(draw: random.Random, crew: Crew, limits: dict[str, int]) -> datetime:
+    """After a time on the ground or a rest, often the least or the most that is legal, or a minute past it."""
+    if crew.arrival is None:
+        return crew.report + minutes(limits["lead"])
+    if draw.random() < 0.6:
+        least, most = limits["connect"], limits["sit"]
+        return crew.arrival + minutes(draw.choice((least - 1, least, least + 5, least + 20, most, most + 1)))
+    least, most = lister.LEAST_REST, limits["max_rest"]
+    rest = draw.choice((least - 1, least, least + 45, least + 130, most, most + 1))
+    crew.report = crew.arrival + minutes(limits["debrief"] + rest)
+    return crew.report + minutes(limits["lead"])
+
+
+def arrival(draw: random.Random, crew: Crew, leaves: datetime) -> datetime:
+    """After a flight of some length, or at the end of a limit of Table B or a minute past it."""
+    ends = crew.report + minutes(draw.choice(PERIODS) + draw.choice((0, 1)))
+    if draw.random() < 0.4 and minutes(30) <= ends - leaves <= minutes(540):
+        return ends
+    return leaves + minutes(draw.choice(LENGTHS))
+
+
+def timetable(draw: random.Random, settings: dict[str, int]) -> str:
+    """The records of four to nine flights, of one crew or more, among two or three airports."""
+    limits = lister.DEFAULTS | settings
+    airports = draw.sample(sorted(ZONES), draw.choice((2, 3)))
+    bases = draw.sample(airports, draw.choice((1, 2)))
+    numbers = draw.sample(range(1, 1000), draw.randint(4, 9))
+    day = draw.choice(DAYS)
+    lines = [f'zone,{airport},"{ZONES[airport]}"' for airport in airports]
+    lines += [f"base,{base},{draw.randrange(-1000, 1001, 500)}" for base in bases]
+    crew = None
+    for number in numbers:
+        if crew is None or draw.random() < 0.2:
+            # A report on the hour or the half, where rows of the tables begin, or a minute before.
+            crew = Crew(draw.choice(bases), day + minutes(30 * draw.randrange(48) - draw.choice((0, 1))))
+        leaves = departure(draw, crew, limits)
+        crew.arrival = arrival(draw, crew, leaves)
+        target = draw.choice([airport for airport in airports if airport != crew.place])
+        times = f"{leaves:%Y-%m-%dT%H:%M},{crew.arrival:%Y-%m-%dT%H:%M}"
+        lines.append(f"flight,{number},{crew.place},{target},{times},{draw.randrange(-1500, 6001, 500)}")
+        crew.place = target
+    return "\n".join(lines) + "\n"
+
+
+def answers(program: str, text: str, settings: dict[str, int]) -> list[str]:
+    """The lines that the program writes for the version, its best and its audit."""
+    words = [word for name, value in settings.items() for word in ("--" + name.replace("_", "-"), str(value))]
+    ended = subprocess.run([program, "run", *words], input=text + "settle\nbest\naudit,100000\n",
+                           capture_output=True, text=True, timeout=PATIENCE)
+    lines = ended.stdout.splitlines()
+    if ended.returncode != 0 or ended.stderr or len(lines) != 3:
+        raise RuntimeError(f"status {ended.returncode}, faults {ended.stderr!r}, lines {lines}")
+    return lines
+
+
+def difference(lines: list[str], text: str, settings: dict[str, int]) -> str | None:
+    """Where the program's lines differ from the lister's pairings; None where they agree."""
+    listed = lister.pairings(text, settings)
+    least = lister.best(text, settings)
+    audit = AUDIT.fullmatch(lines[2])
+    if audit is None or int(audit[1]) != len(listed):
+        return f"{lines[2]!r}, and {len(listed)} are listed"
+    if least is None:
+        return None if lines[1] == "best none" else f"{lines[1]!r}, and none is listed"
+    shown = BEST.fullmatch(lines[1])
+    if shown is None:
+        return f"{lines[1]!r}, and {least} is listed"
+    walk = tuple(tuple(map(int, duty.split("-"))) for duty in shown[5].split(" "))
+    best = lister.Pairing(shown[1], walk, int(shown[3]), int(shown[4]))
+    read = lister.read(text, settings)
+    if best not in listed:
+        return f"{lines[1]!r} is not listed; the best that is: {least}"
+    if not lister.cost(best, read) == int(shown[2]) == lister.cost(least, read):
+        return f"{lines[1]!r}, and {least} is listed at {lister.cost(least, read)}"
+    return None
+
+
+def main() -> int:
+    program = sys.argv[1] if len(sys.argv) > 1 else os.path.join(HERE, "..", "..", "crewprice")
+    draw = random.Random(SEED)
+    agreed, listed, overnight = 0, 0, 0
+    for place in range(TIMETABLES):
+        settings = SETTINGS[place % len(SETTINGS)]
+        text = timetable(draw, settings)
+        found = difference(answers(program, text, settings), text, settings)
+        if found is None:
+            agreed += 1
+        else:
+            print(f"timetable {place + 1}, settings {settings}: {found}\n{text}", file=sys.stderr)
+        pairings = lister.pairings(text, settings)
+        listed += len(pairings)
+        overnight += any(len(pairing.walk) > 1 for pairing in pairings)
+    print(f"{agreed} of {TIMETABLES} timetables agreed: {listed} pairings, "
+          f"with a rest in them in {overnight} timetables")
+    return 0 if agreed == TIMETABLES else 1
+
+
+if __name__ == "__main__":
+    sys.exit(main())
