@@ -1,8 +1,8 @@
 """All legal pairings of a small timetable, by brute force, from the rules alone.
 
-It is the reference of this example: none is left out for what it costs, so it is for small timetables.
-No crew rides as passengers here. Sections are those of 14 CFR part 117, for two pilots. A limit may be
-reached and not passed. Times are in minutes, an instant since 1970-01-01T00:00 UTC. Pay is in points.
+This is the reference of the example: no pairing is left out for what it costs, so it is for small
+timetables. No crew rides as passengers. Sections are those of 14 CFR part 117, for two pilots. A limit may
+be reached and not passed. Times are in minutes, instants since 1970-01-01T00:00 UTC. Pay is in points.
 """
 
 import csv
