@@ -1,5 +1,5 @@
 //! Walks that share their beginnings.
-ghost use Rattle.std.specs.Prelude.{◌≡◌, ◌<◌, ℕ, List, [], ◌∷◌, ◌++◌, length, get_or, OnOk, OnErr, IfOk};
+ghost use Rattle.std.specs.Prelude.{◌≡◌, ◌<◌, ℕ, List, [], ◌∷◌, ◌++◌, length, get_or, OnOk, OnErr, IfOk, IfSome, IsNone};
 ghost use Rattle.std.specs.Cmp.Lexicographic.{slice_cmp};
 ghost use Rattle.std.specs.Ordering.{nat_cmp};
 ghost use Rattle.crew_pool.specs.Arena.{walk_at};
@@ -72,6 +72,29 @@ impl Walks {
     {
         let _links = &self.links;
         0
+    }
+
+    /// How many walks there are.
+    pub fn count(&self) -> usize
+        ensures { result ≡ length self.now }
+    {
+        self.links.len() + 1
+    }
+
+    /// The place of the walk before the one at a place, and the duty that comes after it there;
+    /// `None` for the walk of no duty.
+    pub fn last(&self, place: u32) -> Option<(u32, u32)>
+        requires { place < length self.now }
+        ensures none { IsNone result → walk_at self.now place ≡ [] }
+        ensures some { IfSome result (λ l. (l.0 < place)
+            × (walk_at self.now place ≡ walk_at self.now l.0 ++ l.1 ∷ [])) }
+    {
+        let links = &self.links;
+        if place == 0 {
+            return None;
+        }
+        let link = links[place as usize - 1];
+        Some((link.before, link.duty))
     }
 
     /// Compares the walks of two places, duty by duty, by rank.

@@ -24,5 +24,6 @@ pub use departure::departure_pool;
 pub use done::Done;
 pub use feed::{Feed, Predecessor};
 pub use job::Job;
+pub use same::is_same_duty;
 pub use step::work;
 pub use waiting::waiting_labels;

@@ -22,7 +22,7 @@ pub(crate) fn is_same_airport(a: Code, b: Code) -> bool
 }
 
 /// Whether two duties are equal, with all their facts.
-pub(crate) fn is_same_duty(a: &Duty, b: &Duty) -> bool
+pub fn is_same_duty(a: &Duty, b: &Duty) -> bool
     ensures { IsTrue result ↔ (a.now ≡ b.now) }
 {
     is_same_route(a, b) && is_same_work(a, b)

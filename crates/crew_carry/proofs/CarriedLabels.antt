@@ -1,0 +1,133 @@
+-- What labels show that are carried one by one.
+use Rattle.std.proofs.Common.{◌≡◌, ◌<◌, ◌++◌, ◌∷◌, [], inl, inr, ℕ, ℤ, pos, zero, suc, true, List, Option, Some, length, map, cond, refl, ap, arith, sym, ◌∙◌, subst}
+use Rattle.std.specs.Prelude.{nat_eq, slice_get}
+use Rattle.std.proofs.lemmas.List.{length-map}
+use Rattle.crew_pairing.specs.declared.duty.Duty.{Duty}
+use Rattle.crew_pool.specs.Arena.{walk_at}
+use Rattle.crew_pool.specs.Counted.{AreCounted, AreWhole}
+use Rattle.crew_pool.specs.LabelWalks.{shown, walk_of_label}
+use Rattle.crew_pool.specs.Ranks.{AreRanked, by_key, key_at}
+use Rattle.crew_pool.specs.declared.label_walk.LabelWalk.{LabelWalk}
+use Rattle.crew_resource.specs.Members.{Each, Member}
+use Rattle.crew_step.specs.Walks.{HasGrown}
+use Rattle.crew_step.proofs.Loops.{append-none}
+use Rattle.crew_carry.specs.Carried.{AreTwinWalks, twin_of}
+use Rattle.crew_carry.specs.Labels.{AreCarriedLabels, IsCarriedLabel}
+use Rattle.crew_carry.specs.Twins.{AreRankTwins}
+
+first-of : {X : Type 0} (x y : X) (xs ys : List X) → x ∷ xs ≡ y ∷ ys → x ≡ y
+first-of x y xs ys e = cc
+
+rest-of : {X : Type 0} (x y : X) (xs ys : List X) → x ∷ xs ≡ y ∷ ys → xs ≡ ys
+rest-of x y xs ys e = cc
+
+-- a rank that has a twin
+twin-there : (ranks : List (Option ℕ)) (r k : ℕ) → twin_of ranks r ≡ Some k → slice_get ranks r ≡ Some (Some k)
+twin-there [] r k e = absurd (let q : ⊥ = (cc) in q)
+twin-there (o ∷ ranks) zero k e = ap (λ z. Some z) e
+twin-there (o ∷ ranks) (suc r) k e = twin-there ranks r k e
+
+-- walks of twins
+module _ (ranks : List (Option ℕ)) (olds news : List Duty) (twins : AreRankTwins olds news ranks) where
+  pub twins-keys : (w v : List ℕ) → AreTwinWalks ranks w v → map (key_at olds) w ≡ map (key_at news) v
+  twins-keys [] [] h = refl
+  twins-keys [] (k ∷ v) h = absurd (let q : ⊥ = (cc) in q)
+  twins-keys (r ∷ w) [] h = absurd (let q : ⊥ = (cc) in q)
+  twins-keys (r ∷ w) (k ∷ v) h =
+      let some : ℕ → Option ℕ = λ n. Some n in
+      let one = twins.same r k (twin-there ranks r k (first-of (twin_of ranks r) (Some k) (map (twin_of ranks) w) (map some v) h)) in
+      let others = twins-keys w v (rest-of (twin_of ranks r) (Some k) (map (twin_of ranks) w) (map some v) h) in
+      (λ i. one i ∷ others i)
+
+  pub twins-within : (w v : List ℕ) → AreTwinWalks ranks w v → Each (λ k. k < length news) v
+  twins-within w [] h = tt
+  twins-within [] (k ∷ v) h = absurd (let q : ⊥ = (cc) in q)
+  twins-within (r ∷ w) (k ∷ v) h =
+      let some : ℕ → Option ℕ = λ n. Some n in (
+        twins.within r k (twin-there ranks r k (first-of (twin_of ranks r) (Some k) (map (twin_of ranks) w) (map some v) h)),
+        twins-within w v (rest-of (twin_of ranks r) (Some k) (map (twin_of ranks) w) (map some v) h),
+      )
+
+pub twins-long : (ranks : List (Option ℕ)) (w v : List ℕ) → AreTwinWalks ranks w v → length v ≡ length w
+twins-long ranks w v h =
+    let some : ℕ → Option ℕ = λ n. Some n in
+    sym (length-map v some) ∙ (sym (ap length h) ∙ length-map w (twin_of ranks))
+
+-- a whole label shows its walk
+pub whole-shows : (walks : List (List ℕ)) (t : LabelWalk) → nat_eq t.duty 4294967295 ≡ true → walk_of_label walks t ≡ walk_at walks t.walk
+whole-shows walks t e = ap (λ b. walk_at walks t.walk ++ cond b [] (t.duty ∷ [])) e ∙ append-none (walk_at walks t.walk)
+
+module _ {V : Type 0} (ranks : List (Option ℕ)) (from : List (List ℕ)) where
+  label-grown : (to now : List (List ℕ)) → HasGrown to now → (o n : V × LabelWalk) → IsCarriedLabel ranks from to o n → IsCarriedLabel ranks from now o n
+  label-grown to now h o n c =
+      let a = c.there in
+      let b = h.longer in
+      record {
+        value = c.value;
+        there = omega (arith, a, b);
+        whole = c.whole;
+        walk = subst (λ (v : List ℕ). AreTwinWalks ranks (walk_at from o.1.walk) v) (sym (h.same n.1.walk a)) c.walk;
+      }
+
+  pub labels-more : (to now : List (List ℕ)) → HasGrown to now → (os ns : List (V × LabelWalk)) (o n : V × LabelWalk) → AreCarriedLabels ranks from to os ns → IsCarriedLabel ranks from now o n
+      → AreCarriedLabels ranks from now (os ++ o ∷ []) (ns ++ n ∷ [])
+  labels-more to now h [] [] o n c d = (d, tt)
+  labels-more to now h [] (m ∷ ns) o n c d = absurd c
+  labels-more to now h (p ∷ os) [] o n c d = absurd c
+  labels-more to now h (p ∷ os) (m ∷ ns) o n c d = (label-grown to now h p m c.0, labels-more to now h os ns o n c.1 d)
+
+  module _ (to : List (List ℕ)) where
+    pub labels-values : (os ns : List (V × LabelWalk)) → AreCarriedLabels ranks from to os ns → map (λ (l : V × LabelWalk). l.0) ns ≡ map (λ (l : V × LabelWalk). l.0) os
+    labels-values [] [] c = refl
+    labels-values [] (n ∷ ns) c = absurd c
+    labels-values (o ∷ os) [] c = absurd c
+    labels-values (o ∷ os) (n ∷ ns) c =
+        let one = c.0.value in
+        let others = labels-values os ns c.1 in
+        (λ i. one i ∷ others i)
+
+    -- each has its old label
+    pub labels-old : (os ns : List (V × LabelWalk)) → AreCarriedLabels ranks from to os ns → (n : V × LabelWalk) → Member ns n → (o : V × LabelWalk) × Member os o × IsCarriedLabel ranks from to o n
+    labels-old [] [] c n m = absurd m
+    labels-old [] (x ∷ ns) c n m = absurd c
+    labels-old (o ∷ os) [] c n m = absurd c
+    labels-old (o ∷ os) (x ∷ ns) c n (inl e) = (o, inl refl, subst (λ (z : V × LabelWalk). IsCarriedLabel ranks from to o z) e c.0)
+    labels-old (o ∷ os) (x ∷ ns) c n (inr m) = let r = labels-old os ns c.1 n m in (r.0, inr r.1, r.2)
+
+    pub labels-counted : (os ns : List (V × LabelWalk)) → AreCarriedLabels ranks from to os ns → (count : V → ℤ) → AreCounted count from true os → AreCounted count to true ns
+    labels-counted os ns c count counted n m =
+        let r = labels-old os ns c n m in
+        let is = r.2 in
+        let was = counted r.0 r.1 in
+        record {
+          there = is.there;
+          stands = is.whole;
+          counts =
+              ap count is.value
+              ∙ (was.counts
+              ∙ ap (λ (k : ℕ). pos k)
+              (ap length (whole-shows from r.0.1 was.stands) ∙ (sym (twins-long ranks (walk_at from r.0.1.walk) (walk_at to n.1.walk) is.walk) ∙ sym (ap length (whole-shows to n.1 is.whole)))));
+        }
+
+    module _ (olds news : List Duty) (twins : AreRankTwins olds news ranks) where
+      pub labels-keys : (os ns : List (V × LabelWalk)) → AreWhole os → AreCarriedLabels ranks from to os ns → by_key news (map (shown to) ns) ≡ by_key olds (map (shown from) os)
+      labels-keys [] [] w c = refl
+      labels-keys [] (n ∷ ns) w c = absurd c
+      labels-keys (o ∷ os) [] w c = absurd c
+      labels-keys (o ∷ os) (n ∷ ns) w c =
+          let value = c.0.value in
+          let keys : map (key_at news) (walk_of_label to n.1) ≡ map (key_at olds) (walk_of_label from o.1) =
+          ap (map (key_at news)) (whole-shows to n.1 c.0.whole)
+          ∙ (sym (twins-keys ranks olds news twins (walk_at from o.1.walk) (walk_at to n.1.walk) c.0.walk)
+          ∙ ap (map (key_at olds)) (sym (whole-shows from o.1 (w o (inl refl))))) in
+          let others = labels-keys os ns (λ l m. w l (inr m)) c.1 in
+          (λ i. (value i, keys i) ∷ others i)
+
+      pub labels-ranked : (os ns : List (V × LabelWalk)) → AreCarriedLabels ranks from to os ns → AreRanked (length news) (map (shown to) ns)
+      labels-ranked [] [] c e m = absurd m
+      labels-ranked [] (n ∷ ns) c e m = absurd c
+      labels-ranked (o ∷ os) [] c e m = absurd c
+      labels-ranked (o ∷ os) (n ∷ ns) c e (inl s) =
+          subst (λ (z : V × List ℕ). Each (λ k. k < length news) z.1) s
+          (subst (λ (z : List ℕ). Each (λ k. k < length news) z) (sym (whole-shows to n.1 c.0.whole)) (twins-within ranks olds news twins (walk_at from o.1.walk) (walk_at to n.1.walk) c.0.walk))
+      labels-ranked (o ∷ os) (n ∷ ns) c e (inr m) = labels-ranked os ns c.1 e m

@@ -1,0 +1,50 @@
+use Rattle.std.proofs.Common.{◌<◌, ◌+◌, ◌++◌, ◌∷◌, [], ℕ, List, Option, length, take, refl, ap, sym, subst}
+use Rattle.std.specs.Prelude.{IfSome, is_some}
+use Rattle.crew_carry.specs.Carried.{AreTwinWalks}
+use Rattle.crew_carry.specs.Labels.{AreCarriedLabels, IsCarriedLabel}
+use Rattle.crew_pool.specs.Arena.{walk_at}
+use Rattle.crew_pool.specs.declared.label_walk.LabelWalk.{LabelWalk}
+use Rattle.crew_step.proofs.Grown.{grown-through}
+use Rattle.crew_step.proofs.Loops.{item-at, item-known, take-grown}
+use Rattle.crew_carry.proofs.CarriedLabels.{labels-more}
+use Rattle.crew_carry.proofs.carrier.carry_labels.Goals as goal
+
+pub carry_walk-requires-clause-there : goal.carry_walk-requires-clause-there
+carry_walk-requires-clause-there g c =
+    let l = c.label-item.result in
+    c.requires.there l (item-known c.args.labels.now c.loop-label.label-index l c.loop-label-test.true c.label-item.is)
+
+pub returns-in_default-clause-none : goal.returns-in_default-clause-none
+returns-in_default-clause-none g c =
+    let l = c.label-item.result in
+    λ _. (l, item-known c.args.labels.now c.loop-label.label-index l c.loop-label-test.true c.label-item.is, c.in_ok-walk.ensures.none (ap is_some c.in_default.is))
+
+pub loop-label-preserved : goal.loop-label-preserved
+loop-label-preserved g c =
+    let Label = g.row.R-Value.Denot × LabelWalk in
+    let ranks = c.args.ranks.now in
+    let from = c.args.from.now in
+    let was = c.loop-label.to in
+    let to = c.carry_walk.new.to in
+    let i = c.loop-label.label-index in
+    let l = c.label-item.result in
+    let inv = c.loop-label.invariant in
+    let step = c.in_ok-walk.ensures in
+    let items = c.loop-label.carried.items in
+    let x : Label = (c.in_ok-value.value, record { walk = c.in-Some.walk; duty = 4294967295 }) in
+    let at = subst (λ (o : Option ℕ). IfSome o (λ q. (q < length to) × AreTwinWalks ranks (walk_at from l.1.walk) (walk_at to q))) c.in-Some.is step.walk in
+    let one : IsCarriedLabel ranks from to l x = record {
+      value = c.in_ok-value.ensures;
+      there = at.0;
+      whole = refl;
+      walk = at.1;
+    }
+    in
+    let more = labels-more ranks from was to step.grown (take i c.args.labels.now) items l x inv.2 one in
+    let taken = sym (take-grown c.args.labels.now i l (item-at c.args.labels.now i l c.loop-label-test.true c.label-item.is)) in
+    let pushed = sym c.in_ok-push.ensures.items in (
+      step.carried,
+      grown-through c.args.to.now was to inv.1 step.grown,
+      subst (λ (ns : List Label). AreCarriedLabels ranks from to (take (i + 1) c.args.labels.now) ns) pushed
+          (subst (λ (os : List Label). AreCarriedLabels ranks from to os (items ++ x ∷ [])) taken more),
+    )

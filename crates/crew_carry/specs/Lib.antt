@@ -1,0 +1,4 @@
+pub mod Twins
+pub mod Carried
+pub mod Labels
+pub mod Machinery

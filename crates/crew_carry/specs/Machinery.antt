@@ -1,0 +1,2 @@
+-- What two lists in one order have in common.
+pub mod Matches

@@ -1,0 +1,160 @@
+//! Pools that are carried from one list of walks to another.
+ghost use Rattle.std.specs.Prelude.{◌≡◌, ◌<◌, ℕ, ℤ, IfOk, IfSome, IsNone, List, Option, length, map, true};
+ghost use Rattle.crew_carry.specs.Carried.{AreTwinWalks, IsCarried, LacksTwin, twin_of};
+ghost use Rattle.crew_carry.specs.Labels.{AreCarriedLabels};
+ghost use Rattle.crew_carry.specs.Twins.{AreRankTwins};
+ghost use Rattle.crew_pairing.specs.declared.duty.Duty.{Duty};
+ghost use Rattle.crew_pool.specs.Arena.{walk_at};
+ghost use Rattle.crew_pool.specs.Counted.{AreCounted, AreWhole};
+ghost use Rattle.crew_pool.specs.LabelWalks.{shown};
+ghost use Rattle.crew_pool.specs.Ranks.{AreRanked, by_key};
+ghost use Rattle.crew_pool.specs.declared.label_walk.LabelWalk.{LabelWalk};
+ghost use Rattle.crew_resource.specs.Members.{Member};
+ghost use Rattle.crew_step.specs.Walks.{HasGrown};
+
+use crew_pool::{LabelWalk, NO_DUTY, Pool, Walks};
+use crew_resource::Resource;
+use std::alloc::{AllocError, Global};
+use std::marker::Model;
+
+/// Where walks of one list stand in another, so far as they were carried there.
+///
+/// A contract sees, by place of an old walk, its place among the new ones.
+#[derive(Drop)]
+pub struct Carrier {
+    places: Vec<Option<u32>>,
+}
+
+impl Model for Carrier {
+    ghost Value = { List (Option ℕ) };
+
+    ghost view = { λ c. c.places.items };
+}
+
+impl Carrier {
+    /// For so many old walks, of which none is carried yet.
+    pub fn new(alloc: Global, count: usize) -> Result<Carrier, AllocError>
+        ensures { IfOk result (λ carrier. (ranks : List (Option ℕ)) (from to : List (List ℕ))
+            → length from ≡ count → IsCarried ranks from to carrier) }
+    {
+        let places = vec![in alloc; None; count]?;
+        Ok(Carrier { places })
+    }
+
+    /// A pool over the new walks, with the same vectors in the same order, each at its old walk's
+    /// twin: `None` where a walk has a duty without one.
+    ///
+    /// Each old walk is added at most once, so walks that share a beginning still do. On want of
+    /// memory some walks may already have been added, and nothing else has changed.
+    pub fn carry<R: Resource>(
+        &mut self,
+        alloc: Global,
+        resource: &R,
+        pool: &Pool<R>,
+        from: &Walks,
+        ranks: &[Option<u32>],
+        to: &mut Walks,
+    ) -> Result<Option<Pool<R>>, AllocError>
+        requires there { (l : R.Value × LabelWalk) → Member pool.now l
+            → l.1.walk < length from.now }
+        requires whole { AreWhole pool.now }
+        requires carried { IsCarried ranks.now from.now to.old self.old }
+        ensures carried { IsCarried ranks.now from.now to.new self.new }
+        ensures grown { HasGrown to.old to.new }
+        ensures labels { IfOk result (λ o. IfSome o (λ new. (olds news : List Duty)
+            → AreRankTwins olds news ranks.now
+            → by_key news (map (shown to.new) new) ≡ by_key olds (map (shown from.now) pool.now))) }
+        ensures vectors { IfOk result (λ o. IfSome o (λ new.
+            map (λ l. l.0) new ≡ map (λ l. l.0) pool.now)) }
+        ensures counted { IfOk result (λ o. IfSome o (λ new. (count : R.Value → ℤ)
+            → AreCounted count from.now true pool.now → AreCounted count to.new true new)) }
+        ensures ranked { IfOk result (λ o. IfSome o (λ new. (olds news : List Duty)
+            → AreRankTwins olds news ranks.now
+            → AreRanked (length news) (map (shown to.new) new))) }
+        ensures none { IfOk result (λ o. IsNone o → (l : R.Value × LabelWalk) × Member pool.now l
+            × LacksTwin ranks.now (walk_at from.now l.1.walk)) }
+    {
+        let labels = pool.as_slice();
+        let carried = carry_labels(&mut self.places, alloc, resource, labels, from, ranks, to)?;
+        let Some(labels) = carried else {
+            return Ok(None);
+        };
+        Ok(Some(Pool::from_apart(labels)))
+    }
+}
+
+// The labels over the new walks, one by one.
+fn carry_labels<R: Resource>(
+    places: &mut [Option<u32>],
+    alloc: Global,
+    resource: &R,
+    labels: &[(R::Value, LabelWalk)],
+    from: &Walks,
+    ranks: &[Option<u32>],
+    to: &mut Walks,
+) -> Result<Option<Vec<(R::Value, LabelWalk)>>, AllocError>
+    requires there { (l : R.Value × LabelWalk) → Member labels.now l
+        → l.1.walk < length from.now }
+    requires carried { IsCarried ranks.now from.now to.old places.old }
+    ensures carried { IsCarried ranks.now from.now to.new places.new }
+    ensures grown { HasGrown to.old to.new }
+    ensures labels { IfOk result (λ o. IfSome o (λ new.
+        AreCarriedLabels ranks.now from.now to.new labels.now new.items)) }
+    ensures none { IfOk result (λ o. IsNone o → (l : R.Value × LabelWalk) × Member labels.now l
+        × LacksTwin ranks.now (walk_at from.now l.1.walk)) }
+{
+    let mut carried = Vec::with_capacity(alloc, labels.len())?;
+    for label in labels {
+        let Some(walk) = carry_walk(places, label.1.walk, from, ranks, to)? else {
+            return Ok(None);
+        };
+        let value = resource.copy(&label.0)?;
+        let duty = NO_DUTY;
+        carried.push((value, LabelWalk { walk, duty }))?;
+    }
+    Ok(Some(carried))
+}
+
+// The place of a walk among the new ones, where it is added if it isn't there yet: a walk's twin is
+// that of its beginning, and the twin of its last duty.
+fn carry_walk(
+    places: &mut [Option<u32>],
+    walk: u32,
+    from: &Walks,
+    ranks: &[Option<u32>],
+    to: &mut Walks,
+) -> Result<Option<u32>, AllocError>
+    requires there { walk < length from.now }
+    requires carried { IsCarried ranks.now from.now to.old places.old }
+    ensures carried { IsCarried ranks.now from.now to.new places.new }
+    ensures grown { HasGrown to.old to.new }
+    ensures walk { IfOk result (λ o. IfSome o (λ place. (place < length to.new)
+        × AreTwinWalks ranks.now (walk_at from.now walk) (walk_at to.new place))) }
+    ensures none { IfOk result (λ o. IsNone o → LacksTwin ranks.now (walk_at from.now walk)) }
+{
+    if let Some(place) = places[walk as usize] {
+        return Ok(Some(place));
+    }
+    let Some((before, duty)) = from.last(walk) else {
+        return Ok(Some(to.empty_walk()));
+    };
+    let Some(twin) = twin(ranks, duty) else {
+        return Ok(None);
+    };
+    let Some(first) = carry_walk(places, before, from, ranks, to)? else {
+        return Ok(None);
+    };
+    let place = to.add(first, twin)?;
+    places[walk as usize] = Some(place);
+    Ok(Some(place))
+}
+
+/// The twin of a duty by rank, if it has one.
+pub(crate) fn twin(ranks: &[Option<u32>], rank: u32) -> Option<u32>
+    ensures { result ≡ twin_of ranks.now rank }
+{
+    if rank as usize >= ranks.len() {
+        return None;
+    }
+    ranks[rank as usize]
+}
