@@ -27,7 +27,7 @@ module _ (N V W X : Type 0) (net : Network N V W ℕ X) (le : V → V → Bool) 
     long = refl;
     sealed = λ x m. absurd (none x m);
     arrived = λ x m. absurd (none x m);
-    waited = λ g h. absurd (omega (arith, h));
+    before = λ g h. absurd (omega (arith, h));
     pooled = λ g h. absurd (omega (arith, h));
   }
 
@@ -40,7 +40,7 @@ module _ (N V W X : Type 0) (net : Network N V W ℕ X) (le : V → V → Bool) 
     long = swept.long;
     sealed = λ x m. (each x m).0;
     arrived = λ x m. (each x m).1;
-    waited = λ g h x open'. still x (swept.waited g h x open');
+    before = swept.before;
     pooled = swept.pooled;
   }
 
@@ -61,27 +61,35 @@ module _ (N V W X : Type 0) (net : Network N V W ℕ X) (le : V → V → Bool) 
           (λ v w s. (s.0, s.1, s.2, subst (λ (es : List (V × W)). Member es (v, w)) (sym (same_view x m s.0 s.1 s.2)) s.3))
           (λ v w s. (s.0, s.1, s.2, subst (λ (es : List (V × W)). Member es (v, w)) (same_view x m s.0 s.1 s.2) s.3))
 
-      from_same : (g : ℕ) → ((x : X) → net.window x g ≡ true → IsMade x) → IsCovering le wle (FromFronts net (Views net pools) g) (FromFronts net (Views net (pools ++ pool ∷ [])) g)
-      from_same g made = covering_same V W le wle order walks (FromFronts net (Views net pools) g) (FromFronts net (Views net (pools ++ pool ∷ [])) g)
-          (λ v w. ⊎_elim inl (λ s. inr (s.0, s.1, s.2, s.3, subst (λ (es : List (V × W)). Member es (s.1, w)) (sym (same_view (net.arrives s.0) (made (net.arrives s.0) s.3) s.0 s.2 refl)) s.4, s.5)))
-          (λ v w. ⊎_elim inl (λ s. inr (s.0, s.1, s.2, s.3, subst (λ (es : List (V × W)). Member es (s.1, w)) (same_view (net.arrives s.0) (made (net.arrives s.0) s.3) s.0 s.2 refl) s.4, s.5)))
+      left_view : (e : N) → net.leaves e < i → Views net (pools ++ pool ∷ []) e ≡ Views net pools e
+      left_view e h = let long = swept.long in views_old pools pool e (omega (arith, h, long))
 
-      -- one departure more, which waits on arrivals that are made
-      pub swept_more : ((x : X) → net.window x i ≡ true → IsMade x) → IsLocal le wle (FromPools net arrivals i) pool → Swept net le wle (i + 1) (pools ++ pool ∷ []) IsMade arrivals
-      swept_more made local =
+      from_same : (g : ℕ) → ((e : N) → Member net.known e → net.window (net.arrives e) g ≡ true → net.leaves e < i) → IsCovering le wle (FromFronts net (Views net pools) g) (FromFronts net (Views net (pools ++ pool ∷ [])) g)
+      from_same g left = covering_same V W le wle order walks (FromFronts net (Views net pools) g) (FromFronts net (Views net (pools ++ pool ∷ [])) g)
+          (λ v w. ⊎_elim inl (λ s. inr (s.0, s.1, s.2, s.3, subst (λ (es : List (V × W)). Member es (s.1, w)) (sym (left_view s.0 (left s.0 s.2 s.3))) s.4, s.5)))
+          (λ v w. ⊎_elim inl (λ s. inr (s.0, s.1, s.2, s.3, subst (λ (es : List (V × W)). Member es (s.1, w)) (left_view s.0 (left s.0 s.2 s.3)) s.4, s.5)))
+
+      -- one departure more, which waits on no duty that leaves later, with what the fronts so far leave
+      pub swept_with : ((e : N) → Member net.known e → net.window (net.arrives e) i ≡ true → net.leaves e < i) → IsLocal le wle (FromFronts net (Views net pools) i) pool → Swept net le wle (i + 1) (pools ++ pool ∷ []) IsMade arrivals
+      swept_with left local =
           let long = swept.long in
-          let waited = λ (g : ℕ) (h : g < i + 1). ⊎_elim {C = (x : X) → net.window x g ≡ true → IsMade x} (swept.waited g) (λ k. subst (λ n. (x : X) → net.window x n ≡ true → IsMade x) (sym k) made) (below_or_at g i h) in
+          let later = λ (e : N) (h : net.leaves e < i). (let q : net.leaves e < i + 1 = omega (arith, h) in q) in
+          let before = λ (g : ℕ) (h : g < i + 1). ⊎_elim {C = (e : N) → Member net.known e → net.window (net.arrives e) g ≡ true → net.leaves e < i} (swept.before g) (λ k. subst (λ n. (e : N) → Member net.known e → net.window (net.arrives e) n ≡ true → net.leaves e < i) (sym k) left) (below_or_at g i h) in
           record {
             long = length-append pools (pool ∷ []) ∙ ap (λ n. n + 1) long;
             sealed = λ x m e known at. let k = swept.sealed x m e known at in omega (arith, k);
             arrived = λ x m. local_of_all V W le wle order walks (Arriving net (Views net pools) x) (Arriving net (Views net (pools ++ pool ∷ [])) x) (arriving_same x m) (arrivals x) (swept.arrived x m);
-            waited = waited;
+            before = λ g h e known open'. later e (before g h e known open');
             pooled = λ g h.
-                local_of_all V W le wle order walks (FromFronts net (Views net pools) g) (FromFronts net (Views net (pools ++ pool ∷ [])) g) (from_same g (waited g h)) (get_or (pools ++ pool ∷ []) g [])
+                local_of_all V W le wle order walks (FromFronts net (Views net pools) g) (FromFronts net (Views net (pools ++ pool ∷ [])) g) (from_same g (before g h)) (get_or (pools ++ pool ∷ []) g [])
                 (⊎_elim
                 (λ k. subst (IsLocal le wle (FromFronts net (Views net pools) g)) (sym (get_old pools pool [] g (omega (arith, k, long)))) (swept.pooled g k))
                 (λ k. subst (IsLocal le wle (FromFronts net (Views net pools) g)) (sym (get_new pools pool [] g (omega (arith, k, long))))
-                (subst (λ n. IsLocal le wle (FromFronts net (Views net pools) n) pool) (sym k)
-                (pool_from_pools N V W ℕ X net le wle order walks waits (Views net pools) arrivals i (λ x open'. swept.arrived x (made x open')) pool local)))
+                (subst (λ n. IsLocal le wle (FromFronts net (Views net pools) n) pool) (sym k) local))
                 (below_or_at g i h));
           }
+
+      -- which waits on arrivals that are made, with what these leave
+      pub swept_more : ((x : X) → net.window x i ≡ true → IsMade x) → IsLocal le wle (FromPools net arrivals i) pool → Swept net le wle (i + 1) (pools ++ pool ∷ []) IsMade arrivals
+      swept_more made local = swept_with (λ e known open'. swept.sealed (net.arrives e) (made (net.arrives e) open') e known refl)
+          (pool_from_pools N V W ℕ X net le wle order walks waits (Views net pools) arrivals i (λ x open'. swept.arrived x (made x open')) pool local)

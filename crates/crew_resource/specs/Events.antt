@@ -95,7 +95,7 @@ abbrev pub Views : {N V W X : Type 0} → Network N V W ℕ X → List (List (V 
 Views net pools d = view net d (get_or pools (net.leaves d) [])
 
 -- after the departures before i: their pools, and the arrivals whose pools are made. From each duty
--- that arrives there nothing more comes, and what a departure so far has waited on is made
+-- that arrives there nothing more comes, and no departure so far waits on a duty that leaves later
 pub record Swept {N V W X : Type 0} (net : Network N V W ℕ X) (le : V → V → Bool)
     (wle : W → W → Bool) (i : ℕ) (pools : List (List (V × W))) (IsMade : X → Type 0)
     (arrivals : X → List (V × W)) : Type 0 where
@@ -103,6 +103,7 @@ pub record Swept {N V W X : Type 0} (net : Network N V W ℕ X) (le : V → V �
   pub sealed : (x : X) → IsMade x → (e : N) → Member net.known e → net.arrives e ≡ x
       → net.leaves e < i
   pub arrived : (x : X) → IsMade x → IsLocal le wle (Arriving net (Views net pools) x) (arrivals x)
-  pub waited : (g : ℕ) → g < i → (x : X) → net.window x g ≡ true → IsMade x
+  pub before : (g : ℕ) → g < i → (e : N) → Member net.known e
+      → net.window (net.arrives e) g ≡ true → net.leaves e < i
   pub pooled : (g : ℕ) → g < i → IsLocal le wle (FromFronts net (Views net pools) g)
       (get_or pools g [])

@@ -1,5 +1,5 @@
 -- All departures are passed: what is kept, and the fronts that the pools show.
-use Rattle.std.proofs.Common.{◌≡◌, ◌∙◌, ◌<◌, ◌≤◌, ◌+◌, ◌-◌, ℕ, suc, ℤ, List, [], length, map, get_or, sym, ap, subst, arith, refl}
+use Rattle.std.proofs.Common.{◌≡◌, ◌∙◌, ◌<◌, ◌≤◌, ◌+◌, ◌-◌, ℕ, suc, ℤ, List, length, map, sym, ap, subst, arith, refl}
 use Rattle.crew_anchor.specs.Machinery.Bounds.{fits_in}
 use Rattle.crew_anchor.specs.Stages.{anchored_resource}
 use Rattle.crew_anchor.specs.Sweeps.{anchored_network, shown_labels}
@@ -12,22 +12,19 @@ use Rattle.crew_pairing.specs.Legs.{Leg}
 use Rattle.crew_pairing.specs.declared.vector.PairingVector.{PairingVector}
 use Rattle.crew_pool.specs.LabelWalks.{shown}
 use Rattle.crew_pool.specs.declared.label_walk.LabelWalk.{LabelWalk}
-use Rattle.crew_resource.specs.Events.{Swept, view}
+use Rattle.crew_resource.specs.Events.{view}
 use Rattle.crew_resource.specs.Members.{Each, Member}
 use Rattle.crew_resource.proofs.Members.{Member-map_out}
 use Rattle.crew_rules.specs.Settings.{IsChecked}
 use Rattle.crew_sweep.specs.Machinery.Kept.{IsKept}
-use Rattle.crew_sweep.specs.Machinery.Numbered.{departure_place}
-use Rattle.crew_sweep.specs.Machinery.Passing.{HasPassed, IsMade, IsPassable, passed_network}
+use Rattle.crew_sweep.specs.Machinery.Numbered.{AreLocal, departure_place}
+use Rattle.crew_sweep.specs.Machinery.Passing.{AreLabels, HasPassed, IsPassable, passed_network}
 use Rattle.crew_sweep.specs.Sweeps.{BaseSweep, ShowsFronts, in_order, keyed}
 use Rattle.crew_sweep.proofs.Fronts.{swept-fronts}
 use Rattle.crew_sweep.proofs.Numbers.{at-departure, get-within}
-use Rattle.crew_sweep.proofs.Orders.{arrivals-distinct, in-order-distinct, in-order-long, leaves-in}
+use Rattle.crew_sweep.proofs.Orders.{arrivals-distinct, in-order-long, leaves-in}
 use Rattle.crew_sweep.proofs.Slices.{map-or}
-use Rattle.crew_pairing.specs.Keys.{walk_at_most}
-use Rattle.crew_vector.specs.Dominance.{is_at_most}
 use Rattle.crew_vector.specs.Fronts.{IsFrontAt}
-use Rattle.std.proofs.lemmas.List.{length-map}
 
 abbrev Labels : Type 0
 Labels = List (PairingVector × LabelWalk)
@@ -45,6 +42,9 @@ made net base price walks pools = record { net = net; base = base; price = price
 module _ (net : Net) (turns : List ℕ) (passable : IsPassable net turns) (base : List ℕ) (price : ℤ) (most : ℕ) (few : most ≤ 12) (less : most + 1 ≡ net.settings.max_duties)
     (fits : (n : ℕ) → n ≤ 100_000 → fits_in (anchored_resource net.settings price) n) (walks : List (List ℕ)) (pools : List Labels)
     (passed : HasPassed net base (lesser (anchored_resource net.settings price) most) walks pools) where
+  less-by : most ≡ net.settings.max_duties - 1
+  less-by = omega (arith, less)
+
   pub kept : IsKept (made net base price walks pools) (anchored_resource net.settings price)
   kept = record {
     resource = refl;
@@ -59,6 +59,8 @@ module _ (net : Net) (turns : List ℕ) (passable : IsPassable net turns) (base 
           let short = label.few in
           (length (shown walks l).1, fits (suc (length (shown walks l).1)) (omega (arith, short, few)), label.ready);
     };
+    local = subst (λ (n : ℕ). AreLocal (passed_network net base (lesser (anchored_resource net.settings price) n)) (length pools) (map (keyed net walks) pools)) less-by passed.passing.swept.pooled;
+    spared = subst (λ (n : ℕ). (labels : Labels) → Member pools labels → AreLabels (lesser (anchored_resource net.settings price) n) (length net.duties) walks labels) less-by passed.passing.pooled;
   }
 
   pub right : IsChecked net.settings → (t : Timetable) → IsSound t → AreDuties net.settings t net.duties → ShowsFronts t (made net base price walks pools)
@@ -69,11 +71,9 @@ module _ (net : Net) (turns : List ℕ) (passable : IsPassable net turns) (base 
       let long = in-order-long net passable.departs passable.ordered in
       let within : place < length pools = subst (λ n. place < n) (long ∙ sym passed.all) (get-within (in_order net) place (departure_of d) (at-departure (in_order net) (departure_of d) (leaves d known))) in
       let all : length pools ≡ length (in_order net) = passed.all ∙ sym long in
-      let swept = subst (λ n. Swept (passed_network net base (lesser (anchored_resource net.settings price) most)) is_at_most walk_at_most n (map (keyed net walks) pools) (IsMade passed.made) (λ x. get_or (map (keyed net walks) passed.held) x [])) all passed.passing.swept in
-      let held-long : length (map (keyed net walks) passed.held) ≡ length net.arrivals = length-map passed.held (keyed net walks) ∙ passed.passing.long in
-      let front = swept-fronts net.settings t base price net.duties (in_order net) net.arrivals most (map (keyed net walks) pools) passed.made (map (keyed net walks) passed.held) checked sound exactly
-      (in-order-distinct net passable.departs passable.ordered) (arrivals-distinct net passable.arrives) leaves passable.arrives.every
-      (omega (arith, held-long)) less swept d legal in
+      let front = swept-fronts net.settings t base price net.duties (in_order net) net.arrivals most (map (keyed net walks) pools) checked sound exactly
+      (arrivals-distinct net passable.arrives) leaves passable.arrives.every less
+      (λ i lt. passed.passing.swept.pooled i (subst (λ n. i < n) (sym all) lt)) d legal in
       subst (λ (ls : List (PairingVector × List (List Leg))). IsFrontAt net.settings t base price d (shown_labels net.settings.trip_rig d.release (view (anchored_network net.settings base price net.duties) d ls)))
       (map-or (keyed net walks) pools place within) front
 

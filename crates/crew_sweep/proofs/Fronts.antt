@@ -1,7 +1,9 @@
 -- A sweep over the events by number shows the fronts.
-use Rattle.std.proofs.Common.{◌≡◌, ◌∙◌, ◌<◌, ◌≤◌, ◌+◌, ◌⊎◌, ℕ, Bool, true, cond, ℤ, pos, List, [], ◌&&◌, length, get_or, Option, Some, None, inl, inr, refl, sym, ap, subst, ⊎_elim, arith}
+use Rattle.std.proofs.Common.{◌≡◌, ◌∙◌, ◌<◌, ◌+◌, ℕ, Bool, true, cond, ℤ, pos, List, [], ◌&&◌, length, get_or, Option, Some, None, inl, inr, refl, sym, ap, subst, ⊎_elim, arith}
 use Rattle.std.specs.Prelude.{slice_get, int_le, ◌<ℤ◌, ◌+ℤ◌}
-use Rattle.std.proofs.lemmas.Bool.{and_parts}
+use Rattle.std.proofs.Math.Dec.{eqb}
+use Rattle.std.specs.List.{filter, flat_map}
+use Rattle.std.proofs.lemmas.Bool.{and_parts, eq-eqb, eqb-true}
 use Rattle.std.proofs.lemmas.Int.{ints}
 use Rattle.std.proofs.lemmas.Option.{cond_some}
 use Rattle.crew_anchor.specs.Stages.{anchored_board, anchored_resource, flown, is_within_caps_at}
@@ -18,24 +20,24 @@ use Rattle.crew_pairing.specs.declared.duty.Duty.{Duty}
 use Rattle.crew_pairing.specs.declared.events.Arrival.{Arrival}
 use Rattle.crew_pairing.specs.declared.events.Departure.{Departure}
 use Rattle.crew_pairing.specs.declared.vector.PairingVector.{PairingVector}
-use Rattle.crew_resource.specs.Events.{Arriving, FromFronts, FromPools, Network, Swept, Views, WaitLaws, view}
+use Rattle.crew_resource.specs.Events.{Arriving, FromFronts, FromPools, Network, Views, WaitLaws, view}
 use Rattle.crew_resource.specs.Labels.{IsLocal}
 use Rattle.crew_resource.specs.Members.{Member}
 use Rattle.crew_resource.proofs.Covering.{local_of_part}
+use Rattle.crew_resource.proofs.Members.{Member-filter_in, Member-filter_out, Member-flat_map_in, Member-flat_map_out}
 use Rattle.crew_resource.proofs.Pools.{pools_cover, view_in, view_out}
+use Rattle.crew_resource.proofs.Scratch.{local_of}
 use Rattle.crew_rules.specs.Settings.{IsChecked}
 use Rattle.crew_rules.specs.declared.settings.Settings.{Settings}
 use Rattle.crew_vector.specs.Dominance.{is_at_most}
 use Rattle.crew_vector.specs.Events.{ArrivedToSpare}
 use Rattle.crew_vector.specs.Fronts.{IsFrontAt}
-use Rattle.crew_vector.proofs.Orders.{walk-order}
+use Rattle.crew_vector.proofs.Orders.{walk-either, walk-order}
 use Rattle.crew_vector.proofs.Paths.{legal-in-range}
 use Rattle.crew_vector.proofs.Pooled.{left-before}
 use Rattle.crew_vector.proofs.Steps.{vector-order}
 use Rattle.crew_sweep.specs.Machinery.Numbered.{AreDistinct, arrival_place, departure_place, idle_at, numbered, window_at}
-use Rattle.crew_sweep.specs.Machinery.Passing.{IsMade}
-use Rattle.crew_sweep.proofs.Slices.{at-within, past-none}
-use Rattle.crew_sweep.proofs.Numbers.{arrival-at, at-arrival, at-departure, get-within, held-within, place-arrival}
+use Rattle.crew_sweep.proofs.Numbers.{arrival-at, at-arrival, at-departure, get-within, place-arrival}
 
 abbrev Labelled : Type 0
 Labelled = List (PairingVector × List (List Leg))
@@ -95,11 +97,11 @@ board-more s price most less u v e h room =
 pub waits : WaitLaws {V = PairingVector} {G = ℕ} {X = ℕ} is_at_most (λ v x g. v)
 waits = record { monotone = λ a b x g h. h; strict = λ a b x g h e. e }
 
-module _ (s : Settings) (t : Timetable) (base : List ℕ) (price : ℤ) (duties : List Duty) (departures : List Departure) (arrivals : List Arrival) (most : ℕ) (pools : List Labelled) (made : List Bool) (held : List Labelled)
-    (checked : IsChecked s) (sound : IsSound t) (exactly : AreDuties s t duties) (gs-distinct : AreDistinct departures) (xs-distinct : AreDistinct arrivals)
+module _ (s : Settings) (t : Timetable) (base : List ℕ) (price : ℤ) (duties : List Duty) (departures : List Departure) (arrivals : List Arrival) (most : ℕ) (pools : List Labelled)
+    (checked : IsChecked s) (sound : IsSound t) (exactly : AreDuties s t duties) (xs-distinct : AreDistinct arrivals)
     (leaves-in : (d : Duty) → Member duties d → Member departures (departure_of d)) (arrives-in : (d : Duty) → Member duties d → Member arrivals (arrival_of d))
-    (long : length held ≤ length arrivals) (less : most + 1 ≡ s.max_duties)
-    (swept : Swept (numbered s (lesser s price most) base duties departures arrivals) is_at_most walk_at_most (length departures) pools (IsMade made) (λ x. get_or held x [])) where
+    (less : most + 1 ≡ s.max_duties)
+    (pooled : (i : ℕ) → i < length departures → IsLocal is_at_most walk_at_most (FromFronts (numbered s (lesser s price most) base duties departures arrivals) (Views (numbered s (lesser s price most) base duties departures arrivals) pools) i) (get_or pools i [])) where
   abbrev Num : Network Duty PairingVector (List (List Leg)) ℕ ℕ
   Num = numbered s (lesser s price most) base duties departures arrivals
 
@@ -109,11 +111,36 @@ module _ (s : Settings) (t : Timetable) (base : List ℕ) (price : ℤ) (duties 
   abbrev pool_of : Departure → Labelled
   pool_of g = get_or pools (departure_place departures g) []
 
-  abbrev arrived_of : Arrival → Labelled
-  arrived_of x = get_or held (arrival_place arrivals x) []
+  -- what the duties that arrive there leave
+  abbrev bringing : ℕ → Labelled
+  bringing x = flat_map (Views Num pools) (filter (λ e. eqb (Num.arrives e) x) duties)
 
-  abbrev held_at : ℕ → Labelled
-  held_at x = get_or held x []
+  bringing-out : (x : ℕ) (v : PairingVector) (w : List (List Leg)) → Member (bringing x) (v, w) → Arriving Num (Views Num pools) x v w
+  bringing-out x v w m =
+      let k = Member-flat_map_out (Views Num pools) (filter (λ e. eqb (Num.arrives e) x) duties) (v, w) m in
+      let f = Member-filter_out (λ e. eqb (Num.arrives e) x) duties k.0 k.1 in
+      (k.0, f.0, eqb-true (Num.arrives k.0) x f.1, k.2)
+
+  bringing-in : (x : ℕ) (v : PairingVector) (w : List (List Leg)) → Arriving Num (Views Num pools) x v w → Member (bringing x) (v, w)
+  bringing-in x v w c = Member-flat_map_in (Views Num pools) (filter (λ e. eqb (Num.arrives e) x) duties) c.0 (v, w)
+      (Member-filter_in (λ e. eqb (Num.arrives e) x) duties c.0 c.1 (eq-eqb (Num.arrives c.0) x c.2)) c.3
+
+  held_at : ℕ → Labelled
+  held_at x = (local_of PairingVector (List (List Leg)) is_at_most walk_at_most vector-order walk-order walk-either (bringing x)).0
+
+  held-local : (x : ℕ) → IsLocal is_at_most walk_at_most (Arriving Num (Views Num pools) x) (held_at x)
+  unfolding held_at
+  held-local x = local-same is_at_most walk_at_most (λ v w. Member (bringing x) (v, w)) (Arriving Num (Views Num pools) x) (held_at x) (bringing-out x) (bringing-in x)
+      (local_of PairingVector (List (List Leg)) is_at_most walk_at_most vector-order walk-order walk-either (bringing x)).1
+
+  abbrev arrived_of : Arrival → Labelled
+  arrived_of x = held_at (arrival_place arrivals x)
+
+  -- what is held at a place arrives there
+  reached : (i : ℕ) (v : PairingVector) (w : List (List Leg)) → Member (held_at i) (v, w) → (x : Arrival) × (slice_get arrivals i ≡ Some x)
+  reached i v w m =
+      let c = (held-local i).among v w m in
+      (arrival_of c.0, ap (slice_get arrivals) (sym c.2) ∙ at-arrival arrivals (arrival_of c.0) (arrives-in c.0 c.1))
 
   listed : (d : Duty) → IsDuty s (flights_of t) d → Member duties d
   listed d l = subst (Member duties) (sym l.3) (exactly.every l.0 l.1 l.2)
@@ -126,25 +153,25 @@ module _ (s : Settings) (t : Timetable) (base : List ℕ) (price : ℤ) (duties 
 
   pools-from : (i : ℕ) → i < length departures → IsLocal is_at_most walk_at_most (FromPools Num held_at i) (get_or pools i [])
   pools-from i lt = local_of_part PairingVector (List (List Leg)) is_at_most walk_at_most vector-order walk-order (FromPools Num held_at i) (FromFronts Num (Views Num pools) i)
-      (pools_cover Duty PairingVector (List (List Leg)) ℕ ℕ Num is_at_most walk_at_most vector-order walk-order waits (Views Num pools) held_at i (λ x open'. swept.arrived x (swept.waited i lt x open')))
-      (get_or pools i []) (swept.pooled i lt)
+      (pools_cover Duty PairingVector (List (List Leg)) ℕ ℕ Num is_at_most walk_at_most vector-order walk-order waits (Views Num pools) held_at i (λ x open'. held-local x))
+      (get_or pools i []) (pooled i lt)
 
   -- the candidates of a departure, by number and by event
   from-number : (g : Departure) (i : ℕ) → slice_get departures i ≡ Some g → (v : PairingVector) (w : List (List Leg)) → FromPools Num held_at i v w → FromPools Net arrived_of g v w
   from-number g i at v w = ⊎_elim
       (λ c. inl (c.0, ap (λ (o : Option Departure). idle_at (lesser s price most) base o) (sym at) ∙ c.1))
       (λ c.
-      let x = held-within held arrivals c.0 (c.1, w) long c.3 in
+      let x = reached c.0 c.1 w c.3 in
       let open' : window_at s (Some x.0) (Some g) ≡ true = ap (λ (o : Option Arrival). window_at s o (Some g)) (sym x.1) ∙ (ap (λ (o : Option Departure). window_at s (slice_get arrivals c.0) o) (sym at) ∙ c.2) in
       let place = place-arrival arrivals x.0 c.0 xs-distinct x.1 in
-      inr (x.0, c.1, open', subst (λ (k : ℕ). Member (get_or held k []) (c.1, w)) (sym place) c.3, c.4))
+      inr (x.0, c.1, open', subst (λ (k : ℕ). Member (held_at k) (c.1, w)) (sym place) c.3, c.4))
 
   to-number : (g : Departure) (i : ℕ) → slice_get departures i ≡ Some g → (v : PairingVector) (w : List (List Leg)) → FromPools Net arrived_of g v w → FromPools Num held_at i v w
   to-number g i at v w = ⊎_elim
       (λ c. inl (c.0, ap (λ (o : Option Departure). idle_at (lesser s price most) base o) at ∙ c.1))
       (λ c.
       let place = arrival_place arrivals c.0 in
-      let x = held-within held arrivals place (c.1, w) long c.3 in
+      let x = reached place c.1 w c.3 in
       let is : slice_get arrivals place ≡ Some c.0 = x.1 ∙ ap Some (arrival-at arrivals c.0 x.0 x.1) in
       let open' : window_at s (slice_get arrivals place) (slice_get departures i) ≡ true = ap (λ (o : Option Arrival). window_at s o (slice_get departures i)) is ∙ (ap (λ (o : Option Departure). window_at s (Some c.0) o) at ∙ c.2) in
       inr (place, c.1, open', c.3, c.4))
@@ -175,33 +202,10 @@ module _ (s : Settings) (t : Timetable) (base : List ℕ) (price : ℤ) (duties 
   arrived-there : (e : Duty) (x : Arrival) → Member duties e → arrival_place arrivals (arrival_of e) ≡ arrival_place arrivals x → arrival_of e ≡ x
   arrived-there e x m q = arrival-at arrivals x (arrival_of e) (ap (slice_get arrivals) (sym q) ∙ at-arrival arrivals (arrival_of e) (arrives-in e m))
 
-  either : (a b : ℕ) → (a < b) ⊎ (b ≤ a)
-  either a b = grind arith
-
-  -- nothing arrives at what isn't an arrival of the network
-  outside : (d : Duty) (x : Arrival) → length arrivals ≤ arrival_place arrivals x → IsLocal is_at_most walk_at_most (ArrivedToSpare s Net (λ e. view Net e (pool_of (departure_of e))) d.report x) (arrived_of x)
-  outside d x far =
-      let none : arrived_of x ≡ [] = past-none held (arrival_place arrivals x) (omega (arith, far, long)) in
-      subst (IsLocal is_at_most walk_at_most (ArrivedToSpare s Net (λ e. view Net e (pool_of (departure_of e))) d.report x)) (sym none) (record {
-        among = λ v w m. absurd m;
-        covers = λ v w c.
-            let e = c.0.0 in
-            let within = get-within arrivals (arrival_place arrivals (arrival_of e)) (arrival_of e) (at-arrival arrivals (arrival_of e) (arrives-in e c.0.1)) in
-            let near : arrival_place arrivals x < length arrivals = subst (λ (y : Arrival). arrival_place arrivals y < length arrivals) c.0.3 within in
-            absurd (omega (arith, near, far));
-        alone = λ v w a b m. absurd m;
-      })
-
-  inside : (d : Duty) (x : Arrival) → IsDuty s (flights_of t) d → may_wait s x (departure_of d) ≡ true → arrival_place arrivals x < length arrivals
+  arrival-local : (d : Duty) (x : Arrival) → IsDuty s (flights_of t) d → may_wait s x (departure_of d) ≡ true
       → IsLocal is_at_most walk_at_most (ArrivedToSpare s Net (λ e. view Net e (pool_of (departure_of e))) d.report x) (arrived_of x)
-  inside d x l window near =
-      let place = arrival_place arrivals x in
-      let there = at-within arrivals place x near in
-      let is : slice_get arrivals place ≡ Some x = there ∙ ap Some (arrival-at arrivals x (get_or arrivals place x) there) in
-      let i = departure_place departures (departure_of d) in
-      let at = left d (listed d l) in
-      let open' : window_at s (slice_get arrivals place) (slice_get departures i) ≡ true = ap (λ (o : Option Arrival). window_at s o (slice_get departures i)) is ∙ (ap (λ (o : Option Departure). window_at s (Some x) o) at ∙ window) in
-      local-same is_at_most walk_at_most (Arriving Num (Views Num pools) place) (ArrivedToSpare s Net (λ e. view Net e (pool_of (departure_of e))) d.report x) (held_at place)
+  arrival-local d x l window =
+      local-same is_at_most walk_at_most (Arriving Num (Views Num pools) (arrival_place arrivals x)) (ArrivedToSpare s Net (λ e. view Net e (pool_of (departure_of e))) d.report x) (arrived_of x)
       (λ v w c.
       let e = c.0 in
       let to = arrived-there e x c.1 c.2 in
@@ -211,11 +215,7 @@ module _ (s : Settings) (t : Timetable) (base : List ℕ) (price : ℤ) (duties 
       (λ v w c.
       let e = c.0.0 in
       (e, c.0.1, ap (arrival_place arrivals) c.0.3, seen-more e (pool_of (departure_of e)) v w c.0.4 c.1))
-      (swept.arrived place (swept.waited i (left-within d (listed d l)) place open'))
-
-  arrival-local : (d : Duty) (x : Arrival) → IsDuty s (flights_of t) d → may_wait s x (departure_of d) ≡ true
-      → IsLocal is_at_most walk_at_most (ArrivedToSpare s Net (λ e. view Net e (pool_of (departure_of e))) d.report x) (arrived_of x)
-  arrival-local d x l window = ⊎_elim {C = IsLocal is_at_most walk_at_most (ArrivedToSpare s Net (λ e. view Net e (pool_of (departure_of e))) d.report x) (arrived_of x)} (inside d x l window) (λ le. outside d x le) (either (arrival_place arrivals x) (length arrivals))
+      (held-local (arrival_place arrivals x))
 
   pub swept-fronts : (d : Duty) → IsDuty s (flights_of t) d → IsFrontAt s t base price d (shown_labels s.trip_rig d.release (view Net d (pool_of (departure_of d))))
   swept-fronts d l = to-spare s t base price duties checked sound exactly pool_of (λ g x. arrived_of x) pool-local arrival-local d l

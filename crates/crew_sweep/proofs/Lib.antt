@@ -12,3 +12,9 @@ pub mod Passable
 pub mod Ends
 pub mod Slidings
 pub mod DutyTurns
+pub mod Renewed
+pub mod Keepings
+pub mod KeptSteps
+pub mod Marks
+pub mod Redone
+pub mod Befores

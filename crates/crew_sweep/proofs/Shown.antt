@@ -39,7 +39,7 @@ key-of (e ∷ ds) zero d h = let q : e ≡ d = (cc) in ap (λ (z : Duty). z.key)
 key-of (e ∷ ds) (suc rank) d h = key-of ds rank d h
 
 -- each of some lists shows what it showed
-same-map : {A B : Type 0} (f g : List A → List B) (xss : List (List A)) → ((xs : List A) → Member xss xs → f xs ≡ g xs) → map f xss ≡ map g xss
+pub same-map : {A B : Type 0} (f g : List A → List B) (xss : List (List A)) → ((xs : List A) → Member xss xs → f xs ≡ g xs) → map f xss ≡ map g xss
 same-map f g [] h = refl
 same-map f g (xs ∷ xss) h = ap (λ y. y ∷ map f xss) (h xs (inl refl)) ∙ ap (λ ys. g xs ∷ ys) (same-map f g xss (λ ys m. h ys (inr m)))
 

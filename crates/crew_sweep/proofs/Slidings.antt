@@ -132,3 +132,15 @@ under-way-more net before after grown made held made' held' stayed old now pendi
   };
   covered = λ p c. ⊎_elim {C = IsMade made' p} (λ k. (stayed p (under.covered p k)).0) (λ k. are-made p k.0 k.1) (covers p c);
 }
+
+-- over walks that have grown
+pub under-way-grown : (net : Net) (before after : List (List ℕ)) → HasGrown before after → (made : List Bool) (held : List Labels) → ((labels : Labels) → Member held labels → AreCounted (λ (v : PairingVector). v.duties) before false labels)
+    → (s : Slides) → AreUnderWay net before made held s → AreUnderWay net after made held s
+under-way-grown net before after grown made held pending s under = record {
+  long = under.long;
+  sliding = record {
+    numbers = under.sliding.numbers;
+    each = λ slide m. sliding-grown before after grown held pending slide (under.sliding.each slide m);
+  };
+  covered = under.covered;
+}

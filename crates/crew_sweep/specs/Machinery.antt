@@ -5,3 +5,4 @@ pub mod Passing
 pub mod Parts
 pub mod Sliding
 pub mod Slides
+pub mod Renewing

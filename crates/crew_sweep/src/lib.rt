@@ -6,14 +6,18 @@
 //! `laws` has what this rests on.
 #![tactic(auto)]
 
+mod anew;
 mod arrivals;
+mod earlier;
 pub mod laws;
 mod pass;
+mod renewal;
 mod slide;
 mod slides;
 mod swept;
 mod turns;
 
+pub use anew::renew;
 pub use pass::sweep;
 pub use swept::Sweep;
 pub use turns::departure_turns;

@@ -1,5 +1,5 @@
 //! One pass over the departures of a base's network.
-ghost use Rattle.std.specs.Prelude.{◌≡◌, ◌<◌, ◌≤◌, ◌+◌, ◌⊎◌, ℕ, IfOk, List, OnOk, Some, [], length, slice_get, true};
+ghost use Rattle.std.specs.Prelude.{◌≡◌, ◌<◌, ◌≤◌, ◌+◌, ◌++◌, ◌∷◌, ◌⊎◌, ℕ, IfOk, List, OnOk, Some, [], length, slice_get, true};
 ghost use Rattle.std.specs.Arc.{arc_value};
 ghost use Rattle.crew_anchor.specs.Machinery.Bounds.{fits_in};
 ghost use Rattle.crew_flights.specs.Timetable as TimetableSpec;
@@ -85,8 +85,8 @@ fn pool_at(
     departure_pool(alloc, resource, room, slides.pool(number), idle, walks)
 }
 
-// The pass goes on by one departure: the arrivals on which it waits, and its pool.
-fn pass_one(
+/// The pass goes on by one departure: the arrivals on which it waits, and its pool.
+pub(crate) fn pass_one(
     alloc: Global,
     net: &Net,
     turns: &[u32],
@@ -112,6 +112,9 @@ fn pass_one(
     ensures passing { OnOk result (IsPassing net.now base resource.now walks.new pools.new.items
         arrivals.new.made.items arrivals.new.pools.items) }
     ensures more { OnOk result (length pools.new.items ≡ length pools.old.items + 1) }
+    ensures grown { HasGrown walks.old walks.new }
+    ensures added { OnOk result ((pool : List (PairingVector × LabelWalk))
+        × (pools.new.items ≡ pools.old.items ++ pool ∷ [])) }
 {
     let window = net.window(place);
     arrivals.make_window(alloc, net, turns, resource, window, room, pools, walks)?;

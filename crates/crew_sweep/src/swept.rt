@@ -1,9 +1,12 @@
 //! What one pass leaves.
-ghost use Rattle.std.specs.Prelude.{◌≡◌, ◌<◌, [], get_or, length};
+ghost use Rattle.std.specs.Prelude.{◌≡◌, ◌<◌, List, [], get_or, length, true};
 ghost use Rattle.std.specs.Arc.{arc_value};
 ghost use Rattle.crew_anchor.specs.Stages.{anchored_resource};
 ghost use Rattle.crew_pairing.specs.Events.{IsSound};
 ghost use Rattle.crew_pairing.specs.declared.duty.Duty.{Duty};
+ghost use Rattle.crew_pairing.specs.declared.vector.PairingVector.{PairingVector};
+ghost use Rattle.crew_pool.specs.Counted.{AreCounted};
+ghost use Rattle.crew_pool.specs.declared.label_walk.LabelWalk.{LabelWalk};
 ghost use Rattle.crew_resource.specs.Members.{Member};
 
 use crew_anchor::AnchoredResource;
@@ -52,7 +55,9 @@ impl Model for Sweep {
 }
 
 impl Sweep {
-    ghost use Rattle.crew_sweep.specs.Machinery.Kept.{AreKept, IsKept};
+    ghost use Rattle.crew_sweep.specs.Machinery.Kept.{AreKept, IsKept, keyed_pools, sparing_of};
+    ghost use Rattle.crew_sweep.specs.Machinery.Numbered.{AreLocal};
+    ghost use Rattle.crew_sweep.specs.Machinery.Passing.{AreLabels, passed_network};
 
     // The pools of a base, under its resource.
     pub(crate) fn new(
@@ -108,6 +113,29 @@ impl Sweep {
         ensures { result.now ≡ anchored_resource self.now.net.settings self.now.price }
     {
         &self.resource
+    }
+
+    /// The base's price.
+    pub fn price(&self) -> i64
+        ensures { result ≡ self.now.price }
+    {
+        self.price
+    }
+
+    // The pools of all departures, in order of report.
+    pub(crate) fn pools(&self) -> &[Pool<AnchoredResource>]
+        ensures all { result.now ≡ self.now.pools }
+        ensures long { length self.now.pools ≡ length self.now.net.by_report }
+        ensures local { AreLocal (passed_network self.now.net self.now.base (sparing_of self.now))
+            (length self.now.pools) (keyed_pools self.now) }
+        ensures spared { (labels : List (PairingVector × LabelWalk))
+            → Member self.now.pools labels
+            → AreLabels (sparing_of self.now) (length self.now.net.duties) self.now.walks labels }
+        ensures whole { (labels : List (PairingVector × LabelWalk))
+            → Member self.now.pools labels
+            → AreCounted (λ (v : PairingVector). v.duties) self.now.walks true labels }
+    {
+        &self.pools
     }
 
     /// The walks of the labels.

@@ -1,18 +1,21 @@
 -- The network of a base with its events by number, as a sweep goes over them: departures by their
 -- places in the order in which it does, arrivals by theirs in the network.
-use Rattle.std.specs.Prelude.{◌≡◌, ℕ, suc, Bool, false, ◌&&◌, cond, List, [], ◌∷◌, ◌++◌, Option, Some, None, slice_get}
+use Rattle.std.specs.Prelude.{◌≡◌, ◌<◌, ℕ, suc, Bool, false, ◌&&◌, cond, List, [], ◌∷◌, ◌++◌, Option, Some, None, get_or, slice_get}
 use Rattle.std.specs.Ordering.{eq_by_cmp, int_eq}
 use Rattle.crew_anchor.specs.Stages.{anchored_board, anchored_idle}
 use Rattle.crew_anchor.specs.declared.resource.AnchoredResource.{AnchoredResource}
 use Rattle.crew_pairing.specs.Events.{arrival_of, departure_of, may_wait}
 use Rattle.crew_flights.specs.Codes.{code_cmp}
+use Rattle.crew_pairing.specs.Keys.{walk_at_most}
 use Rattle.crew_pairing.specs.Legs.{Leg}
 use Rattle.crew_pairing.specs.declared.duty.Duty.{Duty}
 use Rattle.crew_pairing.specs.declared.events.Arrival.{Arrival}
 use Rattle.crew_pairing.specs.declared.events.Departure.{Departure}
 use Rattle.crew_pairing.specs.declared.vector.PairingVector.{PairingVector}
-use Rattle.crew_resource.specs.Events.{Network}
+use Rattle.crew_resource.specs.Events.{FromFronts, Network, Views}
+use Rattle.crew_resource.specs.Labels.{IsLocal}
 use Rattle.crew_rules.specs.declared.settings.Settings.{Settings}
+use Rattle.crew_vector.specs.Dominance.{is_at_most}
 
 -- the place of the first that passes a test, or how many there are where none does
 abbrev pub place_of : {E : Type 0} → (E → Bool) → List E → ℕ
@@ -59,3 +62,9 @@ numbered s r base duties departures arrivals = record {
   wait = λ v x g. v;
   board = anchored_board r;
 }
+
+-- the pools of so many departures: each is what the views of the pools leave that it may wait on
+abbrev pub AreLocal : Network Duty PairingVector (List (List Leg)) ℕ ℕ → ℕ
+    → List (List (PairingVector × List (List Leg))) → Type 0
+AreLocal net count pools = (i : ℕ) → i < count
+    → IsLocal is_at_most walk_at_most (FromFronts net (Views net pools) i) (get_or pools i [])

@@ -1,0 +1,19 @@
+use Rattle.std.proofs.Common.{[], ℕ, List, Option, get_or, subst}
+use Rattle.crew_pairing.specs.declared.vector.PairingVector.{PairingVector}
+use Rattle.crew_pool.specs.declared.label_walk.LabelWalk.{LabelWalk}
+use Rattle.crew_sweep.proofs.KeptSteps.{AreAlike, alike-is}
+use Rattle.crew_sweep.proofs.renewal.is_as_before.Goals as goal
+
+pub returns : goal.returns
+returns c = λ same.
+    let Labels = List (PairingVector × LabelWalk) in
+    let old = c.args.earlier.now.sweep.now in
+    let net = c.args.net.now in
+    let t = c.args.earlier.now.twins.now in
+    let now = c.args.pool.now in
+    let walks = c.args.walks.now in
+    let given : AreAlike c.ranks-ranks.result.now c.walks.result.now c.pool-old.result.now walks now = c.are_alike.ensures.alike same in
+    let by-ranks : AreAlike t.ranks c.walks.result.now c.pool-old.result.now walks now = subst (λ (rs : List (Option ℕ)). AreAlike rs c.walks.result.now c.pool-old.result.now walks now) c.ranks-ranks.ensures given in
+    let by-walks : AreAlike t.ranks old.walks c.pool-old.result.now walks now = subst (λ (ws : List (List ℕ)). AreAlike t.ranks ws c.pool-old.result.now walks now) c.walks.ensures by-ranks in
+    let alike : AreAlike t.ranks old.walks (get_or old.pools c.in-Some.turn []) walks now = subst (λ (ls : Labels). AreAlike t.ranks old.walks ls walks now) c.pool-old.ensures.same by-walks in
+    alike-is old net t c.requires.twins c.requires.laid walks c.args.place c.in-Some.turn c.in-Some.ensures now alike

@@ -1,0 +1,123 @@
+//! What an earlier pass left.
+ghost use Rattle.std.specs.Prelude.{◌≡◌, ◌<◌, ◌≤◌, IfSome, List, length, slice_get, true, Some, ◌-◌};
+ghost use Rattle.crew_carry.specs.Twins.{AreTwins};
+ghost use Rattle.crew_pairing.specs.declared.vector.PairingVector.{PairingVector};
+ghost use Rattle.crew_pool.specs.declared.label_walk.LabelWalk.{LabelWalk};
+ghost use Rattle.crew_resource.specs.Members.{Member};
+ghost use Rattle.crew_sweep.specs.Machinery.Kept.{keyed_pools, sparing_of};
+ghost use Rattle.crew_sweep.specs.Machinery.Numbered.{AreLocal};
+ghost use Rattle.crew_sweep.specs.Machinery.Passing.{AreLabels, passed_network};
+ghost use Rattle.crew_sweep.specs.Machinery.Renewing.{IsKeptTurn, IsLaid, IsWindowKept};
+ghost use Rattle.crew_sweep.specs.Sweeps.{AreTurns, in_order};
+
+use crate::swept::Sweep;
+use crew_carry::Twins;
+use crew_net::{Net, Window};
+
+/// An earlier sweep, the turns of its network's duties, and what its network has alike with another.
+#[derive(Drop)]
+pub(crate) struct Earlier<'a> {
+    pub(crate) sweep: &'a Sweep,
+    pub(crate) turns: &'a [u32],
+    pub(crate) twins: &'a Twins,
+}
+
+// Whether the twin of an arrival stands at a place.
+fn stands_at(twins: &Twins, place: usize, old: usize) -> bool
+    requires { place < length twins.now.arrivals }
+    ensures { result ≡ true → slice_get twins.now.arrivals place ≡ Some (Some old) }
+{
+    match twins.arrival(place) {
+        Some(there) => there == old,
+        None => false,
+    }
+}
+
+// Whether a window holds what it held, where no change is marked.
+fn is_kept(twins: &Twins, changed: &[bool], now: Window, old: Window) -> bool
+    requires ordered { now.from ≤ now.end }
+    requires was { old.from ≤ old.end }
+    requires marks { now.end ≤ length changed.now }
+    requires arrivals { now.end ≤ length twins.now.arrivals }
+    ensures { result ≡ true → IsWindowKept twins.now changed.now now old }
+{
+    if now.end - now.from != old.end - old.from {
+        return false;
+    }
+    for offset in 0..now.end - now.from {
+        let place = now.from + offset;
+        if changed[place] || !stands_at(twins, place, old.from + offset) {
+            return false;
+        }
+    }
+    true
+}
+
+// The turn of a departure.
+fn turn_of(net: &Net, turns: &[u32], departure: usize) -> Option<usize>
+    requires departure { departure < length net.now.departures }
+    requires turns { AreTurns net.now turns.now }
+    ensures { IfSome result (λ turn. slice_get (in_order net.now) turn
+        ≡ slice_get net.now.departures departure) }
+{
+    let rank = net.leaving(departure).first()?;
+    Some(turns[*rank as usize] as usize)
+}
+
+impl<'a> Earlier<'a> {
+    /// An earlier sweep, beside the turns of its network's duties.
+    pub(crate) fn of(sweep: &'a Sweep, turns: &'a [u32], twins: &'a Twins) -> Earlier<'a>
+        ensures sweep { result.sweep.now ≡ sweep.now }
+        ensures turns { result.turns.now ≡ turns.now }
+        ensures twins { result.twins.now ≡ twins.now }
+        ensures laid { IsLaid sweep.now.net }
+        ensures long { length sweep.now.pools ≡ length sweep.now.net.by_report }
+        ensures local { AreLocal (passed_network sweep.now.net sweep.now.base
+            (sparing_of sweep.now)) (length sweep.now.pools) (keyed_pools sweep.now) }
+        ensures spared { (labels : List (PairingVector × LabelWalk)) → Member sweep.now.pools labels
+            → AreLabels (sparing_of sweep.now) (length sweep.now.net.duties) sweep.now.walks
+            labels }
+    {
+        let net = sweep.net();
+        let _departures = net.departures();
+        let _arrivals = net.arrivals();
+        let _places = net.by_report();
+        let _pools = sweep.pools();
+        Earlier {
+            sweep,
+            turns,
+            twins,
+        }
+    }
+
+    /// The turn at which the departure at a place was come to, where all that it waits on is as it
+    /// was.
+    pub(crate) fn kept_turn(&self, net: &Net, changed: &[bool], place: usize) -> Option<usize>
+        requires twins { AreTwins self.now.sweep.now.net net.now self.now.twins.now }
+        requires turns { AreTurns self.now.sweep.now.net self.now.turns.now }
+        requires place { place < length net.now.departures }
+        requires marks { length changed.now ≡ length net.now.arrivals }
+        ensures { IfSome result (IsKeptTurn self.now.sweep.now net.now self.now.twins.now
+            changed.now place) }
+    {
+        let old = self.twins.departure(place)?;
+        let before = self.sweep.net();
+        if !is_kept(self.twins, changed, net.window(place), before.window(old)) {
+            return None;
+        }
+        turn_of(before, self.turns, old)
+    }
+
+    /// The turn at which the departure of the same event was come to.
+    pub(crate) fn turn(&self, net: &Net, place: usize) -> Option<usize>
+        requires twins { AreTwins self.now.sweep.now.net net.now self.now.twins.now }
+        requires turns { AreTurns self.now.sweep.now.net self.now.turns.now }
+        requires place { place < length net.now.departures }
+        ensures { IfSome result (λ turn. slice_get (in_order self.now.sweep.now.net) turn
+            ≡ slice_get net.now.departures place) }
+    {
+        let _departures = net.departures();
+        let old = self.twins.departure(place)?;
+        turn_of(self.sweep.net(), self.turns, old)
+    }
+}
