@@ -10,7 +10,7 @@ use Rattle.crew_net.specs.Machinery.Moments.{AreInOrder, slots_from}
 use Rattle.crew_net.specs.Machinery.Timelines.{IsTimeline}
 use Rattle.crew_net.specs.Nets.{AreByReport}
 use Rattle.crew_net.specs.declared.timeline.Timeline.{Timeline}
-use Rattle.crew_net.specs.declared.timeline.Slot.{Slot}
+use Rattle.crew_net.specs.Machinery.Moments.{Slot}
 use Rattle.crew_net.proofs.Firsts.{slot-place}
 use Rattle.crew_net.proofs.InOrder.{ascends, length-slots_from}
 use Rattle.crew_pairing.proofs.Tree.{slice_get-within}

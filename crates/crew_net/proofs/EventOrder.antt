@@ -1,31 +1,26 @@
 -- Events in the order of their moments.
-use Rattle.std.proofs.Common.{◌≡◌, ◌≤◌, ◌<◌, ◌+◌, ◌⊎◌, inl, inr, ℕ, zero, suc, ℤ, pos, ◌<ℤ◌, List, [], ◌∷◌, Some, true, ◌&&◌, length, refl, sym, ap, subst, ◌∙◌, arith, get_or, map}
-use Rattle.std.specs.Prelude.{◌==◌, slice_get}
-use Rattle.std.specs.List.{list_all}
+use Rattle.std.proofs.Common.{◌≡◌, ◌≤◌, ◌<◌, ◌+◌, ◌⊎◌, inl, inr, ℕ, zero, suc, ℤ, pos, ◌<ℤ◌, List, [], ◌∷◌, Some, true, length, refl, sym, ap, subst, ◌∙◌, arith, get_or, map}
+use Rattle.std.specs.Prelude.{slice_get}
 use Rattle.std.specs.Ordering.{int_cmp, is_eq, nat_cmp, ordering_then}
 use Rattle.std.specs.declared.cmp.Ordering.{Ordering}
 use Rattle.std.specs.declared.cmp.Ordering.TheVariants.{Equal, Greater, Less}
-use Rattle.std.proofs.lemmas.Bool.{and_parts}
 use Rattle.std.proofs.lemmas.Int.{ints}
 use Rattle.std.proofs.lemmas.List.{get_or-map, length-map}
 use Rattle.std.proofs.lemmas.Option.{get_or_from_slice_get}
-use Rattle.crew_flights.specs.Codes.{code_cmp, is_code, is_letter}
+use Rattle.crew_flights.specs.Codes.{code_cmp, is_code}
 use Rattle.crew_net.specs.Events.{AreEvents}
 use Rattle.crew_net.specs.Machinery.Held.{AreAt}
 use Rattle.crew_net.specs.Machinery.Moments.{IsReal, code_number, moment, slots_from}
 use Rattle.crew_net.specs.Machinery.Timelines.{IsTimeline}
-use Rattle.crew_net.specs.declared.timeline.Slot.{Slot}
+use Rattle.crew_net.specs.Machinery.Moments.{Slot}
 use Rattle.crew_net.specs.declared.timeline.Timeline.{Timeline}
+use Rattle.crew_net.proofs.Codes.{AreLetters, are-letters, code-same, has-three, three-letters}
 use Rattle.crew_net.proofs.Geometry.{equal-code, moment-same}
 use Rattle.crew_pairing.proofs.Tree.{slice_get-within}
 use Rattle.crew_pairing.specs.declared.duty.Duty.{Duty}
 use Rattle.crew_resource.specs.Members.{Member}
 use Rattle.crew_resource.proofs.Members.{Member-get}
 use Rattle.crew_duty.proofs.InPlace.{Member-shuffled}
-use Rattle.crew_duty.proofs.Slots.{code-same}
-
-letter-most : (x : ℕ) → is_letter x ≡ true → x ≤ 90
-letter-most x h = grind (arith)
 
 nat-less : (a b : ℕ) → a < b → nat_cmp a b ≡ Less
 nat-less a b h = grind (arith, h)
@@ -48,41 +43,28 @@ pick zero (suc n) h = inl (omega arith)
 pick (suc m) zero h = absurd (omega (arith, h))
 pick (suc m) (suc n) h = elim (pick m n (omega (arith, h))) [ inl l ↦ inl (omega (arith, l)) | inr e ↦ inr (ap suc e) ]
 
-three-less : (a b c x y z : ℕ) → a ≤ 90 → b ≤ 90 → c ≤ 90 → x ≤ 90 → y ≤ 90 → z ≤ 90 → code_number (a ∷ b ∷ c ∷ []) < code_number (x ∷ y ∷ z ∷ []) → code_cmp (a ∷ b ∷ c ∷ []) (x ∷ y ∷ z ∷ []) ≡ Less
-three-less a b c x y z ka kb kc kx ky kz h = elim (pick a x (omega (arith, ka, kb, kc, kx, ky, kz, h))) [
-  | inl l ↦ then-less (nat_cmp a x) _ (nat-less a x l)
-  | inr e ↦ then-tie (nat_cmp a x) _ (nat-tie a x e) (elim (pick b y (omega (arith, e, ka, kb, kc, kx, ky, kz, h))) [
-    | inl l ↦ then-less (nat_cmp b y) _ (nat-less b y l)
-    | inr f ↦ then-tie (nat_cmp b y) _ (nat-tie b y f) (then-less (nat_cmp c z) _ (nat-less c z (omega (arith, e, f, h))))
-  ])
-]
-
-three-letters : (code : List ℕ) → length code ≡ 3 → (a : ℕ) × (b : ℕ) × (c : ℕ) × (code ≡ a ∷ b ∷ c ∷ [])
-three-letters [] e = absurd (omega arith)
-three-letters (a ∷ []) e = absurd (omega arith)
-three-letters (a ∷ b ∷ []) e = absurd (omega arith)
-three-letters (a ∷ b ∷ c ∷ []) e = (a, b, c, refl)
-three-letters (a ∷ b ∷ c ∷ d ∷ rest) e = absurd (omega arith)
-
-has-three : (code : List ℕ) → is_code code ≡ true → length code ≡ 3
-has-three code h = let p : (length code == 3) ≡ true = (and_parts (length code == 3) (list_all is_letter code) h).0 in grind (arith)
-
-few-letters : (a b c : ℕ) → is_code (a ∷ b ∷ c ∷ []) ≡ true → (a ≤ 90) × (b ≤ 90) × (c ≤ 90)
-few-letters a b c h =
-    let p = and_parts (is_letter a) (is_letter b && (is_letter c && true)) (and_parts true (is_letter a && (is_letter b && (is_letter c && true))) h).1 in
-    let q = and_parts (is_letter b) (is_letter c && true) p.1 in
-    (letter-most a p.0, letter-most b q.0, letter-most c (and_parts (is_letter c) true q.1).0)
+three-less : (a b c x y z : ℕ) → AreLetters a b c → AreLetters x y z → code_number (a ∷ b ∷ c ∷ []) < code_number (x ∷ y ∷ z ∷ []) → code_cmp (a ∷ b ∷ c ∷ []) (x ∷ y ∷ z ∷ []) ≡ Less
+three-less a b c x y z p q h =
+    let a0 = p.first.0 in let a1 = p.first.1 in let b0 = p.second.0 in let b1 = p.second.1 in let c0 = p.third.0 in let c1 = p.third.1 in
+    let x0 = q.first.0 in let x1 = q.first.1 in let y0 = q.second.0 in let y1 = q.second.1 in let z0 = q.third.0 in let z1 = q.third.1 in
+    elim (pick a x (omega (arith, a0, a1, b0, b1, c0, c1, x0, x1, y0, y1, z0, z1, h))) [
+      | inl l ↦ then-less (nat_cmp a x) _ (nat-less a x l)
+      | inr e ↦ then-tie (nat_cmp a x) _ (nat-tie a x e) (elim (pick b y (omega (arith, e, a0, a1, b0, b1, c0, c1, x0, x1, y0, y1, z0, z1, h))) [
+        | inl l ↦ then-less (nat_cmp b y) _ (nat-less b y l)
+        | inr f ↦ then-tie (nat_cmp b y) _ (nat-tie b y f) (then-less (nat_cmp c z) _ (nat-less c z (omega (arith, e, f, c0, c1, z0, z1, h))))
+      ])
+    ]
 
 -- codes by number are codes in the order of the alphabet
 pub code-less : (a b : List ℕ) → is_code a ≡ true → is_code b ≡ true → code_number a < code_number b → code_cmp a b ≡ Less
 code-less a b ca cb h =
     let p = three-letters a (has-three a ca) in
     let q = three-letters b (has-three b cb) in
-    let u = few-letters p.0 p.1 p.2 (subst (λ (x : List ℕ). is_code x ≡ true) p.3 ca) in
-    let v = few-letters q.0 q.1 q.2 (subst (λ (x : List ℕ). is_code x ≡ true) q.3 cb) in
+    let u = are-letters p.0 p.1 p.2 (subst (λ (x : List ℕ). is_code x ≡ true) p.3 ca) in
+    let v = are-letters q.0 q.1 q.2 (subst (λ (x : List ℕ). is_code x ≡ true) q.3 cb) in
     let m = ap code_number p.3 in
     let n = ap code_number q.3 in
-    let less = three-less p.0 p.1 p.2 q.0 q.1 q.2 u.0 u.1 u.2 v.0 v.1 v.2 (omega (arith, h, m, n)) in
+    let less = three-less p.0 p.1 p.2 q.0 q.1 q.2 u v (omega (arith, h, m, n)) in
     (λ i. code_cmp (p.3 i) (q.3 i)) ∙ less
 
 pub code-tie : (a b : List ℕ) → a ≡ b → code_cmp a b ≡ Equal

@@ -8,7 +8,7 @@ use Rattle.crew_resource.proofs.Members.{Member-get}
 use Rattle.crew_duty.proofs.InPlace.{Member-shuffled}
 use Rattle.crew_net.specs.Machinery.Moments.{AreInOrder, slots_from}
 use Rattle.crew_net.specs.Machinery.Timelines.{IsTimeline}
-use Rattle.crew_net.specs.declared.timeline.Slot.{Slot}
+use Rattle.crew_net.specs.Machinery.Moments.{Slot}
 use Rattle.crew_net.specs.declared.timeline.Timeline.{Timeline}
 use Rattle.crew_net.proofs.InOrder.{ascends}
 use Rattle.crew_net.proofs.Segments.{after-start, before-start, le-or-lt}

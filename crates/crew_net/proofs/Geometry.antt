@@ -8,12 +8,12 @@ use Rattle.std.proofs.lemmas.Map.Text.{is_eq-slice_cmp}
 use Rattle.std.proofs.lemmas.Slice.Eq.{bytes_eq-Decides}
 use Rattle.std.proofs.lemmas.Int.{ints}
 use Rattle.crew_flights.specs.Codes.{code_cmp, code_cmp_total, is_code}
-use Rattle.crew_duty.proofs.Slots.{code-same}
 use Rattle.crew_net.specs.Machinery.Moments.{IsMinute, IsReal, code_number, moment}
+use Rattle.crew_net.proofs.Codes.{code-same}
 use Rattle.crew_net.proofs.Segments.{is_within}
 
 -- moments of two airports in one narrow range are of one airport
-near : (n m : ℕ) (t lo hi : ℤ) → IsReal t → IsMinute lo → IsMinute hi → (pos (n * 8_589_934_592) +ℤ lo) ≤ℤ (pos (m * 8_589_934_592) +ℤ t) → (pos (m * 8_589_934_592) +ℤ t) ≤ℤ (pos (n * 8_589_934_592) +ℤ hi)
+near : (n m : ℕ) (t lo hi : ℤ) → IsReal t → IsMinute lo → IsMinute hi → (pos (n * 4_295_000_000) +ℤ lo) ≤ℤ (pos (m * 4_295_000_000) +ℤ t) → (pos (m * 4_295_000_000) +ℤ t) ≤ℤ (pos (n * 4_295_000_000) +ℤ hi)
     → (m ≡ n) × (lo ≤ℤ t) × (t ≤ℤ hi)
 near n m t lo hi real low high h k =
     let a = real.least in let b = real.most in let c = low.least in let d = high.most in

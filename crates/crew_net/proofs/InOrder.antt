@@ -10,7 +10,7 @@ use Rattle.std.proofs.lemmas.List.Sorted.{ranks_by, sorted_far}
 use Rattle.std.proofs.lemmas.Cmp.{int_ranked}
 use Rattle.std.proofs.lemmas.Int.{ints}
 use Rattle.crew_net.specs.Machinery.Moments.{Ascend, Rise, slot_cmp, slots_from}
-use Rattle.crew_net.specs.declared.timeline.Slot.{Slot}
+use Rattle.crew_net.specs.Machinery.Moments.{Slot}
 
 pub slot-order : IsStrictWeakOrder (λ (a b : Slot). is_lt (slot_cmp a b))
 slot-order = ranks_by (then_total (on_total (λ (s : Slot). s.at) int_cmp_total) (on_total (λ (s : Slot). s.place) nat_cmp_total)) (λ s. s)

@@ -4,6 +4,10 @@ pub mod Oks
 pub mod Places
 pub mod Segments
 pub mod Named
+pub mod Codes
+pub mod Keyed
+pub mod EventsReal
+pub mod Gathered
 pub mod Firsts
 pub mod AtMoments
 pub mod Geometry

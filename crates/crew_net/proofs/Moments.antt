@@ -1,92 +1,37 @@
 -- The moments of slots, each once, and where they begin.
-use Rattle.std.proofs.Common.{◌⊎◌, inl, inr, cond, ◌≡◌, ◌≤◌, ◌<◌, ◌+◌, ◌-◌, ℕ, zero, suc, ℤ, ◌≤ℤ◌, ◌<ℤ◌, List, [], ◌∷◌, ◌++◌, Bool, true, false, length, refl, sym, ap, subst, ◌∙◌, arith, drop, get_or, map, int_le}
-use Rattle.std.specs.Prelude.{int_lt, IsSorted}
-use Rattle.std.specs.List.{Contains, dedup, dedup_from}
-use Rattle.std.specs.List.Sorted.{IsPartitionPoint, IsStrictlySortedBy}
-use Rattle.std.specs.Ordering.{int_cmp, int_eq, is_lt, nat_cmp, ordering_then}
+use Rattle.std.proofs.Common.{◌⊎◌, inl, inr, ◌≡◌, ◌≤◌, ◌<◌, ◌+◌, ◌-◌, ℕ, zero, suc, ℤ, pos, ◌≤ℤ◌, ◌<ℤ◌, List, [], ◌∷◌, ◌++◌, true, false, length, refl, sym, ap, subst, ◌∙◌, arith, drop, get_or, int_le}
+use Rattle.std.specs.Prelude.{int_lt}
+use Rattle.std.specs.List.Sorted.{IsPartitionPoint}
+use Rattle.std.specs.Ordering.{int_cmp}
 use Rattle.std.specs.declared.cmp.Ordering.{Ordering}
 use Rattle.std.specs.declared.cmp.Ordering.TheVariants.{Equal, Greater, Less}
-use Rattle.std.specs.Cmp.{int_cmp_total, int_eq_equiv, signed_Decides}
-use Rattle.std.proofs.lemmas.List.{get_or-map, length-map, get_or_default, get_or-drop, length-drop, length_push, get_or_append_left, get_or_push}
-use Rattle.std.proofs.lemmas.List.Kept.{IsStrictlySortedBy-dedup, Contains-dedup, Contains-from_dedup}
-use Rattle.std.proofs.lemmas.Map.Keys.{Less-from_sorted}
+use Rattle.std.proofs.lemmas.List.{get_or-drop, length-drop, length_push, get_or_append_left, get_or_push}
 use Rattle.std.proofs.lemmas.Cmp.{int_ranked}
 use Rattle.std.proofs.lemmas.Int.{ints}
-use Rattle.crew_net.specs.Machinery.Moments.{AreMoments, AreStarts, IsStart, Rise, slot_cmp}
+use Rattle.crew_net.specs.Machinery.Moments.{AreMoments, AreStarts, Ascend, IsStart, Rise}
 use Rattle.crew_net.specs.Machinery.Timelines.{IsWithin}
-use Rattle.crew_net.specs.declared.timeline.Slot.{Slot}
+use Rattle.crew_net.specs.Machinery.Moments.{Slot}
 
-not-less : (a b : Slot) → is_lt (slot_cmp a b) ≡ false → is_lt (int_cmp a.at b.at) ≡ false
-not-less a b h = by (int_cmp a.at b.at) (nat_cmp a.place b.place) h
-  where
-    by : (r s : Ordering) → is_lt (ordering_then r s) ≡ false → is_lt r ≡ false
-    by Less s h = absurd (cc)
-    by Equal s h = refl
-    by Greater s h = refl
+-- the moments of the first n slots, each once, and where each begins
+pub record SoFar (slots : List Slot) (n : ℕ) (moments : List ℤ) (starts : List ℕ) : Type 0 where
+  pub few : length moments ≤ n
+  pub long : length starts ≡ length moments
+  pub rising : Rise moments
+  pub every : (i : ℕ) (d : Slot) → i < n → (k : ℕ) × (k < length moments) × ((e : ℤ) → get_or moments k e ≡ (get_or slots i d).at)
+  pub some : (k : ℕ) (e : ℤ) → k < length moments → (i : ℕ) × (i < n) × ((d : Slot) → (get_or slots i d).at ≡ get_or moments k e)
+  pub within : (k d : ℕ) → k < length moments → get_or starts k d ≤ length slots
+  pub points : (k d : ℕ) (e : ℤ) → k < length moments → IsStart slots (get_or moments k e) (get_or starts k d)
 
-ats-sorted : (slots : List Slot) → IsSorted slot_cmp slots → IsSorted int_cmp (map (λ s. s.at) slots)
-ats-sorted [] s k d a b = absurd (omega (arith, b))
-ats-sorted (x ∷ slots) s k d a b =
-    let xs = x ∷ slots in
-    let long = length-map xs (λ (t : Slot). t.at) in
-    rw (get_or-map (λ (t : Slot). t.at) xs (k + 1) x d (omega (arith, long, b)), get_or-map (λ (t : Slot). t.at) xs k x d (omega (arith, long, b)))
-    (not-less (get_or xs (k + 1) x) (get_or xs k x) (s k x (omega arith) (omega (arith, long, b))))
-
-less-of : (x y : ℤ) → int_cmp x y ≡ Less → x <ℤ y
-less-of x y e = int_ranked x y Less (sym e)
-
-few-from : (k : ℤ) (xs : List ℤ) → length (dedup_from int_eq k xs) ≤ suc (length xs)
-few-from k [] = omega arith
-few-from k (x ∷ xs) = by (int_eq x k) (few-from k xs) (few-from x xs)
-  where
-    by : (b : Bool) → length (dedup_from int_eq k xs) ≤ suc (length xs) → length (dedup_from int_eq x xs) ≤ suc (length xs)
-        → length (cond b (dedup_from int_eq k xs) (k ∷ dedup_from int_eq x xs)) ≤ suc (suc (length xs))
-    by true h g = omega (arith, h)
-    by false h g = omega (arith, g)
-
-few-kept : (xs : List ℤ) → length (dedup int_eq xs) ≤ length xs
-few-kept [] = omega arith
-few-kept (x ∷ xs) = few-from x xs
-
-pub deduped : (slots : List Slot) (ms : List ℤ) → IsSorted slot_cmp slots → ms ≡ dedup int_eq (map (λ s. s.at) slots) → AreMoments slots ms
-deduped slots ms s e = rw e (record { few = few; rising = rising; every = every; some = some })
-  where
-    ats : List ℤ
-    ats = map (λ (t : Slot). t.at) slots
-
-    few : length (dedup int_eq ats) ≤ length slots
-    few = let kept = few-kept ats in let long = length-map slots (λ (t : Slot). t.at) in omega (arith, kept, long)
-
-    strict : IsStrictlySortedBy int_cmp (dedup int_eq ats)
-    strict = IsStrictlySortedBy-dedup int_cmp_total (λ x y. refl) ats (ats-sorted slots s)
-
-    rising : Rise (dedup int_eq ats)
-    rising i j d a b = less-of (get_or (dedup int_eq ats) i d) (get_or (dedup int_eq ats) j d) (Less-from_sorted int_cmp (dedup int_eq ats) i j d strict a b)
-
-    every : (i : ℕ) (d : Slot) → i < length slots → (k : ℕ) × (k < length (dedup int_eq ats)) × ((e : ℤ) → get_or (dedup int_eq ats) k e ≡ (get_or slots i d).at)
-    every i d h =
-        let x = (get_or slots i d).at in
-        let long = length-map slots (λ (t : Slot). t.at) in
-        let here : Contains ats x = (i, omega (arith, long, h), get_or-map (λ (t : Slot). t.at) slots i d x h) in
-        let c = Contains-dedup int_eq_equiv (λ a b q. (signed_Decides a b).0 q) ats x here in
-        (c.0, c.1, λ e. get_or_default (dedup int_eq ats) c.0 e x c.1 ∙ c.2)
-
-    some : (k : ℕ) (e : ℤ) → k < length (dedup int_eq ats) → (i : ℕ) × (i < length slots) × ((d : Slot) → (get_or slots i d).at ≡ get_or (dedup int_eq ats) k e)
-    some k e h =
-        let x = get_or (dedup int_eq ats) k e in
-        let c = Contains-from_dedup int_eq ats x (k, h, get_or_default (dedup int_eq ats) k x e h) in
-        let long = length-map slots (λ (t : Slot). t.at) in
-        let within : c.0 < length slots = omega (arith, long, c.1) in
-        (c.0, within, λ d. sym (get_or-map (λ (t : Slot). t.at) slots c.0 d x within) ∙ c.2)
-
--- the starts of the first n moments
-pub record StartSoFar (slots : List Slot) (moments : List ℤ) (n : ℕ) (starts : List ℕ) : Type 0 where
-  pub long : length starts ≡ n
-  pub within : (k d : ℕ) → k < length starts → get_or starts k d ≤ length slots
-  pub points : (k d : ℕ) (e : ℤ) → k < n → IsStart slots (get_or moments k e) (get_or starts k d)
-
-pub no-starts : (slots : List Slot) (moments : List ℤ) → StartSoFar slots moments 0 []
-no-starts slots moments = record { long = refl; within = λ k d h. absurd (omega (arith, h)); points = λ k d e h. absurd (omega (arith, h)) }
+pub nothing-yet : (slots : List Slot) → SoFar slots 0 [] []
+nothing-yet slots = record {
+  few = omega arith;
+  long = refl;
+  rising = λ i j d a b. absurd (omega (arith, b));
+  every = λ i d h. absurd (omega (arith, h));
+  some = λ k e h. absurd (omega (arith, h));
+  within = λ k d h. absurd (omega (arith, h));
+  points = λ k d e h. absurd (omega (arith, h));
+}
 
 pub under-cases : (k n : ℕ) → k < n + 1 → (k < n) ⊎ (k ≡ n)
 under-cases zero zero h = inr refl
@@ -94,36 +39,121 @@ under-cases zero (suc n) h = inl (omega arith)
 under-cases (suc k) zero h = absurd (omega (arith, h))
 under-cases (suc k) (suc n) h = elim (under-cases k n (omega (arith, h))) [ inl l ↦ inl (omega (arith, l)) | inr e ↦ inr (ap suc e) ]
 
-pub start-more : (slots : List Slot) (moments : List ℤ) (n : ℕ) (starts : List ℕ) (s : ℕ) → StartSoFar slots moments n starts → s ≤ length slots → ((e : ℤ) → IsStart slots (get_or moments n e) s)
-    → StartSoFar slots moments (n + 1) (starts ++ s ∷ [])
-start-more slots moments n starts s so w p =
-    let long = length_push starts s in
-    let before = so.long in
-    record {
-      long = omega (arith, long, before);
-      within = λ k d h. elim (under-cases k n (omega (arith, h, long, before))) [
-        | inl l ↦ (let e = get_or_append_left starts (s ∷ []) d k (omega (arith, l, before)) in let q = so.within k d (omega (arith, l, before)) in omega (arith, e, q))
-        | inr e ↦ (let f = get_or_push starts s d k (before ∙ sym e) in omega (arith, f, w))
-      ];
-      points = λ k d e h. elim (under-cases k n h) [
-        | inl l ↦ subst (IsStart slots (get_or moments k e)) (sym (get_or_append_left starts (s ∷ []) d k (omega (arith, l, before)))) (so.points k d e l)
-        | inr f ↦ subst (IsStart slots (get_or moments k e)) (sym (get_or_push starts s d k (before ∙ sym f))) (subst (λ (j : ℕ). IsStart slots (get_or moments j e) s) (sym f) (p e))
-      ];
-    }
+strict : (x y : ℤ) → x ≤ℤ y → (x ≡ y → ⊥) → x <ℤ y
+strict x y h f = by (int_cmp x y) refl
+  where
+    by : (r : Ordering) → int_cmp x y ≡ r → x <ℤ y
+    by Less e = int_ranked x y Less (sym e)
+    by Equal e = absurd (f (int_ranked x y Equal (sym e)))
+    by Greater e = absurd (let r = int_ranked x y Greater (sym e) in omega (arith, ints, r, h))
 
-pub starts-all : (slots : List Slot) (moments : List ℤ) (starts : List ℕ) → StartSoFar slots moments (length moments) starts → AreStarts slots moments (starts ++ length slots ∷ [])
-starts-all slots moments starts so =
-    let long = length_push starts (length slots) in
-    let before = so.long in
-    record {
-      long = omega (arith, long, before);
-      within = λ k d h. elim (under-cases k (length moments) (omega (arith, h, long, before))) [
-        | inl l ↦ (let e = get_or_append_left starts (length slots ∷ []) d k (omega (arith, l, before)) in let q = so.within k d (omega (arith, l, before)) in omega (arith, e, q))
-        | inr e ↦ (let f = get_or_push starts (length slots) d k (before ∙ sym e) in omega (arith, f))
-      ];
-      points = λ k d e l. subst (IsStart slots (get_or moments k e)) (sym (get_or_append_left starts (length slots ∷ []) d k (omega (arith, l, before)))) (so.points k d e l);
-      end = λ d. get_or_push starts (length slots) d (length moments) before;
-    }
+module _ (slots : List Slot) (up : Ascend slots) (n : ℕ) (ms : List ℤ) (starts : List ℕ) (so : SoFar slots n ms starts) (at : ℤ) (low : n < length slots) (own : (d : Slot) → (get_or slots n d).at ≡ at) where
+  one : Slot
+  one = record { at = at; place = 0 }
+
+  most : (k : ℕ) (e : ℤ) → k < length ms → get_or ms k e ≤ℤ at
+  most k e h =
+      let i = so.some k e h in
+      let before = i.1 in
+      let rise = up i.0 n one (omega (arith, before)) low in
+      let is = i.2 one in
+      let here = own one in
+      omega (arith, ints, rise, is, here)
+
+  -- the next slot is of the last moment
+  pub same-moment : 0 < length ms → ((e : ℤ) → get_or ms (length ms - 1) e ≡ at) → SoFar slots (n + 1) ms starts
+  same-moment some last = record {
+    few = let h = so.few in omega (arith, h);
+    long = so.long;
+    rising = so.rising;
+    every = λ i d h. elim (under-cases i n h) [
+      | inl l ↦ so.every i d l
+      | inr e ↦ (length ms - 1, omega (arith, some), λ x. last x ∙ (sym (own d) ∙ ap (λ (j : ℕ). (get_or slots j d).at) (sym e)))
+    ];
+    some = λ k e h. (let i = so.some k e h in let l = i.1 in (i.0, omega (arith, l), i.2));
+    within = so.within;
+    points = so.points;
+  }
+
+  module _ (apart : (e : ℤ) → 0 < length ms → get_or ms (length ms - 1) e ≡ at → ⊥) where
+    less : (k : ℕ) (e : ℤ) → k < length ms → get_or ms k e <ℤ at
+    less k e h =
+        let last = length ms - 1 in
+        let some : 0 < length ms = omega (arith, h) in
+        let end : last < length ms = omega (arith, some) in
+        let top = strict (get_or ms last e) at (most last e end) (apart e some) in
+        elim (under-cases k last (omega (arith, h))) [
+          | inl l ↦ (let rise = so.rising k last e l end in omega (arith, ints, rise, top))
+          | inr q ↦ subst (λ (j : ℕ). get_or ms j e <ℤ at) (sym q) top
+        ]
+
+    begins : IsStart slots at n
+    begins = (
+      λ k d a l. (let e = so.every k d l in let under = less e.0 (pos 0) e.1 in let is = e.2 (pos 0) in grind (arith, ints, under, is)),
+      λ k d a l. (let rise = up n k d a l in let here = own d in grind (arith, ints, rise, here)),
+    )
+
+    -- the next slot is of a moment of its own
+    pub new-moment : SoFar slots (n + 1) (ms ++ at ∷ []) (starts ++ n ∷ [])
+    new-moment =
+        let long = length_push ms at in
+        let starts-long = length_push starts n in
+        let same = so.long in
+        let few = so.few in
+        let left : (k : ℕ) (e : ℤ) → k < length ms → get_or (ms ++ at ∷ []) k e ≡ get_or ms k e = λ k e l. get_or_append_left ms (at ∷ []) e k l in
+        let right : (k : ℕ) (e : ℤ) → k ≡ length ms → get_or (ms ++ at ∷ []) k e ≡ at = λ k e q. get_or_push ms at e k (sym q) in
+        let left' : (k d : ℕ) → k < length ms → get_or (starts ++ n ∷ []) k d ≡ get_or starts k d = λ k d l. get_or_append_left starts (n ∷ []) d k (omega (arith, l, same)) in
+        let right' : (k d : ℕ) → k ≡ length ms → get_or (starts ++ n ∷ []) k d ≡ n = λ k d q. get_or_push starts n d k (same ∙ sym q) in
+        let case : (k : ℕ) → k < length (ms ++ at ∷ []) → (k < length ms) ⊎ (k ≡ length ms) = λ k h. under-cases k (length ms) (omega (arith, h, long)) in
+        record {
+          few = omega (arith, long, few);
+          long = omega (arith, long, starts-long, same);
+          rising = λ i j d a b. elim (case j b) [
+            | inl l ↦ (let p = left i d (omega (arith, a, l)) in let q = left j d l in let rise = so.rising i j d a l in omega (arith, ints, p, q, rise))
+            | inr e ↦ (let p = left i d (omega (arith, a, e)) in let q = right j d e in let under = less i d (omega (arith, a, e)) in omega (arith, ints, p, q, under))
+          ];
+          every = λ i d h. elim (under-cases i n h) [
+            | inl l ↦ (let e = so.every i d l in let in' = e.1 in (e.0, omega (arith, in', long), λ x. left e.0 x e.1 ∙ e.2 x))
+            | inr q ↦ (length ms, omega (arith, long), λ x. right (length ms) x refl ∙ (sym (own d) ∙ ap (λ (j : ℕ). (get_or slots j d).at) (sym q)))
+          ];
+          some = λ k e h. elim (case k h) [
+            | inl l ↦ (let i = so.some k e l in let before = i.1 in (i.0, omega (arith, before), λ d. i.2 d ∙ sym (left k e l)))
+            | inr q ↦ (n, omega arith, λ d. own d ∙ sym (right k e q))
+          ];
+          within = λ k d h. elim (case k h) [
+            | inl l ↦ (let p = left' k d l in let w = so.within k d l in omega (arith, p, w))
+            | inr q ↦ (let p = right' k d q in omega (arith, p, low))
+          ];
+          points = λ k d e h. elim (case k h) [
+            | inl l ↦ subst (λ (m : ℤ). IsStart slots m (get_or (starts ++ n ∷ []) k d)) (sym (left k e l)) (subst (IsStart slots (get_or ms k e)) (sym (left' k d l)) (so.points k d e l))
+            | inr q ↦ subst (λ (m : ℤ). IsStart slots m (get_or (starts ++ n ∷ []) k d)) (sym (right k e q)) (subst (IsStart slots at) (sym (right' k d q)) begins)
+          ];
+        }
+
+module _ (slots : List Slot) (n : ℕ) (ms : List ℤ) (starts : List ℕ) (so : SoFar slots n ms starts) (all : n ≡ length slots) where
+  pub all-moments : AreMoments slots ms
+  all-moments =
+      let few = so.few in
+      record {
+        few = omega (arith, few, all);
+        rising = so.rising;
+        every = λ i d h. so.every i d (omega (arith, h, all));
+        some = λ k e h. (let i = so.some k e h in let l = i.1 in (i.0, omega (arith, l, all), i.2));
+      }
+
+  pub all-starts : (end : ℕ) → end ≡ length slots → AreStarts slots ms (starts ++ end ∷ [])
+  all-starts end is =
+      let long = length_push starts end in
+      let before = so.long in
+      record {
+        long = omega (arith, long, before);
+        within = λ k d h. elim (under-cases k (length ms) (omega (arith, h, long, before))) [
+          | inl l ↦ (let e = get_or_append_left starts (end ∷ []) d k (omega (arith, l, before)) in let q = so.within k d l in omega (arith, e, q))
+          | inr e ↦ (let f = get_or_push starts end d k (before ∙ sym e) in omega (arith, f, is))
+        ];
+        points = λ k d e l. subst (IsStart slots (get_or ms k e)) (sym (get_or_append_left starts (end ∷ []) d k (omega (arith, l, before)))) (so.points k d e l);
+        end = λ d. get_or_push starts end d (length ms) before ∙ is;
+      }
 
 -- the moments between two partition points
 pub within : (ms : List ℤ) (low high : ℤ) (i n : ℕ) → i ≤ length ms → n ≤ length (drop i ms)

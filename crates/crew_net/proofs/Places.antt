@@ -11,7 +11,7 @@ use Rattle.crew_pairing.proofs.Tree.{Each-map}
 use Rattle.crew_duty.proofs.InPlace.{Climb, climb-unique, climb-sorted, Member-shuffled}
 use Rattle.crew_net.specs.Machinery.Moments.{slots_from}
 use Rattle.crew_net.specs.Ranks.{places_from}
-use Rattle.crew_net.specs.declared.timeline.Slot.{Slot}
+use Rattle.crew_net.specs.Machinery.Moments.{Slot}
 
 -- no two numbers are equal
 abbrev AreApart : List ℕ → Type 0

@@ -18,7 +18,7 @@ use Rattle.crew_duty.proofs.Slots.{window}
 use Rattle.crew_net.specs.Machinery.Moments.{AreMoments, AreStarts, slot_cmp}
 use Rattle.crew_net.specs.Machinery.Timelines.{IsShape, IsTimeline, IsWithin}
 use Rattle.crew_net.specs.Ranks.{places_from}
-use Rattle.crew_net.specs.declared.timeline.Slot.{Slot}
+use Rattle.crew_net.specs.Machinery.Moments.{Slot}
 use Rattle.crew_net.specs.declared.timeline.Timeline.{Timeline}
 use Rattle.crew_net.specs.declared.window.Window.{Window}
 use Rattle.crew_net.proofs.InOrder.{rise-far, slot-order}

@@ -2,5 +2,6 @@
 pub mod Held
 pub mod Moments
 pub mod Raised
+pub mod Runs
 pub mod Ranking
 pub mod Timelines

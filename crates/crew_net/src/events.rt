@@ -3,14 +3,14 @@
 ghost use Rattle.std.specs.Prelude.{◌≡◌, ◌<◌, ◌≤◌, ◌-◌, ℕ, ℤ, true, List, IfOk, length, map, get_or};
 ghost use Rattle.crew_net.specs.Machinery.Held as Spec;
 ghost use Rattle.crew_net.specs.Machinery.Held.{AreAt};
-ghost use Rattle.crew_net.specs.Machinery.Moments.{IsBounded};
+ghost use Rattle.crew_net.specs.Machinery.Moments.{AreKeys, IsBounded, IsReal};
 ghost use Rattle.crew_net.specs.Machinery.Timelines.{IsTimeline};
 ghost use Rattle.crew_net.specs.Nets.{AreByReport};
 ghost use Rattle.crew_pairing.specs.Events.{arrival_of, departure_of};
 ghost use Rattle.crew_pairing.specs.declared.duty.Duty.{Duty};
 ghost use Rattle.crew_resource.specs.Members.{Each};
 
-use crate::timeline::{Timeline, moment, places_of, slots_of};
+use crate::timeline::{Timeline, moment, places_of, slot_key};
 use crew_pairing::{Arrival, Departure, Duty};
 use crew_resource::Placed;
 use std::alloc::{AllocError, Global};
@@ -33,28 +33,23 @@ fn arrive_at(duty: &Duty) -> i64
     moment(duty.to, i64::from(duty.release))
 }
 
-/// When and where duties leave.
-pub(crate) fn leave_moments(alloc: Global, duties: &[Duty]) -> Result<Vec<i64>, AllocError>
-    ensures moments { IfOk result (λ ats. ats.items ≡ map Spec.leave_at duties.now) }
-    ensures named { IfOk result (λ ats. Each Spec.IsLeft duties.now) }
+/// The keys of when and where duties leave, and of when and where they arrive.
+pub(crate) fn event_keys(alloc: Global, duties: &[Duty]) -> Result<(Vec<u64>, Vec<u64>), AllocError>
+    requires { length duties.now ≤ 200_000 }
+    ensures left { IfOk result (λ keys. Each Spec.IsLeft duties.now) }
+    ensures reached { IfOk result (λ keys. Each Spec.IsReached duties.now) }
+    ensures leave { IfOk result (λ keys. AreKeys (map Spec.leave_at duties.now) keys.0.items) }
+    ensures arrive { IfOk result (λ keys. AreKeys (map Spec.arrive_at duties.now) keys.1.items) }
+    ensures long { IfOk result (λ keys. (length keys.0.items ≡ length duties.now)
+        × (length keys.1.items ≡ length duties.now)) }
 {
-    let mut ats = Vec::with_capacity(alloc, duties.len())?;
-    for duty in duties {
-        ats.push(leave_at(duty))?;
+    let mut leave = Vec::with_capacity(alloc, duties.len())?;
+    let mut arrive = Vec::with_capacity(alloc, duties.len())?;
+    for (rank, duty) in duties.iter().enumerate() {
+        leave.push(slot_key(leave_at(duty), rank))?;
+        arrive.push(slot_key(arrive_at(duty), rank))?;
     }
-    Ok(ats)
-}
-
-/// When and where duties arrive.
-pub(crate) fn arrive_moments(alloc: Global, duties: &[Duty]) -> Result<Vec<i64>, AllocError>
-    ensures moments { IfOk result (λ ats. ats.items ≡ map Spec.arrive_at duties.now) }
-    ensures named { IfOk result (λ ats. Each Spec.IsReached duties.now) }
-{
-    let mut ats = Vec::with_capacity(alloc, duties.len())?;
-    for duty in duties {
-        ats.push(arrive_at(duty))?;
-    }
-    Ok(ats)
+    Ok((leave, arrive))
 }
 
 // The first duty of a moment.
@@ -103,19 +98,26 @@ pub(crate) fn arrivals_of(
     Ok(events)
 }
 
-// When departures report.
-fn reports_of(alloc: Global, departures: &[Departure]) -> Result<Vec<i64>, AllocError>
-    ensures { IfOk result (λ reports. reports.items ≡ map (λ g. g.report) departures.now) }
+// The keys of when departures report.
+fn report_keys(alloc: Global, departures: &[Departure]) -> Result<Vec<u64>, AllocError>
+    requires few { length departures.now ≤ 200_000 }
+    requires real { Each (λ g. IsReal g.report) departures.now }
+    ensures { IfOk result (λ keys. AreKeys (map (λ g. g.report) departures.now) keys.items) }
 {
-    departures.iter().map(|event| event.report).collect(alloc)
+    let mut keys = Vec::with_capacity(alloc, departures.len())?;
+    for (place, event) in departures.iter().enumerate() {
+        keys.push(slot_key(event.report, place))?;
+    }
+    Ok(keys)
 }
 
 /// The places of departures, by report.
 pub(crate) fn by_report(alloc: Global, departures: &[Departure]) -> Result<Vec<u32>, AllocError>
-    requires { length departures.now ≤ 200_000 }
+    requires few { length departures.now ≤ 200_000 }
+    requires real { Each (λ g. IsReal g.report) departures.now }
     ensures { IfOk result (λ places. AreByReport departures.now places.items) }
 {
-    let reports = reports_of(alloc, departures)?;
-    let slots = slots_of(alloc, &reports)?;
-    places_of(alloc, &slots)
+    let mut keys = report_keys(alloc, departures)?;
+    keys.sort_unstable();
+    places_of(alloc, &keys)
 }

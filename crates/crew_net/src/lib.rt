@@ -13,6 +13,7 @@ mod net;
 mod node;
 mod ranks;
 mod reached;
+mod runs;
 mod timeline;
 mod window;
 mod windows;

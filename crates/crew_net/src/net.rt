@@ -20,11 +20,12 @@ ghost use Rattle.crew_pairing.specs.declared.events.Departure.{Departure};
 ghost use Rattle.crew_resource.specs.Members.{Member};
 ghost use Rattle.crew_rules.specs.Settings.{IsChecked};
 
-use crate::events::{arrivals_of, arrive_moments, by_report, departures_of, leave_moments};
+use crate::events::{arrivals_of, by_report, departures_of, event_keys};
 use crate::layers::{greatest, raise};
 use crate::node::Node;
 use crate::ranks::rank_of;
 use crate::reached::{arrival_places, put};
+use crate::runs::gathered;
 use crate::timeline::Timeline;
 use crate::window::Window;
 use crate::windows::{following, waiting};
@@ -121,8 +122,9 @@ impl Net {
         ensures { IfOk result (IsNetOf settings.now timetable.now (arc_value duties)) }
     {
         let list = duties.as_slice();
-        let leave = Timeline::of(alloc, &leave_moments(alloc, list)?)?;
-        let arrive = Timeline::of(alloc, &arrive_moments(alloc, list)?)?;
+        let (leave, arrive) = event_keys(alloc, list)?;
+        let leave = Timeline::of(alloc, gathered(alloc, &leave)?)?;
+        let arrive = Timeline::of(alloc, arrive)?;
         let departures = departures_of(alloc, list, &leave)?;
         let arrivals = arrivals_of(alloc, list, &arrive)?;
         let by_report = by_report(alloc, &departures)?;

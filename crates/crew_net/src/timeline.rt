@@ -1,21 +1,14 @@
 //! What happens, by the moment at which it happens.
 
-ghost use Rattle.std.specs.Prelude.{◌≡◌, ◌≤◌, ◌<◌, ◌-◌, ◌+◌, ◌≤ℤ◌, pos, true, IfOk, List, ℤ, ℕ, length, map, take, drop, get_or};
+ghost use Rattle.std.specs.Prelude.{◌≡◌, ◌≤◌, ◌<◌, ◌-◌, ◌+◌, ◌≤ℤ◌, negsuc, not, pos, true, IfOk, IsTrue, List, ℤ, ℕ, length, map, take, drop, get_or};
 ghost use Rattle.crew_flights.specs.Codes.{is_code};
 ghost use Rattle.crew_net.specs.Machinery.Moments as Spec;
-ghost use Rattle.crew_net.specs.Machinery.Moments.{AreInOrder, AreMoments, AreStarts, IsBounded, IsMinute};
+ghost use Rattle.crew_net.specs.Machinery.Moments.{AreKeys, AreMoments, AreStarts, IsBounded, IsMinute};
 ghost use Rattle.crew_net.specs.Machinery.Timelines.{IsShape, IsTimeline, IsWithin};
 
 use crate::window::Window;
 use crew_flights::Code;
 use std::alloc::{AllocError, Global};
-
-/// When something happens, and its place among all.
-#[derive(Clone, Copy, Debug, PartialEq, Eq, PartialOrd, Ord)]
-pub(crate) struct Slot {
-    pub(crate) at: i64,
-    pub(crate) place: u32,
-}
 
 /// The moments at which something happens, each once and in order, and the places of what happens
 /// then.
@@ -32,11 +25,11 @@ pub(crate) struct Timeline {
 // The letters of an airport as one number.
 fn code_number(airport: Code) -> u32
     ensures value { result ≡ Spec.code_number airport }
-    ensures bound { result < 16_777_216 }
+    ensures bound { result < 17_576 }
     ensures code { is_code airport ≡ true }
 {
     let [first, second, third] = airport.get();
-    u32::from(first) * 65_536 + u32::from(second) * 256 + u32::from(third)
+    u32::from(first - b'A') * 676 + u32::from(second - b'A') * 26 + u32::from(third - b'A')
 }
 
 /// An airport and a minute as one number: airports lie further apart than any two minutes.
@@ -46,70 +39,68 @@ pub(crate) fn moment(airport: Code, minute: i64) -> i64
     ensures code { is_code airport ≡ true }
     ensures bound { IsBounded result }
 {
-    i64::from(code_number(airport)) * 8_589_934_592 + minute
+    i64::from(code_number(airport)) * 4_295_000_000 + minute
 }
 
-// All that happens at these moments, in order.
-pub(crate) fn slots_of(alloc: Global, ats: &[i64]) -> Result<Vec<Slot>, AllocError>
-    requires { length ats.now ≤ 200_000 }
-    ensures { IfOk result (λ slots. AreInOrder ats.now slots.items) }
+/// A slot as one number: such numbers are quicker to sort than slots.
+pub(crate) fn slot_key(at: i64, place: usize) -> u64
+    requires bounded { IsBounded at }
+    requires few { place < 200_000 }
+    ensures { Spec.keyed_slot result ≡ record { at = at; place = place } }
 {
-    let mut slots = Vec::with_capacity(alloc, ats.len())?;
-    for (place, at) in ats.iter().enumerate() {
-        slots.push(Slot {
-            at: *at,
-            place: place as u32,
-        })?;
+    (at + 2_147_500_001) as u64 * 200_000 + place as u64
+}
+
+// The moment of a key.
+fn keyed_at(key: u64) -> i64
+    ensures value { result ≡ (Spec.keyed_slot key).at }
+    ensures least { negsuc 2_147_500_000 ≤ℤ result }
+    ensures most { result ≤ℤ pos 100_000_000_000_000 }
+{
+    (key / 200_000) as i64 - 2_147_500_001
+}
+
+/// The places of keys.
+pub(crate) fn places_of(alloc: Global, keys: &[u64]) -> Result<Vec<u32>, AllocError>
+    ensures { IfOk result (λ places. places.items ≡ map (λ k. (Spec.keyed_slot k).place) keys.now) }
+{
+    keys.iter()
+        .map(|key| (*key % 200_000) as u32)
+        .collect(alloc)
+}
+
+// Whether the last of some moments is this one.
+fn ends_at(moments: &[i64], at: i64) -> bool
+    ensures some { IsTrue result → 0 < length moments.now }
+    ensures same { (e : ℤ) → IsTrue result → get_or moments.now (length moments.now - 1) e ≡ at }
+    ensures other { (e : ℤ) → IsTrue (not result) → 0 < length moments.now
+        → get_or moments.now (length moments.now - 1) e ≡ at → ⊥ }
+{
+    match moments.last() {
+        Some(last) => *last == at,
+        None => false,
     }
-    slots.sort_unstable();
-    Ok(slots)
 }
 
-// The places of these.
-pub(crate) fn places_of(alloc: Global, slots: &[Slot]) -> Result<Vec<u32>, AllocError>
-    ensures { IfOk result (λ places. places.items ≡ map (λ s. s.place) slots.now) }
+// The moments of keys in order, each once, and where each begins.
+fn moments_of(alloc: Global, keys: &[u64]) -> Result<(Vec<i64>, Vec<u32>), AllocError>
+    requires ascend { Spec.Ascend (map Spec.keyed_slot keys.now) }
+    requires few { length keys.now ≤ 200_000 }
+    ensures moments { IfOk result (λ r. AreMoments (map Spec.keyed_slot keys.now) r.0.items) }
+    ensures starts { IfOk result (λ r. AreStarts (map Spec.keyed_slot keys.now) r.0.items
+        r.1.items) }
 {
-    slots.iter().map(|slot| slot.place).collect(alloc)
-}
-
-// The moments of these.
-fn ats_of(alloc: Global, slots: &[Slot]) -> Result<Vec<i64>, AllocError>
-    ensures { IfOk result (λ ats. ats.items ≡ map (λ s. s.at) slots.now) }
-{
-    slots.iter().map(|slot| slot.at).collect(alloc)
-}
-
-// The moments at which something happens, each once.
-fn moments_of(alloc: Global, ats: &[i64], slots: &[Slot]) -> Result<Vec<i64>, AllocError>
-    requires { AreInOrder ats.now slots.now }
-    ensures { IfOk result (λ moments. AreMoments slots.now moments.items) }
-{
-    let mut all = ats_of(alloc, slots)?;
-    all.dedup();
-    Vec::from_slice(alloc, &all)
-}
-
-// Where a moment begins.
-fn start_of(slots: &[Slot], at: &i64) -> usize
-    requires { Spec.Ascend slots.now }
-    ensures within { result ≤ length slots.now }
-    ensures point { Spec.IsStart slots.now at.now result }
-{
-    slots.partition_point(|slot| slot.at < *at)
-}
-
-// Where each moment begins, and then where the last one ends.
-fn starts_of(alloc: Global, slots: &[Slot], moments: &[i64]) -> Result<Vec<u32>, AllocError>
-    requires ascend { Spec.Ascend slots.now }
-    requires few { length slots.now ≤ 200_000 }
-    ensures { IfOk result (λ starts. AreStarts slots.now moments.now starts.items) }
-{
-    let mut starts = Vec::with_capacity(alloc, moments.len() + 1)?;
-    for at in moments {
-        starts.push(start_of(slots, at) as u32)?;
+    let mut moments = Vec::new(alloc);
+    let mut starts = Vec::new(alloc);
+    for (place, key) in keys.iter().enumerate() {
+        let at = keyed_at(*key);
+        if !ends_at(&moments, at) {
+            moments.push(at)?;
+            starts.push(place as u32)?;
+        }
     }
-    starts.push(slots.len() as u32)?;
-    Ok(starts)
+    starts.push(keys.len() as u32)?;
+    Ok((moments, starts))
 }
 
 /// The moments that lie between two, both included.
@@ -127,15 +118,16 @@ pub(crate) fn window_between(moments: &[i64], earliest: i64, latest: i64) -> Win
 }
 
 impl Timeline {
-    /// What happens at these moments.
-    pub(crate) fn of(alloc: Global, ats: &[i64]) -> Result<Timeline, AllocError>
-        requires { length ats.now ≤ 200_000 }
-        ensures { IfOk result (λ timeline. IsTimeline ats.now timeline) }
+    /// All that has these keys.
+    pub(crate) fn of(alloc: Global, keys: Vec<u64>) -> Result<Timeline, AllocError>
+        requires few { length keys.items ≤ 200_000 }
+        ensures { (ats : List ℤ) → AreKeys ats keys.items
+            → IfOk result (λ timeline. IsTimeline ats timeline) }
     {
-        let slots = slots_of(alloc, ats)?;
-        let moments = moments_of(alloc, ats, &slots)?;
-        let starts = starts_of(alloc, &slots, &moments)?;
-        let places = places_of(alloc, &slots)?;
+        let mut keys = keys;
+        keys.sort_unstable();
+        let (moments, starts) = moments_of(alloc, &keys)?;
+        let places = places_of(alloc, &keys)?;
         Ok(Timeline {
             moments,
             starts,

@@ -3,12 +3,16 @@
 //! The input is the records `zone`, `base` and `flight` of a session; others are passed over. The
 //! settings are the standard ones, with 80 minutes at most between two legs and at most four duties
 //! in a pairing. It prints how many duties, nodes, departures and arrivals there are, and on
-//! standard error the microseconds that it took to list the duties and to build their network, the
-//! least of ten times each.
+//! standard error the microseconds that it took to list the duties and to build their network: the
+//! least of ten times each, and then those of the first time, when the memory is fresh.
 //!
 //! Of the words after the program's name the first number is the most minutes between two legs, in
 //! place of 80. For each number after it the timetable is solved by so many workers: the cost of the
 //! best pairing goes to standard output, and the microseconds that it took to standard error.
+//!
+//! With the word `list` among them it lists the duties once, or finds that they are too many, and
+//! does nothing else, for `bench/duties`: the microseconds that it took go to standard error. The
+//! second number is then the least minutes between two legs.
 #![tactic(auto)]
 
 ghost use Rattle.crew_rules.specs.Settings.{IsChecked};
@@ -89,6 +93,26 @@ fn read_flight(settings: &Settings, zones: &[(Code, Zone)], line: &str) -> Optio
     }))
 }
 
+// Lists the duties, and prints how many there are and what it took.
+fn measure_list<R: Threads + Sync + Clock + Eprint + Print>(
+    rt: &R,
+    alloc: Global,
+    settings: &Settings,
+    timetable: &Timetable,
+) -> io::Result<()>
+    requires { IsChecked settings.now }
+{
+    let start = Instant::now(rt)?;
+    let duties = list_duties(rt, alloc, settings, timetable);
+    let list = start.elapsed(rt)?.as_micros();
+    match duties {
+        Ok(duties) => println!(rt; "duties {}", duties.len())?,
+        Err(_) => println!(rt; "duties refused")?,
+    }
+    eprintln!(rt; "list {list}")?;
+    Ok(())
+}
+
 // Lists the duties and builds their network, and prints what there is and what it took.
 fn measure<R: Threads + Sync + Clock + Eprint + Print>(
     rt: &R,
@@ -100,6 +124,7 @@ fn measure<R: Threads + Sync + Clock + Eprint + Print>(
 {
     let mut list = u128::MAX;
     let mut build = u128::MAX;
+    let mut first = (0, 0);
     for round in 0..ROUNDS {
         let start = Instant::now(rt)?;
         let Ok(duties) = list_duties(rt, alloc, settings, timetable) else {
@@ -112,6 +137,9 @@ fn measure<R: Threads + Sync + Clock + Eprint + Print>(
         let built = start.elapsed(rt)?.as_micros();
         list = list.min(listed);
         build = build.min(built);
+        if round == 0 {
+            first = (listed, built);
+        }
         if round + 1 == ROUNDS {
             println!(rt;
                 "duties {} nodes {} departures {} arrivals {}",
@@ -122,7 +150,8 @@ fn measure<R: Threads + Sync + Clock + Eprint + Print>(
             )?;
         }
     }
-    eprintln!(rt; "list {list} build {build}")?;
+    let (first_list, first_build) = first;
+    eprintln!(rt; "list {list} build {build} first {first_list} {first_build}")?;
     Ok(())
 }
 
@@ -159,13 +188,30 @@ fn solve_by<R: Threads + Sync + Clock + Eprint + Print>(
     Ok(())
 }
 
+// Whether a word is among those of the command line.
+fn has_word<R: Env + AllocGlobal>(rt: &R, wanted: &str) -> io::Result<bool> {
+    let mut found = false;
+    for word in env::args(rt)? {
+        found = found || word.as_str() == wanted;
+    }
+    Ok(found)
+}
+
 fn main(rt: HostRuntime) -> io::Result<()> {
     let alloc = rt.alloc();
     let numbers = numbers_of(&rt)?;
+    let lists = has_word(&rt, "list")?;
+    let standard = Settings::standard();
+    let connect = if lists {
+        numbers.get(1).copied().unwrap_or(standard.connect)
+    } else {
+        standard.connect
+    };
     let settings = Settings {
         sit: numbers.first().copied().unwrap_or(80),
+        connect,
         max_duties: 4,
-        ..Settings::standard()
+        ..standard
     };
     if settings.check().is_err() {
         return Ok(());
@@ -181,6 +227,9 @@ fn main(rt: HostRuntime) -> io::Result<()> {
         } else if let Some(flight) = read_flight(&settings, &zones, line.as_str()) {
             timetable.apply(&flight)?;
         }
+    }
+    if lists {
+        return measure_list(&rt, alloc, &settings, &timetable);
     }
     measure(&rt, alloc, &settings, &timetable)?;
     for workers in numbers.iter().skip(1) {

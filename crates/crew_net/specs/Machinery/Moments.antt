@@ -1,40 +1,52 @@
 -- An airport and a minute as one number, and the places of what happens at each.
-use Rattle.std.specs.Prelude.{◌≡◌, true, false, int_lt, ℕ, suc, ◌+◌, ◌*◌, ◌≤◌, ◌<◌, ℤ, pos, negsuc, ◌+ℤ◌, ◌≤ℤ◌, ◌<ℤ◌, List, [], ◌∷◌, length, get_or, IsPermutation, IsSorted}
+use Rattle.std.specs.Prelude.{◌≡◌, true, false, int_lt, ℕ, suc, ◌+◌, ◌-◌, ◌*◌, ◌/◌, ◌%◌, ◌≤◌, ◌<◌, ℤ, pos, negsuc, ◌+ℤ◌, ◌-ℤ◌, ◌≤ℤ◌, ◌<ℤ◌, List, [], ◌∷◌, length, map, get_or, IsPermutation, IsSorted}
 use Rattle.std.specs.declared.cmp.Ordering.{Ordering}
 use Rattle.std.specs.Ordering.{int_cmp, nat_cmp, ordering_then}
 use Rattle.std.specs.List.Sorted.{IsPartitionPoint}
-use Rattle.crew_net.specs.declared.timeline.Slot.{Slot}
+
+-- when something happens, and its place among all
+pub record Slot : Type 0 where
+  pub at : ℤ
+  pub place : ℕ
 
 -- the letters of an airport as one number
 abbrev pub code_number : List ℕ → ℕ
-code_number code = get_or code 0 0 * 65_536 + get_or code 1 0 * 256 + get_or code 2 0
+code_number code = (get_or code 0 0 - 65) * 676 + (get_or code 1 0 - 65) * 26 + (get_or code 2 0 - 65)
 
 -- an airport and a minute as one number: airports lie further apart than any two minutes of 32 bits
 abbrev pub moment : List ℕ → ℤ → ℤ
-moment airport minute = pos (code_number airport * 8_589_934_592) +ℤ minute
+moment airport minute = pos (code_number airport * 4_295_000_000) +ℤ minute
 
 -- a minute of 32 bits, or less than an airport's distance away from one
 pub record IsMinute (minute : ℤ) : Type 0 where
-  pub least : negsuc 2_200_000_000 ≤ℤ minute
-  pub most : minute ≤ℤ pos 2_200_000_000
+  pub least : negsuc 2_147_500_000 ≤ℤ minute
+  pub most : minute ≤ℤ pos 2_147_500_000
 
 -- a minute of 32 bits
 pub record IsReal (minute : ℤ) : Type 0 where
   pub least : negsuc 2_147_483_647 ≤ℤ minute
   pub most : minute ≤ℤ pos 2_147_483_647
 
--- a moment of such a minute, far from where numbers of 64 bits end
+-- a moment of such a minute: with a place it fits 64 bits
 pub record IsBounded (at : ℤ) : Type 0 where
-  pub least : negsuc 2_200_000_000 ≤ℤ at
-  pub most : at ≤ℤ pos 200_000_000_000_000_000
+  pub least : negsuc 2_147_500_000 ≤ℤ at
+  pub most : at ≤ℤ pos 75_490_000_000_000
 
 -- what happens at these moments, from a place on
 abbrev pub slots_from : ℕ → List ℤ → List Slot
 slots_from place [] = []
 slots_from place (at ∷ ats) = record { at = at; place = place } ∷ slots_from (suc place) ats
 
+-- the slot of a key: keys of slots at bounded moments stand in the order of the slots
+abbrev pub keyed_slot : ℕ → Slot
+keyed_slot key = record { at = pos (key / 200_000) -ℤ pos 2_147_500_001; place = key % 200_000 }
+
 abbrev pub slot_cmp : Slot → Slot → Ordering
 slot_cmp a b = ordering_then (int_cmp a.at b.at) (nat_cmp a.place b.place)
+
+-- the keys of all that happens at these moments, in any order
+abbrev pub AreKeys : List ℤ → List ℕ → Type 0
+AreKeys ats keys = IsPermutation (slots_from 0 ats) (map keyed_slot keys)
 
 -- no slot is later than one after it
 abbrev pub Ascend : List Slot → Type 0

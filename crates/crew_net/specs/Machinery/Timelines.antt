@@ -1,7 +1,7 @@
 -- What a timeline holds.
 use Rattle.std.specs.Prelude.{◌≡◌, ◌≤◌, ◌<◌, ◌+◌, ◌↔◌, ℕ, ℤ, ◌≤ℤ◌, List, length, map, get_or}
 use Rattle.crew_net.specs.Machinery.Moments.{AreInOrder, AreMoments, AreStarts}
-use Rattle.crew_net.specs.declared.timeline.Slot.{Slot}
+use Rattle.crew_net.specs.Machinery.Moments.{Slot}
 use Rattle.crew_net.specs.declared.timeline.Timeline.{Timeline}
 use Rattle.crew_net.specs.declared.window.Window.{Window}
 
