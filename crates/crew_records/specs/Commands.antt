@@ -7,7 +7,7 @@ use Rattle.crew_records.specs.Fields.{Fields, ◌>>=◌, count_field, field_of, 
 use Rattle.crew_records.specs.declared.fault.RecordFault.{RecordFault}
 use Rattle.crew_records.specs.declared.fault.RecordFault.TheVariants.{UnknownRecord}
 use Rattle.crew_records.specs.declared.command.Command.{Command}
-use Rattle.crew_records.specs.declared.command.Command.TheVariants.{AddZone, Submit, AddFlight, Retime, Settle, Best, ShowFront, Audit, Refuse}
+use Rattle.crew_records.specs.declared.command.Command.TheVariants.{AddZone, Submit, AddFlight, Retime, Settle, Best, ShowFront, Cheapest, Audit, Refuse}
 
 -- ---- each kind of record: its number of fields, then its fields from left to right
 
@@ -80,11 +80,18 @@ front_command fields = do
   key ← duty_field (field_of fields 2)
   Ok (ShowFront base key)
 
+-- pairings,LIMIT
+unfoldable pub cheapest_command : Fields → Result Command RecordFault
+cheapest_command fields = do
+  count ← count_field fields 2
+  limit ← limit_field 10_000 (field_of fields 1)
+  Ok (Cheapest limit)
+
 -- audit,LIMIT
 unfoldable pub audit_command : Fields → Result Command RecordFault
 audit_command fields = do
   count ← count_field fields 2
-  limit ← limit_field (field_of fields 1)
+  limit ← limit_field 10_000_000 (field_of fields 1)
   Ok (Audit limit)
 
 -- a record of its name alone
@@ -107,8 +114,9 @@ kind_of name fields =
     else (if bytes_eq name (codes "settle") then plain_command fields Settle
     else (if bytes_eq name (codes "best") then plain_command fields Best
     else (if bytes_eq name (codes "front") then front_command fields
+    else (if bytes_eq name (codes "pairings") then cheapest_command fields
     else (if bytes_eq name (codes "audit") then audit_command fields
-    else Err UnknownRecord))))))))))
+    else Err UnknownRecord)))))))))))
 
 abbrev pub named_command : Fields → Result Command RecordFault
 named_command fields = kind_of (field_of fields 0) fields
@@ -130,5 +138,6 @@ IsDated (Retime id from dep arr) = IsInYears dep
 IsDated Settle = Unit {0}
 IsDated Best = Unit {0}
 IsDated (ShowFront base key) = Unit {0}
+IsDated (Cheapest limit) = Unit {0}
 IsDated (Audit limit) = Unit {0}
 IsDated (Refuse fault) = Unit {0}

@@ -56,9 +56,9 @@ number_field most f = if is_number most f then Ok (read_on 0 f) else Err BadFiel
 abbrev pub id_field : List ℕ → Result ℕ RecordFault
 id_field f = number_field 6 f
 
--- LIMIT: 1 to 8 digits without a leading zero, at most 10,000,000
-abbrev pub limit_field : List ℕ → Result ℕ RecordFault
-limit_field f = number_field 8 f >>= (λ n. if nat_le n 10_000_000 then Ok n else Err BadField)
+-- LIMIT: 1 to 8 digits without a leading zero, at most so much
+abbrev pub limit_field : ℕ → List ℕ → Result ℕ RecordFault
+limit_field most f = number_field 8 f >>= (λ n. if nat_le n most then Ok n else Err BadField)
 
 -- PRICE: `0`, or an optional `-` and 1 to 18 digits without a leading zero
 abbrev pub signed_field : List ℕ → Result ℤ RecordFault

@@ -49,6 +49,10 @@ pub enum Command {
         base: Code,
         key: Key,
     },
+    /// So many pairings of the last version, the least first.
+    Cheapest {
+        limit: u32,
+    },
     /// The partial pairings of the last version, where there are at most so many.
     Audit {
         limit: u32,
@@ -157,13 +161,23 @@ fn front_command(row: &ByteRecord) -> Result<Command, RecordFault>
     Ok(Command::ShowFront { base, key })
 }
 
+#[tactic(auto, unfolding(crate::specs::Commands::cheapest_command))]
+fn cheapest_command(row: &ByteRecord) -> Result<Command, RecordFault>
+    ensures value { result ≡ Spec.cheapest_command (fields_of row.now) }
+    ensures dated { IfOk result IsDated }
+{
+    count_fields(row, 2)?;
+    let limit = read_limit(field(row, 1), 10_000)?;
+    Ok(Command::Cheapest { limit })
+}
+
 #[tactic(auto, unfolding(crate::specs::Commands::audit_command))]
 fn audit_command(row: &ByteRecord) -> Result<Command, RecordFault>
     ensures value { result ≡ Spec.audit_command (fields_of row.now) }
     ensures dated { IfOk result IsDated }
 {
     count_fields(row, 2)?;
-    let limit = read_limit(field(row, 1))?;
+    let limit = read_limit(field(row, 1), 10_000_000)?;
     Ok(Command::Audit { limit })
 }
 
@@ -212,6 +226,9 @@ fn named_command(row: &ByteRecord) -> Result<Command, RecordFault>
     }
     if name == b"front".as_slice() {
         return front_command(row);
+    }
+    if name == b"pairings".as_slice() {
+        return cheapest_command(row);
     }
     if name == b"audit".as_slice() {
         return audit_command(row);

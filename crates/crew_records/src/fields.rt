@@ -144,12 +144,12 @@ pub(crate) fn read_key(field: &[u8]) -> Result<Key, RecordFault>
     }
 }
 
-// The most that an audit lists.
-pub(crate) fn read_limit(field: &[u8]) -> Result<u32, RecordFault>
-    ensures { result ≡ Spec.limit_field field.now }
+// A limit, which is at most so much.
+pub(crate) fn read_limit(field: &[u8], most: u32) -> Result<u32, RecordFault>
+    ensures { result ≡ Spec.limit_field most field.now }
 {
     let number = read_number(field, 8)?;
-    if number > 10_000_000 {
+    if number > u64::from(most) {
         return Err(RecordFault::BadField);
     }
     Ok(number as u32)

@@ -37,10 +37,14 @@ refused-more ns vs first i h =
     let next : first + (i + 1) ≡ suc (first + i) = omega arith in
     rw (next, drop-cons ns i 0, add-one i) (one-more vs (first + i) (get_or ns i 0) (drop (suc i) ns))
 
+-- the line of what stands at a place, and then the others
+pub each-more : {X : Type 0} (line : X → List ℕ) (xs : List X) (i : ℕ) (x : X) → i < length xs → flat_map line (drop i xs) ≡ line (get_or xs i x) ++ flat_map line (drop (i + 1) xs)
+each-more line xs i x h = rw (drop-cons xs i x, add-one i) refl
+
 -- the line of the entry at a place, and then the others
 pub entries-more : (entries : List (PairingVector × List (List Leg))) (i : ℕ) (entry : PairingVector × List (List Leg)) → i < length entries
     → flat_map entry_line (drop i entries) ≡ entry_line (get_or entries i entry) ++ flat_map entry_line (drop (i + 1) entries)
-entries-more entries i entry h = rw (drop-cons entries i entry, add-one i) refl
+entries-more = each-more entry_line
 
 -- nothing is left
 pub refused-all : (ns : List ℕ) (vs : List Verdict) (i : ℕ) → length ns < i + 1 → refused_lines (drop i ns) vs ≡ []

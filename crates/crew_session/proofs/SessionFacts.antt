@@ -24,9 +24,10 @@ use Rattle.crew_session.specs.declared.journal.Journal.{Journal}
 use Rattle.crew_session.specs.declared.session.Ending.TheVariants.{AtEnd, TooManyRecords}
 use Rattle.crew_session.specs.Audits.{Audits}
 use Rattle.crew_session.specs.Fronts.{ShowsFront}
+use Rattle.crew_session.specs.Pairings.{ShowsCheapest}
 use Rattle.crew_pairing.specs.Legs.{Leg}
 use Rattle.crew_records.specs.declared.command.Command.{Command}
-use Rattle.crew_records.specs.declared.command.Command.TheVariants.{Audit, ShowFront}
+use Rattle.crew_records.specs.declared.command.Command.TheVariants.{Audit, Cheapest, ShowFront}
 use Rattle.crew_session.proofs.LineFacts.{appends-both, appends-none}
 
 -- a session has come this far: what it wrote, with what the records that are left write, is what all write
@@ -93,6 +94,13 @@ pub fronted : {F : Type 0} (r : Result (Unit {0}) F) (old new : Option (List ℕ
 fronted (Ok u) old new s number base key command j v w taken e f told =
     (told.0, told.1, subst (λ (k : Command). Obeys s number k (state_of j v taken) (state_of j v taken) told.0) (sym e) (refl, subst (λ (x : Snapshot). ShowsFront base key x told.0) f told.2))
 fronted (Err x) old new s number base key command j v w taken e f told = tt
+
+-- pairings change nothing
+pub cheapest-shown : {F : Type 0} (r : Result (Unit {0}) F) (old new : Option (List ℕ)) (s : Settings) (number limit : ℕ) (command : Command) (j : Journal) (v w : Snapshot) (taken : List Entry) → command ≡ Cheapest limit → w ≡ v
+    → OnOk r ((text : List ℕ) × Appends old new text × ShowsCheapest limit w text) → OnOk r ((text : List ℕ) × Appends old new text × Obeys s number command (state_of j v taken) (state_of j v taken) text)
+cheapest-shown (Ok u) old new s number limit command j v w taken e f told =
+    (told.0, told.1, subst (λ (k : Command). Obeys s number k (state_of j v taken) (state_of j v taken) told.0) (sym e) (refl, subst (λ (x : Snapshot). ShowsCheapest limit x told.0) f told.2))
+cheapest-shown (Err x) old new s number limit command j v w taken e f told = tt
 
 -- an audit changes nothing
 pub audited : {F : Type 0} (r : Result (Unit {0}) F) (old new : Option (List ℕ)) (s : Settings) (number limit : ℕ) (command : Command) (j : Journal) (v w : Snapshot) (taken : List Entry) → command ≡ Audit limit → w ≡ v

@@ -1,5 +1,5 @@
 -- What a solution says of a timetable.
-use Rattle.std.proofs.Common.{◌≡◌, ℕ, ℤ, Bool, true, false, List, [], ◌∷◌, Option, Some, None, refl, sym, ap, subst, ◌∙◌, inl, inr, ◌||◌, ◌++◌}
+use Rattle.std.proofs.Common.{◌≡◌, ℕ, ℤ, Bool, true, false, cond, List, [], ◌∷◌, Option, Some, None, refl, sym, ap, subst, ◌∙◌, inl, inr, ◌||◌, ◌++◌, reverse, arith}
 use Rattle.std.specs.Prelude.{Vec, is_some}
 use Rattle.std.specs.FinMap as fin
 use Rattle.std.specs.Global.{Global}
@@ -11,8 +11,12 @@ use Rattle.std.specs.List.Sorted.{IsPermutation}
 use Rattle.std.proofs.lemmas.Cmp.{tied_itself}
 use Rattle.std.proofs.lemmas.List.Sorted.{IsPermutation-sym}
 use Rattle.crew_flights.specs.Codes.{code_cmp, code_cmp_total}
-use Rattle.crew_flights.specs.Fold.{HasTaken, Standing}
-use Rattle.crew_flights.specs.Timetable.{Timetable, empty_timetable}
+use Rattle.crew_flights.proofs.Soundness.{changed_sound, empty_sound}
+use Rattle.crew_flights.specs.Edits.{applied, apply_of, refusal_of}
+use Rattle.crew_flights.specs.Fold.{HasTaken, Standing, data_after, is_in_turn}
+use Rattle.crew_flights.specs.Timetable.{IsSound, Timetable, empty_timetable}
+use Rattle.crew_flights.specs.declared.edit.Edit.{Edit}
+use Rattle.crew_flights.specs.declared.edit.Refusal.{Refusal}
 use Rattle.crew_flights.specs.declared.edit.Verdict.{Verdict}
 use Rattle.crew_flights.specs.declared.entries.Entry.{Entry}
 use Rattle.crew_pairing.specs.Duties.{HasFew}
@@ -24,6 +28,7 @@ use Rattle.crew_resource.specs.Members.{Member}
 use Rattle.crew_rules.specs.declared.settings.Settings.{Settings}
 use Rattle.crew_session.specs.Fronts.{IsFrontByKey}
 use Rattle.crew_session.specs.Versions.{IsKept, IsRight, IsSolutionOf, IsSolved, best_of, timetable_of, verdicts_of}
+use Rattle.crew_solve.specs.Cheapest.{AreCheapest}
 use Rattle.crew_solve.specs.Solutions.{IsFrontOf, Solution, front_of}
 use Rattle.crew_vector.specs.Bests.{IsBest}
 use Rattle.crew_vector.specs.Fronts.{IsFrontAt}
@@ -94,6 +99,35 @@ no-base base price h = let none : fin.get empty_timetable.bases base ≡ None = 
 -- before any entry there is none
 pub no-front-at-start : (s : Settings) (t : Timetable) (base : List ℕ) (key : List Leg) → t ≡ empty_timetable → IsFrontByKey s t base key None
 no-front-at-start s t base key e = rw e (λ price d based duty named. no-base base price based)
+
+-- ---- the cheapest
+
+sound-by : (t : Timetable) (edit : Edit) (o : Option Refusal) → refusal_of t edit ≡ o → IsSound t → IsSound (applied t edit o).0
+sound-by t edit None e h = changed_sound t edit h e
+sound-by t edit (Some why) e h = h
+
+sound-if : (b : Bool) (t u : Timetable) → IsSound t → IsSound u → IsSound (cond b t u)
+sound-if true t u h k = h
+sound-if false t u h k = k
+
+sound-after : (earlier : List Entry) → IsSound (data_after earlier)
+sound-after [] = empty_sound
+sound-after (e ∷ earlier) =
+    let h = sound-after earlier in
+    sound-if (is_in_turn earlier e) (apply_of (data_after earlier) e.edit).0 (data_after earlier) (sound-by (data_after earlier) e.edit (refusal_of (data_after earlier) e.edit) refl h) h
+
+-- the timetable of a log is one that edits can make
+pub timetable-sound : (entries : List Entry) → IsSound (timetable_of entries)
+timetable-sound entries = sound-after (reverse entries)
+
+-- before any entry there is none
+pub no-pairing-at-start : (s : Settings) (t : Timetable) (limit : ℕ) → t ≡ empty_timetable → AreCheapest s t limit []
+no-pairing-at-start s t limit e = rw e (record {
+  rise = tt;
+  few = omega arith;
+  shown = λ p m. absurd m;
+  least = λ q h. absurd (no-base q.base h.pairing.price h.pairing.based);
+})
 
 -- ---- the best
 

@@ -3,6 +3,7 @@ pub mod Engines
 pub mod Faults
 pub mod Fronts
 pub mod Lines
+pub mod Pairings
 pub mod Rows
 pub mod Session
 pub mod Verdicts

@@ -57,14 +57,24 @@ version_line v =
     ++ codes " entries " ++ decimal (length v.entries)
     ++ codes " flights " ++ decimal (fin.len (timetable_of v.entries).flights) ++ codes "\n"
 
+-- a pairing, after the word that says what it is
+abbrev pub pairing_line : List ℕ → PricedPairing → List ℕ
+pairing_line word p =
+    word ++ codes " " ++ p.base
+    ++ codes " cost " ++ signed_decimal p.cost
+    ++ codes " pay " ++ signed_decimal p.pay
+    ++ codes " away " ++ signed_decimal p.away
+    ++ codes " " ++ walk_text p.walk ++ codes "\n"
+
 abbrev pub best_line : Option PricedPairing → List ℕ
 best_line None = codes "best none\n"
-best_line (Some b) =
-    codes "best " ++ b.base
-    ++ codes " cost " ++ signed_decimal b.cost
-    ++ codes " pay " ++ signed_decimal b.pay
-    ++ codes " away " ++ signed_decimal b.away
-    ++ codes " " ++ walk_text b.walk ++ codes "\n"
+best_line (Some b) = pairing_line (codes "best") b
+
+-- how many pairings there are, and then each
+abbrev pub pairings_lines : List PricedPairing → List ℕ
+pairings_lines pairings =
+    (codes "pairings " ++ decimal (length pairings) ++ codes "\n")
+    ++ flat_map (pairing_line (codes "pairing")) pairings
 
 -- the parts of a vector in order, each after a space
 abbrev pub part_text : ℤ → List ℕ

@@ -3,9 +3,9 @@
 //! promises that what `run` writes is the text of the session, for any reader, any writer and any
 //! engine: each refusal is named by its record, nothing that was taken is lost, a settle makes a
 //! version exactly where there are no more than 200,000 legal duties, the best that a version shows
-//! is the best pairing of its timetable, whatever its length, and an audit counts the partial
-//! pairings of its timetable by their definition. Where it ends otherwise, only an engine that may
-//! be strange is called strange.
+//! is the best pairing of its timetable, whatever its length, the pairings that it lists are the
+//! cheapest that fronts show, and an audit counts the partial pairings of its timetable by their
+//! definition. Where it ends otherwise, only an engine that may be strange is called strange.
 #![tactic(auto)]
 
 mod audit;
@@ -16,6 +16,7 @@ mod fault;
 mod front;
 mod journal;
 mod lines;
+mod pairings;
 mod plain;
 mod rows;
 mod search;

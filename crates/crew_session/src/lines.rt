@@ -81,21 +81,26 @@ pub(crate) fn put_signed(line: &mut Vec<u8>, number: i64) -> Result<(), AllocErr
     write!(line, "{number}").map_err(|_| AllocError)
 }
 
-// The line of a pairing.
-fn pairing_line(alloc: Global, best: &PricedPairing) -> Result<Vec<u8>, AllocError>
-    ensures { IfOk result (λ line. line.items ≡ Spec.best_line (Some best.now)) }
+// The line of a pairing, after a word.
+pub(crate) fn pairing_line(
+    alloc: Global,
+    word: &[u8],
+    pairing: &PricedPairing,
+) -> Result<Vec<u8>, AllocError>
+    ensures { IfOk result (λ line. line.items ≡ Spec.pairing_line word.now pairing.now) }
 {
     let mut line = Vec::new(alloc);
-    line.extend_from_slice(b"best ")?;
-    line.extend_from_slice(&best.base.get())?;
-    line.extend_from_slice(b" cost ")?;
-    put_signed(&mut line, best.cost)?;
-    line.extend_from_slice(b" pay ")?;
-    put_signed(&mut line, best.pay)?;
-    line.extend_from_slice(b" away ")?;
-    put_signed(&mut line, best.away)?;
+    line.extend_from_slice(word)?;
     line.push(b' ')?;
-    put_walk(&mut line, &best.walk)?;
+    line.extend_from_slice(&pairing.base.get())?;
+    line.extend_from_slice(b" cost ")?;
+    put_signed(&mut line, pairing.cost)?;
+    line.extend_from_slice(b" pay ")?;
+    put_signed(&mut line, pairing.pay)?;
+    line.extend_from_slice(b" away ")?;
+    put_signed(&mut line, pairing.away)?;
+    line.push(b' ')?;
+    put_walk(&mut line, &pairing.walk)?;
     line.push(b'\n')?;
     Ok(line)
 }
@@ -180,7 +185,7 @@ pub(crate) fn write_best<W: Write>(
 {
     match version.best() {
         None => write_line(writer, b"best none\n"),
-        Some(best) => write_line(writer, &pairing_line(alloc, best)?),
+        Some(best) => write_line(writer, &pairing_line(alloc, b"best", best)?),
     }
 }
 

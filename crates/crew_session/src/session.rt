@@ -24,6 +24,7 @@ use crate::fault::{SessionFault, stop};
 use crate::front::answer_front;
 use crate::journal::Journal;
 use crate::lines::{write_best, write_refusals, write_refused, write_version};
+use crate::pairings::answer_cheapest;
 use crate::rows::next_row;
 use crate::version::Version;
 use crate::zones::Zones;
@@ -316,6 +317,7 @@ fn obey<R: Threads + Sync, W: Write, E: Engine>(
         Command::ShowFront { base, key } => {
             answer_front(alloc, writer, base, &key, engine.version())
         }
+        Command::Cheapest { limit } => answer_cheapest(alloc, writer, limit, engine.version()),
         Command::Audit { limit } => answer_audit(alloc, number, limit, writer, engine.version()),
         Command::Refuse(fault) => write_refused(alloc, writer, number, fault.number()),
     }

@@ -7,6 +7,7 @@ ghost use Rattle.crew_rules.specs.Settings.{IsChecked};
 ghost use Rattle.crew_session.specs.Engines.{IsAdvanceFault};
 ghost use Rattle.crew_session.specs.Fronts.{IsFrontByKey};
 ghost use Rattle.crew_session.specs.Versions.{FoldsOn};
+ghost use Rattle.crew_solve.specs.Cheapest.{AreCheapest};
 
 use crate::engine_fault::EngineFault;
 use crate::search::find_solution;
@@ -188,6 +189,18 @@ impl Version {
         }
     }
 
+    /// Of the pairings of all bases that fronts show those that come first by cost and walk: as many
+    /// as the limit, or all where there are no more.
+    pub fn cheapest(&self, alloc: Global, limit: usize) -> Result<Vec<PricedPairing>, AllocError>
+        ensures { IfOk result (λ pairings. AreCheapest self.now.settings
+            (Spec.timetable_of self.now.entries) limit pairings.items) }
+    {
+        match &self.solution {
+            None => Ok(Vec::new(alloc)),
+            Some(solution) => solution.cheapest(alloc, limit),
+        }
+    }
+
     /// The front of a base and the duty of a key, in order of vector: each vector with its walk.
     /// `None` where the code is no base, or no legal duty has the key.
     pub fn front(
@@ -253,7 +266,8 @@ impl Version {
             return Err(EngineFault::LastVersion);
         };
         let (fold, verdicts) = fold_on(alloc, &self.fold, entries)?;
-        let solution = find_solution(rt, alloc, &self.settings, fold.timetable())?;
+        let earlier = self.solution.as_ref();
+        let solution = find_solution(rt, alloc, &self.settings, fold.timetable(), earlier)?;
         self.verdicts.reserve(verdicts.len())?;
         move_all(&mut self.entries, entries)?;
         append(&mut self.verdicts, &verdicts);

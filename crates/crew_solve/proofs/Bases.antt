@@ -1,5 +1,5 @@
 -- The entries of the bases are what the map holds.
-use Rattle.std.proofs.Common.{◌≡◌, ℕ, ℤ, Bool, true, false, cond, List, [], ◌∷◌, Some, refl, sym, ap, ◌∙◌, ◌&&◌, inl, inr}
+use Rattle.std.proofs.Common.{◌≡◌, ℕ, ℤ, Bool, true, false, cond, List, [], ◌∷◌, Some, refl, sym, ap, subst, map, ◌∙◌, ◌&&◌, inl, inr}
 use lib.Dec.{T}
 use Rattle.std.specs.declared.cmp.Ordering.{Ordering}
 use Rattle.std.specs.declared.cmp.Ordering.TheVariants.{Less, Equal, Greater}
@@ -10,7 +10,7 @@ use Rattle.std.specs.FinMap.{find, is_sorted}
 use Rattle.std.specs.FinMap.Entries.{below_all}
 use Rattle.crew_flights.specs.Codes.{code_cmp, code_cmp_total}
 use Rattle.crew_flights.specs.Timetable.{Timetable}
-use Rattle.crew_resource.specs.Members.{Member}
+use Rattle.crew_resource.specs.Members.{Each, Member}
 use Rattle.crew_vector.proofs.Orders.{same-code}
 
 abbrev Bases : Type 0
@@ -67,3 +67,23 @@ price-of t e m = fin.get-entries t.bases e.0 ∙ found (fin.entries t.bases) e (
 
 pub entry-of : (t : Timetable) (k : List ℕ) (v : ℤ) → fin.get t.bases k ≡ Some v → Member (fin.entries t.bases) (k, v)
 entry-of t k v e = entry (fin.entries t.bases) k v (sym (fin.get-entries t.bases k) ∙ e)
+
+-- the base of an entry has the entry's price
+pub price-found : (t : Timetable) (e : List ℕ × ℤ) (base : List ℕ) → Member (fin.entries t.bases) e → e.0 ≡ base → fin.get t.bases base ≡ Some e.1
+price-found t e base m is = subst (λ k. fin.get t.bases k ≡ Some e.1) is (price-of t e m)
+
+-- bases rise
+abbrev pub RiseByBase : List (List ℕ) → Type 0
+RiseByBase [] = Unit {0}
+RiseByBase (k ∷ ks) = Each (λ l. code_cmp k l ≡ Less) ks × RiseByBase ks
+
+each-below : (k : List ℕ) (es : Bases) → below_all code_cmp k es ≡ true → Each (λ l. code_cmp k l ≡ Less) (map (λ (e : List ℕ × ℤ). e.0) es)
+each-below k [] b = tt
+each-below k (h ∷ es) b = (is-less (code_cmp k h.0) (both-first _ _ b), each-below k es (both-second _ _ b))
+
+rises : (es : Bases) → is_sorted code_cmp es ≡ true → RiseByBase (map (λ (e : List ℕ × ℤ). e.0) es)
+rises [] s = tt
+rises (h ∷ es) s = (each-below h.0 es (both-first _ _ s), rises es (both-second _ _ s))
+
+pub keys-rise : (t : Timetable) → RiseByBase (fin.keys t.bases)
+keys-rise t = rises (fin.entries t.bases) (true-of (is_sorted code_cmp (fin.entries t.bases)) (fin.entries_sorted t.bases))

@@ -58,36 +58,18 @@ in-order-has net order g m =
     let place = Member-shuffled (range_with_len 0 (length net.departures)) net.by_report at.0 order.all (subst (Member (range_with_len 0 (length net.departures))) zero-on (range-has 0 (length net.departures) at.0 within)) in
     subst (Member (in_order net)) (get-by net.departures at.0 _ g at.1) (Member-map_in (departure_at net.departures) net.by_report at.0 place)
 
-module _ (t : Timetable) (b : BaseSweep) (over : IsOver t b.net) (shows : ShowsFronts t b) (based : fin.get t.bases b.base ≡ Some b.price) where
+module _ (t : Timetable) (b : BaseSweep) (built : IsNetOf b.net.settings t b.net.duties b.net) (duties : AreDuties b.net.settings t b.net.duties) where
   legal-of : (d : Duty) → Member b.net.duties d → IsDuty b.net.settings (flights_of t) d
-  legal-of d m = over.duties.sound d m
+  legal-of d m = duties.sound d m
 
   place-of : (index : ℕ) (d : Duty) → slice_get (in_order b.net) index ≡ Some (departure_of d) → departure_place (in_order b.net) (departure_of d) ≡ index
-  place-of index d own = place-departure (in_order b.net) (departure_of d) index (distinct-in-order b.net b.net.duties over.built.departures over.built.by_report) own
+  place-of index d own = place-departure (in_order b.net) (departure_of d) index (distinct-in-order b.net b.net.duties built.departures built.by_report) own
 
   shown-in : (index : ℕ) (d : Duty) → slice_get (in_order b.net) index ≡ Some (departure_of d) → (v : PairingVector) (w : List (List Leg)) → Member (boarding b index d) (v, w)
       → Member (front_at b d) (shown b.net.settings.trip_rig d.release v, w)
   shown-in index d own v w m =
       let place = place-of index d own in
       Member-shown b.net.settings.trip_rig d.release (boarding b (departure_place (in_order b.net) (departure_of d)) d) v w (subst (λ i. Member (boarding b i d) (v, w)) (sym place) m)
-
-  -- all that boards can be shown
-  pub fit : IsFit b
-  fit = record {
-    few = over.few;
-    shows = λ index d m own within v w boards.
-        let s = b.net.settings in
-        let u = shown s.trip_rig d.release v in
-        let clean = (shows d (legal-of d m)).clean u w (shown-in index d own v w boards) in
-        let at = clean.at in
-        let price = over.sound.bases b.base b.price based in
-        let room = vector-room s t b.base b.price over.checked over.sound price at.first at.others at.partial d.release within in
-        let is = ap (anchored s.trip_rig d.release) (sym at.vector) ∙ anchored-shown s.trip_rig d.release v in
-        record {
-          room = subst (HasRoom (fits_in (resource_of b)) (is_ready (resource_of b))) is room;
-          pay = subst (HasPay s.trip_rig) (sym at.vector) (vector-pay s t b.base b.price over.checked over.sound price at.first at.others at.partial);
-        };
-  }
 
   -- what comes home is shown by a front
   pub record IsHome (p : PricedPairing) : Type 0 where
@@ -114,7 +96,7 @@ module _ (t : Timetable) (b : BaseSweep) (over : IsOver t b.net) (shows : ShowsF
       let least : at.0 < length b.net.by_report = omega (arith, long, low) in
       let same = sym (get-by (range_with_len 0 (length b.net.by_report)) at.0 0 index at.1) ∙ get_or-range_with_len 0 (length b.net.by_report) at.0 0 least in
       let within : index < length b.net.by_report = omega (arith, same, least) in
-      let g = departs b.net index over.built.by_report within in
+      let g = departs b.net index built.by_report within in
       let there = subst (λ l. Member (flat_map (home_at b index) l) p) (ap (leaving b.net) g.own) i.2 in
       let r = Member-flat_map_out (home_at b index) (leaving b.net (Some g.departure)) p there in
       let d = rank-out (leaves_at g.departure) b.net.duties r.0 r.1 in
@@ -133,7 +115,7 @@ module _ (t : Timetable) (b : BaseSweep) (over : IsOver t b.net) (shows : ShowsF
       }
 
   listed : (d : Duty) → IsDuty b.net.settings (flights_of t) d → Member b.net.duties d
-  listed d l = subst (Member b.net.duties) (sym l.3) (over.duties.every l.0 l.1 l.2)
+  listed d l = subst (Member b.net.duties) (sym l.3) (duties.every l.0 l.1 l.2)
 
   pub home-in : (d : Duty) → IsDuty b.net.settings (flights_of t) d → d.to ≡ b.base → (v : PairingVector) (w : List (List Leg)) → Member (front_at b d) (v, w) → Member (home_of b) (priced b.net.settings.trip_rig b.base v w)
   home-in d legal home v w m =
@@ -141,9 +123,9 @@ module _ (t : Timetable) (b : BaseSweep) (over : IsOver t b.net) (shows : ShowsF
       let g = departure_of d in
       let known = listed d legal in
       let index = departure_place (in_order b.net) g in
-      let own = at-departure (in_order b.net) g (in-order-has b.net over.built.by_report g (over.built.departures.every d known)) in
+      let own = at-departure (in_order b.net) g (in-order-has b.net built.by_report g (built.departures.every d known)) in
       let within = map-within (departure_at b.net.departures) b.net.by_report index g own in
-      let at = departs b.net index over.built.by_report within in
+      let at = departs b.net index built.by_report within in
       let same : at.departure ≡ g = (let both = sym at.stands ∙ own in (cc)) in
       let rank = member-at b.net.duties d known in
       let f = λ (e : PairingVector × List (List Leg)). priced rate b.base (shown rate d.release e.0) e.1 in
@@ -158,3 +140,22 @@ module _ (t : Timetable) (b : BaseSweep) (over : IsOver t b.net) (shows : ShowsF
       let zero-on : 0 + index ≡ index = omega arith in
       let in-range = subst (Member (range_with_len 0 (length b.net.by_report))) zero-on (range-has 0 (length b.net.by_report) index within) in
       Member-flat_map_in (home_from b) (range_with_len 0 (length b.net.by_report)) index p in-range from
+
+-- all that boards can be shown
+module _ (t : Timetable) (b : BaseSweep) (over : IsOver t b.net) (shows : ShowsFronts t b) (based : fin.get t.bases b.base ≡ Some b.price) where
+  pub fit : IsFit b
+  fit = record {
+    few = over.few;
+    shows = λ index d m own within v w boards.
+        let s = b.net.settings in
+        let u = shown s.trip_rig d.release v in
+        let clean = (shows d (legal-of t b over.built over.duties d m)).clean u w (shown-in t b over.built over.duties index d own v w boards) in
+        let at = clean.at in
+        let price = over.sound.bases b.base b.price based in
+        let room = vector-room s t b.base b.price over.checked over.sound price at.first at.others at.partial d.release within in
+        let is = ap (anchored s.trip_rig d.release) (sym at.vector) ∙ anchored-shown s.trip_rig d.release v in
+        record {
+          room = subst (HasRoom (fits_in (resource_of b)) (is_ready (resource_of b))) is room;
+          pay = subst (HasPay s.trip_rig) (sym at.vector) (vector-pay s t b.base b.price over.checked over.sound price at.first at.others at.partial);
+        };
+  }

@@ -12,3 +12,6 @@ pub mod Solving
 pub mod Shown
 pub mod Entered
 pub mod Swept
+pub mod Keeping
+pub mod Cheapest
+pub mod OneList

@@ -1,17 +1,7 @@
--- Lists that are gone through from their first item on, and the least of what they give.
-use Rattle.std.proofs.Common.{◌≡◌, ◌∙◌, ◌<◌, ◌+◌, ℕ, zero, suc, ℤ, Bool, false, cond, ◌&&◌, ◌||◌, List, [], ◌∷◌, ◌++◌, Option, Some, append-nil, append_assoc, length, refl, sym, ap, arith, take, get_or, map}
-use Rattle.std.specs.Prelude.{◌<ℤ◌, int_lt}
+-- Lists that are gone through from their first item on.
+use Rattle.std.proofs.Common.{◌≡◌, ◌∙◌, ◌<◌, ◌+◌, ℕ, zero, suc, List, [], ◌∷◌, ◌++◌, append-nil, append_assoc, length, refl, sym, ap, arith, take, get_or}
 use Rattle.std.specs.List.{flat_map, range_with_len}
-use Rattle.std.specs.Ordering.{int_eq, is_lt}
-use Rattle.std.proofs.lemmas.Int.{ints}
-use Rattle.crew_pairing.specs.Keys.{walk_cmp}
 use Rattle.crew_resource.specs.Members.{Each}
-use Rattle.crew_solve.specs.Machinery.Homes.{is_cheaper, least_of, lesser}
-use Rattle.crew_vector.specs.declared.priced.PricedPairing.{PricedPairing}
-
-pub least-append : (least : Option PricedPairing) (ps qs : List PricedPairing) → least_of least (ps ++ qs) ≡ least_of (least_of least ps) qs
-least-append least [] qs = refl
-least-append least (p ∷ ps) qs = least-append (lesser least p) ps qs
 
 pub flat-append : {X Y : Type 0} (f : X → List Y) (xs ys : List X) → flat_map f (xs ++ ys) ≡ flat_map f xs ++ flat_map f ys
 flat-append f [] ys = refl
@@ -51,23 +41,6 @@ pub get-same : {X : Type 0} (xs : List X) (k : ℕ) (c d : X) → k < length xs 
 get-same [] k c d h = absurd (omega (arith, h))
 get-same (x ∷ xs) zero c d h = refl
 get-same (x ∷ xs) (suc k) c d h = get-same xs k c d (omega (arith, h))
-
--- the lesser of two
-not-less : (a b : ℤ) → a <ℤ b → (int_lt b a ≡ false) × (int_eq b a ≡ false)
-not-less a b h = (grind (arith, ints), grind (arith, ints))
-
-pub lesser-dearer : (best p : PricedPairing) → best.cost <ℤ p.cost → lesser (Some best) p ≡ Some best
-lesser-dearer best p h =
-    let k = not-less best.cost p.cost h in
-    ap (λ b. Some (cond (b || (int_eq p.cost best.cost && is_lt (walk_cmp p.walk best.walk))) p best)) k.0
-    ∙ ap (λ b. Some (cond (b && is_lt (walk_cmp p.walk best.walk)) p best)) k.1
-
-pub lesser-by : (best p : PricedPairing) (b : Bool) → is_cheaper p best ≡ b → lesser (Some best) p ≡ Some (cond b p best)
-lesser-by best p b e = ap (λ z. Some (cond z p best)) e
-
-pub least-one-more : {X : Type 0} (least : Option PricedPairing) (f : X → PricedPairing) (xs : List X) (x : X) → least_of least (map f (xs ++ x ∷ [])) ≡ lesser (least_of least (map f xs)) (f x)
-least-one-more least f [] x = refl
-least-one-more least f (y ∷ xs) x = least-one-more (lesser least (f y)) f xs x
 
 pub each-push : {X : Type 0} (P : X → Type 0) (xs : List X) (x : X) → Each P xs → P x → Each P (xs ++ x ∷ [])
 each-push P [] x h p = (p, tt)

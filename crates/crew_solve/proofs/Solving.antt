@@ -30,7 +30,7 @@ use Rattle.crew_vector.specs.Fronts.{IsFrontAt}
 use Rattle.crew_vector.specs.declared.priced.PricedPairing.{PricedPairing}
 
 -- the sweep of a base
-record IsFound (sweeps : List BaseSweep) (base : List ℕ) : Type 0 where
+pub record IsFound (sweeps : List BaseSweep) (base : List ℕ) : Type 0 where
   pub sweep : BaseSweep
   pub among : Member sweeps sweep
   pub own : sweep.base ≡ base
@@ -54,7 +54,7 @@ found-by b bs base false e later c (inr m) h =
       fronts = λ d. ap (λ x. cond x (front_at b d) (front_among bs base d)) e ∙ k.fronts d;
     }
 
-found : (sweeps : List BaseSweep) (base : List ℕ) (c : BaseSweep) → Member sweeps c → c.base ≡ base → IsFound sweeps base
+pub found : (sweeps : List BaseSweep) (base : List ℕ) (c : BaseSweep) → Member sweeps c → c.base ≡ base → IsFound sweeps base
 found [] base c m h = absurd m
 found (b ∷ bs) base c m h = found-by b bs base (eq_by_cmp code_cmp b.base base) refl (found bs base) c m h
 
@@ -109,7 +109,7 @@ module _ (t : Timetable) (net : Net) (sweeps : List BaseSweep) (over : IsOver t 
   entry-out p m =
       let k = Member-flat_map_out home_of sweeps p m in
       let b = k.0 in
-      let h = home-out t b (over-of b k.1) (shows-of b k.1) (based-of b k.1) p k.2 in
+      let h = home-out t b (over-of b k.1).built (over-of b k.1).duties p k.2 in
       let n = net-of b k.1 in
       let legal = subst (λ (x : Net). IsDuty x.settings (flights_of t) h.duty) n h.legal in
       let one : IsFrontAt net.settings t b.base b.price h.duty (front_at b h.duty) = subst (λ (x : Net). IsFrontAt x.settings t b.base b.price h.duty (front_at b h.duty)) n (shows-of b k.1 h.duty h.legal) in
@@ -130,7 +130,7 @@ module _ (t : Timetable) (net : Net) (sweeps : List BaseSweep) (over : IsOver t 
       let n = net-of b f.among in
       let legal = subst (λ (x : Net). IsDuty x.settings (flights_of t) h.duty) (sym n) h.legal in
       let held = subst (λ (es : List (PairingVector × List (List Leg))). Member es (v, w)) (f.fronts h.duty) h.held in
-      let m = home-in t b (over-of b f.among) (shows-of b f.among) (based-of b f.among) h.duty legal (h.home ∙ sym f.own) v w held in
+      let m = home-in t b (over-of b f.among).built (over-of b f.among).duties h.duty legal (h.home ∙ sym f.own) v w held in
       let k = Member-flat_map_in home_of sweeps b (priced b.net.settings.trip_rig b.base v w) f.among m in
       subst (Member all) ((λ i. priced (n i).settings.trip_rig (f.own i) v w)) k
 

@@ -1,2 +1,3 @@
 pub mod Solutions
+pub mod Cheapest
 pub mod Machinery

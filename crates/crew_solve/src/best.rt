@@ -1,5 +1,5 @@
-//! The least pairing of all that comes home.
-ghost use Rattle.std.specs.Prelude.{◌≡◌, ◌<◌, ◌≤◌, ℕ, IfOk, None, Some, length, slice_get};
+//! The least pairings of all that comes home.
+ghost use Rattle.std.specs.Prelude.{◌≡◌, ◌<◌, ◌≤◌, ℕ, IfOk, None, OnOk, Some, length, slice_get};
 ghost use Rattle.std.specs.List.{flat_map};
 ghost use Rattle.crew_pairing.specs.Events.{IsSound, departure_of};
 ghost use Rattle.crew_pairing.specs.declared.duty.Duty.{Duty};
@@ -7,9 +7,11 @@ ghost use Rattle.crew_pool.specs.LabelWalks.{walk_of_label};
 ghost use Rattle.crew_resource.specs.Machinery.Sum.{LiesWithin};
 ghost use Rattle.crew_resource.specs.Members.{Each, Member};
 ghost use Rattle.crew_solve.specs.Machinery.Homes as Spec;
+ghost use Rattle.crew_solve.specs.Machinery.Keeps.{keep, keep_all};
 ghost use Rattle.crew_solve.specs.Machinery.Homes.{HasPay, IsFit, IsShowable};
 ghost use Rattle.crew_sweep.specs.Sweeps.{in_order};
 
+use crate::kept::Kept;
 use crew_flights::Code;
 use crew_pairing::{Duty, PairingVector, Walk};
 use crew_pool::{LabelWalk, View};
@@ -31,13 +33,6 @@ fn priced(trip_rig: u32, base: Code, vector: &PairingVector, walk: Walk) -> Pric
         pay: cost + prices,
         away: vector.away,
     }
-}
-
-// Whether one is less than another, by cost and then by walk.
-fn is_cheaper(pairing: &PricedPairing, other: &PricedPairing) -> bool
-    ensures { result ≡ Spec.is_cheaper pairing.now other.now }
-{
-    pairing.cost < other.cost || (pairing.cost == other.cost && pairing.walk < other.walk)
 }
 
 /// A label's walk by key.
@@ -75,131 +70,129 @@ fn pairing_of(
     Ok(priced(trip_rig, sweep.base(), vector, walk))
 }
 
-// The least with a label's pairing, whose walk is made only where it may be the least.
-fn least_with(
+// Keeps a label's pairing, whose walk is made only where it may be among the least.
+fn keep_label(
     alloc: Global,
     sweep: &Sweep,
     trip_rig: u32,
     minute: i64,
-    least: Option<PricedPairing>,
+    kept: &mut Kept,
     label: &(PairingVector, LabelWalk),
-) -> Result<Option<PricedPairing>, AllocError>
+) -> Result<(), AllocError>
     requires rate { trip_rig ≡ sweep.now.net.settings.trip_rig }
     requires minute { LiesWithin 2_147_483_648 minute }
     requires showable { IsShowable sweep.now minute label.now.0 }
     requires there { label.now.1.walk < length sweep.now.walks }
     requires ranked { Each (λ rank. rank < length sweep.now.net.duties)
         (walk_of_label sweep.now.walks label.now.1) }
-    ensures { IfOk result (λ next. next
-        ≡ Spec.lesser least (Spec.pairing_at sweep.now minute label.now)) }
+    ensures { OnOk result (kept.new ≡ keep kept.old (Spec.pairing_at sweep.now minute label.now)) }
 {
     let vector = sweep.resource().show(&label.0, minute);
-    let Some(best) = least else {
-        return Ok(Some(pairing_of(alloc, sweep, trip_rig, &vector, label.1)?));
-    };
-    if best.cost < vector.reduced_cost() {
-        return Ok(Some(best));
+    if !kept.wants(vector.reduced_cost()) {
+        return Ok(());
     }
     let pairing = pairing_of(alloc, sweep, trip_rig, &vector, label.1)?;
-    if is_cheaper(&pairing, &best) {
-        Ok(Some(pairing))
-    } else {
-        Ok(Some(best))
-    }
+    kept.keep(pairing)
 }
 
-// The least with the pairings that a duty ends.
-fn least_by(
+// Keeps the least of the pairings that a duty ends.
+fn keep_by(
     alloc: Global,
     sweep: &Sweep,
     trip_rig: u32,
     index: usize,
     rank: u32,
     duty: &Duty,
-    least: Option<PricedPairing>,
-) -> Result<Option<PricedPairing>, AllocError>
+    kept: &mut Kept,
+) -> Result<(), AllocError>
     requires rate { trip_rig ≡ sweep.now.net.settings.trip_rig }
     requires index { index < length sweep.now.net.by_report }
     requires duty { slice_get sweep.now.net.duties rank ≡ Some duty.now }
     requires own { slice_get (in_order sweep.now.net) index ≡ Some (departure_of duty.now) }
     requires sound { IsSound duty.now }
     requires fit { IsFit sweep.now }
-    ensures { IfOk result (λ next. next
-        ≡ Spec.least_of least (Spec.ended_by sweep.now index duty.now)) }
+    ensures { OnOk result (kept.new ≡ keep_all kept.old (Spec.ended_by sweep.now index duty.now)) }
 {
     let minute = i64::from(duty.release);
     let view = View::new(sweep.resource(), sweep.pool(index), duty, rank);
-    let mut least = least;
     for label in view.iter() {
-        least = least_with(alloc, sweep, trip_rig, minute, least, &label)?;
+        keep_label(alloc, sweep, trip_rig, minute, kept, &label)?;
     }
-    Ok(least)
+    Ok(())
 }
 
-// The least with what comes home by the duty of a rank.
-fn least_at(
+// Keeps the least of what comes home by the duty of a rank.
+fn keep_at(
     alloc: Global,
     sweep: &Sweep,
     trip_rig: u32,
     index: usize,
     rank: u32,
-    least: Option<PricedPairing>,
-) -> Result<Option<PricedPairing>, AllocError>
+    kept: &mut Kept,
+) -> Result<(), AllocError>
     requires rate { trip_rig ≡ sweep.now.net.settings.trip_rig }
     requires index { index < length sweep.now.net.by_report }
     requires rank { rank < length sweep.now.net.duties }
     requires own { (d : Duty) → slice_get sweep.now.net.duties rank ≡ Some d
         → slice_get (in_order sweep.now.net) index ≡ Some (departure_of d) }
     requires fit { IsFit sweep.now }
-    ensures { IfOk result (λ next. next
-        ≡ Spec.least_of least (Spec.home_at sweep.now index rank)) }
+    ensures { OnOk result (kept.new ≡ keep_all kept.old (Spec.home_at sweep.now index rank)) }
 {
     let duty = &sweep.net().duties().as_slice()[rank as usize];
     if duty.to != sweep.base() {
-        return Ok(least);
+        return Ok(());
     }
-    least_by(alloc, sweep, trip_rig, index, rank, duty, least)
+    keep_by(alloc, sweep, trip_rig, index, rank, duty, kept)
 }
 
-// The least with what comes home by the duties of a departure.
-fn least_from(
+// Keeps the least of what comes home by the duties of a departure.
+fn keep_from(
     alloc: Global,
     sweep: &Sweep,
     trip_rig: u32,
     index: usize,
-    least: Option<PricedPairing>,
-) -> Result<Option<PricedPairing>, AllocError>
+    kept: &mut Kept,
+) -> Result<(), AllocError>
     requires rate { trip_rig ≡ sweep.now.net.settings.trip_rig }
     requires index { index < length sweep.now.net.by_report }
     requires fit { IsFit sweep.now }
-    ensures { IfOk result (λ next. next
-        ≡ Spec.least_of least (Spec.home_from sweep.now index)) }
+    ensures { OnOk result (kept.new ≡ keep_all kept.old (Spec.home_from sweep.now index)) }
 {
     let place = sweep.net().by_report()[index] as usize;
     let ranks = sweep.net().leaving(place);
-    let mut least = least;
     for &rank in ranks {
-        least = least_at(alloc, sweep, trip_rig, index, rank, least)?;
+        keep_at(alloc, sweep, trip_rig, index, rank, kept)?;
     }
-    Ok(least)
+    Ok(())
 }
 
-// The least with all that comes home to a base.
-fn least_of(
-    alloc: Global,
-    sweep: &Sweep,
-    trip_rig: u32,
-    least: Option<PricedPairing>,
-) -> Result<Option<PricedPairing>, AllocError>
+// Keeps the least of all that comes home to a base.
+fn keep_of(alloc: Global, sweep: &Sweep, trip_rig: u32, kept: &mut Kept) -> Result<(), AllocError>
     requires rate { trip_rig ≡ sweep.now.net.settings.trip_rig }
     requires fit { IsFit sweep.now }
-    ensures { IfOk result (λ next. next ≡ Spec.least_of least (Spec.home_of sweep.now)) }
+    ensures { OnOk result (kept.new ≡ keep_all kept.old (Spec.home_of sweep.now)) }
 {
-    let mut least = least;
     for index in 0..sweep.net().by_report().len() {
-        least = least_from(alloc, sweep, trip_rig, index, least)?;
+        keep_from(alloc, sweep, trip_rig, index, kept)?;
     }
-    Ok(least)
+    Ok(())
+}
+
+/// Keeps the least of all that comes home to its base.
+pub(crate) fn keep_home(
+    alloc: Global,
+    sweeps: &[Sweep],
+    trip_rig: u32,
+    kept: &mut Kept,
+) -> Result<(), AllocError>
+    requires rate { Each (λ b. trip_rig ≡ b.net.settings.trip_rig) sweeps.now }
+    requires fit { Each IsFit sweeps.now }
+    ensures { OnOk result (kept.new ≡ keep_all kept.old (flat_map Spec.home_of sweeps.now)) }
+{
+    for sweep in sweeps {
+        keep_of(alloc, sweep, trip_rig, kept)?;
+    }
+    Ok(())
 }
 
 /// The least of all that comes home to its base.
@@ -213,9 +206,7 @@ pub(crate) fn best_of(
     ensures { IfOk result (λ best. best
         ≡ Spec.least_of None (flat_map Spec.home_of sweeps.now)) }
 {
-    let mut best = None;
-    for sweep in sweeps {
-        best = least_of(alloc, sweep, trip_rig, best)?;
-    }
-    Ok(best)
+    let mut kept = Kept::new(alloc, 1);
+    keep_home(alloc, sweeps, trip_rig, &mut kept)?;
+    Ok(kept.into_first())
 }

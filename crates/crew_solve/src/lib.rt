@@ -1,12 +1,17 @@
-//! All fronts and the best pairing of a timetable, from scratch: a pass over the network for each
-//! base, and the least of what comes home.
+//! All fronts and the best pairing of a timetable: a pass over the network for each base, and the
+//! least of what comes home; and the pairings that cost least. `solve_next` does so beside an earlier
+//! solution, from which it takes what is as it was, and gives what is given from scratch. `laws` has
+//! that the pairings that cost least are one list.
 #![tactic(auto)]
 
 mod best;
 mod entries;
+mod kept;
+pub mod laws;
+mod past;
 mod scratch;
 mod solution;
 mod sweeps;
 
-pub use scratch::{solve, solve_with};
+pub use scratch::{solve, solve_next, solve_with};
 pub use solution::Solution;

@@ -1,18 +1,22 @@
 //! From a timetable to its fronts and its best pairing.
-ghost use Rattle.std.specs.Prelude.{◌≡◌, ◌≤◌, Err, IfOk, OnOk, length};
+ghost use Rattle.std.specs.Prelude.{◌≡◌, ◌≤◌, Err, IfOk, IfSome, List, OnOk, length};
 ghost use Rattle.std.specs.Arc.{arc_value};
 ghost use Rattle.crew_net.specs.Nets.{IsNetOf};
 ghost use Rattle.crew_pairing.specs.Duties.{AreDuties, HasFew, HasTooMany};
+ghost use Rattle.crew_pairing.specs.declared.duty.Duty.{Duty};
 ghost use Rattle.crew_rules.specs.Settings.{IsChecked};
+ghost use Rattle.crew_solve.specs.Machinery.Solved.{IsPast};
 ghost use Rattle.crew_solve.specs.Solutions.{HasNetOf, front_of};
 ghost use Rattle.crew_vector.specs.Bests.{IsScratch};
 
 use crate::best::best_of;
+use crate::past::Past;
 use crate::solution::Solution;
 use crate::sweeps::sweep_all;
+use crew_carry::Twins;
 use crew_duty::{Duties, DutyFault, list_duties};
 use crew_flights::Timetable;
-use crew_net::Net;
+use crew_net::{Net, arrival_places};
 use crew_rules::Settings;
 use crew_sweep::departure_turns;
 use std::alloc::{AllocError, Global};
@@ -35,27 +39,59 @@ fn net_of(
     Ok(Arc::new(alloc, Net::build(alloc, settings, timetable, duties)?)?)
 }
 
-// All fronts and the best pairing, given all legal duties.
+// All fronts and the best pairing, given the network, beside what an earlier one has.
 fn solve_over<R: Threads + Sync>(
     rt: &R,
     alloc: Global,
     settings: &Settings,
     timetable: &Timetable,
-    duties: Duties,
+    net: Arc<Net, Global>,
+    past: Option<&Past>,
     workers: usize,
 ) -> Result<Solution, AllocError>
     requires checked { IsChecked settings.now }
-    requires duties { AreDuties settings.now timetable.now duties }
-    requires few { length duties ≤ 200_000 }
+    requires built { (duties : List Duty) × AreDuties settings.now timetable.now duties
+        × (length duties ≤ 200_000) × IsNetOf settings.now timetable.now duties (arc_value net) }
+    requires past { IfSome past (λ p. IsPast (arc_value net) p.now) }
     ensures scratch { IfOk result (λ solution. IsScratch settings.now timetable.now
         (front_of solution) solution.best) }
     ensures network { IfOk result (HasNetOf settings.now timetable.now) }
 {
-    let net = net_of(alloc, settings, timetable, duties)?;
     let turns = departure_turns(alloc, &net)?;
-    let sweeps = sweep_all(rt, alloc, timetable, &net, &turns, workers)?;
+    let sweeps = sweep_all(rt, alloc, timetable, &net, &turns, past, workers)?;
     let best = best_of(alloc, &sweeps, settings.trip_rig)?;
     Ok(Solution::new(net, sweeps, best))
+}
+
+// All fronts and the best pairing, given the network, beside an earlier solution.
+fn solve_beside<R: Threads + Sync>(
+    rt: &R,
+    alloc: Global,
+    settings: &Settings,
+    timetable: &Timetable,
+    net: Arc<Net, Global>,
+    earlier: &Solution,
+    workers: usize,
+) -> Result<Solution, AllocError>
+    requires checked { IsChecked settings.now }
+    requires built { (duties : List Duty) × AreDuties settings.now timetable.now duties
+        × (length duties ≤ 200_000) × IsNetOf settings.now timetable.now duties (arc_value net) }
+    requires settings { earlier.now.net.settings ≡ (arc_value net).settings }
+    ensures scratch { IfOk result (λ solution. IsScratch settings.now timetable.now
+        (front_of solution) solution.best) }
+    ensures network { IfOk result (HasNetOf settings.now timetable.now) }
+{
+    let before = earlier.net();
+    let turns = departure_turns(alloc, before)?;
+    let twins = Twins::of(alloc, before, &net)?;
+    let places = arrival_places(alloc, &net)?;
+    let past = Past {
+        sweeps: earlier.sweeps(),
+        turns: &turns,
+        twins: &twins,
+        places: &places,
+    };
+    solve_over(rt, alloc, settings, timetable, net, Some(&past), workers)
 }
 
 /// All fronts and the best pairing of a timetable, from scratch. `TooManyDuties` exactly where it
@@ -97,5 +133,34 @@ pub fn solve_with<R: Threads + Sync>(
         → HasTooMany settings.now timetable.now }
 {
     let duties = list_duties(rt, alloc, settings, timetable)?;
-    Ok(solve_over(rt, alloc, settings, timetable, duties, workers)?)
+    let net = net_of(alloc, settings, timetable, duties)?;
+    Ok(solve_over(rt, alloc, settings, timetable, net, None, workers)?)
+}
+
+/// As `solve_with`, beside an earlier solution, from which it takes what is as it was: the pool of a
+/// departure of a base at the same price, where the same duties can be waited on and all of them
+/// leave from pools that are as they were. The answer is that from scratch, whatever the earlier
+/// solution is of.
+pub fn solve_next<R: Threads + Sync>(
+    rt: &R,
+    alloc: Global,
+    settings: &Settings,
+    timetable: &Timetable,
+    earlier: &Solution,
+    workers: usize,
+) -> Result<Solution, DutyFault>
+    requires { IsChecked settings.now }
+    ensures scratch { IfOk result (λ solution. IsScratch settings.now timetable.now
+        (front_of solution) solution.best) }
+    ensures network { IfOk result (HasNetOf settings.now timetable.now) }
+    ensures few { OnOk result (HasFew settings.now timetable.now) }
+    ensures too_many { result ≡ Err DutyFault.TooManyDuties
+        → HasTooMany settings.now timetable.now }
+{
+    let duties = list_duties(rt, alloc, settings, timetable)?;
+    let net = net_of(alloc, settings, timetable, duties)?;
+    if earlier.net().settings() != net.settings() {
+        return Ok(solve_over(rt, alloc, settings, timetable, net, None, workers)?);
+    }
+    Ok(solve_beside(rt, alloc, settings, timetable, net, earlier, workers)?)
 }

@@ -2,10 +2,18 @@
 ghost use Rattle.std.specs.Arc.{arc_value};
 ghost use Rattle.std.specs.Option.{option_copied};
 ghost use Rattle.std.specs.Prelude.{◌≡◌, IfOk};
+ghost use Rattle.crew_resource.specs.Members.{Each};
 ghost use Rattle.crew_solve.specs.Machinery.Solved.{IsSolved};
-ghost use Rattle.crew_solve.specs.Solutions.{IsFrontOf};
+ghost use Rattle.crew_flights.specs.Timetable.{IsSound, Timetable};
+ghost use Rattle.crew_rules.specs.Settings.{IsChecked};
+ghost use Rattle.crew_rules.specs.declared.settings.Settings.{Settings};
+ghost use Rattle.crew_solve.specs.Cheapest.{AreCheapest};
+ghost use Rattle.crew_solve.specs.Solutions.{HasNetOf, IsFrontOf, front_of};
+ghost use Rattle.crew_vector.specs.Bests.{AreFronts};
 
+use crate::best::keep_home;
 use crate::entries::{entries_at, place_of, sweep_of};
+use crate::kept::Kept;
 use crew_flights::Code;
 use crew_net::{Net, Node};
 use crew_pairing::{Key, PairingVector, Walk};
@@ -57,6 +65,14 @@ impl Solution {
         &self.net
     }
 
+    // The sweeps of all bases.
+    pub(crate) fn sweeps(&self) -> &[Sweep]
+        ensures all { result.now ≡ self.now.sweeps }
+        ensures nets { Each (λ b. b.net ≡ self.now.net) self.now.sweeps }
+    {
+        &self.sweeps
+    }
+
     /// The best pairing, if there is one.
     pub fn best(&self) -> Option<&PricedPairing>
         ensures { option_copied result ≡ self.now.best }
@@ -69,6 +85,20 @@ impl Solution {
         ensures { result ≡ self.best }
     {
         self.best
+    }
+
+    /// Of the pairings of all bases that the fronts show those that come first by cost and walk: as
+    /// many as the limit, or all where there are no more. The settings and the timetable are those
+    /// whose network and fronts these are.
+    pub fn cheapest(&self, alloc: Global, limit: usize) -> Result<Vec<PricedPairing>, AllocError>
+        ensures { IfOk result (λ pairings. (s : Settings) (t : Timetable) → IsChecked s → IsSound t
+            → HasNetOf s t self.now → AreFronts s t (front_of self.now)
+            → AreCheapest s t limit pairings.items) }
+    {
+        let mut kept = Kept::new(alloc, limit);
+        let trip_rig = self.net.settings().trip_rig;
+        keep_home(alloc, &self.sweeps, trip_rig, &mut kept)?;
+        Ok(kept.into_vec(alloc)?)
     }
 
     /// The front of a base and the duty of a key, in order of vector: each vector with its walk.

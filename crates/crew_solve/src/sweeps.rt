@@ -6,9 +6,10 @@ ghost use Rattle.crew_flights.specs.Timetable.{IsBasePrice, IsSound};
 ghost use Rattle.crew_net.specs.Nets.{IsNetOf};
 ghost use Rattle.crew_pairing.specs.Duties.{AreDuties};
 ghost use Rattle.crew_rules.specs.Settings.{IsChecked};
-ghost use Rattle.crew_solve.specs.Machinery.Solved.{AreSweeps, AreSwept, HavePrices, IsSweepable, IsSwept};
+ghost use Rattle.crew_solve.specs.Machinery.Solved.{AreSweeps, AreSwept, HavePrices, IsPast, IsSweepable, IsSwept};
 ghost use Rattle.crew_sweep.specs.Sweeps.{AreTurns};
 
+use crate::past::Past;
 use crew_flights::{Code, Timetable};
 use crew_net::Net;
 use crew_sweep::{Sweep, sweep};
@@ -49,8 +50,8 @@ fn unswept(alloc: Global, count: usize) -> Result<Vec<Option<Sweep>>, AllocError
     Ok(swept)
 }
 
-// The sweep of a base at its price.
-fn sweep_base(
+// The sweep of a base at its price, from scratch.
+fn sweep_anew(
     alloc: Global,
     net: &Arc<Net, Global>,
     turns: &[u32],
@@ -64,17 +65,42 @@ fn sweep_base(
     sweep(alloc, Arc::try_clone(net)?, turns, base, price)
 }
 
+// The sweep of a base at its price, beside an earlier one of it, if there is one.
+fn sweep_base(
+    alloc: Global,
+    net: &Arc<Net, Global>,
+    turns: &[u32],
+    past: Option<&Past>,
+    base: Code,
+    price: i64,
+) -> Result<Sweep, AllocError>
+    requires sweepable { IsSweepable (arc_value net.now) turns.now }
+    requires past { IfSome past (λ p. IsPast (arc_value net.now) p.now) }
+    requires price { IsBasePrice price }
+    ensures { IfOk result (IsSwept (arc_value net.now) (base, price)) }
+{
+    let Some(past) = past else {
+        return sweep_anew(alloc, net, turns, base, price);
+    };
+    match past.sweep_at(base, price) {
+        Some(earlier) => past.renew(alloc, net, turns, earlier),
+        None => sweep_anew(alloc, net, turns, base, price),
+    }
+}
+
 // Sweeps each base into its place, in at most so many threads, this one among them.
 fn sweep_in<R: Threads + Sync>(
     rt: &R,
     alloc: Global,
     net: &Arc<Net, Global>,
     turns: &[u32],
+    past: Option<&Past>,
     bases: &[(Code, i64)],
     threads: usize,
     swept: &mut [Option<Sweep>],
 )
     requires sweepable { IsSweepable (arc_value net.now) turns.now }
+    requires past { IfSome past (λ p. IsPast (arc_value net.now) p.now) }
     requires prices { HavePrices bases.now }
     requires threads { 0 < threads }
     requires long { length swept.old ≡ length bases.now }
@@ -86,12 +112,13 @@ fn sweep_in<R: Threads + Sync>(
         threads,
         &|place: usize, swept: &mut Option<Sweep>|
             requires { (place < length bases.now) × HavePrices bases.now
-                × IsSweepable (arc_value net.now) turns.now }
+                × IsSweepable (arc_value net.now) turns.now
+                × IfSome past (λ p. IsPast (arc_value net.now) p.now) }
             ensures { (d : _) → IfSome swept.new (IsSwept (arc_value net.entry.now)
                 (slice_index_or bases.entry.now place d)) }
         {
             let (base, price) = bases[place];
-            *swept = sweep_base(alloc, net, turns, base, price).ok();
+            *swept = sweep_base(alloc, net, turns, past, base, price).ok();
         },
     );
 }
@@ -110,7 +137,8 @@ fn all_made(alloc: Global, swept: Vec<Option<Sweep>>) -> Result<Vec<Sweep>, Allo
     Ok(sweeps)
 }
 
-/// The sweeps of all bases, in order, whatever the number of workers. So many threads at most make
+/// The sweeps of all bases, in order, whatever the number of workers, beside what an earlier network
+/// has. So many threads at most make
 /// them, each those of whole bases; with 0 or 1, and for few duties, it is the calling thread alone.
 pub(crate) fn sweep_all<R: Threads + Sync>(
     rt: &R,
@@ -118,6 +146,7 @@ pub(crate) fn sweep_all<R: Threads + Sync>(
     timetable: &Timetable,
     net: &Arc<Net, Global>,
     turns: &[u32],
+    past: Option<&Past>,
     workers: usize,
 ) -> Result<Vec<Sweep>, AllocError>
     requires checked { IsChecked (arc_value net.now).settings }
@@ -127,6 +156,7 @@ pub(crate) fn sweep_all<R: Threads + Sync>(
         (arc_value net.now).duties }
     requires few { length (arc_value net.now).duties ≤ 200_000 }
     requires turns { AreTurns (arc_value net.now) turns.now }
+    requires past { IfSome past (λ p. IsPast (arc_value net.now) p.now) }
     ensures sweeps { IfOk result (λ sweeps. AreSweeps timetable.now (arc_value net.now)
         sweeps.items) }
     ensures sound { IsSound timetable.now }
@@ -134,6 +164,6 @@ pub(crate) fn sweep_all<R: Threads + Sync>(
     let bases = bases_of(alloc, timetable)?;
     let mut swept = unswept(alloc, bases.len())?;
     let threads = threads_for(workers, net.duties().len());
-    sweep_in(rt, alloc, net, turns, &bases, threads, &mut swept);
+    sweep_in(rt, alloc, net, turns, past, &bases, threads, &mut swept);
     all_made(alloc, swept)
 }

@@ -63,7 +63,8 @@ module _ (s : Settings) (t : Timetable) (sound : IsSound t) where
   first-of [] = []
   first-of (d ∷ ds) = d.from
 
-  same-pairing : (p q : PricedPairing) → IsPairing s t p → IsPairing s t q → p.walk ≡ q.walk → p.cost ≡ q.cost → p ≡ q
+  -- a pairing is told by its walk
+  pub same-pairing : (p q : PricedPairing) → IsPairing s t p → IsPairing s t q → p.walk ≡ q.walk → p.cost ≡ q.cost → p ≡ q
   unfolding first-of
   same-pairing p q a b walk cost =
       let duties : a.first ∷ a.others ≡ b.first ∷ b.others = walk-tells (a.first ∷ a.others) (b.first ∷ b.others) a.partial.legal b.partial.legal (sym a.walk ∙ (walk ∙ b.walk)) in

@@ -9,7 +9,7 @@ pub struct Row {
 }
 
 /// The worked sessions.
-pub static ROWS: [Row; 18] = [
+pub static ROWS: [Row; 19] = [
     Row {
         name: "no input",
         words: &["crewprice", "run"],
@@ -250,6 +250,48 @@ front JFK 911d-912 entries 1
 entry 5110 2920 4200 700 300 1 730 911d-912
 front JFK 911-912d none
 best JFK cost 5110 pay 5110 away 730 911d-912
+",
+    },
+    Row {
+        name: "the cheapest pairings, where some cost the same",
+        words: &["crewprice", "run"],
+        session: br#"zone,BOS,"EST5EDT,M3.2.0,M11.1.0"
+zone,ORD,"CST6CDT,M3.2.0,M11.1.0"
+zone,MSP,"CST6CDT,M3.2.0,M11.1.0"
+base,BOS,0
+base,ORD,500
+flight,11,BOS,ORD,2026-06-09T12:00,2026-06-09T14:50,2600
+flight,12,ORD,BOS,2026-06-09T16:00,2026-06-09T18:15,2100
+flight,13,ORD,MSP,2026-06-09T15:40,2026-06-09T17:10,2400
+flight,14,BOS,MSP,2026-06-09T16:30,2026-06-09T19:55,3900
+flight,15,ORD,MSP,2026-06-09T21:00,2026-06-09T22:30,1500
+flight,21,MSP,ORD,2026-06-10T13:00,2026-06-10T14:25,2300
+flight,22,ORD,BOS,2026-06-10T15:30,2026-06-10T17:45,2700
+flight,23,MSP,BOS,2026-06-10T18:00,2026-06-10T21:00,5000
+settle
+best
+pairings,1
+pairings,3
+pairings,100
+"#,
+        written: b"\
+version 1 entries 10 flights 8
+best BOS cost -1600 pay 8400 away 1875 11-13 21-22
+pairings 1
+pairing BOS cost -1600 pay 8400 away 1875 11-13 21-22
+pairings 3
+pairing BOS cost -1600 pay 8400 away 1875 11-13 21-22
+pairing BOS cost -1600 pay 8400 away 2070 11-13 23
+pairing BOS cost -500 pay 8400 away 1605 14 21-22
+pairings 8
+pairing BOS cost -1600 pay 8400 away 1875 11-13 21-22
+pairing BOS cost -1600 pay 8400 away 2070 11-13 23
+pairing BOS cost -500 pay 8400 away 1605 14 21-22
+pairing BOS cost -500 pay 8400 away 1800 14 23
+pairing BOS cost -430 pay 4270 away 465 11-12
+pairing BOS cost 3100 pay 8400 away 1875 11 22
+pairing ORD cost 3200 pay 8400 away 1455 13 21
+pairing ORD cost 4100 pay 8400 away 1135 15 21
 ",
     },
     Row {

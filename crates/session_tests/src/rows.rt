@@ -8,7 +8,7 @@ pub struct Row {
 }
 
 /// The sessions.
-pub static ROWS: [Row; 13] = [
+pub static ROWS: [Row; 14] = [
     Row {
         name: "a pairing of one duty",
         session: br#"zone,JFK,"EST5EDT,M3.2.0,M11.1.0"
@@ -57,6 +57,53 @@ record 14 refused 72
 record 15 refused 72
 record 16 refused 71
 record 17 refused 71
+",
+    },
+    Row {
+        name: "the cheapest pairings of two bases, and their limits",
+        session: br#"zone,JFK,"EST5EDT,M3.2.0,M11.1.0"
+zone,BOS,"EST5EDT,M3.2.0,M11.1.0"
+pairings,5
+base,JFK,0
+base,BOS,2000
+flight,101,JFK,BOS,2025-07-01T12:00,2025-07-01T13:10,3000
+flight,102,BOS,JFK,2025-07-01T14:00,2025-07-01T15:15,2000
+flight,103,JFK,BOS,2025-07-01T16:00,2025-07-01T17:10,1000
+settle
+pairings,1
+pairings,2
+pairings,10000
+pairings,0
+pairings,10001
+pairings,01
+pairings
+pairings,1,2
+baseprice,BOS,2001
+pairings,1
+settle
+pairings,1
+"#,
+        written: b"\
+pairings 0
+version 1 entries 5 flights 3
+pairings 1
+pairing JFK cost -800 pay 4200 away 285 101-102
+pairings 2
+pairing JFK cost -800 pay 4200 away 285 101-102
+pairing BOS cost -800 pay 4200 away 280 102-103
+pairings 2
+pairing JFK cost -800 pay 4200 away 285 101-102
+pairing BOS cost -800 pay 4200 away 280 102-103
+record 13 refused 72
+record 14 refused 72
+record 15 refused 72
+record 16 refused 71
+record 17 refused 71
+pairings 1
+pairing JFK cost -800 pay 4200 away 285 101-102
+version 2 entries 6 flights 3
+pairings 1
+pairing BOS cost -801 pay 4200 away 280 102-103
 ",
     },
     Row {

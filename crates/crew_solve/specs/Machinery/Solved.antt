@@ -2,9 +2,10 @@
 use Rattle.std.specs.Prelude.{◌≡◌, ◌<◌, ◌≤◌, ℕ, ℤ, List, [], ◌∷◌, Option, IfSome, IsPermutation, length, map, slice_index_or}
 use Rattle.std.specs.FinMap as fin
 use Rattle.crew_anchor.specs.Sweeps.{shown_labels}
+use Rattle.crew_carry.specs.Twins.{AreTwins}
 use Rattle.crew_flights.specs.Timetable.{IsBasePrice, IsSound, Timetable}
 use Rattle.crew_net.specs.Events.{AreEvents, departure_cmp}
-use Rattle.crew_net.specs.Nets.{AreByReport, Net}
+use Rattle.crew_net.specs.Nets.{AreArrivalPlaces, AreByReport, Net}
 use Rattle.crew_pairing.specs.Duties.{AreDuties, RiseByKey}
 use Rattle.crew_pairing.specs.Events as Events
 use Rattle.crew_pairing.specs.Events.{departure_of}
@@ -14,6 +15,7 @@ use Rattle.crew_pairing.specs.declared.vector.PairingVector.{PairingVector}
 use Rattle.crew_resource.specs.Members.{Each, Member}
 use Rattle.crew_solve.specs.Machinery.Homes.{IsFit, boarding}
 use Rattle.crew_solve.specs.Solutions.{front_among}
+use Rattle.crew_solve.specs.declared.past.Past.{Past}
 use Rattle.crew_sweep.specs.Sweeps.{AreTurns, BaseSweep, ShowsFronts, front_at}
 use Rattle.crew_vector.specs.Fronts.{RiseByVector}
 
@@ -70,3 +72,12 @@ AreSwept net [] [] = Unit {0}
 AreSwept net [] (b ∷ bs) = ⊥
 AreSwept net (base ∷ bases) [] = ⊥
 AreSwept net (base ∷ bases) (b ∷ bs) = IfSome b (IsSwept net base) × AreSwept net bases bs
+
+-- what an earlier network has for one: its sweeps, and what the two have alike
+pub record IsPast (net : Net) (p : Past) : Type 0 where
+  pub earlier : Net
+  pub nets : Each (λ b. b.net ≡ earlier) p.sweeps.now
+  pub settings : earlier.settings ≡ net.settings
+  pub turns : AreTurns earlier p.turns.now
+  pub twins : AreTwins earlier net p.twins.now
+  pub places : AreArrivalPlaces net p.places.now

@@ -31,29 +31,29 @@ is-over s t ds net checked sound duties few built =
 pub best_of-requires-clause-fit : goal.best_of-requires-clause-fit
 best_of-requires-clause-fit g c =
     let t = c.args.timetable.now in
-    let net = arc_value c.in_ok-net.net in
-    let over = is-over c.args.settings.now t c.args.duties net c.requires.checked c.sweep_all.ensures.sound c.requires.duties c.requires.few c.in_ok-net.ensures in
+    let net = arc_value c.args.net in
+    let over = is-over c.args.settings.now t c.requires.built.0 net c.requires.checked c.sweep_all.ensures.sound c.requires.built.1 c.requires.built.2 c.requires.built.3 in
     subst (Each IsFit) (sym c.deref-3.ensures.value) (all-fit t net c.in_ok-sweeps.sweeps.items over c.in_ok-sweeps.ensures.sweeps)
 
 pub returns-clause-scratch : goal.returns-clause-scratch
 returns-clause-scratch g c =
     let t = c.args.timetable.now in
-    let net = arc_value c.in_ok-net.net in
-    let over = is-over c.args.settings.now t c.args.duties net c.requires.checked c.sweep_all.ensures.sound c.requires.duties c.requires.few c.in_ok-net.ensures in
+    let net = arc_value c.args.net in
+    let over = is-over c.args.settings.now t c.requires.built.0 net c.requires.checked c.sweep_all.ensures.sound c.requires.built.1 c.requires.built.2 c.requires.built.3 in
     let sweeps = c.in_ok-sweeps.sweeps.items in
     let fronts = fronts-are t net sweeps over c.in_ok-sweeps.ensures.sweeps in
     let best = least-is-best t net sweeps over c.in_ok-sweeps.ensures.sweeps in
     let best-is = c.in_ok-best.ensures ∙ ap (λ (l : List BaseSweep). least_of None (flat_map home_of l)) c.deref-3.ensures.value in
     let made : IsScratch net.settings t (front_among sweeps) c.in_ok-best.best = record { fronts = fronts; best_is = subst (IsBest net.settings t) (sym best-is) best } in
-    let whole = subst (λ s. IsScratch s t (front_among sweeps) c.in_ok-best.best) c.in_ok-net.ensures.settings made in
+    let whole = subst (λ s. IsScratch s t (front_among sweeps) c.in_ok-best.best) c.requires.built.3.settings made in
     subst (λ (x : Solution). IsScratch c.args.settings.now t (front_of x) x.best) (sym c.new.ensures) whole
 
 pub new-requires : goal.new-requires
 new-requires g c =
     let t = c.args.timetable.now in
-    let net = arc_value c.in_ok-net.net in
-    let over = is-over c.args.settings.now t c.args.duties net c.requires.checked c.sweep_all.ensures.sound c.requires.duties c.requires.few c.in_ok-net.ensures in
+    let net = arc_value c.args.net in
+    let over = is-over c.args.settings.now t c.requires.built.0 net c.requires.checked c.sweep_all.ensures.sound c.requires.built.1 c.requires.built.2 c.requires.built.3 in
     solved t net c.in_ok-sweeps.sweeps.items over c.in_ok-sweeps.ensures.sweeps
 
 pub returns-clause-network : goal.returns-clause-network
-returns-clause-network g c = subst (HasNetOf c.args.settings.now c.args.timetable.now) (sym c.new.ensures) (c.args.duties, c.requires.duties, c.in_ok-net.ensures)
+returns-clause-network g c = subst (HasNetOf c.args.settings.now c.args.timetable.now) (sym c.new.ensures) (c.requires.built.0, c.requires.built.1, c.requires.built.3)

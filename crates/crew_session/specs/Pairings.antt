@@ -1,0 +1,12 @@
+-- What a record of pairings writes.
+use Rattle.std.specs.Prelude.{◌≡◌, ℕ, List}
+use Rattle.crew_session.specs.Lines.{pairings_lines}
+use Rattle.crew_session.specs.Versions.{Snapshot, timetable_of}
+use Rattle.crew_solve.specs.Cheapest.{AreCheapest}
+use Rattle.crew_vector.specs.declared.priced.PricedPairing.{PricedPairing}
+
+-- the lines of the cheapest pairings of a version, up to a limit
+pub record ShowsCheapest (limit : ℕ) (v : Snapshot) (text : List ℕ) : Type 0 where
+  pub pairings : List PricedPairing
+  pub exact : AreCheapest v.settings (timetable_of v.entries) limit pairings
+  pub written : text ≡ pairings_lines pairings

@@ -1,0 +1,73 @@
+//! The answer to a record of pairings.
+
+ghost use Rattle.std.specs.Prelude.{◌≡◌, ◌++◌, List, ℕ, IfErr, IfOk, OnOk, codes, decimal};
+ghost use Rattle.std.specs.Io.KnownBytes.{Appends};
+ghost use Rattle.std.specs.List.{flat_map};
+ghost use Rattle.crew_session.specs.Faults.{IsLineFault};
+ghost use Rattle.crew_session.specs.Lines as Spec;
+ghost use Rattle.crew_session.specs.Pairings.{ShowsCheapest};
+
+use crate::fault::SessionFault;
+use crate::lines::{pairing_line, put_number, write_line};
+use crate::version::Version;
+use crew_vector::PricedPairing;
+use std::alloc::{AllocError, Global};
+use std::io::Write;
+
+// The line before the pairings.
+fn count_line(alloc: Global, count: usize) -> Result<Vec<u8>, AllocError>
+    ensures { IfOk result (λ line. line.items
+        ≡ codes "pairings " ++ decimal count ++ codes "\n") }
+{
+    let mut line = Vec::new(alloc);
+    line.extend_from_slice(b"pairings ")?;
+    put_number(&mut line, count)?;
+    line.push(b'\n')?;
+    Ok(line)
+}
+
+// Writes a line for each pairing.
+fn write_each<W: Write>(
+    alloc: Global,
+    writer: &mut W,
+    pairings: &[PricedPairing],
+) -> Result<(), SessionFault>
+    ensures written { OnOk result (Appends (W.contents writer.old) (W.contents writer.new)
+        (flat_map (Spec.pairing_line (codes "pairing")) pairings.now)) }
+    ensures fault { IfErr result IsLineFault }
+{
+    for pairing in pairings {
+        write_line(writer, &pairing_line(alloc, b"pairing", pairing)?)?;
+    }
+    Ok(())
+}
+
+// Writes how many pairings there are, and a line for each.
+fn write_pairings<W: Write>(
+    alloc: Global,
+    writer: &mut W,
+    pairings: &[PricedPairing],
+) -> Result<(), SessionFault>
+    ensures written { OnOk result (Appends (W.contents writer.old) (W.contents writer.new)
+        (Spec.pairings_lines pairings.now)) }
+    ensures fault { IfErr result IsLineFault }
+{
+    write_line(writer, &count_line(alloc, pairings.len())?)?;
+    write_each(alloc, writer, pairings)
+}
+
+/// Writes the cheapest pairings of a version, up to a limit.
+pub(crate) fn answer_cheapest<W: Write>(
+    alloc: Global,
+    writer: &mut W,
+    limit: u32,
+    version: &Version,
+) -> Result<(), SessionFault>
+    ensures answered { OnOk result ((text : List ℕ)
+        × Appends (W.contents writer.old) (W.contents writer.new) text
+        × ShowsCheapest limit version.now text) }
+    ensures fault { IfErr result IsLineFault }
+{
+    let pairings = version.cheapest(alloc, limit as usize)?;
+    write_pairings(alloc, writer, &pairings)
+}

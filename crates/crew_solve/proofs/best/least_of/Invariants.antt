@@ -1,7 +1,0 @@
-use Rattle.std.proofs.Common.{◌≡◌}
-use Rattle.std.specs.List.{flat_map, range_with_len}
-use Rattle.crew_solve.specs.Machinery.Homes.{home_from, least_of}
-use Rattle.crew_solve.proofs.best.least_of.Given as goal
-
-abbrev pub invariant-loop-index : goal.invariant-loop-index
-invariant-loop-index l = l.least ≡ least_of l.initial.least (flat_map (home_from l.sweep) (range_with_len 0 l.index))

@@ -1,0 +1,25 @@
+use Rattle.std.proofs.Common.{◌≡◌, ◌∙◌, ap, subst, sym}
+use Rattle.std.specs.Arc.{arc_value}
+use Rattle.crew_carry.specs.Twins.{AreTwins}
+use Rattle.crew_net.specs.Nets.{Net}
+use Rattle.crew_pairing.proofs.Tree.{Each-member}
+use Rattle.crew_sweep.specs.Sweeps.{AreTurns, BaseSweep}
+use Rattle.crew_solve.proofs.past.Past.renew.Goals as goal
+
+pub renew-requires-clause-settings : goal.renew-requires-clause-settings
+renew-requires-clause-settings c =
+    let p = c.requires.past in
+    let own = Each-member (λ (b : BaseSweep). b.net ≡ p.earlier) c.args.self.now.sweeps.now c.args.earlier.now p.nets c.requires.among in
+    ap (λ (n : Net). n.settings) own ∙ (p.settings ∙ ap (λ (n : Net). n.settings) (sym c.in_ok-net.ensures))
+
+pub renew-requires-clause-earlier_turns : goal.renew-requires-clause-earlier_turns
+renew-requires-clause-earlier_turns c =
+    let p = c.requires.past in
+    let own = Each-member (λ (b : BaseSweep). b.net ≡ p.earlier) c.args.self.now.sweeps.now c.args.earlier.now p.nets c.requires.among in
+    subst (λ (n : Net). AreTurns n c.args.self.now.turns.now) (sym own) p.turns
+
+pub renew-requires-clause-twins : goal.renew-requires-clause-twins
+renew-requires-clause-twins c =
+    let p = c.requires.past in
+    let own = Each-member (λ (b : BaseSweep). b.net ≡ p.earlier) c.args.self.now.sweeps.now c.args.earlier.now p.nets c.requires.among in
+    subst (λ (n : Net). AreTwins c.args.earlier.now.net n c.args.self.now.twins.now) (sym c.in_ok-net.ensures) (subst (λ (n : Net). AreTwins n (arc_value c.args.net.now) c.args.self.now.twins.now) (sym own) p.twins)
