@@ -3,9 +3,10 @@
 
 Usage: check_lister.py [PROGRAM]
 
-Of each timetable the program says which pairing is best and how many there are. The lister has to list
-as many, and one of the program's best's base, walk, pay and minutes away, which costs what the program
-says it does and no more than any other. Ends with status 0 where all timetables agree.
+Of each timetable the program says which pairing is best, how many there are, and which its fronts show. The
+lister has to list as many, and one of the program's best's base, walk, pay and minutes away, which costs
+what the program says it does and no more than any other; and the same pairings of fronts, in the same
+order, all of them and the first three. Ends with status 0 where all timetables agree.
 """
 
 import os
@@ -107,34 +108,44 @@ def timetable(draw: random.Random, settings: dict[str, int]) -> str:
 
 
 def answers(program: str, text: str, settings: dict[str, int]) -> list[str]:
-    """The lines that the program writes for the version, its best and its audit."""
+    """The lines that the program writes for the version, its best, its audit and its pairings."""
     words = [word for name, value in settings.items() for word in ("--" + name.replace("_", "-"), str(value))]
-    ended = subprocess.run([program, "run", *words], input=text + "settle\nbest\naudit,100000\n",
+    ended = subprocess.run([program, "run", *words], input=text + "settle\nbest\naudit,100000\npairings,10000\npairings,3\n",
                            capture_output=True, text=True, timeout=PATIENCE)
     lines = ended.stdout.splitlines()
-    if ended.returncode != 0 or ended.stderr or len(lines) != 3:
+    if ended.returncode != 0 or ended.stderr or len(lines) < 5:
         raise RuntimeError(f"status {ended.returncode}, faults {ended.stderr!r}, lines {lines}")
     return lines
+
+
+def pairings_lines(pairings: list[lister.Pairing], timetable: lister.Timetable) -> list[str]:
+    """The lines of an answer that has all of them."""
+    return [f"pairings {len(pairings)}"] + [
+        f"pairing {pairing.base} cost {lister.cost(pairing, timetable)} pay {pairing.pay} away {pairing.away} "
+        + " ".join("-".join(map(str, duty)) for duty in pairing.walk) for pairing in pairings]
 
 
 def difference(lines: list[str], text: str, settings: dict[str, int]) -> str | None:
     """Where the program's lines differ from the lister's pairings; None where they agree."""
     listed = lister.pairings(text, settings)
     least = lister.best(text, settings)
+    read = lister.read(text, settings)
+    shown = pairings_lines(lister.shown(text, settings), read)
+    if lines[3:] != shown + [f"pairings {min(3, len(shown) - 1)}"] + shown[1:4]:
+        return f"{lines[3:]!r}, and of fronts are listed {shown!r}"
     audit = AUDIT.fullmatch(lines[2])
     if audit is None or int(audit[1]) != len(listed):
         return f"{lines[2]!r}, and {len(listed)} are listed"
     if least is None:
         return None if lines[1] == "best none" else f"{lines[1]!r}, and none is listed"
-    shown = BEST.fullmatch(lines[1])
-    if shown is None:
+    line = BEST.fullmatch(lines[1])
+    if line is None:
         return f"{lines[1]!r}, and {least} is listed"
-    walk = tuple(tuple(map(int, duty.split("-"))) for duty in shown[5].split(" "))
-    best = lister.Pairing(shown[1], walk, int(shown[3]), int(shown[4]))
-    read = lister.read(text, settings)
+    walk = tuple(tuple(map(int, duty.split("-"))) for duty in line[5].split(" "))
+    best = lister.Pairing(line[1], walk, int(line[3]), int(line[4]))
     if best not in listed:
         return f"{lines[1]!r} is not listed; the best that is: {least}"
-    if not lister.cost(best, read) == int(shown[2]) == lister.cost(least, read):
+    if not lister.cost(best, read) == int(line[2]) == lister.cost(least, read):
         return f"{lines[1]!r}, and {least} is listed at {lister.cost(least, read)}"
     return None
 

@@ -23,7 +23,7 @@ class Pairing:
 
 
 def pairing_of(line: str) -> Pairing | None:
-    """The pairing of a line `best CODE cost C pay P away A WALK`, and none of `best none`."""
+    """The pairing of a line `best CODE cost C pay P away A WALK`, or `pairing ..`, and none of `best none`."""
     words = line.split()
     if words == ['best', 'none']:
         return None
@@ -88,3 +88,11 @@ class Engine:
         self.answer()
         self.send('best')
         return pairing_of(self.answer())
+
+    def cheapest_of(self, most: int) -> list[Pairing]:
+        """The pairings of fronts that cost least at the prices that stand now, up to so many, the best first."""
+        self.send('settle')
+        self.answer()
+        self.send(f'pairings,{most}')
+        _, count = self.answer().split()
+        return [pairing_of(self.answer()) for _ in range(int(count))]

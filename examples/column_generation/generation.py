@@ -1,4 +1,4 @@
-"""Column generation: the master problem's duals price the flights, the engine's best pairing is the next column."""
+"""Column generation: the master problem's duals price the flights, the engine's cheapest pairings are columns."""
 import math
 import time
 from collections.abc import Callable
@@ -51,12 +51,21 @@ def set_prices(engine: Engine, relaxed: Relaxed, whole: Callable[[float], int]) 
         engine.set_base_price(base, whole(dual))
 
 
-def price(engine: Engine, relaxed: Relaxed, most: int) -> list[Pairing]:
+def improves(pairing: Pairing, relaxed: Relaxed) -> bool:
+    return reduced(pairing, relaxed.flights, relaxed.bases) <= -EPSILON
+
+
+def cheapest(engine: Engine, relaxed: Relaxed, most: int) -> list[Pairing]:
+    """Of the cheapest pairings of one settle those that improve."""
+    return [pairing for pairing in engine.cheapest_of(most) if improves(pairing, relaxed)]
+
+
+def priced_out(engine: Engine, relaxed: Relaxed, most: int) -> list[Pairing]:
     """The cheapest pairing, then the cheapest that shares no flight with it, and so on, while they improve."""
     found: list[Pairing] = []
     while len(found) < most:
         pairing = engine.cheapest()
-        if pairing is None or reduced(pairing, relaxed.flights, relaxed.bases) > -EPSILON:
+        if pairing is None or not improves(pairing, relaxed):
             break
         found.append(pairing)
         for number in pairing.flights:
@@ -64,9 +73,13 @@ def price(engine: Engine, relaxed: Relaxed, most: int) -> list[Pairing]:
     return found
 
 
-def generate(timetable: Timetable, program: str, options: list[str], *, columns: int = 1, penalty: float = 100_000.0,
-             capacity: int | None = None, tell: Callable[[Round], None] = lambda _: None) -> Result:
+def generate(timetable: Timetable, program: str, options: list[str], *, pairings: int = 200,
+             columns: int | None = None, penalty: float = 100_000.0, capacity: int | None = None,
+             tell: Callable[[Round], None] = lambda _: None) -> Result:
     """Runs to the optimum of the linear relaxation.
+
+    A round takes up to `pairings` columns from one settle; or, where `columns` is given, up to so many that share
+    no flight, from a settle each.
 
     Duals are rounded down, so a pairing that the engine calls improving is: when it finds none, the prices are
     feasible duals, and their value is a bound. It lies below the optimum by less than a point for each flight and
@@ -82,7 +95,9 @@ def generate(timetable: Timetable, program: str, options: list[str], *, columns:
             relaxed = master.relax()
             solved = time.perf_counter()
             set_prices(engine, relaxed, whole)
-            found = [pairing for pairing in price(engine, relaxed, columns) if master.add(pairing)]
+            improving = (cheapest(engine, relaxed, pairings) if columns is None
+                         else priced_out(engine, relaxed, columns))
+            found = [pairing for pairing in improving if master.add(pairing)]
             least = min((reduced(pairing, relaxed.flights, relaxed.bases) for pairing in found), default=0.0)
             priced = time.perf_counter()
             rounds.append(Round(len(rounds) + 1, relaxed.objective, least, len(master.pairings), solved - start,

@@ -163,8 +163,8 @@ def pairing_of(duties: tuple[Duty, ...], limits: dict[str, int]) -> Pairing:
     return Pairing(duties[0].origin, walk, pay, away)
 
 
-def pairings(text: str, settings: dict[str, int]) -> list[Pairing]:
-    """All legal pairings, by base and walk. Settings that aren't given are at their defaults."""
+def partials(text: str, settings: dict[str, int]) -> list[tuple[Duty, ...]]:
+    """All legal lists of duties from a base. Settings that aren't given are at their defaults."""
     (flights, bases), limits = read(text, settings), with_defaults(settings)
 
     def may_follow(before: Duty, after: Duty) -> bool:
@@ -180,8 +180,17 @@ def pairings(text: str, settings: dict[str, int]) -> list[Pairing]:
                 # 30 hours free from duty in the 168 before each report: those before the first (117.25(b)).
                 and duties[-1].release - duties[0].report <= limits["away_cap"])
 
-    partials = lists(legal_duties(list(flights.values()), limits), may_follow, is_within)
-    found = [pairing_of(duties, limits) for duties in partials if duties[-1].target == duties[0].origin]
+    return lists(legal_duties(list(flights.values()), limits), may_follow, is_within)
+
+
+def is_home(duties: tuple[Duty, ...]) -> bool:
+    return duties[-1].target == duties[0].origin
+
+
+def pairings(text: str, settings: dict[str, int]) -> list[Pairing]:
+    """All legal pairings, by base and walk."""
+    limits = with_defaults(settings)
+    found = [pairing_of(duties, limits) for duties in partials(text, settings) if is_home(duties)]
     return sorted(found, key=lambda pairing: (pairing.base, pairing.walk))
 
 
@@ -197,3 +206,48 @@ def best(text: str, settings: dict[str, int]) -> Pairing | None:
     timetable = read(text, settings)
     return min(pairings(text, settings), default=None,
                key=lambda pairing: (cost(pairing, timetable), pairing.walk))
+
+
+Vector = tuple[int, ...]
+
+
+def vector(duties: tuple[Duty, ...], timetable: Timetable, limits: dict[str, int]) -> Vector:
+    """Three costs, by duties, by minutes away and by the guarantee, and what the caps limit."""
+    flights, bases = timetable
+    prices = bases[duties[0].origin] + sum(flight.price for duty in duties for flight in duty.flights)
+    away = duties[-1].release - duties[0].report
+    pays = [max(14 * duty.fly, limits["duty_rig"] * (duty.release - duty.report), limits["duty_min"])
+            for duty in duties]
+    return (sum(pays) - prices, limits["trip_rig"] * away - prices, limits["guarantee"] * len(duties) - prices,
+            sum(duty.fdp for duty in duties), sum(duty.fly for duty in duties), len(duties), away)
+
+
+def is_beaten(one: Vector, others: set[Vector]) -> bool:
+    return any(other != one and all(a <= b for a, b in zip(other, one)) for other in others)
+
+
+def shown(text: str, settings: dict[str, int]) -> list[Pairing]:
+    """The pairings in the fronts, by cost and walk. A front has each vector of its base and last duty that no
+    other beats, with the first walk that has it, of those none of whose beginnings is beaten where it ends."""
+    timetable, limits = read(text, settings), with_defaults(settings)
+    lists_at: dict[tuple[str, Duty], list[tuple[Duty, ...]]] = {}
+    for duties in partials(text, settings):
+        lists_at.setdefault((duties[0].origin, duties[-1]), []).append(duties)
+    left = {}
+    for node, lines in lists_at.items():
+        vectors = {vector(duties, timetable, limits) for duties in lines}
+        left[node] = {one for one in vectors if not is_beaten(one, vectors)}
+
+    def is_clean(duties: tuple[Duty, ...]) -> bool:
+        return all(vector(duties[:count], timetable, limits) in left[duties[0].origin, duties[count - 1]]
+                   for count in range(1, len(duties) + 1))
+
+    found = []
+    for lines in lists_at.values():
+        first: dict[Vector, Pairing] = {}
+        for duties in filter(is_clean, filter(is_home, lines)):
+            pairing, one = pairing_of(duties, limits), vector(duties, timetable, limits)
+            if one not in first or pairing.walk < first[one].walk:
+                first[one] = pairing
+        found += first.values()
+    return sorted(found, key=lambda pairing: (cost(pairing, timetable), pairing.walk))
