@@ -19,7 +19,7 @@ use Rattle.crew_session.specs.declared.engine_fault.EngineFault.TheVariants.{Too
 use Rattle.crew_session.specs.Machinery.Journals.{Came, HasEnded, IsInStep, since, state_of, zones_of}
 use Rattle.crew_session.specs.Lines.{refused_line}
 use Rattle.crew_session.specs.Session.{Does, Obeys, State, Writes, entry_count, refuse, start, submit, with_entry}
-use Rattle.crew_session.specs.Versions.{Snapshot, opening}
+use Rattle.crew_version.specs.Versions.{Snapshot, opening}
 use Rattle.crew_session.specs.declared.journal.Journal.{Journal}
 use Rattle.crew_session.specs.declared.session.Ending.TheVariants.{AtEnd, TooManyRecords}
 use Rattle.crew_session.specs.Audits.{Audits}

@@ -1,10 +1,10 @@
 -- What an engine answers.
 use Rattle.std.specs.Prelude.{◌≡◌, ◌⊎◌, ◌+◌, ◌<◌, ◌++◌, ℕ, Bool, IsTrue, List, length, Option, Some, None}
-use Rattle.crew_rules.specs.declared.settings.Settings.{Settings}
-use Rattle.crew_flights.specs.Timetable.{Timetable}
 use Rattle.crew_flights.specs.declared.entries.Entry.{Entry}
 use Rattle.crew_pairing.specs.Duties.{HasTooMany}
-use Rattle.crew_session.specs.Versions.{Snapshot, timetable_of}
+use Rattle.crew_version.specs.Versions.{Snapshot, timetable_of}
+use Rattle.crew_version.specs.declared.fault.VersionFault.{VersionFault}
+use Rattle.crew_version.specs.declared.fault.VersionFault.TheVariants as VersionFault
 use Rattle.crew_session.specs.declared.engine_fault.EngineFault.{EngineFault}
 use Rattle.crew_session.specs.declared.engine_fault.EngineFault.TheVariants.{TooManyDuties, LastVersion, SeatFull, Gap, OtherLog, NoView, Memory}
 
@@ -17,6 +17,12 @@ engine_number (Gap place) = Some 62
 engine_number OtherLog = Some 63
 engine_number NoView = Some 65
 engine_number Memory = None
+
+-- why a version can't be followed, as an engine says it
+abbrev pub engine_fault_of : VersionFault → EngineFault
+engine_fault_of VersionFault.TooManyDuties = TooManyDuties
+engine_fault_of VersionFault.LastVersion = LastVersion
+engine_fault_of VersionFault.Memory = Memory
 
 -- an edit is refused where 1,000,000 edits were taken, and below that for want of memory
 abbrev pub IsSubmitFault : List Entry → EngineFault → Type 0
@@ -42,26 +48,6 @@ IsSettleFault strange version entries OtherLog = IsTrue strange
 IsSettleFault strange version entries NoView = IsTrue strange
 IsSettleFault strange version entries Memory = Unit {0}
 IsSettleFault strange version entries SeatFull = ⊥
-
--- the best isn't found: too many duties, or want of memory
-abbrev pub IsSearchFault : Settings → Timetable → EngineFault → Type 0
-IsSearchFault s t TooManyDuties = HasTooMany s t
-IsSearchFault s t Memory = Unit {0}
-IsSearchFault s t LastVersion = ⊥
-IsSearchFault s t (Gap place) = ⊥
-IsSearchFault s t OtherLog = ⊥
-IsSearchFault s t NoView = ⊥
-IsSearchFault s t SeatFull = ⊥
-
--- a version can't be followed: too many duties, the greatest number, or want of memory
-abbrev pub IsAdvanceFault : Snapshot → List Entry → EngineFault → Type 0
-IsAdvanceFault version entries LastVersion = version.number ≡ 18_446_744_073_709_551_615
-IsAdvanceFault version entries TooManyDuties = AreTooMany version entries
-IsAdvanceFault version entries Memory = Unit {0}
-IsAdvanceFault version entries (Gap place) = ⊥
-IsAdvanceFault version entries OtherLog = ⊥
-IsAdvanceFault version entries NoView = ⊥
-IsAdvanceFault version entries SeatFull = ⊥
 
 -- the later entries begin with the earlier ones
 abbrev pub BeginsWith : List Entry → List Entry → Type 0

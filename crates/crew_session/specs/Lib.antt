@@ -1,5 +1,6 @@
 pub mod Audits
 pub mod Engines
+pub mod Entries
 pub mod Faults
 pub mod Fronts
 pub mod Lines
@@ -7,5 +8,4 @@ pub mod Pairings
 pub mod Rows
 pub mod Session
 pub mod Verdicts
-pub mod Versions
 pub mod Machinery

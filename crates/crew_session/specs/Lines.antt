@@ -9,7 +9,7 @@ use Rattle.crew_flights.specs.declared.edit.Verdict.TheVariants.{Accepted, Refus
 use Rattle.crew_pairing.specs.Legs.{Leg}
 use Rattle.crew_pairing.specs.declared.vector.PairingVector.{PairingVector}
 use Rattle.crew_audit.specs.declared.tally.Tally.{Tally}
-use Rattle.crew_session.specs.Versions.{Snapshot, timetable_of}
+use Rattle.crew_version.specs.Versions.{Snapshot, timetable_of}
 use Rattle.crew_vector.specs.declared.priced.PricedPairing.{PricedPairing}
 
 -- texts with a byte between each two

@@ -1,7 +1,7 @@
 -- What a record of pairings writes.
 use Rattle.std.specs.Prelude.{◌≡◌, ℕ, List}
 use Rattle.crew_session.specs.Lines.{pairings_lines}
-use Rattle.crew_session.specs.Versions.{Snapshot, timetable_of}
+use Rattle.crew_version.specs.Versions.{Snapshot, timetable_of}
 use Rattle.crew_solve.specs.Cheapest.{AreCheapest}
 use Rattle.crew_vector.specs.declared.priced.PricedPairing.{PricedPairing}
 

@@ -17,7 +17,8 @@ use Rattle.crew_session.specs.Lines.{best_line, refused_line, refused_lines, ver
 use Rattle.crew_records.specs.Fields.{Fields}
 use Rattle.crew_session.specs.Pairings.{ShowsCheapest}
 use Rattle.crew_session.specs.Rows.{records_of}
-use Rattle.crew_session.specs.Versions.{IsNext, IsRight, Snapshot, entry_of, opening, timetable_of, verdicts_of}
+use Rattle.crew_session.specs.Entries.{entry_of}
+use Rattle.crew_version.specs.Versions.{IsNext, IsRight, Snapshot, opening, timetable_of, verdicts_of}
 use Rattle.crew_records.specs.declared.command.Command.{Command}
 use Rattle.crew_records.specs.declared.command.Command.TheVariants.{AddZone, Submit, AddFlight, Retime, Settle, Best, ShowFront, Cheapest, Audit, Refuse}
 

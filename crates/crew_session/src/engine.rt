@@ -4,10 +4,11 @@ ghost use denote.Param.Send.{IsSync};
 ghost use Rattle.std.specs.Prelude.{◌≡◌, ◌⊎◌, ◌<◌, ◌++◌, ◌∷◌, [], Bool, IsTrue, List, IfErr, OnErr, OnOk, length};
 ghost use Rattle.crew_flights.specs.declared.entries.Entry.{Entry};
 ghost use Rattle.crew_session.specs.Engines.{BeginsWith, IsSettleFault, IsSubmitFault, IsWhole};
-ghost use Rattle.crew_session.specs.Versions.{IsRight, Snapshot, entry_of};
+ghost use Rattle.crew_session.specs.Entries.{entry_of};
+ghost use Rattle.crew_version.specs.Versions.{IsRight, Snapshot};
 
 use crate::engine_fault::EngineFault;
-use crate::version::Version;
+use crew_version::Version;
 use crew_flights::Edit;
 use std::thread::Threads;
 

@@ -3,6 +3,7 @@
 ghost use Rattle.std.specs.Prelude.{◌≡◌};
 ghost use Rattle.crew_session.specs.Engines.{engine_number};
 
+use crew_version::VersionFault;
 use std::alloc::AllocError;
 use thiserror::Error;
 
@@ -57,5 +58,20 @@ impl From<AllocError> for EngineFault {
 
     fn from(_: AllocError) -> EngineFault {
         EngineFault::Memory
+    }
+}
+
+impl From<VersionFault> for EngineFault {
+    ghost use Rattle.crew_session.specs.Engines.{engine_fault_of};
+    ghost use Rattle.std.specs.Prelude.{◌≡◌};
+
+    ghost from_gives = { λ fault engine_fault. engine_fault ≡ engine_fault_of fault };
+
+    fn from(fault: VersionFault) -> EngineFault {
+        match fault {
+            VersionFault::TooManyDuties => EngineFault::TooManyDuties,
+            VersionFault::LastVersion => EngineFault::LastVersion,
+            VersionFault::Memory => EngineFault::Memory,
+        }
     }
 }

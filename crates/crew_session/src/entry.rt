@@ -1,7 +1,7 @@
 //! Entries of a log with one seat.
 
 ghost use Rattle.std.specs.Prelude.{◌≡◌};
-ghost use Rattle.crew_session.specs.Versions.{entry_of};
+ghost use Rattle.crew_session.specs.Entries.{entry_of};
 
 use crew_flights::{Edit, Entry};
 

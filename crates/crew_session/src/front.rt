@@ -10,7 +10,7 @@ ghost use Rattle.crew_session.specs.Lines as Spec;
 
 use crate::fault::SessionFault;
 use crate::lines::{put_key, put_number, put_signed, put_walk, write_line};
-use crate::version::Version;
+use crew_version::Version;
 use crew_flights::Code;
 use crew_pairing::{Key, PairingVector, Walk};
 use std::alloc::{AllocError, Global};

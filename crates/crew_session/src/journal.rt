@@ -3,7 +3,7 @@
 ghost use Rattle.std.specs.Prelude.{◌≡◌, ◌++◌, ◌∷◌, [], OnOk, true};
 ghost use Rattle.std.specs.FinMap as map;
 ghost use Rattle.crew_session.specs.Machinery.Journals.{zones_of};
-ghost use Rattle.crew_session.specs.Versions.{entry_of};
+ghost use Rattle.crew_session.specs.Entries.{entry_of};
 
 use crate::entry::make_entry;
 use crate::zones::Zones;

@@ -19,9 +19,7 @@ mod lines;
 mod pairings;
 mod plain;
 mod rows;
-mod search;
 mod session;
-mod version;
 mod zones;
 
 pub use engine::Engine;
@@ -29,4 +27,3 @@ pub use engine_fault::EngineFault;
 pub use fault::SessionFault;
 pub use plain::Plain;
 pub use session::run;
-pub use version::Version;

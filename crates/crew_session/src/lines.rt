@@ -6,10 +6,10 @@ ghost use Rattle.std.specs.Io.KnownBytes.{Appends};
 ghost use Rattle.crew_session.specs.Faults.{IsLineFault};
 ghost use Rattle.crew_session.specs.Lines as Spec;
 ghost use Rattle.crew_session.specs.Verdicts.{verdict_text};
-ghost use Rattle.crew_session.specs.Versions.{verdicts_of};
+ghost use Rattle.crew_version.specs.Versions.{verdicts_of};
 
 use crate::fault::SessionFault;
-use crate::version::Version;
+use crew_version::Version;
 use crew_audit::Tally;
 use crew_flights::Verdict;
 use crew_pairing::{Key, Leg, Walk};

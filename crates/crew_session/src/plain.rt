@@ -2,15 +2,16 @@
 
 ghost use Rattle.std.specs.Prelude.{◌≡◌, ◌+◌, ◌≤◌, [], false, length, vec_len};
 ghost use Rattle.crew_rules.specs.Settings.{IsChecked};
-ghost use Rattle.crew_session.specs.Versions.{opening};
+ghost use Rattle.crew_version.specs.Versions.{opening};
 
 use crate::engine::Engine;
 use crate::engine_fault::EngineFault;
 use crate::entry::make_entry;
-use crate::version::Version;
+use crew_version::Version;
 use crew_flights::{Edit, Entry};
 use crew_rules::Settings;
 use std::alloc::Global;
+use std::mem::replace;
 use std::thread::Threads;
 
 /// The engine without workers: a settle works on the thread that calls it, and goes on from the
@@ -66,7 +67,17 @@ impl Engine for Plain {
 
     fn settle<R: Threads + Sync>(&mut self, rt: &R) -> Result<(), EngineFault> {
         let alloc = *self.pending.allocator();
-        self.version.advance(rt, alloc, &mut self.pending)
+        let entries = replace(&mut self.pending, Vec::new(alloc));
+        match self.version.next(rt, alloc, entries) {
+            Ok(next) => {
+                self.version = next;
+                Ok(())
+            }
+            Err((entries, fault)) => {
+                self.pending = entries;
+                Err(fault.into())
+            }
+        }
     }
 
     fn version(&self) -> &Version {

@@ -15,7 +15,7 @@ ghost use Rattle.crew_session.specs.Lines.{refused_line, refused_lines, version_
 ghost use Rattle.crew_session.specs.Rows.{IsOpen, records_of, rows_left};
 ghost use Rattle.crew_session.specs.Session.{IsSessionText, Obeys, Writes};
 ghost use Rattle.crew_session.specs.Session as Spec;
-ghost use Rattle.crew_session.specs.Versions.{Snapshot, opening, timetable_of, verdicts_of};
+ghost use Rattle.crew_version.specs.Versions.{Snapshot, opening, timetable_of, verdicts_of};
 
 use crate::audit::answer_audit;
 use crate::engine::Engine;
@@ -26,7 +26,7 @@ use crate::journal::Journal;
 use crate::lines::{write_best, write_refusals, write_refused, write_version};
 use crate::pairings::answer_cheapest;
 use crate::rows::next_row;
-use crate::version::Version;
+use crew_version::Version;
 use crate::zones::Zones;
 use crew_duty::{DutyFault, list_duties};
 use crew_flights::{Code, Edit, Entry, Flight};

@@ -2,7 +2,8 @@
 
 use crew_flights::{Code, Edit, Flight, FlightId, Verdict};
 use crew_rules::Settings;
-use crew_session::{Engine, EngineFault, Plain, Version};
+use crew_session::{Engine, EngineFault, Plain};
+use crew_version::Version;
 use crew_time::{ClockMinute, Minute, read_minute};
 use std::alloc::{AllocError, Global};
 use std::test::Fail;
@@ -44,18 +45,18 @@ fn submit_1_000_000(engine: &mut Plain, code: Code) -> Result<(), EngineFault> {
     Ok(())
 }
 
-// What a version shows: its number, how many entries by either count, its flights, the verdicts
-// at a place and on the first entry.
-type Shown = (u64, usize, usize, usize, Option<Verdict>, Option<Verdict>);
+// What a version shows: its number, how many entries and flights, the verdicts at a place and on
+// the first entry, and whether an entry stands at that place.
+type Shown = (u64, usize, usize, Option<Verdict>, Option<Verdict>, bool);
 
 fn shown(version: &Version, place: usize) -> Shown {
     (
         version.number(),
         version.count(),
-        version.entries().len(),
         version.flights(),
         version.verdict(place),
         version.verdict(0),
+        version.entry(place).is_some(),
     )
 }
 
@@ -68,7 +69,7 @@ fn the_edit_after_1_000_000(rt: HostRuntime) -> Result<(), Fail> {
     assert_eq!(rt; engine.settle(&rt), Ok(()));
     assert_eq!(rt;
         shown(engine.version(), 1_000_000),
-        (1, 1_000_000, 1_000_000, 0, None, Some(Verdict::Accepted))
+        (1, 1_000_000, 0, None, Some(Verdict::Accepted), false)
     );
     assert!(rt; engine.version().best().is_none());
     assert_eq!(rt; engine.version().settings().lead, 60);
@@ -132,7 +133,7 @@ fn copies(rt: HostRuntime) -> Result<(), Fail> {
     assert_eq!(rt; shown(&version, 2), shown(engine.version(), 2));
     assert_eq!(rt; version.number(), 2);
     assert_eq!(rt; version.verdict(2), Some(Verdict::Accepted));
-    assert_eq!(rt; version.entries(), engine.version().entries());
+    assert_eq!(rt; version.entry(2), engine.version().entry(2));
     assert_eq!(rt; version.timetable().flight_count(), 2);
     assert_eq!(rt; flights_with_none(rt.alloc(), &version), Ok(2));
     assert_eq!(rt;

@@ -4,7 +4,8 @@ ghost use Rattle.std.specs.Prelude.{true};
 
 use crew_flights::Edit;
 use crew_rules::Settings;
-use crew_session::{Engine, EngineFault, Plain, SessionFault, Version, run};
+use crew_session::{Engine, EngineFault, Plain, SessionFault, run};
+use crew_version::Version;
 use std::alloc::Global;
 use std::thread::Threads;
 

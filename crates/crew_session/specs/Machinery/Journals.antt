@@ -6,7 +6,7 @@ use Rattle.crew_flights.specs.declared.entries.Entry.{Entry}
 use Rattle.crew_rules.specs.declared.settings.Settings.{Settings}
 use Rattle.crew_records.specs.Fields.{Fields}
 use Rattle.crew_session.specs.Session.{State, Writes, Zones as ZoneMap}
-use Rattle.crew_session.specs.Versions.{Snapshot}
+use Rattle.crew_version.specs.Versions.{Snapshot}
 use Rattle.crew_records.specs.declared.fault.RecordFault.{RecordFault}
 use Rattle.crew_records.specs.declared.fault.RecordFault.TheVariants.{ZoneExists, TooManyZones}
 use Rattle.crew_session.specs.declared.zones.Zones.{Zones}

@@ -1,0 +1,4 @@
+pub mod Chunked
+pub mod OpeningFacts
+pub mod SolutionFacts
+pub mod SameTimetable

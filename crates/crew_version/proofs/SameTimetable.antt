@@ -1,0 +1,97 @@
+-- Two timetables with the same flights and bases are one.
+use Rattle.std.proofs.Common.{◌≡◌, ℕ, ℤ, Bool, true, List, [], ◌∷◌, ◌&&◌, refl, sym, ◌∙◌, ap, Some, zero, suc, nat_eq}
+use Rattle.std.specs.Bool.{Decides}
+use Rattle.std.specs.Ordering.{eq_by_cmp, int_eq}
+use Rattle.crew_flights.specs.Codes.{code_cmp}
+use Rattle.std.specs.Prelude.{map as list_map, slice_get}
+use Rattle.std.specs.Ordering.{nat_cmp}
+use Rattle.std.specs.Cmp.{Equal-is, nat_cmp_total, eq_by_cmp_equiv}
+use Rattle.std.proofs.lemmas.Bool.{and_from, and_parts}
+use Rattle.std.proofs.lemmas.Bool.Decides.{Decides-eqb, Decides-int_eq}
+use Rattle.crew_vector.proofs.Orders.{code-itself, same-code}
+use Rattle.std.specs.FinMap as map
+use Rattle.std.proofs.lemmas.Map.Keys.{IsDistinct-from_sorted}
+use Rattle.std.proofs.lemmas.Map.Entries.{lookup_from_place}
+use Rattle.crew_flights.specs.Timetable.{Timetable, IsSound}
+use Rattle.crew_flights.specs.declared.flight.Flight.{Flight}
+use Rattle.crew_flights.proofs.Listed.{keys_rise}
+use Rattle.crew_flights.proofs.Maps.{find_lookup}
+use Rattle.crew_pairing.specs.Duties.{flights_of}
+
+-- each flight stands under its own number
+numbered : (t : Timetable) → IsSound t → (k n : ℕ) (f : Flight) → slice_get (map.entries t.flights) k ≡ Some (n, f) → f.id ≡ n
+numbered t s k n f h =
+    (s.flights n f (map.get-entries t.flights n ∙ find_lookup nat_cmp n (map.entries t.flights) ∙ lookup_from_place (eq_by_cmp_equiv nat_cmp_total) (map.entries t.flights) k n f (IsDistinct-from_sorted nat_cmp _ (keys_rise nat_cmp t.flights)) h)).own
+
+-- entries whose flights have their numbers are known by their flights
+again : (es : List (ℕ × Flight)) → ((k n : ℕ) (f : Flight) → slice_get es k ≡ Some (n, f) → f.id ≡ n) → es ≡ list_map (λ (f : Flight). (f.id, f)) (list_map (λ (e : ℕ × Flight). e.1) es)
+again [] h = refl
+again (e ∷ es) h =
+    let own : e.1.id ≡ e.0 = h 0 e.0 e.1 refl in
+    ap (λ (n : ℕ). (n, e.1) ∷ es) (sym own) ∙ ap (λ (l : List (ℕ × Flight)). (e.1.id, e.1) ∷ l) (again es (λ k n f at. h (suc k) n f at))
+
+-- flights by number tell the map that holds them
+pub same-flights : (a b : Timetable) → IsSound a → IsSound b → flights_of a ≡ flights_of b → a.flights ≡ b.flights
+same-flights a b s t h =
+    map.same_entries_map a.flights b.flights
+    (again (map.entries a.flights) (numbered a s) ∙ ap (list_map (λ (f : Flight). (f.id, f))) h ∙ sym (again (map.entries b.flights) (numbered b t)))
+
+-- flights by number and bases by code tell a timetable
+pub same-timetable : (a b : Timetable) → IsSound a → IsSound b → flights_of a ≡ flights_of b → map.entries a.bases ≡ map.entries b.bases → a ≡ b
+same-timetable a b s t h k =
+    ap (λ x. record { flights = x; bases = a.bases }) (same-flights a b s t h)
+    ∙ ap (λ x. record { flights = b.flights; bases = x }) (map.same_entries_map a.bases b.bases k)
+
+-- ---- comparisons
+
+flight-exact : (x y : Flight) → x.id ≡ y.id → x.from ≡ y.from → x.to ≡ y.to → x.dep ≡ y.dep → x.arr ≡ y.arr → x.report_clock ≡ y.report_clock → x.price ≡ y.price → x ≡ y
+flight-exact x y a b c d e f g =
+    ap (λ z. record { id = z; from = x.from; to = x.to; dep = x.dep; arr = x.arr; report_clock = x.report_clock; price = x.price }) a
+    ∙ (ap (λ z. record { id = y.id; from = z; to = x.to; dep = x.dep; arr = x.arr; report_clock = x.report_clock; price = x.price }) b
+    ∙ (ap (λ z. record { id = y.id; from = y.from; to = z; dep = x.dep; arr = x.arr; report_clock = x.report_clock; price = x.price }) c
+    ∙ (ap (λ z. record { id = y.id; from = y.from; to = y.to; dep = z; arr = x.arr; report_clock = x.report_clock; price = x.price }) d
+    ∙ (ap (λ z. record { id = y.id; from = y.from; to = y.to; dep = y.dep; arr = z; report_clock = x.report_clock; price = x.price }) e
+    ∙ (ap (λ z. record { id = y.id; from = y.from; to = y.to; dep = y.dep; arr = y.arr; report_clock = z; price = x.price }) f
+    ∙ ap (λ z. record { id = y.id; from = y.from; to = y.to; dep = y.dep; arr = y.arr; report_clock = y.report_clock; price = z }) g)))))
+
+id-decides : (a b : ℕ) → Decides (eq_by_cmp nat_cmp a b) (a ≡ b)
+id-decides a b = (
+  λ e. map.nat_cmp-IsAntisymmetric a b ((Equal-is (nat_cmp a b)).0 e),
+  λ e. ap (λ z. eq_by_cmp nat_cmp z b) e ∙ (eq_by_cmp_equiv nat_cmp_total).refl b,
+)
+
+code-decides : (a b : List ℕ) → Decides (eq_by_cmp code_cmp a b) (a ≡ b)
+code-decides a b = (λ e. same-code a b e, λ e. code-itself a b e)
+
+abbrev flight_eq : Flight → Flight → Bool
+flight_eq x y =
+    eq_by_cmp nat_cmp x.id y.id
+    && (eq_by_cmp code_cmp x.from y.from && (eq_by_cmp code_cmp x.to y.to && (int_eq x.dep y.dep && (int_eq x.arr y.arr && (nat_eq x.report_clock y.report_clock && int_eq x.price y.price)))))
+
+same-flight : (x y : Flight) → flight_eq x y ≡ true → x ≡ y
+same-flight x y t =
+    let a = and_parts _ _ t in
+    let b = and_parts _ _ a.1 in
+    let c = and_parts _ _ b.1 in
+    let d = and_parts _ _ c.1 in
+    let e = and_parts _ _ d.1 in
+    let f = and_parts _ _ e.1 in
+    flight-exact x y ((id-decides x.id y.id).0 a.0) ((code-decides x.from y.from).0 b.0) ((code-decides x.to y.to).0 c.0) ((Decides-int_eq x.dep y.dep).0 d.0) ((Decides-int_eq x.arr y.arr).0 e.0) ((Decides-eqb x.report_clock y.report_clock).0 f.0)
+    ((Decides-int_eq x.price y.price).0 f.1)
+
+flight-itself : (x : Flight) → flight_eq x x ≡ true
+flight-itself x =
+    and_from _ _ ((id-decides x.id x.id).1 refl)
+    (and_from _ _ ((code-decides x.from x.from).1 refl)
+    (and_from _ _ ((code-decides x.to x.to).1 refl)
+    (and_from _ _ ((Decides-int_eq x.dep x.dep).1 refl)
+    (and_from _ _ ((Decides-int_eq x.arr x.arr).1 refl) (and_from _ _ ((Decides-eqb x.report_clock x.report_clock).1 refl) ((Decides-int_eq x.price x.price).1 refl))))))
+
+pub flight-decides : (x y : Flight) → Decides (flight_eq x y) (x ≡ y)
+flight-decides x y = (λ t. same-flight x y t, λ e. ap (λ z. flight_eq z y) e ∙ flight-itself y)
+
+pub base-decides : (x y : List ℕ × ℤ) → Decides (eq_by_cmp code_cmp x.0 y.0 && int_eq x.1 y.1) (x ≡ y)
+base-decides x y = (
+  λ t. let a = and_parts _ _ t in ap (λ c. (c, x.1)) ((code-decides x.0 y.0).0 a.0) ∙ ap (λ p. (y.0, p)) ((Decides-int_eq x.1 y.1).0 a.1),
+  λ e. and_from _ _ ((code-decides x.0 y.0).1 (ap (λ z. z.0) e)) ((Decides-int_eq x.1 y.1).1 (ap (λ z. z.1) e)),
+)

@@ -1,0 +1,161 @@
+-- What a solution says of a timetable.
+use Rattle.std.proofs.Common.{◌≡◌, ℕ, ℤ, Bool, true, false, cond, List, [], ◌∷◌, Option, Some, None, refl, sym, ap, subst, ◌∙◌, inl, inr, ◌||◌, ◌++◌, reverse, arith}
+use Rattle.std.specs.Prelude.{Vec, is_some}
+use Rattle.std.specs.FinMap as fin
+use Rattle.std.specs.Global.{Global}
+use Rattle.std.specs.Option.{option_map}
+use Rattle.std.specs.Ordering.{eq_by_cmp, is_eq}
+use Rattle.std.specs.Cmp.{Equal-is}
+use Rattle.std.specs.List.{list_any}
+use Rattle.std.specs.List.Sorted.{IsPermutation}
+use Rattle.std.proofs.lemmas.Cmp.{tied_itself}
+use Rattle.std.proofs.lemmas.List.Sorted.{IsPermutation-sym}
+use Rattle.crew_flights.specs.Codes.{code_cmp, code_cmp_total}
+use Rattle.crew_flights.proofs.Soundness.{changed_sound, empty_sound}
+use Rattle.crew_flights.specs.Edits.{applied, apply_of, refusal_of}
+use Rattle.crew_flights.specs.Fold.{HasTaken, Standing, data_after, is_in_turn}
+use Rattle.crew_flights.specs.Timetable.{IsSound, Timetable, empty_timetable}
+use Rattle.crew_flights.specs.declared.edit.Edit.{Edit}
+use Rattle.crew_flights.specs.declared.edit.Refusal.{Refusal}
+use Rattle.crew_flights.specs.declared.edit.Verdict.{Verdict}
+use Rattle.crew_flights.specs.declared.entries.Entry.{Entry}
+use Rattle.crew_pairing.specs.Duties.{HasFew}
+use Rattle.crew_pairing.specs.Legs.{Leg}
+use Rattle.crew_pairing.specs.declared.duty.Duty.{Duty}
+use Rattle.crew_pairing.specs.declared.vector.PairingVector.{PairingVector}
+use Rattle.crew_pool.proofs.Permuted.{Member-permuted}
+use Rattle.crew_resource.specs.Members.{Member}
+use Rattle.crew_rules.specs.declared.settings.Settings.{Settings}
+use Rattle.crew_version.specs.Fronts.{IsFrontByKey}
+use Rattle.crew_version.specs.Versions.{IsRight, timetable_of, verdicts_of}
+use Rattle.crew_version.specs.Machinery.Kept.{IsAhead, IsKept, IsSolutionOf, IsSolved, best_of}
+use Rattle.crew_version.specs.declared.version.Ahead.{Ahead}
+use Rattle.crew_rules.specs.Settings.{IsChecked}
+use Rattle.crew_solve.specs.Cheapest.{AreCheapest}
+use Rattle.crew_solve.specs.Solutions.{IsFrontOf, Solution, front_of}
+use Rattle.crew_vector.specs.Bests.{IsBest}
+use Rattle.crew_vector.specs.Fronts.{IsFrontAt}
+
+-- ---- codes among the keys of the bases
+
+same-code : (a : List ℕ) → eq_by_cmp code_cmp a a ≡ true
+same-code a = ap is_eq (tied_itself code_cmp_total a)
+
+code-same : (a b : List ℕ) → eq_by_cmp code_cmp a b ≡ true → a ≡ b
+code-same a b e = fin.slice_cmp-IsAntisymmetric fin.nat_cmp-IsAntisymmetric a b ((Equal-is (code_cmp a b)).0 e)
+
+any-member : (codes : List (List ℕ)) (a : List ℕ) → Member codes a → list_any (eq_by_cmp code_cmp a) codes ≡ true
+any-member [] a m = absurd m
+any-member (c ∷ codes) a (inl e) = ap (λ b. b || list_any (eq_by_cmp code_cmp a) codes) (subst (λ x. eq_by_cmp code_cmp x c ≡ true) e (same-code c))
+any-member (c ∷ codes) a (inr m) = or-true (eq_by_cmp code_cmp a c) _ (any-member codes a m)
+  where
+    or-true : (x y : Bool) → y ≡ true → (x || y) ≡ true
+    or-true true y h = refl
+    or-true false y h = h
+
+member-first : (codes : List (List ℕ)) (a c : List ℕ) (b : Bool) → eq_by_cmp code_cmp a c ≡ b → (b || list_any (eq_by_cmp code_cmp a) codes) ≡ true → (list_any (eq_by_cmp code_cmp a) codes ≡ true → Member codes a) → Member (c ∷ codes) a
+member-first codes a c true e k rest = inl (sym (code-same a c e))
+member-first codes a c false e k rest = inr (rest k)
+
+member-any : (codes : List (List ℕ)) (a : List ℕ) → list_any (eq_by_cmp code_cmp a) codes ≡ true → Member codes a
+member-any [] a h = absurd (cc (h))
+member-any (c ∷ codes) a h = member-first codes a c (eq_by_cmp code_cmp a c) refl h (member-any codes a)
+
+priced-of : (o : Option ℤ) → is_some o ≡ true → (price : ℤ) × (o ≡ Some price)
+priced-of None h = cc h
+priced-of (Some price) h = (price, refl)
+
+-- a code among the keys is a base, and a base's code is among them
+base-priced : (t : Timetable) (base : List ℕ) → Member (fin.keys t.bases) base → (price : ℤ) × (fin.get t.bases base ≡ Some price)
+base-priced t base m = priced-of (fin.get t.bases base) (fin.contains_key-keys t.bases base ∙ any-member (fin.keys t.bases) base m)
+
+priced-base : (t : Timetable) (base : List ℕ) (price : ℤ) → fin.get t.bases base ≡ Some price → Member (fin.keys t.bases) base
+priced-base t base price e = member-any (fin.keys t.bases) base (sym (fin.contains_key-keys t.bases base) ∙ ap is_some e)
+
+-- ---- fronts
+
+front-permuted : (s : Settings) (t : Timetable) (base : List ℕ) (price : ℤ) (d : Duty) (xs ys : List (PairingVector × List (List Leg))) → IsPermutation xs ys → IsFrontAt s t base price d xs → IsFrontAt s t base price d ys
+front-permuted s t base price d xs ys p h =
+    let back = Member-permuted ys xs (IsPermutation-sym xs ys p) in
+    let forth = Member-permuted xs ys p in
+    record {
+      clean = λ v w m. h.clean v w (back (v, w) m);
+      undominated = λ v w m. h.undominated v w (back (v, w) m);
+      least = λ v w y m. h.least v w y (back (v, w) m);
+      every = λ v u. let found = h.every v u in (found.0, forth (v, found.0) found.1);
+    }
+
+-- the front that a solution shows is the front of the base and the duty
+pub front-shown : (s : Settings) (t : Timetable) (solution : Solution) (base : List ℕ) (key : List Leg) (front : Option (Vec (PairingVector × List (List Leg)) Global)) → IsSolutionOf s t solution → IsFrontOf solution base key front
+    → IsFrontByKey s t base key (option_map (λ v. v.items) front)
+front-shown s t solution base key None h shown = λ price d based duty named.
+    let listed = subst (Member h.network.0) (sym duty.3) (h.network.1.every duty.0 duty.1 duty.2) in
+    shown d (rw h.network.2.bases (priced-base t base price based)) (rw h.network.2.duties listed) named
+front-shown s t solution base key (Some entries) h shown =
+    let priced = base-priced t base (rw h.network.2.bases at shown.1) in
+    let duty = h.network.1.sound shown.0 (rw h.network.2.duties at shown.2) in
+    (priced.0, shown.0, priced.1, duty, shown.3, front-permuted s t base priced.0 shown.0 (front_of solution base shown.0) entries.items shown.4 (h.scratch.fronts base priced.0 shown.0 priced.1 duty), shown.5)
+
+no-base : (base : List ℕ) (price : ℤ) → fin.get empty_timetable.bases base ≡ Some price → ⊥
+no-base base price h = let none : fin.get empty_timetable.bases base ≡ None = fin.get-empty code_cmp base in cc (none, h)
+
+-- before any entry there is none
+pub no-front-at-start : (s : Settings) (t : Timetable) (base : List ℕ) (key : List Leg) → t ≡ empty_timetable → IsFrontByKey s t base key None
+no-front-at-start s t base key e = rw e (λ price d based duty named. no-base base price based)
+
+-- ---- the cheapest
+
+sound-by : (t : Timetable) (edit : Edit) (o : Option Refusal) → refusal_of t edit ≡ o → IsSound t → IsSound (applied t edit o).0
+sound-by t edit None e h = changed_sound t edit h e
+sound-by t edit (Some why) e h = h
+
+sound-if : (b : Bool) (t u : Timetable) → IsSound t → IsSound u → IsSound (cond b t u)
+sound-if true t u h k = h
+sound-if false t u h k = k
+
+sound-after : (earlier : List Entry) → IsSound (data_after earlier)
+sound-after [] = empty_sound
+sound-after (e ∷ earlier) =
+    let h = sound-after earlier in
+    sound-if (is_in_turn earlier e) (apply_of (data_after earlier) e.edit).0 (data_after earlier) (sound-by (data_after earlier) e.edit (refusal_of (data_after earlier) e.edit) refl h) h
+
+-- the timetable of a log is one that edits can make
+pub timetable-sound : (entries : List Entry) → IsSound (timetable_of entries)
+timetable-sound entries = sound-after (reverse entries)
+
+-- before any entry there is none
+pub no-pairing-at-start : (s : Settings) (t : Timetable) (limit : ℕ) → t ≡ empty_timetable → AreCheapest s t limit []
+no-pairing-at-start s t limit e = rw e (record {
+  rise = tt;
+  few = omega arith;
+  shown = λ p m. absurd m;
+  least = λ q h. absurd (no-base q.base h.pairing.price h.pairing.based);
+})
+
+-- ---- the best
+
+pub best-right : (s : Settings) (t : Timetable) (solution : Option Solution) → IsSolved s t solution → IsBest s t (best_of solution)
+best-right s t None e = rw e (λ p pairing. no-base p.base pairing.price pairing.based)
+best-right s t (Some solution) h = h.scratch.best_is
+
+-- what lies ahead, after more entries
+pub ahead-of : (s : Settings) (old more : List Entry) (before added after : List Verdict) (x y : Standing) (z : Option Solution) (t : Timetable) (ahead : Ahead)
+    → IsKept s old before x z → HasTaken (old ++ more) y × (verdicts_of (old ++ more) ≡ verdicts_of old ++ added) → after ≡ before ++ added → t ≡ y.timetable
+    → ahead.verdicts ≡ after → ahead.fold ≡ y → HasFew s t → IsSolutionOf s t ahead.solution.value → IsAhead s (old ++ more) ahead
+ahead-of s old more before added after x y z t ahead kept folded judged at verdicts fold few solved =
+    let come : t ≡ timetable_of (old ++ more) = at ∙ folded.0.timetable in
+    record {
+      judged = verdicts ∙ judged ∙ ap (λ (vs : List Verdict). vs ++ added) kept.judged ∙ sym folded.1;
+      taken = subst (λ (f : Standing). HasTaken (old ++ more) f) (sym fold) folded.0;
+      few = subst (λ (u : Timetable). HasFew s u) come few;
+      solved = subst (λ (u : Timetable). IsSolutionOf s u ahead.solution.value) come solved;
+    }
+
+-- what lies ahead is kept
+pub kept-ahead : (s : Settings) (old more : List Entry) (ahead : Ahead) → IsChecked s → IsAhead s (old ++ more) ahead → IsKept s (old ++ more) ahead.verdicts ahead.fold (Some ahead.solution.value)
+kept-ahead s old more ahead checked h = record { checked = checked; judged = h.judged; taken = h.taken; few = h.few; solved = h.solved }
+
+-- a version of what is kept is right
+pub right-of : (number : ℕ) (s : Settings) (entries : List Entry) (verdicts : List Verdict) (standing : Standing) (solution : Option Solution) → IsKept s entries verdicts standing solution
+    → IsRight (record { number = number; settings = s; entries = entries; best = best_of solution })
+right-of number s entries verdicts standing solution kept = record { few = kept.few; least = best-right s _ solution kept.solved }

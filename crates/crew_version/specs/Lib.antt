@@ -1,0 +1,4 @@
+pub mod Versions
+pub mod Faults
+pub mod Fronts
+pub mod Machinery

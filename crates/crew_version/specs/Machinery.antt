@@ -1,0 +1,3 @@
+-- What a version keeps while it works.
+pub mod Chunks
+pub mod Kept

@@ -1,0 +1,108 @@
+//! The fronts and the best pairing of a timetable, beside those of the version before.
+
+ghost use Rattle.std.specs.Prelude.{◌≡◌, Err, IfErr, IfOk, IfSome, OnOk};
+ghost use Rattle.std.specs.Arc.{arc_value};
+ghost use Rattle.crew_pairing.specs.Duties.{HasFew, HasTooMany};
+ghost use Rattle.crew_rules.specs.Settings.{IsChecked};
+ghost use Rattle.crew_version.specs.Faults.{IsSearchFault};
+ghost use Rattle.crew_version.specs.Machinery.Kept.{IsRightEarlier, IsSolutionOf};
+
+use crate::fault::VersionFault;
+use crate::same::are_same;
+use crew_duty::DutyFault;
+use crew_flights::Timetable;
+use crew_rules::Settings;
+use crew_solve::{Solution, solve, solve_next};
+use std::alloc::{AllocError, Global};
+use std::sync::Arc;
+use std::thread::Threads;
+
+/// What there is of an earlier timetable.
+#[derive(Drop)]
+pub(crate) struct Earlier<'a> {
+    pub(crate) timetable: &'a Timetable,
+    pub(crate) solution: &'a Arc<Solution, Global>,
+}
+
+// The solution of a timetable, beside an earlier one, if there is one.
+fn solution_of<R: Threads + Sync>(
+    rt: &R,
+    alloc: Global,
+    settings: &Settings,
+    timetable: &Timetable,
+    earlier: Option<&Earlier>,
+) -> Result<Solution, DutyFault>
+    requires { IsChecked settings.now }
+    ensures ok { IfOk result (IsSolutionOf settings.now timetable.now) }
+    ensures few { OnOk result (HasFew settings.now timetable.now) }
+    ensures too_many { result ≡ Err DutyFault.TooManyDuties
+        → HasTooMany settings.now timetable.now }
+{
+    match earlier {
+        Some(earlier) => solve_next(rt, alloc, settings, timetable, earlier.solution, 0),
+        None => solve(rt, alloc, settings, timetable),
+    }
+}
+
+// The solution of a timetable found and put where versions share it.
+fn found<R: Threads + Sync>(
+    rt: &R,
+    alloc: Global,
+    settings: &Settings,
+    timetable: &Timetable,
+    earlier: Option<&Earlier>,
+) -> Result<Arc<Solution, Global>, VersionFault>
+    requires { IsChecked settings.now }
+    ensures ok { IfOk result (λ solution. IsSolutionOf settings.now timetable.now
+        (arc_value solution)) }
+    ensures few { OnOk result (HasFew settings.now timetable.now) }
+    ensures fault { IfErr result (IsSearchFault settings.now timetable.now) }
+{
+    match solution_of(rt, alloc, settings, timetable, earlier) {
+        Ok(solution) => Arc::new(alloc, solution).map_err(|_| VersionFault::Memory),
+        Err(DutyFault::TooManyDuties) => Err(VersionFault::TooManyDuties),
+        Err(DutyFault::Memory) => Err(VersionFault::Memory),
+    }
+}
+
+// An earlier solution, where it is that of this timetable too.
+fn shared(
+    alloc: Global,
+    timetable: &Timetable,
+    earlier: &Earlier,
+) -> Result<Option<Arc<Solution, Global>>, AllocError>
+    ensures { IfOk result (λ shared. IfSome shared (λ solution.
+        (earlier.now.timetable.now ≡ timetable.now)
+        × (arc_value solution ≡ arc_value earlier.now.solution.now))) }
+{
+    let same = are_same(alloc, earlier.timetable, timetable)?;
+    if !same {
+        return Ok(None);
+    }
+    Ok(Some(Arc::try_clone(earlier.solution)?))
+}
+
+/// All fronts and the best of all pairings of a timetable, beside an earlier one with its own, if
+/// there is one; where the timetable is the same they are shared. `TooManyDuties` exactly where
+/// there are more than 200,000 legal duties, or `Memory`.
+pub(crate) fn find_solution<R: Threads + Sync>(
+    rt: &R,
+    alloc: Global,
+    settings: &Settings,
+    timetable: &Timetable,
+    earlier: Option<&Earlier>,
+) -> Result<Arc<Solution, Global>, VersionFault>
+    requires checked { IsChecked settings.now }
+    requires earlier { IfSome earlier (λ e. IsRightEarlier settings.now e.now) }
+    ensures ok { IfOk result (λ solution. IsSolutionOf settings.now timetable.now
+        (arc_value solution)) }
+    ensures few { OnOk result (HasFew settings.now timetable.now) }
+    ensures fault { IfErr result (IsSearchFault settings.now timetable.now) }
+{
+    if let Some(earlier) = earlier
+        && let Some(solution) = shared(alloc, timetable, earlier)?
+    {
+        return Ok(solution);
+    }
+    found(rt, alloc, settings, timetable, earlier)
+}
