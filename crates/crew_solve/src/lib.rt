@@ -13,5 +13,5 @@ mod scratch;
 mod solution;
 mod sweeps;
 
-pub use scratch::{solve, solve_next, solve_with};
+pub use scratch::{solve, solve_listed, solve_next, solve_with};
 pub use solution::Solution;

@@ -94,6 +94,35 @@ fn solve_beside<R: Threads + Sync>(
     solve_over(rt, alloc, settings, timetable, net, Some(&past), workers)
 }
 
+/// All fronts and the best pairing of a timetable, given its legal duties, beside an earlier
+/// solution, if there is one: as `solve_with` and `solve_next`, which list the duties first. The
+/// answer is that from scratch, whatever the earlier solution is of.
+pub fn solve_listed<R: Threads + Sync>(
+    rt: &R,
+    alloc: Global,
+    settings: &Settings,
+    timetable: &Timetable,
+    duties: Duties,
+    earlier: Option<&Solution>,
+    workers: usize,
+) -> Result<Solution, AllocError>
+    requires checked { IsChecked settings.now }
+    requires duties { AreDuties settings.now timetable.now duties }
+    requires few { length duties ≤ 200_000 }
+    ensures scratch { IfOk result (λ solution. IsScratch settings.now timetable.now
+        (front_of solution) solution.best) }
+    ensures network { IfOk result (HasNetOf settings.now timetable.now) }
+{
+    let net = net_of(alloc, settings, timetable, duties)?;
+    let Some(earlier) = earlier else {
+        return solve_over(rt, alloc, settings, timetable, net, None, workers);
+    };
+    if earlier.net().settings() != net.settings() {
+        return solve_over(rt, alloc, settings, timetable, net, None, workers);
+    }
+    solve_beside(rt, alloc, settings, timetable, net, earlier, workers)
+}
+
 /// All fronts and the best pairing of a timetable, from scratch. `TooManyDuties` exactly where it
 /// has more than 200,000 legal duties, or `Memory`.
 pub fn solve<R: Threads + Sync>(
@@ -133,8 +162,7 @@ pub fn solve_with<R: Threads + Sync>(
         → HasTooMany settings.now timetable.now }
 {
     let duties = list_duties(rt, alloc, settings, timetable)?;
-    let net = net_of(alloc, settings, timetable, duties)?;
-    Ok(solve_over(rt, alloc, settings, timetable, net, None, workers)?)
+    Ok(solve_listed(rt, alloc, settings, timetable, duties, None, workers)?)
 }
 
 /// As `solve_with`, beside an earlier solution, from which it takes what is as it was: the pool of a
@@ -158,9 +186,5 @@ pub fn solve_next<R: Threads + Sync>(
         → HasTooMany settings.now timetable.now }
 {
     let duties = list_duties(rt, alloc, settings, timetable)?;
-    let net = net_of(alloc, settings, timetable, duties)?;
-    if earlier.net().settings() != net.settings() {
-        return Ok(solve_over(rt, alloc, settings, timetable, net, None, workers)?);
-    }
-    Ok(solve_beside(rt, alloc, settings, timetable, net, earlier, workers)?)
+    Ok(solve_listed(rt, alloc, settings, timetable, duties, Some(earlier), workers)?)
 }
