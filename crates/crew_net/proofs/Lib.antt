@@ -15,7 +15,7 @@ pub mod Forward
 pub mod EventOrder
 pub mod Shown
 pub mod Ranking
-pub mod Slots
+pub mod BaseOrder
 pub mod NodeList
 pub mod ByReport
 pub mod ArrivalPlaces

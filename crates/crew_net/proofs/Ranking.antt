@@ -14,7 +14,7 @@ use Rattle.crew_resource.specs.Members.{Member}
 use Rattle.crew_resource.proofs.ListOrder.{lists_exact}
 use Rattle.crew_resource.proofs.Members.{Member-get}
 use Rattle.crew_net.specs.Machinery.Ranking.{IsKeyStart, IsRankOf}
-use Rattle.crew_net.specs.Nets.{IsRank, Net}
+use Rattle.crew_net.specs.Nets.{IsRank, IsRankOfKey, Net}
 use Rattle.crew_net.specs.declared.node.Node.{Node}
 use Rattle.std.proofs.lemmas.Option.{slice_get-get_or}
 use Rattle.crew_net.proofs.EventOrder.{Member-index}
@@ -114,3 +114,8 @@ is-rank net node base (Some rank) f = by net.duties refl
     by (x ∷ ds) e =
         let d = get_or net.duties rank x in
         (d, record { base = base; duty = Member-get net.duties rank x f.0; key = f.1 x }, slice_get-get_or net.duties rank x f.0)
+
+pub rank-of-key : (ds : List Duty) (key : List Leg) (r : Option ℕ) → IsRankOf ds key r → IsRankOfKey ds key r
+rank-of-key ds key None f = f
+rank-of-key [] key (Some rank) f = absurd (let h = f.0 in omega (arith, h))
+rank-of-key (x ∷ ds) key (Some rank) f = (get_or (x ∷ ds) rank x, slice_get-get_or (x ∷ ds) rank x f.0, f.1 x)

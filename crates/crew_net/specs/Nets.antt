@@ -1,18 +1,21 @@
 -- The network of the legal duties of a timetable, and what a contract sees of it.
-use Rattle.std.specs.Prelude.{◌≡◌, ◌≤◌, ◌<◌, ◌+◌, ◌*◌, ◌≤ℤ◌, ℕ, List, Option, Some, None, Vec, IsPermutation, get_or, length, map, slice_get}
+use Rattle.std.specs.Prelude.{◌≡◌, ◌≤◌, ◌≤ℤ◌, ℕ, List, [], ◌∷◌, Option, Some, None, Vec, IsPermutation, get_or, length, map, slice_get}
 use Rattle.std.specs.Global.{Global}
 use Rattle.std.specs.FinMap as fin
+use Rattle.std.specs.declared.cmp.Ordering.TheVariants.{Less}
 use Rattle.std.specs.List.{flat_map, range_with_len}
 use Rattle.crew_pairing.specs.Events.{arrival_of, departure_of}
+use Rattle.crew_flights.specs.Codes.{code_cmp}
 use Rattle.crew_flights.specs.Timetable.{Timetable}
 use Rattle.crew_net.specs.Events.{AreEvents, arrival_cmp, departure_cmp}
 use Rattle.crew_net.specs.Ranks.{ranks_where}
 use Rattle.crew_net.specs.declared.node.Node.{Node}
+use Rattle.crew_pairing.specs.Legs.{Leg}
 use Rattle.crew_pairing.specs.Pairings.{may_stand_after}
 use Rattle.crew_pairing.specs.declared.duty.Duty.{Duty}
 use Rattle.crew_pairing.specs.declared.events.Arrival.{Arrival}
 use Rattle.crew_pairing.specs.declared.events.Departure.{Departure}
-use Rattle.crew_resource.specs.Members.{Member}
+use Rattle.crew_resource.specs.Members.{Each, Member}
 use Rattle.crew_rules.specs.declared.settings.Settings.{Settings}
 
 -- the settings, the crew bases in order, the duties by key, and their events
@@ -60,20 +63,21 @@ abbrev pub IsRank : Net → Node → Option ℕ → Type 0
 IsRank net node None = (d : Duty) → IsNodeOf net node d → ⊥
 IsRank net node (Some rank) = (d : Duty) × IsNodeOf net node d × (slice_get net.duties rank ≡ Some d)
 
+-- the rank of the duty with a key, and none where no duty has it
+abbrev pub IsRankOfKey : List Duty → List Leg → Option ℕ → Type 0
+IsRankOfKey duties key None = (d : Duty) → Member duties d → d.key ≡ key → ⊥
+IsRankOfKey duties key (Some rank) = (d : Duty) × (slice_get duties rank ≡ Some d) × (d.key ≡ key)
+
+-- each base stands before all later ones
+abbrev pub RiseByCode : List (List ℕ) → Type 0
+RiseByCode [] = Unit {0}
+RiseByCode (b ∷ bs) = Each (λ c. code_cmp b c ≡ Less) bs × RiseByCode bs
+
 -- the duties just before a node's, of the same base, and none where it isn't a node of the network
 abbrev pub ArePreds : Net → Node → Option (Vec ℕ Global) → Type 0
 ArePreds net node None = (d : Duty) → IsNodeOf net node d → ⊥
 ArePreds net node (Some ranks) = (d : Duty) × IsNodeOf net node d
     × (ranks.items ≡ ranks_before net.settings net.duties d)
-
--- the slot of a node: sixteen for each duty by rank, one for each base by its place
-pub record IsSlot (net : Net) (node : Node) (slot : ℕ) : Type 0 where
-  pub rank : ℕ
-  pub is_rank : IsRank net node (Some rank)
-  pub base : ℕ
-  pub is_base : slice_get net.bases base ≡ Some node.base
-  pub few_bases : base < 16
-  pub value : slot ≡ 16 * rank + base
 
 -- the place of each duty's arrival, by rank
 pub record AreArrivalPlaces (net : Net) (places : List ℕ) : Type 0 where

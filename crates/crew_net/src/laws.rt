@@ -1,8 +1,6 @@
 //! What holds of every network.
 
-ghost use Rattle.std.specs.Prelude.{◌≡◌, ◌≤ℤ◌, ◌<ℤ◌, ◌+ℤ◌, ℕ, pos, true, List};
-ghost use Rattle.crew_net.specs.Nets.{IsSlot, Net};
-ghost use Rattle.crew_net.specs.declared.node.Node.{Node};
+ghost use Rattle.std.specs.Prelude.{◌≡◌, ◌≤ℤ◌, ◌<ℤ◌, ◌+ℤ◌, pos, true, List};
 ghost use Rattle.crew_pairing.specs.Events.{arrival_of, departure_of, may_wait};
 ghost use Rattle.crew_flights.specs.Timetable as TimetableSpec;
 ghost use Rattle.crew_flights.specs.Timetable.{Timetable};
@@ -26,10 +24,4 @@ pub fn arcs_rise_in_report()
 pub fn arcs_go_over_events()
     ensures { (s : Settings) (before next : Duty) → may_stand_after s before next
         ≡ may_wait s (arrival_of before) (departure_of next) }
-{}
-
-/// A slot tells its node: two nodes of one network have different slots.
-pub fn slots_tell_nodes()
-    ensures { (net : Net) (a b : Node) (slot : ℕ) → IsSlot net a slot → IsSlot net b slot
-        → a ≡ b }
 {}

@@ -2,8 +2,8 @@
 //! duty, and the events at which duties leave and arrive. The crate promises that nodes stand by
 //! base and key, that the duties just before one are exactly those that may stand there, that each
 //! event has exactly its own duties, that a departure's window is exactly the arrivals that it may
-//! wait on, that a duty's layer is the most arcs in a row that end there, and that a slot tells its
-//! node. No arc is stored, and what doesn't depend on the base is kept once.
+//! wait on, and that a duty's layer is the most arcs in a row that end there. No arc is stored, and
+//! what doesn't depend on the base is kept once.
 #![tactic(auto)]
 
 mod events;

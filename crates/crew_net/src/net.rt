@@ -1,19 +1,16 @@
 //! The network.
 
-ghost use Rattle.std.specs.Prelude.{◌≡◌, ◌≤◌, ◌<◌, ◌*◌, ◌↔◌, IfOk, IfSome, IsNone, Some, length, map, slice_get};
+ghost use Rattle.std.specs.Prelude.{◌≡◌, ◌≤◌, ◌<◌, ◌*◌, IfOk, Some, length, map, slice_get};
 ghost use Rattle.std.specs.Arc.{arc_value};
 ghost use Rattle.std.specs.FinMap as fin;
-ghost use Rattle.std.specs.List.{position};
-ghost use Rattle.std.specs.Ordering.{eq_by_cmp};
-ghost use Rattle.crew_flights.specs.Codes.{code_cmp};
 ghost use Rattle.crew_flights.specs.Timetable as TimetableSpec;
 ghost use Rattle.crew_net.specs.Events.{AreEvents, IsWindow, arrival_cmp, arrives_at, departure_cmp, leaves_at};
 ghost use Rattle.crew_net.specs.Layers.{AreLayers};
 ghost use Rattle.crew_net.specs.Machinery.Moments.{IsReal};
-ghost use Rattle.crew_net.specs.Nets.{AreByReport, ArePreds, IsNetOf, IsNodeOf, IsRank, IsSlot, nodes_of, ranks_before};
+ghost use Rattle.crew_net.specs.Nets.{AreByReport, ArePreds, IsNetOf, IsRank, IsRankOfKey, RiseByCode, nodes_of, ranks_before};
 ghost use Rattle.crew_net.specs.Ranks.{ranks_where};
 ghost use Rattle.crew_pairing.specs.Events.{arrival_of, departure_of, may_wait};
-ghost use Rattle.crew_pairing.specs.Duties.{AreDuties};
+ghost use Rattle.crew_pairing.specs.Duties.{AreDuties, RiseByKey};
 ghost use Rattle.crew_pairing.specs.declared.duty.Duty.{Duty};
 ghost use Rattle.crew_pairing.specs.declared.events.Arrival.{Arrival};
 ghost use Rattle.crew_pairing.specs.declared.events.Departure.{Departure};
@@ -31,7 +28,7 @@ use crate::window::Window;
 use crate::windows::{following, waiting};
 use crew_duty::Duties;
 use crew_flights::{Code, Timetable};
-use crew_pairing::{Arrival, Departure, Duty};
+use crew_pairing::{Arrival, Departure, Duty, Key};
 use crew_resource::Placed;
 use crew_rules::Settings;
 use std::alloc::{AllocError, Global};
@@ -78,16 +75,10 @@ impl Model for Net {
 fn held_bases(alloc: Global, timetable: &Timetable) -> Result<Vec<Code>, AllocError>
     ensures bases { IfOk result (λ bases. bases.items ≡ fin.keys timetable.now.bases) }
     ensures few { length (fin.keys timetable.now.bases) ≤ 16 }
+    ensures rising { RiseByCode (fin.keys timetable.now.bases) }
     ensures sound { TimetableSpec.IsSound timetable.now }
 {
     timetable.bases().map(|(code, _)| *code).collect(alloc)
-}
-
-// The place of a base.
-fn base_place(bases: &[Code], base: Code) -> Option<usize>
-    ensures { result ≡ position (λ b. eq_by_cmp code_cmp b base) bases.now }
-{
-    bases.iter().position(|each| *each == base)
 }
 
 // The node at a place among those of some bases and duties.
@@ -234,6 +225,24 @@ impl Net {
         following(&self.settings, &self.leave.moments, event)
     }
 
+    /// How many duties there are.
+    pub fn duty_count(&self) -> usize
+        ensures count { result ≡ length self.now.duties }
+        ensures few { length self.now.duties ≤ 200_000 }
+        ensures rising { RiseByKey self.now.duties }
+    {
+        self.duties.len()
+    }
+
+    /// How many crew bases there are.
+    pub fn base_count(&self) -> usize
+        ensures count { result ≡ length self.now.bases }
+        ensures few { length self.now.bases ≤ 16 }
+        ensures rising { RiseByCode self.now.bases }
+    {
+        self.bases.len()
+    }
+
     /// How many nodes there are: one for each base and duty.
     pub fn len(&self) -> usize
         ensures { result ≡ length self.now.bases * length self.now.duties }
@@ -258,6 +267,13 @@ impl Net {
         rank_of(self.duties.as_slice(), &node.key)
     }
 
+    /// The rank of the duty with a key, and `None` where no duty has it.
+    pub fn rank_of_key(&self, key: &Key) -> Option<usize>
+        ensures { IsRankOfKey self.now.duties key.now result }
+    {
+        rank_of(self.duties.as_slice(), key)
+    }
+
     /// The layer of each duty, by rank.
     ///
     /// Each departure is gone to once, in order of report: its layer is the greatest to which its
@@ -275,17 +291,6 @@ impl Net {
             raise(&mut next, &places, self.leaving(departure), layer + 1);
         }
         Ok(layers)
-    }
-
-    /// A number under which a node can keep its place in tables, and `None` where it isn't a node
-    /// of the network.
-    pub fn slot(&self, node: &Node) -> Option<usize>
-        ensures is { IfSome result (IsSlot self.now node.now) }
-        ensures none { IsNone result ↔ ((d : Duty) → IsNodeOf self.now node.now d → ⊥) }
-    {
-        let rank = self.rank(node)?;
-        let base = base_place(&self.bases, node.base)?;
-        Some(16 * rank + base)
     }
 
     // The duties that may stand just before the one of a rank.

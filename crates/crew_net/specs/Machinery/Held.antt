@@ -4,7 +4,7 @@ use Rattle.crew_pairing.specs.Events.{arrival_of, departure_of}
 use Rattle.crew_flights.specs.Codes.{is_code}
 use Rattle.crew_net.specs.Machinery.Moments.{IsReal, moment}
 use Rattle.crew_net.specs.Machinery.Timelines.{IsTimeline}
-use Rattle.crew_net.specs.Nets.{AreByReport}
+use Rattle.crew_net.specs.Nets.{AreByReport, RiseByCode}
 use Rattle.crew_net.specs.declared.timeline.Timeline.{Timeline}
 use Rattle.crew_pairing.specs.Duties.{RiseByKey}
 use Rattle.crew_pairing.specs.declared.duty.Duty.{Duty}
@@ -55,6 +55,7 @@ pub record IsHeld (s : Settings) (bases : List (List ℕ)) (duties : List Duty)
   pub rising : RiseByKey duties
   pub few : length duties ≤ 200_000
   pub few_bases : length bases ≤ 16
+  pub rising_bases : RiseByCode bases
   pub left : Each IsLeft duties
   pub reached : Each IsReached duties
   -- no duty ends before it begins

@@ -1,6 +1,7 @@
 use Rattle.std.proofs.Common.{arith}
 use Rattle.std.specs.FinMap as fin
 use Rattle.std.proofs.lemmas.List.{length-map}
+use Rattle.crew_net.proofs.BaseOrder.{keys-rise}
 use Rattle.crew_net.proofs.net.held_bases.Goals as goal
 
 pub returns-clause-few : goal.returns-clause-few
@@ -10,3 +11,6 @@ returns-clause-few c =
     let long = fin.len-entries t.bases in
     let keys = length-map (fin.entries t.bases) (λ e. e.0) in
     omega (arith, few, long, keys)
+
+pub returns-clause-rising : goal.returns-clause-rising
+returns-clause-rising c = keys-rise c.args.timetable.now

@@ -8,6 +8,7 @@ use Rattle.crew_net.proofs.Shown.{arrivals-are, departures-are}
 use Rattle.crew_net.specs.Machinery.Held.{IsHeld, arrive_at, leave_at}
 use Rattle.crew_net.specs.Machinery.Moments.{IsReal}
 use Rattle.crew_pairing.specs.declared.events.Departure.{Departure}
+use Rattle.crew_net.specs.Nets.{RiseByCode}
 use Rattle.crew_resource.specs.Members.{Each}
 use Rattle.crew_net.proofs.net.Net.build.Goals as goal
 
@@ -32,17 +33,19 @@ by_report-requires-clause-real c =
 
 pub invariant_of-result : goal.invariant_of-result
 invariant_of-result c =
+    let rising = subst RiseByCode (sym c.in_ok-bases.ensures.bases) c.held_bases.ensures.rising in
     let forward = ends-no-earlier c.args.settings.now c.args.timetable.now c.args.duties.value c.held_bases.ensures.sound c.requires.duties in
     let leave = c.in_ok-leave-2.ensures (map leave_at c.as_slice-list.result.now) (gathered-keys (map leave_at c.as_slice-list.result.now) c.in_ok-leave.leave.items _ c.in_ok-leave.ensures.leave (subst (λ (l : List ℕ). IsPermutation l c.in_ok-gathered.field-0.items) c.deref-2.ensures.value c.in_ok-gathered.ensures.same)) in
     let arrive = c.in_ok-arrive.ensures (map arrive_at c.as_slice-list.result.now) c.in_ok-leave.ensures.arrive in
-    search (rules, forward, leave, arrive)
+    search (rules, forward, leave, arrive, rising)
 
 pub returns : goal.returns
 returns c =
+    let rising = subst RiseByCode (sym c.in_ok-bases.ensures.bases) c.held_bases.ensures.rising in
     let forward = ends-no-earlier c.args.settings.now c.args.timetable.now c.args.duties.value c.held_bases.ensures.sound c.requires.duties in
     let leave = c.in_ok-leave-2.ensures (map leave_at c.as_slice-list.result.now) (gathered-keys (map leave_at c.as_slice-list.result.now) c.in_ok-leave.leave.items _ c.in_ok-leave.ensures.leave (subst (λ (l : List ℕ). IsPermutation l c.in_ok-gathered.field-0.items) c.deref-2.ensures.value c.in_ok-gathered.ensures.same)) in
     let arrive = c.in_ok-arrive.ensures (map arrive_at c.as_slice-list.result.now) c.in_ok-leave.ensures.arrive in
-    let held : IsHeld c.args.settings.now c.in_ok-bases.bases.items c.args.duties.value c.in_ok-leave-2.leave c.in_ok-arrive.arrive c.in_ok-departures.departures.items c.in_ok-arrivals.arrivals.items c.in_ok-by_report.by_report.items = search (rules, forward, leave, arrive) in
+    let held : IsHeld c.args.settings.now c.in_ok-bases.bases.items c.args.duties.value c.in_ok-leave-2.leave c.in_ok-arrive.arrive c.in_ok-departures.departures.items c.in_ok-arrivals.arrivals.items c.in_ok-by_report.by_report.items = search (rules, forward, leave, arrive, rising) in
     record {
       settings = refl;
       bases = c.in_ok-bases.ensures.bases;

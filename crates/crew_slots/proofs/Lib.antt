@@ -1,0 +1,4 @@
+pub mod Gets
+pub mod Keeping
+pub mod Seats
+pub mod Shown

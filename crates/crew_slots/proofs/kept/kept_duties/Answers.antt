@@ -1,0 +1,24 @@
+use Rattle.std.proofs.Common.{◌≡◌, ◌∙◌, ◌+◌, ℕ, List, Option, Some, ap, length, map, refl, subst, sym}
+use Rattle.std.specs.Prelude.{slice_get}
+use Rattle.std.proofs.lemmas.List.{length-map}
+use Rattle.std.proofs.lemmas.Option.{slice_get_read}
+use Rattle.crew_pairing.specs.declared.duty.Duty.{Duty}
+use Rattle.crew_slots.specs.Machinery.Kept.{IsFoundAt}
+use Rattle.crew_slots.proofs.Keeping.{AreKeptSo, get-mapped, kept-more, keys_of}
+use Rattle.crew_slots.proofs.kept.kept_duties.Goals as goal
+
+pub loop-duty-preserved : goal.loop-duty-preserved
+loop-duty-preserved c =
+    let olds = keys_of c.args.old.now.duties in
+    let news = keys_of c.args.new.now.duties in
+    let places = c.args.places.now in
+    let ds = c.as_slice-duties.result.now in
+    let i = c.loop-duty.duty-index in
+    let d = c.duty-item.result in
+    let list = c.as_slice-duties.ensures ∙ c.duties.ensures in
+    let at = slice_get_read ds (length ds) i d refl c.loop-duty-test.true c.duty-item.is in
+    let key : slice_get news i ≡ Some d.key = subst (λ (l : List Duty). slice_get (keys_of l) i ≡ Some d.key) list (get-mapped (λ (x : Duty). x.key) ds i d at) in
+    let long : length places ≡ length olds = c.requires ∙ sym (length-map c.args.old.now.duties (λ (x : Duty). x.key)) in
+    let found : IsFoundAt olds d.key c.rank_near-found.result = c.rank_near-found.ensures in
+    subst (AreKeptSo olds news places (i + 1)) (sym c.in_ok-push.ensures.items)
+    (kept-more olds news places i c.loop-duty.kept.items d.key c.rank_near-found.result c.at_place.result long key found c.at_place.ensures c.loop-duty.invariant)

@@ -1,0 +1,29 @@
+use Rattle.std.proofs.Common.{◌≡◌, ◌∙◌, ◌≤◌, ℕ, List, Option, ap, arith, length, subst, sym}
+use Rattle.crew_net.proofs.Oks.{IfOk-from}
+use Rattle.crew_slots.specs.Machinery.Kept.{AreKeptOf, StayIn}
+use Rattle.crew_slots.specs.Machinery.Places.{AreKept, Keeps}
+use Rattle.crew_slots.specs.declared.places.Places.{Places}
+use Rattle.crew_slots.proofs.Keeping.{are-kept, codes-distinct, kept-along, stay-in}
+use Rattle.crew_slots.proofs.kept.next_bases.Goals as goal
+
+pub settle-requires-clause-kept : goal.settle-requires-clause-kept
+settle-requires-clause-kept c =
+    let old = c.args.old.now.bases in
+    let new = c.args.new.now.bases in
+    let of = c.args.places.now.of.items in
+    let at = c.args.places.now.at.items in
+    let kept = c.deref-2.result.now in
+    let is = kept-along c.bases.ensures c.bases-2.ensures c.deref.ensures.value (sym c.deref-2.ensures.value) c.in_ok-kept.ensures in
+    let m = c.max-count.ensures in
+    let l = c.len.ensures in
+    are-kept old new of at kept c.max-count.result (codes-distinct new c.base_count-2.ensures.rising) c.requires.places (omega (arith, m, l)) is
+
+pub returns-clause-stay : goal.returns-clause-stay
+returns-clause-stay c =
+    let old = c.args.old.now.bases in
+    let new = c.args.new.now.bases in
+    let of = c.args.places.now.of.items in
+    let kept = c.deref-2.result.now in
+    let is = kept-along c.bases.ensures c.bases-2.ensures c.deref.ensures.value (sym c.deref-2.ensures.value) c.in_ok-kept.ensures in
+    IfOk-from (λ (next : Places). Keeps kept next.of.items) (λ (next : Places). StayIn old new of next.of.items) c.settle.result
+    (λ next keeps. stay-in old new of next.of.items kept (codes-distinct old c.base_count.ensures.rising) is keeps) c.settle.ensures.keeps

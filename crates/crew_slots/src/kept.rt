@@ -1,0 +1,144 @@
+//! The places that what two networks have alike keeps.
+
+ghost use Rattle.std.specs.Prelude.{◌≡◌, ◌≤◌, ◌<◌, IfOk, IfSome, length, map, option_and_then, slice_get};
+ghost use Rattle.std.specs.List.{position};
+ghost use Rattle.std.specs.Ordering.{eq_by_cmp};
+ghost use Rattle.crew_flights.specs.Codes.{code_cmp};
+ghost use Rattle.crew_slots.specs.Machinery.Kept.{AreKeptOf, IsFoundAt, StayIn};
+ghost use Rattle.crew_slots.specs.Machinery.Places.{ArePlaces};
+
+use crate::places::{Places, settle};
+use crew_flights::Code;
+use crew_net::Net;
+use crew_pairing::Key;
+use std::alloc::{AllocError, Global};
+
+// The rank of the duty with a key, looked for at one rank first.
+fn rank_near(net: &Net, key: &Key, near: usize) -> Option<usize>
+    ensures { IsFoundAt (map (λ d. d.key) net.now.duties) key.now result }
+{
+    let duties = net.duties().as_slice();
+    if near < duties.len() {
+        let same = duties[near].key == *key;
+        if same {
+            return Some(near);
+        }
+    }
+    net.rank_of_key(key)
+}
+
+/// The place of a base among the bases of a network, if it is there.
+pub(crate) fn base_place(bases: &[Code], base: Code) -> Option<usize>
+    ensures { result ≡ position (λ b. eq_by_cmp code_cmp b base) bases.now }
+{
+    bases.iter().position(|each| *each == base)
+}
+
+// What stands at a place, if there is a place.
+fn at_place(places: &[u32], place: Option<usize>) -> Option<u32>
+    requires { IfSome place (λ p. p < length places.now) }
+    ensures { result ≡ option_and_then (slice_get places.now) place }
+{
+    match place {
+        Some(place) => Some(places[place]),
+        None => None,
+    }
+}
+
+// The rank after one that was found, and else the one before.
+fn next_near(near: usize, found: Option<usize>) -> usize
+    requires { IfSome found (λ rank. rank < 200_000) }
+{
+    match found {
+        Some(rank) => rank + 1,
+        None => near,
+    }
+}
+
+// The place that each duty of a network keeps, by rank: that of its key in another network.
+//
+// Duties mostly stand in both networks side by side, so each is looked for after the last one
+// found.
+fn kept_duties(
+    alloc: Global,
+    places: &[u32],
+    old: &Net,
+    new: &Net,
+) -> Result<Vec<Option<u32>>, AllocError>
+    requires { length places.now ≡ length old.now.duties }
+    ensures { IfOk result (λ kept. AreKeptOf (map (λ d. d.key) old.now.duties)
+        (map (λ d. d.key) new.now.duties) places.now kept.items) }
+{
+    let most = old.duty_count();
+    let duties = new.duties().as_slice();
+    let mut kept = Vec::with_capacity(alloc, duties.len())?;
+    let mut near = 0;
+    for duty in duties {
+        let found = rank_near(old, &duty.key, near);
+        kept.push(at_place(places, found))?;
+        near = next_near(near, found);
+    }
+    Ok(kept)
+}
+
+// The place that each base of a network keeps: that which it has in another network.
+fn kept_bases(
+    alloc: Global,
+    places: &[u32],
+    old: &[Code],
+    new: &[Code],
+) -> Result<Vec<Option<u32>>, AllocError>
+    requires { length places.now ≡ length old.now }
+    ensures { IfOk result (λ kept. AreKeptOf old.now new.now places.now kept.items) }
+{
+    let mut kept = Vec::with_capacity(alloc, new.len())?;
+    for base in new {
+        kept.push(at_place(places, base_place(old, *base)))?;
+    }
+    Ok(kept)
+}
+
+/// Places of the duties of a network, by rank: a duty whose key another network has keeps that
+/// place.
+pub(crate) fn next_duties(
+    alloc: Global,
+    places: &Places,
+    old: &Net,
+    new: &Net,
+) -> Result<Places, AllocError>
+    requires places { ArePlaces places.now.of.items places.now.at.items }
+    requires long { length places.now.of.items ≡ length old.now.duties }
+    requires few { length places.now.at.items ≤ 200_000 }
+    ensures places { IfOk result (λ next. ArePlaces next.of.items next.at.items) }
+    ensures long { IfOk result (λ next. length next.of.items ≡ length new.now.duties) }
+    ensures few { IfOk result (λ next. length next.at.items ≤ 200_000) }
+    ensures stay { IfOk result (λ next. StayIn (map (λ d. d.key) old.now.duties)
+        (map (λ d. d.key) new.now.duties) places.now.of.items next.of.items) }
+{
+    let _ = old.duty_count();
+    let count = places.at.len().max(new.duty_count());
+    let kept = kept_duties(alloc, &places.of, old, new)?;
+    settle(alloc, &kept, count)
+}
+
+/// Places of the bases of a network: a base that another network has keeps that place.
+pub(crate) fn next_bases(
+    alloc: Global,
+    places: &Places,
+    old: &Net,
+    new: &Net,
+) -> Result<Places, AllocError>
+    requires places { ArePlaces places.now.of.items places.now.at.items }
+    requires long { length places.now.of.items ≡ length old.now.bases }
+    requires few { length places.now.at.items ≤ 16 }
+    ensures places { IfOk result (λ next. ArePlaces next.of.items next.at.items) }
+    ensures long { IfOk result (λ next. length next.of.items ≡ length new.now.bases) }
+    ensures few { IfOk result (λ next. length next.at.items ≤ 16) }
+    ensures stay { IfOk result (λ next. StayIn old.now.bases new.now.bases places.now.of.items
+        next.of.items) }
+{
+    let _ = old.base_count();
+    let count = places.at.len().max(new.base_count());
+    let kept = kept_bases(alloc, &places.of, old.bases(), new.bases())?;
+    settle(alloc, &kept, count)
+}
