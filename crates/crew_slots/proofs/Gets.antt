@@ -1,7 +1,7 @@
 -- What stands at a place of a list that is written to or made longer.
-use Rattle.std.proofs.Common.{◌≡◌, ◌≢◌, ◌<◌, ◌≤◌, ◌+◌, ◌++◌, ◌⊎◌, ℕ, zero, suc, List, [], ◌∷◌, Option, Some, None, inl, inr, length, get_or, refl, ap, sym, ◌∙◌, arith, set}
+use Rattle.std.proofs.Common.{◌≡◌, ◌≢◌, ◌<◌, ◌≤◌, ◌+◌, ◌++◌, ◌⊎◌, ℕ, zero, suc, List, [], ◌∷◌, Option, Some, None, inl, inr, length, refl, ap, sym, ◌∙◌, arith, set}
 use Rattle.std.specs.Prelude.{slice_get}
-use Rattle.std.proofs.lemmas.Option.{slice_get-get_or, same_Some}
+use Rattle.std.proofs.lemmas.Option.{same_Some}
 
 pub none-below : {X : Type 0} (i : ℕ) (x : X) → slice_get [] i ≡ Some x → ⊥
 none-below zero x e = (cc)

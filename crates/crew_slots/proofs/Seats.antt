@@ -1,11 +1,11 @@
 -- Places of items while they are given out.
-use Rattle.std.proofs.Common.{◌≡◌, ◌≢◌, ◌<◌, ◌≤◌, ◌+◌, ◌++◌, ◌⊎◌, ℕ, zero, suc, Bool, true, false, cond, List, [], ◌∷◌, Option, Some, None, inl, inr, length, get_or, refl, ap, sym, subst, ◌∙◌, arith, set, take, drop, replicate, count_by, length-set, length-append}
-use Rattle.std.proofs.lemmas.List.{length-replicate, drop_all, take_all}
+use Rattle.std.proofs.Common.{◌≡◌, ◌<◌, ◌≤◌, ◌+◌, ◌++◌, ℕ, zero, suc, cond, List, [], ◌∷◌, Option, Some, None, inl, inr, length, get_or, refl, ap, sym, subst, ◌∙◌, arith, set, take, drop, replicate, count_by, length-set, length-append}
+use Rattle.std.proofs.lemmas.List.{length-replicate}
 use Rattle.std.specs.Prelude.{slice_get, is_none}
-use Rattle.std.proofs.lemmas.List.Sums.{sum_by-set, sum_by_more, sum_by-drop_more, sum_by-cons, count_by-le-length}
+use Rattle.std.proofs.lemmas.List.Sums.{sum_by-set, sum_by_more, sum_by-drop_more, sum_by-cons}
 use Rattle.std.proofs.lemmas.Option.{get_or_from_slice_get, same_Some, none-some}
 use Rattle.crew_slots.specs.Machinery.Places.{AreKept, ArePlaces, Keeps}
-use Rattle.crew_slots.proofs.Gets.{earlier-or-later, earlier-or-same, empty-there, one-item, same-or-not, get-elsewhere, get-last, get-longer, get-written, none-below, one-value, pushed-cases, there, within, written-cases}
+use Rattle.crew_slots.proofs.Gets.{earlier-or-later, earlier-or-same, empty-there, one-item, get-elsewhere, get-last, get-longer, get-written, none-below, pushed-cases, there, within, written-cases}
 
 abbrev free-count : List (Option ℕ) → ℕ
 free-count xs = count_by is_none xs
@@ -104,7 +104,7 @@ seated-put kept count i p at are e is =
       own = λ q j h. elim (written-cases at p q (Some i) (Some j) inside h) [
         | inl w ↦ (
             let same = same_Some i j w.1 in (omega (arith, same), ap (slice_get kept) (sym same) ∙ (e ∙ ap (λ (n : ℕ). Some (Some n)) (sym w.0)))
-          )
+            )
         | inr w ↦ (let o = is.own q j w.1 in let l = o.0 in omega (arith, l), (is.own q j w.1).1)
       ];
       all = λ q j h k. elim (earlier-or-same j i h) [
@@ -113,7 +113,7 @@ seated-put kept count i p at are e is =
             let at-i = ap (slice_get kept) (sym s) ∙ k in
             let same = one-item (slice_get kept i) p q e at-i in
             subst (λ (n : ℕ). slice_get (set at p (Some i)) n ≡ Some (Some j)) same (get-written at p (Some i) inside ∙ ap (λ (n : ℕ). Some (Some n)) (sym s))
-          )
+            )
       ];
       free = (let f = is.free in let c = count-more-some kept i p e in let t = count-taken at p i none in omega (arith, f, c, t));
     }
@@ -229,5 +229,5 @@ settled-all kept count i of at free all is = (
       | inr l ↦ absurd (let w = within kept j (Some p) (is.after p j l h) in omega (arith, all, l, w))
     ];
   },
-  λ j p k. is.stays j p (let w = within kept j (Some p) k in omega (arith, all, w)) k
+  λ j p k. is.stays j p (let w = within kept j (Some p) k in omega (arith, all, w)) k,
 )

@@ -1,15 +1,15 @@
 -- What slots show of what they keep.
-use Rattle.std.proofs.Common.{◌≡◌, ◌<◌, ◌≤◌, ◌+◌, ◌*◌, ◌∙◌, ℕ, List, Option, Some, length, ap, sym, subst, refl, arith}
+use Rattle.std.proofs.Common.{◌≡◌, ◌<◌, ◌+◌, ◌*◌, ◌/◌, ◌%◌, ◌∙◌, ℕ, List, Option, Some, length, ap, sym, subst, refl, arith}
 use Rattle.std.specs.Prelude.{slice_get}
 use Rattle.crew_net.specs.Nets.{IsNodeOf, IsRank, Net}
 use Rattle.crew_net.specs.declared.node.Node.{Node}
 use Rattle.crew_pairing.specs.declared.duty.Duty.{Duty}
 use Rattle.crew_slots.specs.Machinery.Held.{IsHeld}
 use Rattle.crew_slots.specs.Machinery.Kept.{IsFoundAt, StayIn}
-use Rattle.crew_slots.specs.Machinery.Places.{ArePlaces}
-use Rattle.crew_slots.specs.Slots.{AreApart, AreDistinct, IsSlot, Slots}
-use Rattle.crew_slots.proofs.Gets.{one-item, there, within}
-use Rattle.crew_slots.proofs.Keeping.{get-mapped, keys_of, member-at}
+use Rattle.crew_slots.specs.Slots.{AreSound, IsSlot, Slots}
+use Rattle.crew_slots.proofs.Gets.{one-item, one-value, within}
+use Rattle.crew_slots.proofs.Keeping.{codes-distinct, get-mapped, keys-distinct, keys_of, mapped-at, member-at}
+use Rattle.crew_resource.proofs.Members.{Member-at}
 
 abbrev pub shown : Net → List ℕ → List ℕ → Slots
 shown net duty_of base_of = record { net = net; duty_places = duty_of; base_places = base_of }
@@ -39,6 +39,24 @@ module _ (net : Net) (duty_of : List ℕ) (duty_at : List (Option ℕ)) (base_of
     value = refl;
   }
 
+  -- the node of the items at a slot's places
+  pub node-there : (node : Node) (rank base slot : ℕ) → IsHeld net duty_of duty_at base_of base_at → slice_get (keys_of net.duties) rank ≡ Some node.key → slice_get net.bases base ≡ Some node.base → slice_get duty_at (slot / 16) ≡ Some (Some rank) → slice_get base_at (slot % 16) ≡ Some (Some base) → IsSlot (shown net duty_of base_of) node slot
+  node-there node rank base slot held key at p q =
+      let d = mapped-at (λ (x : Duty). x.key) net.duties rank node.key key in
+      let is : IsRank net node (Some rank) = (d.0, record { base = Member-at net.bases base node.base at; duty = Member-at net.duties rank d.0 d.1; key = d.2 }, d.1) in
+      subst (IsSlot (shown net duty_of base_of) node) (let e : 16 * (slot / 16) + slot % 16 ≡ slot = omega arith in e) (is-slot node rank base (slot / 16) (slot % 16) held is at (held.duties.back rank (slot / 16) p) (held.bases.back base (slot % 16) q))
+
+  -- a node's slot tells the places of its duty and its base
+  pub places-of : (node : Node) (slot : ℕ) → IsHeld net duty_of duty_at base_of base_at → IsSlot (shown net duty_of base_of) node slot → ((rank : ℕ) × (slice_get duty_at (slot / 16) ≡ Some (Some rank))) × ((base : ℕ) × (slice_get base_at (slot % 16) ≡ Some (Some base)))
+  places-of node slot held is =
+      let few = is.few_bases in
+      let v = is.value in
+      let p : is.place ≡ slot / 16 = omega (arith, few, v) in
+      let q : is.base_place ≡ slot % 16 = omega (arith, few, v) in (
+        (is.rank, ap (slice_get duty_at) (sym p) ∙ held.duties.there is.rank is.place is.is_place),
+        (is.base, ap (slice_get base_at) (sym q) ∙ held.bases.there is.base is.base_place is.is_base_place),
+      )
+
   pub below-bound : (node : Node) (slot : ℕ) → IsHeld net duty_of duty_at base_of base_at → IsSlot (shown net duty_of base_of) node slot → slot < 16 * length duty_at
   below-bound node slot held is =
       let w = within duty_at is.place (Some is.rank) (held.duties.there is.rank is.place is.is_place) in
@@ -46,10 +64,12 @@ module _ (net : Net) (duty_of : List ℕ) (duty_at : List (Option ℕ)) (base_of
       let v = is.value in
       omega (arith, w, b, v)
 
-  pub are-apart : IsHeld net duty_of duty_at base_of base_at → AreApart (shown net duty_of base_of)
-  are-apart held = record {
+  pub are-sound : IsHeld net duty_of duty_at base_of base_at → AreSound (shown net duty_of base_of)
+  are-sound held = record {
     duties = λ i j p a b. one-item (slice_get duty_at p) i j (held.duties.there i p a) (held.duties.there j p b);
     bases = λ i j p a b. one-item (slice_get base_at p) i j (held.bases.there i p a) (held.bases.there j p b);
+    rising = held.rising;
+    rising_bases = held.rising_bases;
   }
 
 -- what stays in its place stays in its slot
@@ -73,3 +93,31 @@ slot-stays old new duty_of next_duty_of base_of next_base_of duties bases node d
       few_bases = is.few_bases;
       value = is.value;
     }
+
+key-at : (net : Net) (node : Node) (rank : ℕ) → IsRank net node (Some rank) → slice_get (keys_of net.duties) rank ≡ Some node.key
+key-at net node rank is = get-mapped (λ (x : Duty). x.key) net.duties rank is.0 is.2 ∙ ap (λ z. Some z) is.1.key
+
+pub one-slot : (slots : Slots) (node : Node) (a b : ℕ) → AreSound slots → IsSlot slots node a → IsSlot slots node b → a ≡ b
+one-slot slots node a b sound p q =
+    let rank = keys-distinct slots.net.duties sound.rising p.rank q.rank node.key (key-at slots.net node p.rank p.is_rank) (key-at slots.net node q.rank q.is_rank) in
+    let base = codes-distinct slots.net.bases sound.rising_bases p.base q.base node.base p.is_base q.is_base in
+    let place = one-value (slice_get slots.duty_places q.rank) p.place q.place (ap (slice_get slots.duty_places) (sym rank) ∙ p.is_place) q.is_place in
+    let base_place = one-value (slice_get slots.base_places q.base) p.base_place q.base_place (ap (slice_get slots.base_places) (sym base) ∙ p.is_base_place) q.is_base_place in
+    let x = p.value in
+    let y = q.value in
+    omega (arith, x, y, place, base_place)
+
+parted : (m n x y : ℕ) → x < 16 → y < 16 → 16 * m + x ≡ 16 * n + y → (m ≡ n) × (x ≡ y)
+parted m n x y p q e = (omega (arith, p, q, e), omega (arith, p, q, e))
+
+pub one-node : (slots : Slots) (a b : Node) (slot : ℕ) → AreSound slots → IsSlot slots a slot → IsSlot slots b slot → a ≡ b
+one-node slots a b slot sound p q =
+    let parts = parted p.place q.place p.base_place q.base_place p.few_bases q.few_bases (sym p.value ∙ q.value) in
+    let rank = sound.duties p.rank q.rank q.place (p.is_place ∙ ap (λ (n : ℕ). Some n) parts.0) q.is_place in
+    let place = sound.bases p.base q.base q.base_place (p.is_base_place ∙ ap (λ (n : ℕ). Some n) parts.1) q.is_base_place in
+    let d = p.is_rank.0 in
+    let e = q.is_rank.0 in
+    let duty : d ≡ e = one-value (slice_get slots.net.duties q.rank) d e (ap (slice_get slots.net.duties) (sym rank) ∙ p.is_rank.2) q.is_rank.2 in
+    let base : a.base ≡ b.base = one-value (slice_get slots.net.bases q.base) a.base b.base (ap (slice_get slots.net.bases) (sym place) ∙ p.is_base) q.is_base in
+    let key = sym p.is_rank.1.key ∙ (ap (λ (x : Duty). x.key) duty ∙ q.is_rank.1.key) in
+    (λ i. record { base = base i; key = key i })

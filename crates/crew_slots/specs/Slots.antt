@@ -1,7 +1,8 @@
 -- Slots of nodes, and what a contract sees of them.
 use Rattle.std.specs.Prelude.{◌≡◌, ◌<◌, ◌+◌, ◌*◌, ℕ, List, Some, slice_get}
-use Rattle.crew_net.specs.Nets.{IsRank, Net}
+use Rattle.crew_net.specs.Nets.{IsRank, Net, RiseByCode}
 use Rattle.crew_net.specs.declared.node.Node.{Node}
+use Rattle.crew_pairing.specs.Duties.{RiseByKey}
 
 -- a network, the place of each duty by rank, and the place of each base
 pub record Slots : Type 0 where
@@ -26,7 +27,9 @@ pub record IsSlot (slots : Slots) (node : Node) (slot : ℕ) : Type 0 where
 abbrev pub AreDistinct : {X : Type 0} → List X → Type 0
 AreDistinct {X} xs = (i j : ℕ) (x : X) → slice_get xs i ≡ Some x → slice_get xs j ≡ Some x → i ≡ j
 
--- no two duties have one place, and no two bases
-pub record AreApart (slots : Slots) : Type 0 where
+-- no two duties have one place, nor two bases, and duties and bases stand in order
+pub record AreSound (slots : Slots) : Type 0 where
   pub duties : AreDistinct slots.duty_places
   pub bases : AreDistinct slots.base_places
+  pub rising : RiseByKey slots.net.duties
+  pub rising_bases : RiseByCode slots.net.bases

@@ -4,6 +4,8 @@ ghost use Rattle.std.specs.Prelude.{◌≡◌, ◌≤◌, ◌<◌, IfOk, IfSome,
 ghost use Rattle.std.specs.List.{position};
 ghost use Rattle.std.specs.Ordering.{eq_by_cmp};
 ghost use Rattle.crew_flights.specs.Codes.{code_cmp};
+ghost use Rattle.crew_net.specs.Nets.{RiseByCode};
+ghost use Rattle.crew_pairing.specs.Duties.{RiseByKey};
 ghost use Rattle.crew_slots.specs.Machinery.Kept.{AreKeptOf, IsFoundAt, StayIn};
 ghost use Rattle.crew_slots.specs.Machinery.Places.{ArePlaces};
 
@@ -15,10 +17,11 @@ use std::alloc::{AllocError, Global};
 
 // The rank of the duty with a key, looked for at one rank first.
 fn rank_near(net: &Net, key: &Key, near: usize) -> Option<usize>
-    ensures { IsFoundAt (map (λ d. d.key) net.now.duties) key.now result }
+    ensures found { IsFoundAt (map (λ d. d.key) net.now.duties) key.now result }
+    ensures few { IfSome result (λ rank. rank < 200_000) }
 {
     let duties = net.duties().as_slice();
-    if near < duties.len() {
+    if near < net.duty_count() {
         let same = duties[near].key == *key;
         if same {
             return Some(near);
@@ -69,7 +72,6 @@ fn kept_duties(
     ensures { IfOk result (λ kept. AreKeptOf (map (λ d. d.key) old.now.duties)
         (map (λ d. d.key) new.now.duties) places.now kept.items) }
 {
-    let most = old.duty_count();
     let duties = new.duties().as_slice();
     let mut kept = Vec::with_capacity(alloc, duties.len())?;
     let mut near = 0;
@@ -109,13 +111,14 @@ pub(crate) fn next_duties(
     requires places { ArePlaces places.now.of.items places.now.at.items }
     requires long { length places.now.of.items ≡ length old.now.duties }
     requires few { length places.now.at.items ≤ 200_000 }
+    requires rising { RiseByKey old.now.duties }
     ensures places { IfOk result (λ next. ArePlaces next.of.items next.at.items) }
     ensures long { IfOk result (λ next. length next.of.items ≡ length new.now.duties) }
     ensures few { IfOk result (λ next. length next.at.items ≤ 200_000) }
+    ensures rising { RiseByKey new.now.duties }
     ensures stay { IfOk result (λ next. StayIn (map (λ d. d.key) old.now.duties)
         (map (λ d. d.key) new.now.duties) places.now.of.items next.of.items) }
 {
-    let _ = old.duty_count();
     let count = places.at.len().max(new.duty_count());
     let kept = kept_duties(alloc, &places.of, old, new)?;
     settle(alloc, &kept, count)
@@ -131,13 +134,14 @@ pub(crate) fn next_bases(
     requires places { ArePlaces places.now.of.items places.now.at.items }
     requires long { length places.now.of.items ≡ length old.now.bases }
     requires few { length places.now.at.items ≤ 16 }
+    requires rising { RiseByCode old.now.bases }
     ensures places { IfOk result (λ next. ArePlaces next.of.items next.at.items) }
     ensures long { IfOk result (λ next. length next.of.items ≡ length new.now.bases) }
     ensures few { IfOk result (λ next. length next.at.items ≤ 16) }
+    ensures rising { RiseByCode new.now.bases }
     ensures stay { IfOk result (λ next. StayIn old.now.bases new.now.bases places.now.of.items
         next.of.items) }
 {
-    let _ = old.base_count();
     let count = places.at.len().max(new.base_count());
     let kept = kept_bases(alloc, &places.of, old.bases(), new.bases())?;
     settle(alloc, &kept, count)

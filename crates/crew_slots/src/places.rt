@@ -1,6 +1,6 @@
 //! Places that items keep.
 ghost use Rattle.std.specs.Prelude.{◌≡◌, ◌≤◌, ◌<◌, ◌+◌, ◌↔◌, ℕ, IfOk, None, Some, count_by, is_none, length, replicate, slice_get};
-ghost use Rattle.crew_slots.specs.Machinery.Places.{AreKept, ArePlaces, Keeps};
+ghost use Rattle.crew_slots.specs.Machinery.Places.{AreKept, ArePlaces, IsItemAt, Keeps};
 
 use std::alloc::{AllocError, Global};
 
@@ -11,6 +11,18 @@ use std::alloc::{AllocError, Global};
 pub(crate) struct Places {
     pub(crate) of: Vec<u32>,
     pub(crate) at: Vec<Option<u32>>,
+}
+
+impl Places {
+    /// The item that has a place.
+    pub(crate) fn item_at(&self, place: usize) -> Option<u32>
+        ensures { IsItemAt self.now.at.items place result }
+    {
+        if place < self.at.len() {
+            return self.at[place];
+        }
+        None
+    }
 }
 
 // So many places that are free, or items that keep none.

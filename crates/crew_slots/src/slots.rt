@@ -1,11 +1,11 @@
 //! Slots of nodes.
 
-ghost use Rattle.std.specs.Prelude.{◌≡◌, ◌≤◌, ◌<◌, ◌↔◌, ℕ, IfOk, IfSome, IsNone};
+ghost use Rattle.std.specs.Prelude.{◌≡◌, ◌≤◌, ◌<◌, ◌↔◌, ℕ, IfOk, IsNone, Some, length, map, slice_get};
 ghost use Rattle.std.specs.Arc.{arc_value};
 ghost use Rattle.crew_net.specs.Nets.{IsNodeOf};
 ghost use Rattle.crew_net.specs.declared.node.Node.{Node};
 ghost use Rattle.crew_pairing.specs.declared.duty.Duty.{Duty};
-ghost use Rattle.crew_slots.specs.Slots.{AreApart, IsSlot};
+ghost use Rattle.crew_slots.specs.Slots.{AreSound, IsSlot};
 
 use crate::kept::{base_place, next_bases, next_duties};
 use crate::places::{Places, new_places};
@@ -43,6 +43,20 @@ impl Model for Slots {
         s.bases.of.items s.bases.at.items };
 }
 
+// The node of a duty, by rank, and a base, by place.
+fn node_of(net: &Net, rank: usize, base: usize) -> Node
+    requires rank { rank < length net.now.duties }
+    requires base { base < length net.now.bases }
+    ensures key { slice_get (map (λ d. d.key) net.now.duties) rank ≡ Some result.key }
+    ensures base { slice_get net.now.bases base ≡ Some result.base }
+{
+    let duty = &net.duties().as_slice()[rank];
+    Node {
+        base: net.bases()[base],
+        key: duty.key.copy(),
+    }
+}
+
 impl Slots {
     /// Slots of the nodes of a network, with none before it.
     pub fn new(alloc: Global, net: Arc<Net, Global>) -> Result<Slots, AllocError>
@@ -50,11 +64,7 @@ impl Slots {
     {
         let duties = new_places(alloc, net.duty_count())?;
         let bases = new_places(alloc, net.base_count())?;
-        Ok(Slots {
-            net,
-            duties,
-            bases,
-        })
+        Ok(Slots { net, duties, bases })
     }
 
     /// Slots of the nodes of another network: each node of both keeps its slot, and others take
@@ -67,11 +77,7 @@ impl Slots {
     {
         let duties = next_duties(alloc, &self.duties, &self.net, &net)?;
         let bases = next_bases(alloc, &self.bases, &self.net, &net)?;
-        Ok(Slots {
-            net,
-            duties,
-            bases,
-        })
+        Ok(Slots { net, duties, bases })
     }
 
     /// The network.
@@ -83,7 +89,7 @@ impl Slots {
 
     /// The slot of a node, and `None` where it isn't a node of the network.
     pub fn slot(&self, node: &Node) -> Option<usize>
-        ensures is { IfSome result (IsSlot self.now node.now) }
+        ensures is { (slot : ℕ) → (result ≡ Some slot) ↔ IsSlot self.now node.now slot }
         ensures none { IsNone result ↔ ((d : Duty) → IsNodeOf self.now.net node.now d → ⊥) }
     {
         let rank = self.net.rank(node)?;
@@ -95,8 +101,17 @@ impl Slots {
     pub fn bound(&self) -> usize
         ensures above { (node : Node) (slot : ℕ) → IsSlot self.now node slot → slot < result }
         ensures few { result ≤ 3_200_000 }
-        ensures apart { AreApart self.now }
+        ensures sound { AreSound self.now }
     {
         16 * self.duties.at.len()
+    }
+
+    /// The node that has a slot, and `None` where none has it.
+    pub fn node_at(&self, slot: usize) -> Option<Node>
+        ensures { (node : Node) → (result ≡ Some node) ↔ IsSlot self.now node slot }
+    {
+        let rank = self.duties.item_at(slot / 16)?;
+        let base = self.bases.item_at(slot % 16)?;
+        Some(node_of(&self.net, rank as usize, base as usize))
     }
 }

@@ -1,5 +1,5 @@
 -- Places of items.
-use Rattle.std.specs.Prelude.{◌≡◌, ◌<◌, ℕ, List, Option, Some, slice_get}
+use Rattle.std.specs.Prelude.{◌≡◌, ◌<◌, ℕ, List, Option, Some, None, slice_get}
 
 -- each item has a place, and no two have the same
 pub record ArePlaces (of : List ℕ) (at : List (Option ℕ)) : Type 0 where
@@ -15,3 +15,8 @@ pub record AreKept (kept : List (Option ℕ)) (count : ℕ) : Type 0 where
 -- what keeps a place has it
 abbrev pub Keeps : List (Option ℕ) → List ℕ → Type 0
 Keeps kept of = (i p : ℕ) → slice_get kept i ≡ Some (Some p) → slice_get of i ≡ Some p
+
+-- the item at a place, and none where the place is free or there is no such place
+abbrev pub IsItemAt : List (Option ℕ) → ℕ → Option ℕ → Type 0
+IsItemAt at p None = (i : ℕ) → slice_get at p ≡ Some (Some i) → ⊥
+IsItemAt at p (Some i) = slice_get at p ≡ Some (Some i)

@@ -1,4 +1,4 @@
-use Rattle.std.proofs.Common.{◌≡◌, ◌+◌, ℕ, List, Option, length, refl, subst, sym}
+use Rattle.std.proofs.Common.{◌+◌, length, refl, subst, sym}
 use Rattle.std.proofs.lemmas.Option.{slice_get_read}
 use Rattle.crew_slots.proofs.Keeping.{AreKeptSo, base-found, kept-more}
 use Rattle.crew_slots.proofs.kept.kept_bases.Goals as goal

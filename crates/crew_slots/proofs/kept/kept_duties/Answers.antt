@@ -1,4 +1,4 @@
-use Rattle.std.proofs.Common.{◌≡◌, ◌∙◌, ◌+◌, ℕ, List, Option, Some, ap, length, map, refl, subst, sym}
+use Rattle.std.proofs.Common.{◌≡◌, ◌∙◌, ◌+◌, List, Some, length, refl, subst, sym}
 use Rattle.std.specs.Prelude.{slice_get}
 use Rattle.std.proofs.lemmas.List.{length-map}
 use Rattle.std.proofs.lemmas.Option.{slice_get_read}
@@ -19,6 +19,6 @@ loop-duty-preserved c =
     let at = slice_get_read ds (length ds) i d refl c.loop-duty-test.true c.duty-item.is in
     let key : slice_get news i ≡ Some d.key = subst (λ (l : List Duty). slice_get (keys_of l) i ≡ Some d.key) list (get-mapped (λ (x : Duty). x.key) ds i d at) in
     let long : length places ≡ length olds = c.requires ∙ sym (length-map c.args.old.now.duties (λ (x : Duty). x.key)) in
-    let found : IsFoundAt olds d.key c.rank_near-found.result = c.rank_near-found.ensures in
+    let found : IsFoundAt olds d.key c.rank_near-found.result = c.rank_near-found.ensures.found in
     subst (AreKeptSo olds news places (i + 1)) (sym c.in_ok-push.ensures.items)
     (kept-more olds news places i c.loop-duty.kept.items d.key c.rank_near-found.result c.at_place.result long key found c.at_place.ensures c.loop-duty.invariant)

@@ -1,4 +1,4 @@
-use Rattle.std.proofs.Common.{rules, ◌≡◌, ◌≤◌, ◌<◌, ◌+◌, ◌∙◌, ℕ, None, Some, List, Option, ap, get_or, length, replicate, subst, sym, arith, refl, Vec, Global}
+use Rattle.std.proofs.Common.{◌≡◌, ◌<◌, ◌+◌, ◌∙◌, ℕ, None, Some, List, Option, ap, get_or, length, subst, sym, arith, refl, Vec, Global}
 use Rattle.std.specs.Prelude.{slice_get}
 use Rattle.std.proofs.lemmas.Option.{slice_get-get_or}
 use Rattle.crew_slots.proofs.Seats.{AreSeated, seated-none, seated-put, seated-skip}
@@ -31,11 +31,11 @@ loop-item-preserved c =
       | in-Some w ↦ (
           let at = here kept i (Some w.in-Some.place) c.loop-item-test.true w.in-Some.is in
           subst (λ (v : Vec (Option ℕ) Global). AreSeated kept c.args.count (i + 1) v.items) (sym w.at-is) (seated-put kept c.args.count i w.in-Some.place c.loop-item.at.items c.requires.kept at inv)
-        )
+          )
       | in_default w ↦ (
           let at = here kept i None c.loop-item-test.true (nothing (get_or kept i None) w.in_default.not-Some) in
           subst (λ (v : Vec (Option ℕ) Global). AreSeated kept c.args.count (i + 1) v.items) (sym w.at-is) (seated-skip kept c.args.count i c.loop-item.at.items at inv)
-        )
+          )
     ]
 
 pub returns-clause-exact : goal.returns-clause-exact

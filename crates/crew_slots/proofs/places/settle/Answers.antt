@@ -1,9 +1,9 @@
-use Rattle.std.proofs.Common.{rules, ◌≡◌, ◌≤◌, ◌<◌, ◌+◌, ◌++◌, ◌∷◌, [], ℕ, None, Some, List, Option, Bool, true, false, get_or, length, replicate, subst, sym, arith, ap, ◌∙◌, not, Vec, Global, Fits, w32}
+use Rattle.std.proofs.Common.{rules, ◌≡◌, ◌≤◌, ◌<◌, ◌+◌, ◌++◌, ◌∷◌, [], ℕ, None, Some, List, Option, Bool, true, false, get_or, length, subst, sym, arith, ap, ◌∙◌, not, Vec, Global, Fits, w32}
 use Rattle.std.specs.Prelude.{unwrap_or}
 use Rattle.std.specs.Prelude.{slice_get, is_some}
 use Rattle.std.proofs.lemmas.Option.{slice_get-get_or}
 use Rattle.crew_slots.proofs.Gets.{within}
-use Rattle.crew_slots.proofs.Seats.{AreSettled, free-left, settled-all, settled-keep, settled-none, settled-take}
+use Rattle.crew_slots.proofs.Seats.{AreSettled, free-left, settled-all, settled-keep, settled-take}
 use Rattle.crew_slots.proofs.places.settle.Goals as goal
 use Rattle.crew_slots.proofs.places.settle.Goals.{then-is_none, else-is_none}
 
@@ -42,7 +42,7 @@ overflow_cast-free c =
           let long = ap length w.deref.ensures.value in
           let e = w.free-is in
           fits c.if-is_none.free c.args.count (omega (arith, at, long, e, size)) c.requires.few
-        )
+          )
       | else-is_none w ↦ (let e = w.free-is in fits c.if-is_none.free c.args.count (omega (arith, e, inv)) c.requires.few)
     ]
 
@@ -83,13 +83,13 @@ loop-item-preserved c =
           subst (λ (n : ℕ). AreSettled kept count (i + 1) (of ++ n ∷ []) c.if-is_none.at.items c.if-is_none.free) (sym here)
           (subst (λ (n : ℕ). AreSettled kept count (i + 1) (of ++ p ∷ []) c.if-is_none.at.items n) (sym w.free-is)
           (subst (λ (v : Vec (Option ℕ) Global). AreSettled kept count (i + 1) (of ++ p ∷ []) v.items p) (sym w.at-is) step))
-        )
+          )
       | else-is_none w ↦ (
           let own = kept-place kept i c.if-is_none.free place c.is_none.result c.loop-item-test.true c.unwrap_or.ensures c.is_none.ensures w.if-is_none.false in
           let step = settled-keep kept count i of at free place own inv in
           subst (λ (n : ℕ). AreSettled kept count (i + 1) (of ++ place ∷ []) c.if-is_none.at.items n) (sym w.free-is)
           (subst (λ (v : Vec (Option ℕ) Global). AreSettled kept count (i + 1) (of ++ place ∷ []) v.items free) (sym w.at-is) step)
-        )
+          )
     ])
 
 pub returns-clause-places : goal.returns-clause-places

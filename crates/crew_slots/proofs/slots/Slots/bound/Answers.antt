@@ -1,7 +1,6 @@
-use Rattle.std.proofs.Common.{◌≡◌, ◌<◌, ◌*◌, ℕ, length, subst, sym, ap, arith, rules}
-use Rattle.crew_net.specs.declared.node.Node.{Node}
-use Rattle.crew_slots.specs.Slots.{AreApart, IsSlot, Slots}
-use Rattle.crew_slots.proofs.Shown.{are-apart, below-bound}
+use Rattle.std.proofs.Common.{◌≡◌, length, subst, sym, arith, rules}
+use Rattle.crew_slots.specs.Slots.{AreSound, IsSlot, Slots}
+use Rattle.crew_slots.proofs.Shown.{are-sound, below-bound}
 use Rattle.crew_slots.proofs.slots.Slots.bound.Goals as goal
 
 pub returns-clause-above : goal.returns-clause-above
@@ -11,7 +10,7 @@ returns-clause-above c = λ node slot is.
     let len : c.len.result ≡ length s.duties.at.items = search rules in
     omega (arith, below, len)
 
-pub returns-clause-apart : goal.returns-clause-apart
-returns-clause-apart c =
+pub returns-clause-sound : goal.returns-clause-sound
+returns-clause-sound c =
     let s = c.self.inside in
-    subst AreApart c.self.view_is (are-apart s.net.value s.duties.of.items s.duties.at.items s.bases.of.items s.bases.at.items c.self.invariant)
+    subst AreSound c.self.view_is (are-sound s.net.value s.duties.of.items s.duties.at.items s.bases.of.items s.bases.at.items c.self.invariant)
