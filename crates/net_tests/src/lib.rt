@@ -1,7 +1,9 @@
-//! Tests of the network: what no clause of its says.
+//! Tests of the network and of slots: what no clause of theirs says.
 #![tactic(auto)]
 
 #[cfg(test)]
 mod nets;
 #[cfg(test)]
 mod rows;
+#[cfg(test)]
+mod slots;

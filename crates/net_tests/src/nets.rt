@@ -1,37 +1,7 @@
-use crate::rows::{Row, timetable_of};
-use crew_duty::list_duties;
-use crew_flights::{Code, FlightId};
-use crew_net::{Net, Node, Window, arrival_places};
-use crew_pairing::{Key, Leg};
-use crew_rules::Settings;
+use crate::rows::{Row, net_of, node_of};
+use crew_net::{Net, Window, arrival_places};
 use std::alloc::Global;
-use std::sync::Arc;
 use std::test::Fail;
-use std::thread::Threads;
-
-// The network of a timetable under the standard settings.
-fn net_of<R: Threads + Sync + AllocGlobal>(
-    rt: &R,
-    bases: &[(&[u8; 3], i64)],
-    rows: &[Row<'_>],
-) -> Result<Net, Fail> {
-    let settings = Settings::standard();
-    settings.check()?;
-    let timetable = timetable_of(rt.alloc(), &settings, bases, rows)?;
-    let duties = Arc::new(
-        rt.alloc(),
-        list_duties(rt, rt.alloc(), &settings, &timetable)?,
-    )?;
-    Ok(Net::build(rt.alloc(), &settings, &timetable, duties)?)
-}
-
-// A node of a base and a duty of one leg.
-fn node_of(base: &[u8; 3], flight: u32) -> Result<Node, Fail> {
-    Ok(Node {
-        base: Code::new(*base).ok_or("base")?,
-        key: Key::of(Leg::new(FlightId::new(flight).ok_or("flight")?, false)),
-    })
-}
 
 // The flights of the duties just before a duty of one leg, each by its first leg, and `none` where
 // it isn't a node.
@@ -180,19 +150,6 @@ fn layers_of_three_duties(rt: HostRuntime) -> Result<(), Fail> {
     assert_eq!(rt; net.layers(rt.alloc())?.as_slice(), [0, 0, 1].as_slice());
     let empty = net_of(&rt, &[(b"JFK", 0)], &[])?;
     assert!(rt; empty.layers(rt.alloc())?.is_empty());
-    Ok(())
-}
-
-// Sixteen slots for each duty, by rank, and in each the bases by their places.
-#[test]
-fn slots_of_two_bases(rt: HostRuntime) -> Result<(), Fail> {
-    let net = net_of(&rt, &[(b"JFK", 0), (b"BOS", 0)], &EVENTS)?;
-    assert_eq!(rt; net.slot(&node_of(b"BOS", 1)?), Some(0));
-    assert_eq!(rt; net.slot(&node_of(b"JFK", 1)?), Some(1));
-    assert_eq!(rt; net.slot(&node_of(b"BOS", 3)?), Some(32));
-    assert_eq!(rt; net.slot(&node_of(b"JFK", 3)?), Some(33));
-    assert_eq!(rt; net.slot(&node_of(b"JFK", 4)?), None);
-    assert_eq!(rt; net.slot(&node_of(b"LAX", 1)?), None);
     Ok(())
 }
 

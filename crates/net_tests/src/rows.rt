@@ -1,9 +1,14 @@
-//! Timetables of a few rows.
+//! Timetables of a few rows, and their networks.
+use crew_duty::list_duties;
 use crew_flights::{Code, Edit, Flight, FlightId, Timetable};
+use crew_net::{Net, Node};
+use crew_pairing::{Key, Leg};
 use crew_rules::Settings;
 use crew_time::{Minute, Zone, read_minute};
 use std::alloc::Global;
+use std::sync::Arc;
 use std::test::Fail;
+use std::thread::Threads;
 
 /// A flight: its number, airports, times and price.
 pub type Row<'a> = (u32, &'a [u8; 3], &'a [u8; 3], &'a str, &'a str, i64);
@@ -47,4 +52,28 @@ pub fn timetable_of(
         timetable.apply(&Edit::AddFlight(flight(settings, *row)?))?;
     }
     Ok(timetable)
+}
+
+/// The network of a timetable under the standard settings.
+pub fn net_of<R: Threads + Sync + AllocGlobal>(
+    rt: &R,
+    bases: &[(&[u8; 3], i64)],
+    rows: &[Row<'_>],
+) -> Result<Net, Fail> {
+    let settings = Settings::standard();
+    settings.check()?;
+    let timetable = timetable_of(rt.alloc(), &settings, bases, rows)?;
+    let duties = Arc::new(
+        rt.alloc(),
+        list_duties(rt, rt.alloc(), &settings, &timetable)?,
+    )?;
+    Ok(Net::build(rt.alloc(), &settings, &timetable, duties)?)
+}
+
+/// A node of a base and a duty of one leg.
+pub fn node_of(base: &[u8; 3], flight: u32) -> Result<Node, Fail> {
+    Ok(Node {
+        base: Code::new(*base).ok_or("base")?,
+        key: Key::of(Leg::new(FlightId::new(flight).ok_or("flight")?, false)),
+    })
 }
