@@ -231,7 +231,7 @@ impl Net {
         ensures few { length self.now.duties ≤ 200_000 }
         ensures rising { RiseByKey self.now.duties }
     {
-        self.duties.len()
+        self.duties.as_slice().len()
     }
 
     /// How many crew bases there are.
@@ -240,7 +240,7 @@ impl Net {
         ensures few { length self.now.bases ≤ 16 }
         ensures rising { RiseByCode self.now.bases }
     {
-        self.bases.len()
+        self.bases.as_slice().len()
     }
 
     /// How many nodes there are: one for each base and duty.
