@@ -4,9 +4,10 @@ ghost use Rattle.crew_slots.specs.Machinery.Places.{AreKept, ArePlaces, IsItemAt
 
 use std::alloc::{AllocError, Global};
 
-/// By item its place, and by place the item that has it. A place that went free is taken again, so
-/// that places stay below the most items that there were at once: the kit's slab promises no such
-/// bound.
+/// By item its place, and by place the item that has it.
+///
+/// A place that went free is taken again, so that places stay below the most items that there were
+/// at once. The crate `slab` promises of a new key only that it was vacant, and no such bound.
 #[derive(Drop)]
 pub(crate) struct Places {
     pub(crate) of: Vec<u32>,
