@@ -1,0 +1,8 @@
+use Rattle.std.proofs.Common.{◌≡◌, ◌<◌, ℕ, Some, get_or, length}
+use Rattle.std.specs.Prelude.{slice_get}
+use Rattle.crew_dirty.proofs.Sames.{HavePlaces}
+use Rattle.crew_dirty.proofs.places.departure_places.Given as goal
+
+-- the duties of the departures so far have their places
+abbrev pub invariant-loop-departure : goal.invariant-loop-departure
+invariant-loop-departure l = (length l.places.items ≡ length l.net.duties) × HavePlaces l.net l.departure l.places.items

@@ -1,0 +1,4 @@
+pub mod Dirty
+pub mod Carried
+pub mod Unchanged
+pub mod Machinery

@@ -1,0 +1,73 @@
+//! Which duties are the same.
+ghost use Rattle.std.specs.Prelude.{◌≡◌, ◌<◌, ◌↔◌, ℕ, IfOk, Some, false, get_or, length, slice_get, true};
+ghost use Rattle.crew_carry.specs.Twins.{AreTwins, HasAllTwins};
+ghost use Rattle.crew_dirty.specs.Carried.{AreFlags};
+ghost use Rattle.crew_dirty.specs.Dirty.{IsSameDuty};
+ghost use Rattle.crew_pairing.specs.declared.duty.Duty.{Duty};
+ghost use Rattle.crew_resource.specs.Members.{Member};
+
+use crate::flags::put_flags;
+use crate::windows::waits_alike;
+use crew_carry::Twins;
+use crew_net::Net;
+use crew_pairing::Duty;
+use crew_step::is_same_duty;
+use std::alloc::{AllocError, Global};
+
+// Whether the old duty of a rank is the new one of another, with all its facts.
+fn is_same_at(olds: &[Duty], old: usize, news: &[Duty], new: usize) -> bool
+    requires old { old < length olds.now }
+    requires new { new < length news.now }
+    ensures { (result ≡ true) ↔ (slice_get olds.now old ≡ slice_get news.now new) }
+{
+    is_same_duty(&olds[old], &news[new])
+}
+
+// The flags of the new duties that the old network has with all their facts.
+fn held_duties(
+    alloc: Global,
+    olds: &[Duty],
+    news: &[Duty],
+    ranks: &[Option<u32>],
+) -> Result<Vec<bool>, AllocError>
+    requires long { length ranks.now ≡ length olds.now }
+    requires within { (r k : ℕ) → slice_get ranks.now r ≡ Some (Some k) → k < length news.now }
+    requires all { (r k : ℕ) (d e : Duty) → slice_get olds.now r ≡ Some d
+        → slice_get news.now k ≡ Some e → d.key ≡ e.key → slice_get ranks.now r ≡ Some (Some k) }
+    ensures long { IfOk result (λ flags. length flags.items ≡ length news.now) }
+    ensures flags { IfOk result (λ flags. AreFlags (Member olds.now) news.now flags.items) }
+{
+    let mut flags = vec![in alloc; false; news.len()]?;
+    for old in 0..ranks.len() {
+        if let Some(new) = ranks[old] {
+            let same = is_same_at(olds, old, news, new as usize);
+            flags[new as usize] = flags[new as usize] | same;
+        }
+    }
+    Ok(flags)
+}
+
+/// The flags of the duties that the old network has with all their facts, and before which exactly
+/// the same duties may stand.
+pub(crate) fn same_duties(
+    alloc: Global,
+    old: &Net,
+    new: &Net,
+    twins: &Twins,
+) -> Result<Vec<bool>, AllocError>
+    requires settings { old.now.settings ≡ new.now.settings }
+    requires twins { AreTwins old.now new.now twins.now }
+    requires all { HasAllTwins old.now new.now twins.now }
+    ensures long { IfOk result (λ flags. length flags.items ≡ length new.now.duties) }
+    ensures flags { IfOk result (λ flags.
+        AreFlags (IsSameDuty old.now new.now) new.now.duties flags.items) }
+{
+    let news = new.duties().as_slice();
+    let held = held_duties(alloc, old.duties().as_slice(), news, twins.ranks())?;
+    let mut same = vec![in alloc; false; news.len()]?;
+    for departure in 0..new.departures().len() {
+        let alike = waits_alike(old, new, twins, departure);
+        put_flags(&mut same, new.leaving(departure), alike, &held);
+    }
+    Ok(same)
+}
