@@ -1,2 +1,7 @@
+pub mod Taken
+pub mod Flagged
 pub mod Paths
 pub mod Aligned
+pub mod Arrivals
+pub mod Sames
+pub mod Passed

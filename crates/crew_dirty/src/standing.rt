@@ -1,5 +1,6 @@
 //! What a round has at a node.
 ghost use Rattle.std.specs.Prelude.{◌≡◌, ◌↔◌, ℕ, IsTrue, List};
+ghost use Rattle.crew_dirty.specs.declared.standing.Standing.{Standing};
 ghost use Rattle.crew_dirty.specs.declared.standing.Standing.TheVariants.{Same};
 ghost use Rattle.crew_resource.specs.Members.{Member};
 

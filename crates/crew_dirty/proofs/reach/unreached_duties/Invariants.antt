@@ -1,5 +1,5 @@
 use Rattle.std.proofs.Common.{◌≡◌, length}
-use Rattle.crew_dirty.proofs.Reach.{IsPassed}
+use Rattle.crew_dirty.proofs.Passed.{IsPassed}
 use Rattle.crew_dirty.specs.Carried.{AreFlags}
 use Rattle.crew_dirty.specs.Dirty.{IsSameDuty}
 use Rattle.crew_net.specs.Nets.{Net}
