@@ -1,0 +1,7 @@
+use Rattle.crew_dirty.proofs.same.held_duties.Goals as goal
+
+pub loop-old-preserved : goal.loop-old-preserved
+loop-old-preserved c = ?
+
+pub returns-clause-flags : goal.returns-clause-flags
+returns-clause-flags c = ?
