@@ -30,15 +30,15 @@ module _ (first flags : List Bool) (ranks : List ℕ) (i : ℕ) (value : ℕ →
       other rank (λ e. out (subst (Member (take (i + 1) ranks)) e (taken-here ranks i h))) ∙ elsewhere rank (λ k. out (taken-before ranks i h rank k))
 
 -- one rank more is marked
-or-true : (a b : Bool) → (a || b) ≡ true → (a ≡ true) ⊎ (b ≡ true)
+pub or-true : (a b : Bool) → (a || b) ≡ true → (a ≡ true) ⊎ (b ≡ true)
 or-true true b e = inl refl
 or-true false b e = inr e
 
-or-left : (a b : Bool) → a ≡ true → (a || b) ≡ true
+pub or-left : (a b : Bool) → a ≡ true → (a || b) ≡ true
 or-left true b e = refl
 or-left false b e = absurd (let q : ⊥ = (cc) in q)
 
-or-right : (a b : Bool) → b ≡ true → (a || b) ≡ true
+pub or-right : (a b : Bool) → b ≡ true → (a || b) ≡ true
 or-right true b e = refl
 or-right false b e = e
 

@@ -9,6 +9,7 @@ use Rattle.std.specs.Cmp.{signed_Decides}
 use Rattle.std.specs.Ordering.{eq_by_cmp, int_eq}
 use Rattle.crew_carry.proofs.Pushed.{some-is}
 use Rattle.crew_dirty.specs.Carried.{AreFlags}
+use Rattle.crew_dirty.proofs.Flagged.{or-left, or-right, or-true}
 use Rattle.crew_dirty.specs.Dirty.{IsSameDuty}
 use Rattle.crew_dirty.specs.Machinery.Windows.{WaitsAlike}
 use Rattle.crew_flights.specs.Codes.{code_cmp}
@@ -134,3 +135,60 @@ abbrev pub AreHeldTo : List Duty → List Duty → ℕ → List Bool → Type 0
 AreHeldTo olds news count flags =
     ((rank : ℕ) (d : Duty) → slice_get news rank ≡ Some d → get_or flags rank false ≡ true → Member olds d)
     × ((rank r : ℕ) (d : Duty) → r < count → slice_get news rank ≡ Some d → slice_get olds r ≡ Some d → get_or flags rank false ≡ true)
+
+-- one old rank more
+module _ (olds news : List Duty) (ranks : List (Option ℕ))
+    (all : (r k : ℕ) (d e : Duty) → slice_get olds r ≡ Some d → slice_get news k ≡ Some e → d.key ≡ e.key → slice_get ranks r ≡ Some (Some k)) (count : ℕ) (new : Option ℕ) (at : slice_get ranks count ≡ Some new) (was now : List Bool)
+    (kept : (k : ℕ) → get_or was k false ≡ true → get_or now k false ≡ true)
+    (there : (k : ℕ) → new ≡ Some k → slice_get olds count ≡ slice_get news k → get_or now k false ≡ true)
+    (from : (k : ℕ) → get_or now k false ≡ true → (get_or was k false ≡ true) ⊎ (slice_get olds count ≡ slice_get news k)) where
+  pub held-more : AreHeldTo olds news count was → AreHeldTo olds news (count + 1) now
+  held-more old = (
+    λ rank d known t. elim (from rank t) as (λ _. Member olds d) [
+      | inl before ↦ old.0 rank d known before
+      | inr same ↦ Member-at olds count d (same ∙ known)
+    ],
+    λ rank r d below known here. elim (eqb_tells r count) as (λ _. get_or now rank false ≡ true) [
+      | inl e ↦
+          let own : slice_get olds count ≡ Some d = ap (slice_get olds) (sym e.1) ∙ here in
+          let is : slice_get ranks count ≡ Some (Some rank) = all count rank d d own known refl in
+          there rank (some-is ranks count new (Some rank) at is) (own ∙ sym known)
+      | inr f ↦ kept rank (old.1 rank r d (let ne = f.1 in omega (arith, below, ne)) known here)
+    ],
+  )
+
+pub held-all : (olds news : List Duty) (count : ℕ) (flags : List Bool) → length olds ≤ count → AreHeldTo olds news count flags → AreFlags (Member olds) news flags
+held-all olds news count flags all held rank d known = (
+  held.0 rank d known,
+  λ m. (let r = stands olds d m in let within = slice_get-within olds r.0 d r.1 in held.1 rank r.0 d (omega (arith, within, all)) known r.1),
+)
+
+-- a flag that is put where it stands or the duties are the same
+module _ (flags : List Bool) (new : ℕ) (same : Bool) (bound : new < length flags) where
+  abbrev put : List Bool
+  put = set flags new (get_or flags new false || same)
+
+  put-at : (k : ℕ) → new ≡ k → get_or put k false ≡ (get_or flags new false || same)
+  put-at k e = get_or-set_at flags new k (get_or flags new false || same) false (sym e) bound
+
+  put-other : (k : ℕ) → (new ≡ k → ⊥) → get_or put k false ≡ get_or flags k false
+  put-other k ne = get_or-set_other flags new k (get_or flags new false || same) false (λ e. ne (sym e))
+
+  pub put-kept : (k : ℕ) → get_or flags k false ≡ true → get_or put k false ≡ true
+  put-kept k t = elim (eqb_tells new k) as (λ _. get_or put k false ≡ true) [
+    | inl e ↦ put-at k e.1 ∙ or-left (get_or flags new false) same (ap (λ (n : ℕ). get_or flags n false) e.1 ∙ t)
+    | inr f ↦ put-other k f.1 ∙ t
+  ]
+
+  pub put-there : (k : ℕ) → new ≡ k → same ≡ true → get_or put k false ≡ true
+  put-there k e t = put-at k e ∙ or-right (get_or flags new false) same t
+
+  pub put-from : (k : ℕ) → get_or put k false ≡ true → (get_or flags k false ≡ true) ⊎ ((new ≡ k) × (same ≡ true))
+  put-from k t = elim (eqb_tells new k) as (λ _. (get_or flags k false ≡ true) ⊎ ((new ≡ k) × (same ≡ true))) [
+    | inl e ↦
+        elim (or-true (get_or flags new false) same (sym (put-at k e.1) ∙ t)) as (λ _. (get_or flags k false ≡ true) ⊎ ((new ≡ k) × (same ≡ true))) [
+          | inl was ↦ inl (ap (λ (n : ℕ). get_or flags n false) (sym e.1) ∙ was)
+          | inr own ↦ inr (e.1, own)
+        ]
+    | inr f ↦ inl (sym (put-other k f.1) ∙ t)
+  ]

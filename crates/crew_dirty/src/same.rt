@@ -1,5 +1,5 @@
 //! Which duties are the same.
-ghost use Rattle.std.specs.Prelude.{◌≡◌, ◌<◌, ◌↔◌, ℕ, IfOk, Some, false, get_or, length, slice_get, true};
+ghost use Rattle.std.specs.Prelude.{◌≡◌, ◌<◌, ◌↔◌, ◌⊎◌, ℕ, IfOk, Some, false, get_or, length, slice_get, true};
 ghost use Rattle.crew_carry.specs.Twins.{AreTwins, HasAllTwins};
 ghost use Rattle.crew_dirty.specs.Carried.{AreFlags};
 ghost use Rattle.crew_dirty.specs.Dirty.{IsSameDuty};
@@ -39,12 +39,29 @@ fn held_duties(
 {
     let mut flags = vec![in alloc; false; news.len()]?;
     for old in 0..ranks.len() {
-        if let Some(new) = ranks[old] {
-            let same = is_same_at(olds, old, news, new as usize);
-            flags[new as usize] = flags[new as usize] | same;
-        }
+        note(&mut flags, olds, old, news, ranks[old]);
     }
     Ok(flags)
+}
+
+// Flags the new duty of a rank, if it is the old one of another.
+fn note(flags: &mut [bool], olds: &[Duty], old: usize, news: &[Duty], new: Option<u32>)
+    requires old { old < length olds.now }
+    requires new { (k : ℕ) → new ≡ Some k → k < length news.now }
+    requires long { length flags.old ≡ length news.now }
+    ensures long { length flags.new ≡ length flags.old }
+    ensures kept { (k : ℕ) → get_or flags.old k false ≡ true → get_or flags.new k false ≡ true }
+    ensures there { (k : ℕ) → new ≡ Some k → slice_get olds.now old ≡ slice_get news.now k
+        → get_or flags.new k false ≡ true }
+    ensures from { (k : ℕ) → get_or flags.new k false ≡ true
+        → (get_or flags.old k false ≡ true) ⊎ (slice_get olds.now old ≡ slice_get news.now k) }
+{
+    let Some(new) = new else {
+        return;
+    };
+    let new = new as usize;
+    let same = is_same_at(olds, old, news, new);
+    flags[new] = flags[new] | same;
 }
 
 /// The flags of the duties that the old network has with all their facts, and before which exactly
@@ -62,6 +79,7 @@ pub(crate) fn same_duties(
     ensures flags { IfOk result (λ flags.
         AreFlags (IsSameDuty old.now new.now) new.now.duties flags.items) }
 {
+    let _olds = old.departures();
     let news = new.duties().as_slice();
     let held = held_duties(alloc, old.duties().as_slice(), news, twins.ranks())?;
     let mut same = vec![in alloc; false; news.len()]?;
