@@ -6,3 +6,4 @@ pub mod Arrivals
 pub mod Alike
 pub mod Sames
 pub mod Passed
+pub mod Nodes

@@ -141,6 +141,7 @@ impl Carried {
         if !untouched {
             return false;
         }
+        let _arrivals = net.arrivals();
         let departure = self.departure(slot / 16);
         if departure >= net.departures().len() {
             return false;
