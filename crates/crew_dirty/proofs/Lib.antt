@@ -7,3 +7,6 @@ pub mod Alike
 pub mod Sames
 pub mod Passed
 pub mod Nodes
+pub mod Priced
+pub mod Unchanging
+pub mod Fronts

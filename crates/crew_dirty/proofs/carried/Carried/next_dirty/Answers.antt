@@ -1,7 +1,37 @@
+use Rattle.std.proofs.Common.{◌≡◌, ◌∙◌, ◌&&◌, ◌*◌, ◌<◌, ◌≤◌, ◌/◌, ◌%◌, ℕ, List, Bool, true, false, get_or, length, sym, subst, ap, arith}
+use Rattle.std.specs.Prelude.{◌↔◌, slice_get}
+use Rattle.crew_dirty.proofs.Nodes.{kept-at-place, node-found, node-within}
+use Rattle.crew_dirty.proofs.Sames.{not-both}
+use Rattle.crew_pairing.specs.declared.duty.Duty.{Duty}
 use Rattle.crew_dirty.proofs.carried.Carried.next_dirty.Goals as goal
 
 pub returns-then-not-kept : goal.returns-then-not-kept
-returns-then-not-kept c = ?
+returns-then-not-kept c = λ t u old over.
+    let net = c.args.net.now in
+    let own = c.args.self.now in
+    let place = c.loop-place.place in
+    let duties : c.as_slice-count.result.now ≡ net.duties = c.as_slice-count.ensures ∙ c.duties.ensures in
+    let below = c.loop-place-test.true in
+    let long = c.len-place-end.ensures in
+    let node = node-within net.bases net.duties place (omega (arith, below, long)) in
+    let flags : c.is_kept_at-kept.result ≡ (get_or own.bases (place / length net.duties) false && get_or own.unreached (place % length net.duties) false) =
+    subst (λ (ds : List Duty). c.is_kept_at-kept.result ≡ (get_or own.bases (place / length ds) false && get_or own.unreached (place % length ds) false)) duties c.is_kept_at-kept.ensures in
+    record {
+      not_before = c.loop-place.auto.place;
+      node = node.0;
+      at = node.1;
+      dirty = λ k. not-both c.is_kept_at-kept.result (flags ∙ (kept-at-place t u old net own over place node.0 node.1).1 k) c.if-not-kept.true;
+      kept = λ k n low high at. (kept-at-place t u old net own over k n at).0
+          (subst (λ (ds : List Duty). (get_or own.bases (k / length ds) false && get_or own.unreached (k % length ds) false) ≡ true) duties (c.loop-place.invariant k low high));
+    }
 
 pub returns : goal.returns
-returns c = ?
+returns c = λ t u old over place node low at.
+    let net = c.args.net.now in
+    let own = c.args.self.now in
+    let duties : c.as_slice-count.result.now ≡ net.duties = c.as_slice-count.ensures ∙ c.duties.ensures in
+    let all = c.loop-place-test.false in
+    let long = c.len-place-end.ensures in
+    let below = (node-found net.bases net.duties place node at).below in
+    (kept-at-place t u old net own over place node at).0
+    (subst (λ (ds : List Duty). (get_or own.bases (place / length ds) false && get_or own.unreached (place % length ds) false) ≡ true) duties (c.loop-place.invariant place low (omega (arith, all, long, below))))
