@@ -103,10 +103,10 @@ impl Carried {
             → IsCarriedOver t u old net.now self.now
             → (IsTrue result ↔ IsKept t u old net.now node.now) }
     {
-        let Some(slot) = net.slot(node) else {
-            return false;
-        };
-        self.is_kept_at(slot % 16, slot / 16)
+        match net.slot(node) {
+            Some(slot) => self.is_kept_at(slot % 16, slot / 16),
+            None => false,
+        }
     }
 
     /// The first place of a node of the new network, from a place on, that isn't kept.

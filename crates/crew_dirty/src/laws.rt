@@ -1,9 +1,10 @@
 //! What holds of every edit.
-ghost use Rattle.std.specs.Prelude.{◌≡◌, ℕ, ℤ, List, Option};
-ghost use Rattle.crew_dirty.specs.Dirty.{IsNetOver, IsUnreached};
+ghost use Rattle.std.specs.Prelude.{◌≡◌, ◌↔◌, ℕ, ℤ, List, Option, true};
+ghost use Rattle.crew_dirty.specs.Dirty.{IsNetOver, IsUnreached, IsUntouched};
 ghost use Rattle.crew_flights.specs.Timetable.{IsSound, Timetable};
 ghost use Rattle.crew_net.specs.Nets.{Net};
 ghost use Rattle.crew_pairing.specs.Legs.{Leg};
+ghost use Rattle.crew_pairing.specs.Pairings.{may_stand_after};
 ghost use Rattle.crew_pairing.specs.declared.duty.Duty.{Duty};
 ghost use Rattle.crew_pairing.specs.declared.vector.PairingVector.{PairingVector};
 ghost use Rattle.crew_resource.specs.Members.{Member};
@@ -20,4 +21,14 @@ pub fn unreached_nodes_keep_their_fronts()
         → IsNetOver t old → IsNetOver u new → Member new.duties d
         → IsUnreached old new old_price new_price base d → IsFrontAt s t base price d entries
         → IsFrontAt s u base price d entries }
+{}
+
+/// A node isn't reached exactly where it isn't touched and none of the nodes just before it is
+/// reached.
+pub fn unreached_nodes_stand_after_unreached_ones()
+    ensures { (old new : Net) (old_price new_price : Option ℤ) (base : List ℕ) (d : Duty)
+        → Member new.duties d → (IsUnreached old new old_price new_price base d
+        ↔ (IsUntouched old new old_price new_price base d
+        × ((e : Duty) → Member new.duties e → may_stand_after new.settings e d ≡ true
+        → IsUnreached old new old_price new_price base e))) }
 {}

@@ -2,6 +2,8 @@
 #![tactic(auto)]
 
 #[cfg(test)]
+mod dirty;
+#[cfg(test)]
 mod nets;
 #[cfg(test)]
 mod rows;

@@ -4,8 +4,8 @@ use Rattle.crew_dirty.specs.Dirty.{IsKept}
 use Rattle.crew_dirty.proofs.Nodes.{kept-at, slot-parts}
 use Rattle.crew_dirty.proofs.carried.Carried.is_kept.Goals as goal
 
-pub returns : goal.returns
-returns c = λ t u old over.
+pub returns-in-Some : goal.returns-in-Some
+returns-in-Some c = λ t u old over.
     let net = c.args.net.now in
     let node = c.args.node.now in
     let slot = c.in-Some.ensures.is in
