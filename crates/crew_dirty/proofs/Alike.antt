@@ -31,26 +31,26 @@ module _ (old new : Net) (settings : old.settings ≡ new.settings) (t : Twins) 
   pub alike : AreTwinWindows t.arrivals now was → WaitsAlike old new g
   alike same e may = (
     λ m. (
-      let q = stands old.arrivals (arrival_of e) (arrived.every e m) in
-      let inside = (is-was.exact q.0 (arrival_of e) q.1).0 (old-wait (arrival_of e) may) in
-      let k : ℕ = q.0 - was.from in
-      let long = same.long in
-      let low = inside.0 in
-      let high = inside.1 in
-      let at : was.from + k ≡ q.0 = omega (arith, low) in
-      let twin = twins.arrivals (now.from + k) (was.from + k) (same.twins k (omega (arith, low, high, long))) in
-      let one : twin.0 ≡ arrival_of e = some-is old.arrivals q.0 twin.0 (arrival_of e) (ap (slice_get old.arrivals) (sym at) ∙ twin.1) q.1 in
-      (twin.3 e (sym one)).0 m),
+        let q = stands old.arrivals (arrival_of e) (arrived.every e m) in
+        let inside = (is-was.exact q.0 (arrival_of e) q.1).0 (old-wait (arrival_of e) may) in
+        let k : ℕ = q.0 - was.from in
+        let long = same.long in
+        let low = inside.0 in
+        let high = inside.1 in
+        let at : was.from + k ≡ q.0 = omega (arith, low) in
+        let twin = twins.arrivals (now.from + k) (was.from + k) (same.twins k (omega (arith, low, high, long))) in
+        let one : twin.0 ≡ arrival_of e = some-is old.arrivals q.0 twin.0 (arrival_of e) (ap (slice_get old.arrivals) (sym at) ∙ twin.1) q.1 in
+        (twin.3 e (sym one)).0 m),
     λ m. (
-      let p = stands new.arrivals (arrival_of e) (arrives.every e m) in
-      let inside = (is-now.exact p.0 (arrival_of e) p.1).0 may in
-      let k : ℕ = p.0 - now.from in
-      let low = inside.0 in
-      let high = inside.1 in
-      let at : now.from + k ≡ p.0 = omega (arith, low) in
-      let twin = twins.arrivals (now.from + k) (was.from + k) (same.twins k (omega (arith, low, high))) in
-      let one : twin.0 ≡ arrival_of e = some-is new.arrivals p.0 twin.0 (arrival_of e) (ap (slice_get new.arrivals) (sym at) ∙ twin.2) p.1 in
-      (twin.3 e (sym one)).1 m),
+        let p = stands new.arrivals (arrival_of e) (arrives.every e m) in
+        let inside = (is-now.exact p.0 (arrival_of e) p.1).0 may in
+        let k : ℕ = p.0 - now.from in
+        let low = inside.0 in
+        let high = inside.1 in
+        let at : now.from + k ≡ p.0 = omega (arith, low) in
+        let twin = twins.arrivals (now.from + k) (was.from + k) (same.twins k (omega (arith, low, high))) in
+        let one : twin.0 ≡ arrival_of e = some-is new.arrivals p.0 twin.0 (arrival_of e) (ap (slice_get new.arrivals) (sym at) ∙ twin.2) p.1 in
+        (twin.3 e (sym one)).1 m),
   )
 
   -- and where these may, the windows are twins

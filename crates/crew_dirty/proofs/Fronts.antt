@@ -33,17 +33,19 @@ feed-of front [] some = ([], record { right = λ e es m. absurd m; every = λ e 
 feed-of front (d ∷ ds) some =
     let own = some d (inl refl) in
     let rest = feed-of front ds (λ e m. some e (inr m)) in
-    let head : Duty × Entries = (d, own.0) in
-    (head ∷ rest.0, record {
-      right = λ e es m. elim m as (λ _. Member (d ∷ ds) e × front e es) [
-        | inl q ↦ (inl (ap (λ (z : Duty × Entries). z.0) q), subst (λ (z : Duty × Entries). front z.0 z.1) q own.1)
-        | inr k ↦ (inr (rest.1.right e es k).0, (rest.1.right e es k).1)
-      ];
-      every = λ e m. elim m as (λ _. (es : Entries) × Member (head ∷ rest.0) (e, es)) [
-        | inl q ↦ (own.0, inl (ap (λ (x : Duty). let z : Duty × Entries = (x, own.0) in z) q))
-        | inr k ↦ ((rest.1.every e k).0, inr (rest.1.every e k).1)
-      ];
-    })
+    let head : Duty × Entries = (d, own.0) in (
+      head ∷ rest.0,
+      record {
+        right = λ e es m. elim m as (λ _. Member (d ∷ ds) e × front e es) [
+          | inl q ↦ (inl (ap (λ (z : Duty × Entries). z.0) q), subst (λ (z : Duty × Entries). front z.0 z.1) q own.1)
+          | inr k ↦ (inr (rest.1.right e es k).0, (rest.1.right e es k).1)
+        ];
+        every = λ e m. elim m as (λ _. (es : Entries) × Member (head ∷ rest.0) (e, es)) [
+          | inl q ↦ (own.0, inl (ap (λ (x : Duty). let z : Duty × Entries = (x, own.0) in z) q))
+          | inr k ↦ ((rest.1.every e k).0, inr (rest.1.every e k).1)
+        ];
+      },
+    )
 
 module _ (s : Settings) (t u : Timetable) (old new : Net) (checked : IsChecked s) (sound : IsSound t) (after : IsSound u) (olds : AreDuties s t old.duties) (news : AreDuties s u new.duties) (settings : new.settings ≡ s)
     (old_price new_price : Option ℤ) (base : List ℕ) (price : ℤ) where

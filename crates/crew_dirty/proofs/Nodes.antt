@@ -61,17 +61,17 @@ module _ (t u : Timetable) (old new : Net) (c : Carried) (over : IsCarriedOver t
   pub kept-at : ((get_or c.bases b false && get_or c.unreached r false) ≡ true) ↔ IsKept t u old new node
   kept-at = (
     λ e. (
-      let p = and_parts (get_or c.bases b false) (get_or c.unreached r false) e in
-      record {
-        duty = d;
-        is_node = is-node;
-        unreached = λ first others path. ((over.base_flags b node.base base).0 p.0, (over.unreached_flags r d known).0 p.1 first others path);
-      }),
+        let p = and_parts (get_or c.bases b false) (get_or c.unreached r false) e in
+        record {
+          duty = d;
+          is_node = is-node;
+          unreached = λ first others path. ((over.base_flags b node.base base).0 p.0, (over.unreached_flags r d known).0 p.1 first others path);
+        }),
     λ k. (
-      let one = own-duty k.duty k.is_node in
-      let own = k.unreached k.duty [] (path-none new k.duty k.is_node.duty) in
-      and_from (get_or c.bases b false) (get_or c.unreached r false) ((over.base_flags b node.base base).1 own.0)
-      ((over.unreached_flags r d known).1 (λ first others path. (k.unreached first others (subst (IsPath new first others) one path)).1))),
+        let one = own-duty k.duty k.is_node in
+        let own = k.unreached k.duty [] (path-none new k.duty k.is_node.duty) in
+        and_from (get_or c.bases b false) (get_or c.unreached r false) ((over.base_flags b node.base base).1 own.0)
+        ((over.unreached_flags r d known).1 (λ first others path. (k.unreached first others (subst (IsPath new first others) one path)).1))),
   )
 
   pub untouched-at : ((get_or c.bases b false && get_or c.same r false) ≡ true) ↔ IsUntouched old new (map.get t.bases node.base) (map.get u.bases node.base) node.base d

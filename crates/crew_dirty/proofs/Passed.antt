@@ -117,13 +117,13 @@ module _ (net : Net) (timed : IsInTime net) where
         let m = Member-at net.duties rank d known in
         let same = up d [] (path-none net d m) in
         let none : IsClear marks w = λ k low high.
-            elim (decide (get_or marks k false)) as (λ _. get_or marks k false ≡ false) [
-              | inr f ↦ f
-              | inl t ↦ absurd (
-                  let by = passed.marked k t in
-                  let may = follows by.0 d own ((window.exact k (arrival_of by.0) by.2).1 (low, high)) in
-                  by.3 (λ first others path. up first (others ++ d ∷ []) (path-more net first others by.0 d path may m)))
-            ]
+        elim (decide (get_or marks k false)) as (λ _. get_or marks k false ≡ false) [
+          | inr f ↦ f
+          | inl t ↦ absurd (
+              let by = passed.marked k t in
+              let may = follows by.0 d own ((window.exact k (arrival_of by.0) by.2).1 (low, high)) in
+              by.3 (λ first others path. up first (others ++ d ∷ []) (path-more net first others by.0 d path may m)))
+        ]
         in
         there rank (is-leaver net g ranks ranks-are rank d known own) ∙ and_from is-clear (get_or flags rank false) (told.1 none) ((are-flags rank d known).1 same)
 

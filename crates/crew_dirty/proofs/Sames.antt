@@ -100,15 +100,15 @@ module _ (net : Net) (count : ℕ) (g : Departure) (at : slice_get net.departure
         | inl own ↦
             let value = there rank (is-leaver net g ranks ranks-are rank d known own) in (
               λ e. (
-                let p = and_parts alike (get_or held rank false) (sym value ∙ e) in
-                record {
-                  there = (flags rank d known).0 p.1;
-                  before = λ x may. sound p.0 x (subst (λ (h : Departure). may_wait net.settings (arrival_of x) h ≡ true) own may);
-                }),
+                  let p = and_parts alike (get_or held rank false) (sym value ∙ e) in
+                  record {
+                    there = (flags rank d known).0 p.1;
+                    before = λ x may. sound p.0 x (subst (λ (h : Departure). may_wait net.settings (arrival_of x) h ≡ true) own may);
+                  }),
               λ same. (
-                let was-there = subst (Member old.departures) own (events.every d same.there) in
-                let waits : WaitsAlike old net g = λ x may. same.before x (subst (λ (h : Departure). may_wait net.settings (arrival_of x) h ≡ true) (sym own) may) in
-                value ∙ and_from alike (get_or held rank false) (full was-there waits) ((flags rank d known).1 same.there)),
+                  let was-there = subst (Member old.departures) own (events.every d same.there) in
+                  let waits : WaitsAlike old net g = λ x may. same.before x (subst (λ (h : Departure). may_wait net.settings (arrival_of x) h ≡ true) (sym own) may) in
+                  value ∙ and_from alike (get_or held rank false) (full was-there waits) ((flags rank d known).1 same.there)),
             )
         | inr none ↦
             let value = elsewhere rank (no-leaver net g ranks ranks-are rank d known none) in

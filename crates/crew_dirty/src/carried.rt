@@ -161,12 +161,7 @@ impl Carried {
 }
 
 // Whether what arrives in a window stands at the front that stood there.
-fn are_same_before<S: Standings>(
-    net: &Net,
-    window: Window,
-    base: Code,
-    standings: &S,
-) -> bool
+fn are_same_before<S: Standings>(net: &Net, window: Window, base: Code, standings: &S) -> bool
     requires ordered { window.from ≤ window.end }
     requires within { window.end ≤ length net.now.arrivals }
     ensures { IsTrue result ↔ ((k rank : ℕ) (x : Arrival) → window.from ≤ k → k < window.end

@@ -133,7 +133,10 @@ fn another_price_of_a_flight(rt: HostRuntime) -> Result<(), Fail> {
         price: 2999,
     };
     let (carried, net) = after(&rt, &[(b"JFK", 0)], &FLIGHTS, &edit)?;
-    assert_eq!(rt; dirty_of(&rt, &carried, &net)?.as_str(), " JFK-101 JFK-101-102");
+    assert_eq!(rt;
+        dirty_of(&rt, &carried, &net)?.as_str(),
+        " JFK-101 JFK-101-102"
+    );
     assert_eq!(rt; carried.next_dirty(&net, 0), Some(0));
     assert_eq!(rt; carried.next_dirty(&net, 1), Some(1));
     assert_eq!(rt; carried.next_dirty(&net, 2), None);

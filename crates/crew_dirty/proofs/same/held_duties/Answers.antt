@@ -23,9 +23,9 @@ loop-old-preserved c =
     (λ rank t. c.note.ensures.kept rank (ap (λ (fs : List Bool). get_or fs rank false) value ∙ t))
     c.note.ensures.there
     (λ rank t. elim (c.note.ensures.from rank t) as (λ _. (get_or was rank false ≡ true) ⊎ (slice_get olds k ≡ slice_get news rank)) [
-        | inl before ↦ inl (ap (λ (fs : List Bool). get_or fs rank false) (sym value) ∙ before)
-        | inr same ↦ inr same
-      ])
+      | inl before ↦ inl (ap (λ (fs : List Bool). get_or fs rank false) (sym value) ∙ before)
+      | inr same ↦ inr same
+    ])
     c.loop-old.invariant.1 in
     subst (λ (fs : List Bool). (length fs ≡ length news) × AreHeldTo olds news (k + 1) fs) (sym whole) (long, next)
 
