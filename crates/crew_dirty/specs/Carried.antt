@@ -10,7 +10,8 @@ use Rattle.crew_pairing.specs.declared.duty.Duty.{Duty}
 use Rattle.crew_dirty.specs.Dirty.{IsKept, IsNetOver, IsSameBase, IsSameDuty}
 
 -- by place, whether the base was there at the same price; by rank, whether the duty is the same,
--- whether each duty is the same from which a list of arcs leads to it, and the place of its departure
+-- whether each duty is the same from which a list of arcs leads to it, and the place of its
+-- departure
 pub record Carried : Type 0 where
   pub bases : List Bool
   pub same : List Bool

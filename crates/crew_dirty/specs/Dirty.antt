@@ -1,7 +1,7 @@
--- What an edit leaves standing. A node is a crew base and a duty with all its facts. In a new network
--- it is touched where the old one hasn't got it, where its base's price differs, or where other
--- duties may stand just before it; it is reached where a list of arcs leads to it from a touched node
--- of its base, the empty list too.
+-- What an edit leaves standing. A node is a crew base and a duty with all its facts. In a new
+-- network it is touched where the old one hasn't got it, where its base's price differs, or where
+-- other duties may stand just before it; it is reached where a list of arcs, the empty one too,
+-- leads to it from a touched node of its base.
 use Rattle.std.specs.Prelude.{◌≡◌, ◌↔◌, ◌≤◌, ℕ, ℤ, true, List, Option, length}
 use Rattle.std.specs.FinMap as map
 use Rattle.crew_flights.specs.Timetable.{Timetable}
