@@ -1,6 +1,6 @@
 -- Windows of arrivals at their twins, and the duties that may be waited on.
-use Rattle.std.proofs.Common.{◌≡◌, ◌<◌, ◌≤◌, ◌+◌, ◌-◌, ◌∙◌, ℕ, true, Some, sym, ap, subst, arith}
-use Rattle.std.specs.Prelude.{◌↔◌, slice_get}
+use Rattle.std.proofs.Common.{◌≡◌, ◌+◌, ◌-◌, ◌∙◌, ℕ, true, sym, ap, subst, arith}
+use Rattle.std.specs.Prelude.{slice_get}
 use Rattle.crew_carry.specs.Twins.{AreTwins, HasAllTwins, HaveSameArriving, Twins}
 use Rattle.crew_carry.proofs.Pushed.{some-is}
 use Rattle.crew_dirty.specs.Machinery.Windows.{AreTwinWindows, WaitsAlike}
@@ -12,7 +12,6 @@ use Rattle.crew_net.specs.Events.{AreEvents, IsWindow, arrival_cmp}
 use Rattle.crew_net.specs.Nets.{Net}
 use Rattle.crew_net.specs.declared.window.Window.{Window}
 use Rattle.crew_pairing.specs.Events.{arrival_of, may_wait}
-use Rattle.crew_pairing.specs.declared.duty.Duty.{Duty}
 use Rattle.crew_pairing.specs.declared.events.Arrival.{Arrival}
 use Rattle.crew_pairing.specs.declared.events.Departure.{Departure}
 use Rattle.crew_resource.specs.Members.{Member}

@@ -1,7 +1,7 @@
 -- A node that no edit reaches is fed alike in both timetables, and so keeps its front.
-use Rattle.std.proofs.Common.{◌≡◌, ◌<◌, ◌+◌, ◌++◌, ◌∷◌, ◌∙◌, [], inl, inr, ℕ, zero, suc, ℤ, true, List, Option, refl, sym, ap, subst, arith}
+use Rattle.std.proofs.Common.{◌≡◌, ◌<◌, ◌+◌, ◌++◌, ◌∷◌, [], inl, inr, ℕ, zero, suc, ℤ, true, List, Option, refl, sym, ap, subst, arith}
 use Rattle.std.specs.List.{filter}
-use Rattle.crew_dirty.specs.Dirty.{IsNetOver, IsUnreached}
+use Rattle.crew_dirty.specs.Dirty.{IsUnreached}
 use Rattle.crew_dirty.proofs.Paths.{path-more, path-none}
 use Rattle.crew_flights.specs.Timetable.{IsSound, Timetable}
 use Rattle.crew_net.specs.Nets.{Net}

@@ -1,5 +1,5 @@
 -- Nodes by the place of their base and the rank of their duty.
-use Rattle.std.proofs.Common.{◌≡◌, ◌<◌, ◌≤◌, ◌+◌, ◌*◌, ◌/◌, ◌%◌, ◌&&◌, ◌∙◌, ◌∷◌, [], inl, inr, ℕ, Bool, true, false, List, Some, None, length, get_or, refl, sym, ap, subst, arith}
+use Rattle.std.proofs.Common.{◌≡◌, ◌<◌, ◌≤◌, ◌+◌, ◌*◌, ◌/◌, ◌%◌, ◌&&◌, ◌∙◌, ◌∷◌, [], inl, inr, ℕ, true, false, List, Some, length, get_or, sym, ap, subst, arith}
 use Rattle.std.specs.Prelude.{◌↔◌, slice_get}
 use Rattle.std.specs.declared.cmp.Ordering.{Ordering}
 use Rattle.std.specs.declared.cmp.Ordering.TheVariants.{Equal, Less}

@@ -1,16 +1,14 @@
 -- The departures in order of report, and marks where a duty arrives that a change reaches.
-use Rattle.std.proofs.Common.{◌≡◌, ◌<◌, ◌≤◌, ◌+◌, ◌&&◌, ◌++◌, ◌∷◌, ◌⊎◌, [], inl, inr, ℕ, ◌≤ℤ◌, ◌-ℤ◌, ℤ, pos, Bool, true, false, List, Some, length, get_or, refl, sym, ap, subst, ◌∙◌, arith}
+use Rattle.std.proofs.Common.{◌≡◌, ◌≤◌, ◌+◌, ◌&&◌, ◌++◌, ◌∷◌, ◌⊎◌, [], inl, inr, ℕ, ◌≤ℤ◌, ◌-ℤ◌, ℤ, pos, Bool, true, false, List, Some, length, get_or, sym, ap, subst, ◌∙◌, arith}
 use Rattle.std.specs.Prelude.{◌↔◌, slice_get}
 use Rattle.std.proofs.lemmas.Bool.{and_from, and_parts}
 use Rattle.std.proofs.lemmas.Bool.Decides.{eqb_tells}
 use Rattle.std.proofs.lemmas.Int.{ints}
-use Rattle.std.specs.declared.cmp.Ordering.TheVariants.{Less}
 use Rattle.crew_carry.proofs.Pushed.{some-is}
 use Rattle.crew_dirty.specs.Carried.{AreFlags, AreSameUpTo}
 use Rattle.crew_dirty.specs.Dirty.{IsSameDuty}
 use Rattle.crew_dirty.specs.Machinery.Marks.{IsClear, IsMarkedBy}
 use Rattle.crew_net.specs.Events.{IsWindow, leaves_at}
-use Rattle.crew_net.specs.Layers.{IsPath}
 use Rattle.crew_net.specs.Nets.{AreArrivalPlaces, Net}
 use Rattle.crew_net.specs.Ranks.{ranks_where}
 use Rattle.crew_net.specs.declared.window.Window.{Window}
@@ -22,7 +20,6 @@ use Rattle.crew_pairing.proofs.Tree.{slice_get-within}
 use Rattle.crew_pairing.specs.Events.{arrival_of, departure_of, may_wait}
 use Rattle.crew_pairing.specs.Pairings.{may_stand_after}
 use Rattle.crew_pairing.specs.declared.duty.Duty.{Duty}
-use Rattle.crew_pairing.specs.declared.events.Arrival.{Arrival}
 use Rattle.crew_pairing.specs.declared.events.Departure.{Departure}
 use Rattle.crew_resource.specs.Members.{Member}
 use Rattle.crew_resource.proofs.Members.{Member-at}

@@ -1,6 +1,6 @@
 -- Nodes that are untouched, before which the fronts are those that were there.
-use Rattle.std.proofs.Common.{◌≡◌, ◌<◌, ◌≤◌, ◌&&◌, ◌∙◌, ℕ, Bool, true, false, List, Some, get_or, refl, sym, ap, subst}
-use Rattle.std.specs.Prelude.{◌↔◌, slice_get}
+use Rattle.std.proofs.Common.{◌≡◌, ◌<◌, ◌≤◌, ◌&&◌, ℕ, true, false, List, Some, get_or, refl, sym, subst}
+use Rattle.std.specs.Prelude.{slice_get}
 use Rattle.std.specs.FinMap as map
 use Rattle.crew_dirty.specs.Carried.{Carried, IsCarriedOver}
 use Rattle.crew_dirty.specs.Dirty.{IsUntouched}

@@ -13,8 +13,8 @@ use std::alloc::{AllocError, Global};
 /// The flags of the duties to which arcs lead from flagged duties alone, themselves included.
 ///
 /// Each departure is gone to once, in order of report. A mark stands at each arrival of a duty that
-/// doesn't have this flag; what leaves has it where it is flagged and no arrival that it waits on is
-/// marked.
+/// doesn't have this flag; what leaves has it where it is flagged and no arrival that it waits on
+/// is marked.
 pub(crate) fn unreached_duties(
     alloc: Global,
     net: &Net,

@@ -1,12 +1,8 @@
-use Rattle.std.proofs.Common.{◌≡◌, ◌∙◌, ◌<◌, ◌≤◌, ◌+◌, ℕ, List, Some, true, false, inl, inr, sym, subst, ap, arith, length, refl}
+use Rattle.std.proofs.Common.{◌≡◌, ◌∙◌, ℕ, List, inl, inr, sym, subst, ap, arith, refl}
 use Rattle.std.specs.Prelude.{slice_get}
 use Rattle.std.proofs.lemmas.Bool.Decides.{eqb_tells}
-use Rattle.crew_carry.proofs.Pushed.{some-is}
 use Rattle.crew_dirty.specs.declared.standing.Standing.TheVariants.{Same}
 use Rattle.crew_net.proofs.InTime.{item-at}
-use Rattle.crew_net.specs.Events.{arrives_at}
-use Rattle.crew_net.specs.Ranks.{ranks_where}
-use Rattle.crew_pairing.specs.declared.events.Arrival.{Arrival}
 use Rattle.crew_resource.specs.Members.{Member}
 use Rattle.crew_dirty.proofs.carried.are_same_before.Goals as goal
 

@@ -1,8 +1,7 @@
-use Rattle.std.proofs.Common.{◌≡◌, ◌∙◌, ◌↔◌, ap, sym, subst, ℕ, List, Bool, Some, true, false, get_or}
+use Rattle.std.proofs.Common.{◌∙◌, ap, sym, subst, ℕ, List, Bool}
 use Rattle.std.specs.Prelude.{slice_get}
-use Rattle.std.specs.FinMap as map
 use Rattle.crew_dirty.specs.Carried.{AreFlags}
-use Rattle.crew_dirty.specs.Dirty.{IsSameBase, IsSameDuty}
+use Rattle.crew_dirty.specs.Dirty.{IsSameDuty}
 use Rattle.crew_net.proofs.Forward.{ends-no-earlier}
 use Rattle.crew_resource.proofs.Members.{Member-at}
 use Rattle.crew_dirty.proofs.Priced.{same-base}

@@ -1,4 +1,4 @@
-use Rattle.std.proofs.Common.{◌<◌, ◌∙◌, ◌||◌, List, Bool, arith, false, get_or, length, not, sym, subst, ap, set, take, ℕ, true, ◌≡◌, ◌+◌, ◌⊎◌}
+use Rattle.std.proofs.Common.{◌<◌, ◌∙◌, ◌||◌, List, Bool, arith, false, get_or, length, not, sym, subst, set, take, ℕ, true, ◌≡◌, ◌+◌, ◌⊎◌}
 use Rattle.std.proofs.lemmas.List.{length-set}
 use Rattle.crew_dirty.specs.Machinery.Marks.{IsMarkedBy}
 use Rattle.crew_resource.proofs.Members.{Member-get}

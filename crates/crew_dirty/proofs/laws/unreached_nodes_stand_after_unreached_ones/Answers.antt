@@ -1,4 +1,4 @@
-use Rattle.std.proofs.Common.{◌≡◌, ◌++◌, ◌∷◌, [], inl, inr, sym, subst}
+use Rattle.std.proofs.Common.{◌++◌, ◌∷◌, [], inl, inr, sym, subst}
 use Rattle.crew_dirty.specs.Dirty.{IsUntouched}
 use Rattle.crew_dirty.proofs.Paths.{path-less, path-more, path-none}
 use Rattle.crew_dirty.proofs.laws.unreached_nodes_stand_after_unreached_ones.Goals as goal

@@ -2,7 +2,6 @@ use Rattle.std.proofs.Common.{◌≡◌, ◌+◌, ◌++◌, ◌<◌, ◌∙◌, 
 use Rattle.std.proofs.Math.Seq.{take-append_seam}
 use Rattle.crew_net.proofs.InTime.{item-at, leaver-within}
 use Rattle.crew_pairing.specs.declared.events.Departure.{Departure}
-use Rattle.crew_resource.specs.Members.{Member}
 use Rattle.crew_dirty.proofs.Sames.{HavePlaces, places-all, places-more}
 use Rattle.crew_dirty.proofs.places.departure_places.Goals as goal
 

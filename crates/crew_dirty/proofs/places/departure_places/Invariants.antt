@@ -1,5 +1,4 @@
-use Rattle.std.proofs.Common.{◌≡◌, ◌<◌, ℕ, Some, get_or, length}
-use Rattle.std.specs.Prelude.{slice_get}
+use Rattle.std.proofs.Common.{◌≡◌, length}
 use Rattle.crew_dirty.proofs.Sames.{HavePlaces}
 use Rattle.crew_dirty.proofs.places.departure_places.Given as goal
 

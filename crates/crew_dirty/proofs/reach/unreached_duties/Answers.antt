@@ -1,5 +1,5 @@
-use Rattle.std.proofs.Common.{◌≡◌, ◌<◌, ◌+◌, ◌++◌, ◌&&◌, ◌⊎◌, ◌∙◌, Bool, List, ℕ, true, false, ap, arith, drop, get_or, length, subst, sym, take}
-use Rattle.std.specs.Prelude.{◌↔◌, slice_get}
+use Rattle.std.proofs.Common.{◌≡◌, ◌+◌, ◌++◌, ◌⊎◌, ◌∙◌, Bool, List, ℕ, true, false, ap, arith, drop, get_or, length, subst, sym, take}
+use Rattle.std.specs.Prelude.{◌↔◌}
 use Rattle.std.proofs.Math.Seq.{take-append_seam}
 use Rattle.crew_dirty.specs.Carried.{AreFlags}
 use Rattle.crew_dirty.specs.Dirty.{IsSameDuty}
@@ -7,7 +7,6 @@ use Rattle.crew_dirty.specs.Machinery.Marks.{IsClear, IsMarkedBy}
 use Rattle.crew_net.proofs.InTime.{item-at, leaver-within, order-at, place-within, reach-within}
 use Rattle.crew_net.proofs.Laid.{IsInTime}
 use Rattle.crew_net.specs.Nets.{Net}
-use Rattle.crew_resource.specs.Members.{Member}
 use Rattle.crew_dirty.proofs.Passed.{IsPassed, all-passed, passed-more}
 use Rattle.crew_dirty.proofs.reach.unreached_duties.Goals as goal
 

@@ -1,4 +1,4 @@
-use Rattle.std.proofs.Common.{◌≡◌, ◌<◌, ◌∙◌, ◌⊎◌, inl, inr, ℕ, List, Option, Some, true, false, get_or, length, ap, sym, arith}
+use Rattle.std.proofs.Common.{◌≡◌, ◌∙◌, ◌⊎◌, inl, inr, true, false, get_or, ap, sym, arith}
 use Rattle.std.specs.Prelude.{slice_get}
 use Rattle.crew_carry.proofs.Pushed.{some-once}
 use Rattle.crew_dirty.proofs.Sames.{put-from, put-kept, put-there}

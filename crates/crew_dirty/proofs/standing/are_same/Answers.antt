@@ -1,4 +1,4 @@
-use Rattle.std.proofs.Common.{◌≡◌, ◌∙◌, ℕ, true, false, get_or, inl, inr, sym, subst}
+use Rattle.std.proofs.Common.{◌≡◌, ◌∙◌, ℕ, get_or, inl, inr, sym, subst}
 use Rattle.crew_dirty.specs.declared.standing.Standing.TheVariants.{Same}
 use Rattle.crew_resource.proofs.Members.{Member-get}
 use Rattle.crew_dirty.proofs.Taken.{taken-more}

@@ -1,5 +1,4 @@
-use Rattle.std.proofs.Common.{◌≡◌, ◌∙◌, ℕ, List, Option, Some, None, true, sym, ap, subst}
-use Rattle.std.specs.Prelude.{slice_get}
+use Rattle.std.proofs.Common.{◌≡◌, ◌∙◌, ℕ, Option, Some, sym, ap}
 use Rattle.crew_carry.proofs.Pushed.{some-is}
 use Rattle.crew_dirty.proofs.Alike.{alike, are-twins}
 use Rattle.crew_net.proofs.Longest.{stands}

@@ -1,6 +1,4 @@
-use Rattle.std.proofs.Common.{◌≡◌, ◌∙◌, ◌&&◌, ℕ, List, Bool, true, false, get_or, sym, subst, ap}
-use Rattle.std.specs.Prelude.{◌↔◌, slice_get}
-use Rattle.crew_dirty.specs.Dirty.{IsKept}
+use Rattle.std.proofs.Common.{◌≡◌, ◌∙◌, ◌&&◌, false, get_or, sym}
 use Rattle.crew_dirty.proofs.Nodes.{kept-at, slot-parts}
 use Rattle.crew_dirty.proofs.carried.Carried.is_kept.Goals as goal
 

@@ -1,5 +1,4 @@
-use Rattle.std.proofs.Common.{◌≡◌, ◌∙◌, ◌&&◌, ◌*◌, ◌<◌, ◌≤◌, ◌/◌, ◌%◌, ℕ, List, Bool, true, false, get_or, length, sym, subst, ap, arith}
-use Rattle.std.specs.Prelude.{◌↔◌, slice_get}
+use Rattle.std.proofs.Common.{◌≡◌, ◌∙◌, ◌&&◌, ◌/◌, ◌%◌, List, true, false, get_or, length, subst, arith}
 use Rattle.crew_dirty.proofs.Nodes.{kept-at-place, node-found, node-within}
 use Rattle.crew_dirty.proofs.Sames.{not-both}
 use Rattle.crew_pairing.specs.declared.duty.Duty.{Duty}

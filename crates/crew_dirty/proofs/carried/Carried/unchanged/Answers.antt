@@ -1,10 +1,8 @@
-use Rattle.std.proofs.Common.{◌≡◌, ◌∙◌, ◌&&◌, ◌<◌, ◌≤◌, ◌/◌, ◌%◌, ℕ, List, Bool, Some, true, false, get_or, length, sym, subst, ap, arith}
-use Rattle.std.specs.Prelude.{◌↔◌, slice_get}
+use Rattle.std.proofs.Common.{◌≡◌, ◌∙◌, ◌&&◌, ℕ, Some, true, false, get_or, length, sym, ap, arith}
+use Rattle.std.specs.Prelude.{slice_get}
 use Rattle.crew_net.proofs.InTime.{item-at}
-use Rattle.crew_net.specs.Events.{IsWindow}
 use Rattle.crew_pairing.proofs.Tree.{slice_get-within}
-use Rattle.crew_pairing.specs.Events.{departure_of, may_wait}
-use Rattle.crew_pairing.specs.declared.events.Departure.{Departure}
+use Rattle.crew_pairing.specs.Events.{departure_of}
 use Rattle.crew_dirty.proofs.Nodes.{slot-parts}
 use Rattle.crew_dirty.proofs.Sames.{not-both}
 use Rattle.crew_dirty.proofs.Unchanging.{are-same, is-unchanged, is-untouched}
