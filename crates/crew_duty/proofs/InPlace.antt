@@ -56,7 +56,7 @@ climb-unique (x ∷ xs) (y ∷ ys) a b f g =
     (λ n m. elim (g n (inr m)) [ inl e ↦ absurd (let p = over n m in omega (arith, p, e, same)) | inr k ↦ k ]) in
     λ i. same i ∷ rest i
 
-each-of : {X : Type 0} (P : X → Type 0) (xs : List X) → ((k : ℕ) (d : X) → k < length xs → P (get_or xs k d)) → Each P xs
+pub each-of : {X : Type 0} (P : X → Type 0) (xs : List X) → ((k : ℕ) (d : X) → k < length xs → P (get_or xs k d)) → Each P xs
 each-of P [] f = tt
 each-of P (x ∷ xs) f = (f 0 x (omega arith), each-of P xs (λ k d m. f (suc k) d (omega arith)))
 

@@ -42,7 +42,7 @@ each-passes flights P [] (g ∷ gs) h e = absurd h
 each-passes flights P (p ∷ places) [] h e = absurd h
 each-passes flights P (p ∷ places) (g ∷ gs) h e = ((g, h.0, e.0), each-passes flights P places gs h.1 e.1)
 
-each-kept : (p : Flight → Bool) (P : Flight → Type 0) (fs : List Flight) → ((f : Flight) → p f ≡ true → P f) → Each P (filter p fs)
+pub each-kept : (p : Flight → Bool) (P : Flight → Type 0) (fs : List Flight) → ((f : Flight) → p f ≡ true → P f) → Each P (filter p fs)
 each-kept p P [] f = tt
 each-kept p P (g ∷ fs) f = by (p g) refl (each-kept p P fs f)
   where
@@ -51,7 +51,7 @@ each-kept p P (g ∷ fs) f = by (p g) refl (each-kept p P fs f)
     by false e r = r
 
 -- what a stricter test leaves out gives nothing
-fewer-give : (F : Flight → List Duty) (p q : Flight → Bool) (fs : List Flight) → Each (λ f. p f && q f ≡ false → p f ≡ true → F f ≡ []) fs → flat_map F (filter (λ f. p f && q f) fs) ≡ flat_map F (filter p fs)
+pub fewer-give : (F : Flight → List Duty) (p q : Flight → Bool) (fs : List Flight) → Each (λ f. p f && q f ≡ false → p f ≡ true → F f ≡ []) fs → flat_map F (filter (λ f. p f && q f) fs) ≡ flat_map F (filter p fs)
 fewer-give F p q [] h = refl
 fewer-give F p q (g ∷ fs) h = by (p g) (q g) h.0 (fewer-give F p q fs h.1)
   where
@@ -69,7 +69,7 @@ or-last false false c e = e
 over-lt : (a b : ℤ) → (a +ℤ pos 1) ≤ℤ b → int_lt a b ≡ true
 over-lt a b h = grind (arith, ints, h)
 
-le-fails : (a b : ℤ) → int_le a b ≡ false → (b +ℤ pos 1) ≤ℤ a
+pub le-fails : (a b : ℤ) → int_le a b ≡ false → (b +ℤ pos 1) ≤ℤ a
 le-fails a b h = grind (arith, ints, h)
 
 -- a leg that arrives later than any may depart comes in too late
@@ -111,14 +111,14 @@ ridden-closed s first others g full =
     (int_lt (pos (table_a first.flight.report_clock)) (flight_time first longer) || int_lt (pos (table_b first.flight.report_clock (max (segments (first ∷ longer)) 1))) (flight_duty_period s first longer))
     (more-lt s.deadheads (deadheads (first ∷ longer)) (omega (arith, full, more)))
 
-nothing-below : (s : Settings) (flights : List Flight) (first : TimedLeg) (others : List TimedLeg) (room : ℕ) (g : Flight) → IsFlight g.id g → int_le g.dep (latest_departure s first (first ∷ others)) ≡ false → below room s flights first others g ≡ []
+pub nothing-below : (s : Settings) (flights : List Flight) (first : TimedLeg) (others : List TimedLeg) (room : ℕ) (g : Flight) → IsFlight g.id g → int_le g.dep (latest_departure s first (first ∷ others)) ≡ false → below room s flights first others g ≡ []
 nothing-below s flights first others room g sound late =
     rw (
       listing-closed room s flights first (others ++ timed false g ∷ []) (late-closed s first others false g sound late),
       listing-closed room s flights first (others ++ timed true g ∷ []) (late-closed s first others true g sound late),
     ) refl
 
-second-fails : (a b : Bool) → (a && b) ≡ false → a ≡ true → b ≡ false
+pub second-fails : (a b : Bool) → (a && b) ≡ false → a ≡ true → b ≡ false
 second-fails true b h e = h
 second-fails false b h e = cc
 

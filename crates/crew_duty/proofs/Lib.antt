@@ -1,6 +1,7 @@
 pub mod Counts
 pub mod Filling
 pub mod InPlace
+pub mod Kept
 pub mod Leads
 pub mod Parts
 pub mod Paths
@@ -8,3 +9,4 @@ pub mod Places
 pub mod Running
 pub mod Slots
 pub mod Steps
+pub mod Unique

@@ -103,7 +103,7 @@ moments-in n m t e l i a b h k =
     let same : m ≡ n = omega (arith, ints, lo, hi, a, b, h, k) in
     (same, omega (arith, ints, same, h), omega (arith, ints, same, k))
 
-code-equal : (a b : List ℕ) → eq_by_cmp code_cmp a b ≡ true → a ≡ b
+pub code-equal : (a b : List ℕ) → eq_by_cmp code_cmp a b ≡ true → a ≡ b
 code-equal a b h = (bytes_eq-Decides a b).0 (sym (is_eq-slice_cmp a b) ∙ h)
 
 both-ways : (a b : Bool) → (a ≡ true → b ≡ true) → (b ≡ true → a ≡ true) → a ≡ b

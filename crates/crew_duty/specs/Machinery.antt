@@ -2,6 +2,7 @@
 pub mod Counts
 pub mod Filling
 pub mod Followers
+pub mod Kept
 pub mod Limits
 pub mod Paths
 pub mod Plans

@@ -3,15 +3,18 @@
 //! more than 200,000, and that as many threads as there are change nothing of what it answers.
 #![tactic(auto)]
 
+mod beside;
+mod changes;
 mod departures;
 mod duties;
 mod fault;
 pub mod laws;
 mod limits;
+mod past;
 mod pieces;
 mod plan;
 mod search;
 mod totals;
 
-pub use duties::{Duties, list_duties};
+pub use duties::{Duties, list_duties, list_next};
 pub use fault::DutyFault;

@@ -1,7 +1,7 @@
 //! All duties of a timetable, counted and then listed by as many threads as there are processors,
 //! each with a range of first flights.
 
-ghost use Rattle.std.specs.Prelude.{◌≡◌, ◌+◌, ◌≤◌, ◌<◌, [], IfOk, OnOk, length, min, sum, take};
+ghost use Rattle.std.specs.Prelude.{◌≡◌, ◌+◌, ◌++◌, ◌≤◌, ◌<◌, [], IfOk, OnOk, length, min, sum, take};
 ghost use Rattle.std.specs.List.{flat_map, range_with_len};
 ghost use Rattle.std.specs.Thread.{IsSync};
 ghost use Rattle.crew_duty.specs.Machinery.Counts.{AreCounts, AreExact};
@@ -267,6 +267,29 @@ fn blank_list(alloc: Global, flights: &[Flight], total: usize) -> Result<Vec<Dut
     Ok(list)
 }
 
+/// Appends the duties that begin with the flight at a place, of which there are so many.
+pub(crate) fn append_walk(
+    alloc: Global,
+    list: &mut Vec<Duty>,
+    plan: &Plan<'_>,
+    place: usize,
+    count: usize,
+) -> Result<(), AllocError>
+    requires plan { IsPlan plan.now.settings.now plan.now.flights.now plan.now.slots.now
+        plan.now.next.now }
+    requires place { place < length plan.now.flights.now }
+    requires count { count
+        ≡ length (from_place plan.now.settings.now plan.now.flights.now place) }
+    requires room { length list.old.items + count ≤ 200_000 }
+    ensures { OnOk result (list.new.items ≡ list.old.items
+        ++ from_place plan.now.settings.now plan.now.flights.now place) }
+{
+    let start = list.len();
+    grow(list, &plan.flights[place], count)?;
+    walk_from(alloc, list, plan, place, start)?;
+    Ok(())
+}
+
 // All duties, by one thread: what it writes twice is still at hand the second time.
 fn list_in_turn(
     alloc: Global,
@@ -286,9 +309,7 @@ fn list_in_turn(
 {
     let mut list = Vec::with_capacity(alloc, total)?;
     for place in 0..counts.len() {
-        let start = list.len();
-        grow(&mut list, &plan.flights[place], counts[place])?;
-        walk_from(alloc, &mut list, plan, place, start)?;
+        append_walk(alloc, &mut list, plan, place, counts[place])?;
     }
     Ok(list)
 }

@@ -52,8 +52,8 @@ fn soonest_of(flights: &[Flight], places: &[u32]) -> i64
     soonest
 }
 
-// What may follow a flight.
-fn next_of(
+/// What may follow a flight.
+pub(crate) fn next_of(
     alloc: Global,
     settings: &Settings,
     flights: &[Flight],

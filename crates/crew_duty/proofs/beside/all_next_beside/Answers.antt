@@ -1,0 +1,15 @@
+use Rattle.std.proofs.Common.{subst}
+use Rattle.crew_flights.specs.declared.flight.Flight.{Flight}
+use Rattle.crew_duty.specs.Machinery.Plans.{IsNext}
+use Rattle.crew_duty.proofs.Places.{AreNext-more}
+use Rattle.crew_duty.proofs.beside.all_next_beside.Goals as goal
+
+pub loop-flight-preserved : goal.loop-flight-preserved
+loop-flight-preserved c =
+    let s = c.args.settings.now in
+    let flights = c.args.flights.now in
+    let next = c.in_ok-next_beside.field-0 in
+    let i = c.loop-flight.flight-index in
+    let d = c.flight-item.result in
+    let here = subst (λ (f : Flight). IsNext s flights f next) c.flight-item.is c.in_ok-next_beside.ensures in
+    rw c.in_ok-push.ensures.items (AreNext-more s flights c.loop-flight.next.items next i d c.loop-flight-test.true c.loop-flight.invariant here)

@@ -1,0 +1,181 @@
+//! All duties of a timetable beside those of an earlier one, by one thread.
+
+ghost use Rattle.std.specs.Prelude.{◌≡◌, ◌+◌, ◌++◌, ◌≤◌, ◌<◌, IfOk, OnOk, length, min, sum};
+ghost use Rattle.std.specs.List.{flat_map, range_with_len};
+ghost use Rattle.crew_duty.specs.Machinery.Counts.{AreCounts, AreExact};
+ghost use Rattle.crew_pairing.specs.Machinery.Listing.{from_place};
+ghost use Rattle.crew_rules.specs.Settings.{IsChecked};
+ghost use Rattle.crew_duty.specs.Machinery.Kept.{IsPast};
+ghost use Rattle.crew_duty.specs.Machinery.Plans.{AreNext, IsNext, IsPlan};
+ghost use Rattle.crew_duty.specs.Machinery.Slots.{IsIndex};
+
+use crate::changes::are_apart;
+use crate::departures::Slot;
+use crate::past::Past;
+use crate::pieces::append_walk;
+use crate::plan::{Next, Plan, next_of};
+use crate::search::{DUTIES, walk_from};
+use crew_flights::Flight;
+use crew_pairing::Duty;
+use crew_rules::Settings;
+use std::alloc::{AllocError, Global};
+
+// Legs of one duty depart within so many minutes.
+const SPAN: i64 = 840;
+
+// What may follow a flight, where it may be a leg of a duty that is listed anew, and else nothing
+// that is known of it.
+fn next_beside(
+    alloc: Global,
+    settings: &Settings,
+    flights: &[Flight],
+    slots: &[Slot],
+    past: &Past<'_>,
+    before: &Flight,
+) -> Result<Next, AllocError>
+    requires checked { IsChecked settings.now }
+    requires index { IsIndex flights.now slots.now }
+    requires past { IsPast settings.now flights.now past.now.duties.now past.now.minutes.now }
+    ensures { IfOk result (IsNext settings.now flights.now before.now) }
+{
+    let departs = before.dep.get();
+    let apart = are_apart(past.minutes, departs - SPAN, departs + SPAN);
+    if apart {
+        return Ok(Next {
+            places: None,
+            soonest: 0,
+        });
+    }
+    next_of(alloc, settings, flights, slots, before)
+}
+
+/// What may follow each flight, where that may be asked for.
+pub(crate) fn all_next_beside(
+    alloc: Global,
+    settings: &Settings,
+    flights: &[Flight],
+    slots: &[Slot],
+    past: &Past<'_>,
+) -> Result<Vec<Next>, AllocError>
+    requires checked { IsChecked settings.now }
+    requires index { IsIndex flights.now slots.now }
+    requires past { IsPast settings.now flights.now past.now.duties.now past.now.minutes.now }
+    ensures { IfOk result (λ next. AreNext settings.now flights.now flights.now next.items) }
+{
+    let mut next = Vec::with_capacity(alloc, flights.len())?;
+    for flight in flights {
+        next.push(next_beside(alloc, settings, flights, slots, past, flight)?)?;
+    }
+    Ok(next)
+}
+
+// The duties that begin with the flight at a place, counted to one more than may be listed, behind
+// `so_far` others.
+fn count_from(
+    alloc: Global,
+    plan: &Plan<'_>,
+    past: &Past<'_>,
+    place: usize,
+    so_far: usize,
+) -> Result<usize, AllocError>
+    requires plan { IsPlan plan.now.settings.now plan.now.flights.now plan.now.slots.now
+        plan.now.next.now }
+    requires past { IsPast plan.now.settings.now plan.now.flights.now past.now.duties.now
+        past.now.minutes.now }
+    requires place { place < length plan.now.flights.now }
+    requires so_far { so_far ≤ 200_001 }
+    ensures { IfOk result (λ n. n ≡ min (so_far
+        + length (from_place plan.now.settings.now plan.now.flights.now place)) 200_001) }
+{
+    if let Some(block) = past.kept(plan.settings, &plan.flights[place]) {
+        return Ok(so_far.saturating_add(block.len()).min(DUTIES + 1));
+    }
+    walk_from(alloc, &mut [], plan, place, so_far)
+}
+
+/// How many duties begin with each flight, to one more than may be listed in all.
+pub(crate) fn count_beside(
+    alloc: Global,
+    plan: &Plan<'_>,
+    past: &Past<'_>,
+) -> Result<Vec<usize>, AllocError>
+    requires plan { IsPlan plan.now.settings.now plan.now.flights.now plan.now.slots.now
+        plan.now.next.now }
+    requires past { IsPast plan.now.settings.now plan.now.flights.now past.now.duties.now
+        past.now.minutes.now }
+    ensures { IfOk result (λ counts. AreCounts
+        (from_place plan.now.settings.now plan.now.flights.now) 0 (length plan.now.flights.now)
+        counts.items) }
+{
+    let mut counts = Vec::with_capacity(alloc, plan.flights.len())?;
+    let mut total = 0;
+    for place in 0..plan.flights.len() {
+        let longer = count_from(alloc, plan, past, place, total)?;
+        counts.push(longer - total)?;
+        total = longer;
+    }
+    Ok(counts)
+}
+
+// Appends duties.
+fn append_copies(list: &mut Vec<Duty>, block: &[Duty]) -> Result<(), AllocError>
+    ensures { OnOk result (list.new.items ≡ list.old.items ++ block.now) }
+{
+    for duty in block {
+        list.push(duty.copy())?;
+    }
+    Ok(())
+}
+
+// Appends the duties that begin with the flight at a place, of which there are so many.
+fn append_from(
+    alloc: Global,
+    list: &mut Vec<Duty>,
+    plan: &Plan<'_>,
+    past: &Past<'_>,
+    place: usize,
+    count: usize,
+) -> Result<(), AllocError>
+    requires plan { IsPlan plan.now.settings.now plan.now.flights.now plan.now.slots.now
+        plan.now.next.now }
+    requires past { IsPast plan.now.settings.now plan.now.flights.now past.now.duties.now
+        past.now.minutes.now }
+    requires place { place < length plan.now.flights.now }
+    requires count { count
+        ≡ length (from_place plan.now.settings.now plan.now.flights.now place) }
+    requires room { length list.old.items + count ≤ 200_000 }
+    ensures { OnOk result (list.new.items ≡ list.old.items
+        ++ from_place plan.now.settings.now plan.now.flights.now place) }
+{
+    if let Some(block) = past.kept(plan.settings, &plan.flights[place]) {
+        return append_copies(list, block);
+    }
+    append_walk(alloc, list, plan, place, count)
+}
+
+/// All duties, those of each first flight after those of the flights before it.
+pub(crate) fn fill_beside(
+    alloc: Global,
+    plan: &Plan<'_>,
+    past: &Past<'_>,
+    counts: &[usize],
+    total: usize,
+) -> Result<Vec<Duty>, AllocError>
+    requires plan { IsPlan plan.now.settings.now plan.now.flights.now plan.now.slots.now
+        plan.now.next.now }
+    requires past { IsPast plan.now.settings.now plan.now.flights.now past.now.duties.now
+        past.now.minutes.now }
+    requires all { length counts.now ≡ length plan.now.flights.now }
+    requires counts { AreExact (from_place plan.now.settings.now plan.now.flights.now) 0
+        counts.now }
+    requires few { sum counts.now ≤ 200_000 }
+    ensures { IfOk result (λ found. found.items
+        ≡ flat_map (from_place plan.now.settings.now plan.now.flights.now)
+        (range_with_len 0 (length counts.now))) }
+{
+    let mut list = Vec::with_capacity(alloc, total)?;
+    for place in 0..counts.len() {
+        append_from(alloc, &mut list, plan, past, place, counts[place])?;
+    }
+    Ok(list)
+}
