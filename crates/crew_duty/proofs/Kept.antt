@@ -354,41 +354,7 @@ apart-at minutes from to i early late = each-of (λ m. is_within from to m ≡ f
     by k d h true e = before-not-within from to (get_or minutes k d) (early.0 k d (omega arith) (grind (arith, nat_tests, e)))
     by k d h false e = after-not-within from to (get_or minutes k d) (late.1 k d (grind (arith, nat_tests, e)) h)
 
--- the duties that begin with one flight, between two places
-pub lesser-parted : (duties : List Duty) (n : ℕ) → ClimbByFirst duties → IsPartitionedBy (λ d. nat_lt (first_of d.key) n) duties
-lesser-parted duties n up i j d a b h = let k = up i j d a b in grind (arith, nat_tests)
-
-pub no-greater-parted : (duties : List Duty) (n : ℕ) → ClimbByFirst duties → IsPartitionedBy (λ d. nat_le (first_of d.key) n) duties
-no-greater-parted duties n up i j d a b h = let k = up i j d a b in grind (arith, nat_tests)
-
-pub climb-drop : (duties : List Duty) (n : ℕ) → ClimbByFirst duties → ClimbByFirst (drop n duties)
-climb-drop duties zero up = up
-climb-drop [] (suc n) up = λ i j d a b. absurd (omega (arith, b))
-climb-drop (x ∷ duties) (suc n) up = climb-drop duties n (λ i j d a b. up (suc i) (suc j) d (omega arith) (omega arith))
-
-not-lesser : (a n : ℕ) → nat_lt a n ≡ true → nat_eq a n ≡ false
-not-lesser a n h = grind (arith, nat_tests)
-
-just : (a n : ℕ) → nat_lt a n ≡ false → nat_le a n ≡ true → nat_eq a n ≡ true
-just a n h k = grind (arith, nat_tests)
-
-not-greater : (a n : ℕ) → nat_le a n ≡ false → nat_eq a n ≡ false
-not-greater a n h = grind (arith, nat_tests)
-
-pub block-between : (duties : List Duty) (n i k : ℕ) → i ≤ length duties → k ≤ length (drop i duties)
-    → IsPartitionPoint (λ d. nat_lt (first_of d.key) n ≡ true) (λ d. nat_lt (first_of d.key) n ≡ false) duties i
-    → IsPartitionPoint (λ d. nat_le (first_of d.key) n ≡ true) (λ d. nat_le (first_of d.key) n ≡ false) (drop i duties) k
-    → take k (drop i duties) ≡ filter (begins_with n) duties
-block-between duties n i k a b early late =
-    window (begins_with n) duties i k b
-    (λ j d m o. not-lesser (first_of (get_or duties j d).key) n (early.0 j d (omega arith) m))
-    (λ j d m.
-    let long = length-drop i duties in
-    let place = get_or-drop i duties j d in
-    let later = early.1 (i + j) d (omega arith) (omega (arith, long, b, m, a)) in
-    just (first_of (get_or (drop i duties) j d).key) n (rw place later) (late.0 j d (omega arith) m))
-    (λ j d m o. not-greater (first_of (get_or (drop i duties) j d).key) n (late.1 j d m o))
-
+-- minutes in order
 pub not-later : (x y : ℤ) → is_lt (int_cmp y x) ≡ false → x ≤ℤ y
 not-later x y h = by (int_cmp y x) refl h
   where
@@ -410,9 +376,3 @@ past-of s now before duties minutes checked sound old are told =
     let others = flights-of-timetable before old in
     let same : duties ≡ all_duties s (flights_of before) = unique s (flights_of before) duties (all_duties s (flights_of before)) are (all-duties s (flights_of before) others) in
     rw same (is-past s (flights_of now) (flights_of before) minutes checked (flights-of-timetable now sound) others told)
-
--- a kept block at a place
-pub block-at : (s : Settings) (flights : List Flight) (duties : List Duty) (minutes : List ℤ) (place : ℕ) (d : Flight) (block : List Duty) → IsPast s flights duties minutes → place < length flights
-    → ((fs : List Flight) → IsPast s fs duties minutes → Member fs (get_or flights place d) → block ≡ from_flight s fs (get_or flights place d)) → block ≡ from_place s flights place
-block-at s flights duties minutes place d block past within h =
-    h flights past (Member-at flights place d within) ∙ sym (place-gives (from_flight s flights) flights place (get_or flights place d) (slice_get-get_or flights place d within))

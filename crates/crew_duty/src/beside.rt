@@ -1,17 +1,19 @@
 //! All duties of a timetable beside those of an earlier one, by one thread.
 
-ghost use Rattle.std.specs.Prelude.{◌≡◌, ◌+◌, ◌++◌, ◌≤◌, ◌<◌, IfOk, OnOk, length, min, sum};
+ghost use Rattle.std.specs.Prelude.{◌≡◌, ◌+◌, ◌++◌, ◌≤◌, ◌<◌, List, IfOk, IfSome, OnOk, length, min, sum};
 ghost use Rattle.std.specs.List.{flat_map, range_with_len};
+ghost use Rattle.crew_flights.specs.declared.flight.Flight.{Flight};
+ghost use Rattle.crew_rules.specs.declared.settings.Settings.{Settings};
 ghost use Rattle.crew_duty.specs.Machinery.Counts.{AreCounts, AreExact};
 ghost use Rattle.crew_pairing.specs.Machinery.Listing.{from_place};
 ghost use Rattle.crew_rules.specs.Settings.{IsChecked};
-ghost use Rattle.crew_duty.specs.Machinery.Kept.{IsPast};
+ghost use Rattle.crew_duty.specs.Machinery.Kept.{AreKept, ClimbInTime, taken};
 ghost use Rattle.crew_duty.specs.Machinery.Plans.{AreNext, IsNext, IsPlan};
 ghost use Rattle.crew_duty.specs.Machinery.Slots.{IsIndex};
 
 use crate::changes::are_apart;
 use crate::departures::Slot;
-use crate::past::Past;
+use crate::past::Block;
 use crate::pieces::append_walk;
 use crate::plan::{Next, Plan, next_of};
 use crate::search::{DUTIES, walk_from};
@@ -23,6 +25,38 @@ use std::alloc::{AllocError, Global};
 // Legs of one duty depart within so many minutes.
 const SPAN: i64 = 840;
 
+/// Earlier duties, and of each flight where its duties stand among them, where they do.
+#[derive(Drop)]
+pub(crate) struct Kept<'a> {
+    pub(crate) duties: &'a [Duty],
+    pub(crate) stands: &'a [Option<Block>],
+}
+
+// The duties between two places.
+fn part_of(duties: &[Duty], block: Block) -> &[Duty]
+    requires ordered { block.from ≤ block.to }
+    requires within { block.to ≤ length duties.now }
+    ensures { result.now ≡ taken duties.now block }
+{
+    &duties[block.from..block.to]
+}
+
+impl<'a> Kept<'a> {
+    // The duties that begin with the flight at a place, where they stand among these.
+    fn at(&self, place: usize) -> Option<&'a [Duty]>
+        requires { (s : Settings) × (flights : List Flight) × AreKept s flights
+            self.now.duties.now flights self.now.stands.now × (place < length flights) }
+        ensures { IfSome result (λ block. (s : Settings) (flights : List Flight) → AreKept s flights
+            self.now.duties.now flights self.now.stands.now → place < length flights
+            → block.now ≡ from_place s flights place) }
+    {
+        match self.stands.get(place) {
+            Some(Some(block)) => Some(part_of(self.duties, *block)),
+            _ => None,
+        }
+    }
+}
+
 // What may follow a flight, where it may be a leg of a duty that is listed anew, and else nothing
 // that is known of it.
 fn next_beside(
@@ -30,16 +64,16 @@ fn next_beside(
     settings: &Settings,
     flights: &[Flight],
     slots: &[Slot],
-    past: &Past<'_>,
+    minutes: &[i64],
     before: &Flight,
 ) -> Result<Next, AllocError>
     requires checked { IsChecked settings.now }
     requires index { IsIndex flights.now slots.now }
-    requires past { IsPast settings.now flights.now past.now.duties.now past.now.minutes.now }
+    requires minutes { ClimbInTime minutes.now }
     ensures { IfOk result (IsNext settings.now flights.now before.now) }
 {
     let departs = before.dep.get();
-    let apart = are_apart(past.minutes, departs - SPAN, departs + SPAN);
+    let apart = are_apart(minutes, departs - SPAN, departs + SPAN);
     if apart {
         return Ok(Next {
             places: None,
@@ -49,22 +83,25 @@ fn next_beside(
     next_of(alloc, settings, flights, slots, before)
 }
 
-/// What may follow each flight, where that may be asked for.
+/// What may follow each flight that may be a leg of a duty that is listed anew. Such a flight departs
+/// within a duty's length of one of some minutes.
 pub(crate) fn all_next_beside(
     alloc: Global,
     settings: &Settings,
     flights: &[Flight],
     slots: &[Slot],
-    past: &Past<'_>,
+    minutes: &[i64],
 ) -> Result<Vec<Next>, AllocError>
     requires checked { IsChecked settings.now }
     requires index { IsIndex flights.now slots.now }
-    requires past { IsPast settings.now flights.now past.now.duties.now past.now.minutes.now }
+    requires minutes { ClimbInTime minutes.now }
     ensures { IfOk result (λ next. AreNext settings.now flights.now flights.now next.items) }
 {
     let mut next = Vec::with_capacity(alloc, flights.len())?;
     for flight in flights {
-        next.push(next_beside(alloc, settings, flights, slots, past, flight)?)?;
+        next.push(next_beside(
+            alloc, settings, flights, slots, minutes, flight,
+        )?)?;
     }
     Ok(next)
 }
@@ -74,20 +111,20 @@ pub(crate) fn all_next_beside(
 fn count_from(
     alloc: Global,
     plan: &Plan<'_>,
-    past: &Past<'_>,
+    kept: &Kept<'_>,
     place: usize,
     so_far: usize,
 ) -> Result<usize, AllocError>
     requires plan { IsPlan plan.now.settings.now plan.now.flights.now plan.now.slots.now
         plan.now.next.now }
-    requires past { IsPast plan.now.settings.now plan.now.flights.now past.now.duties.now
-        past.now.minutes.now }
+    requires kept { AreKept plan.now.settings.now plan.now.flights.now kept.now.duties.now
+        plan.now.flights.now kept.now.stands.now }
     requires place { place < length plan.now.flights.now }
     requires so_far { so_far ≤ 200_001 }
     ensures { IfOk result (λ n. n ≡ min (so_far
         + length (from_place plan.now.settings.now plan.now.flights.now place)) 200_001) }
 {
-    if let Some(block) = past.kept(plan.settings, &plan.flights[place]) {
+    if let Some(block) = kept.at(place) {
         return Ok(so_far.saturating_add(block.len()).min(DUTIES + 1));
     }
     walk_from(alloc, &mut [], plan, place, so_far)
@@ -97,12 +134,12 @@ fn count_from(
 pub(crate) fn count_beside(
     alloc: Global,
     plan: &Plan<'_>,
-    past: &Past<'_>,
+    kept: &Kept<'_>,
 ) -> Result<Vec<usize>, AllocError>
     requires plan { IsPlan plan.now.settings.now plan.now.flights.now plan.now.slots.now
         plan.now.next.now }
-    requires past { IsPast plan.now.settings.now plan.now.flights.now past.now.duties.now
-        past.now.minutes.now }
+    requires kept { AreKept plan.now.settings.now plan.now.flights.now kept.now.duties.now
+        plan.now.flights.now kept.now.stands.now }
     ensures { IfOk result (λ counts. AreCounts
         (from_place plan.now.settings.now plan.now.flights.now) 0 (length plan.now.flights.now)
         counts.items) }
@@ -110,7 +147,7 @@ pub(crate) fn count_beside(
     let mut counts = Vec::with_capacity(alloc, plan.flights.len())?;
     let mut total = 0;
     for place in 0..plan.flights.len() {
-        let longer = count_from(alloc, plan, past, place, total)?;
+        let longer = count_from(alloc, plan, kept, place, total)?;
         counts.push(longer - total)?;
         total = longer;
     }
@@ -132,14 +169,14 @@ fn append_from(
     alloc: Global,
     list: &mut Vec<Duty>,
     plan: &Plan<'_>,
-    past: &Past<'_>,
+    kept: &Kept<'_>,
     place: usize,
     count: usize,
 ) -> Result<(), AllocError>
     requires plan { IsPlan plan.now.settings.now plan.now.flights.now plan.now.slots.now
         plan.now.next.now }
-    requires past { IsPast plan.now.settings.now plan.now.flights.now past.now.duties.now
-        past.now.minutes.now }
+    requires kept { AreKept plan.now.settings.now plan.now.flights.now kept.now.duties.now
+        plan.now.flights.now kept.now.stands.now }
     requires place { place < length plan.now.flights.now }
     requires count { count
         ≡ length (from_place plan.now.settings.now plan.now.flights.now place) }
@@ -147,7 +184,7 @@ fn append_from(
     ensures { OnOk result (list.new.items ≡ list.old.items
         ++ from_place plan.now.settings.now plan.now.flights.now place) }
 {
-    if let Some(block) = past.kept(plan.settings, &plan.flights[place]) {
+    if let Some(block) = kept.at(place) {
         return append_copies(list, block);
     }
     append_walk(alloc, list, plan, place, count)
@@ -157,14 +194,14 @@ fn append_from(
 pub(crate) fn fill_beside(
     alloc: Global,
     plan: &Plan<'_>,
-    past: &Past<'_>,
+    kept: &Kept<'_>,
     counts: &[usize],
     total: usize,
 ) -> Result<Vec<Duty>, AllocError>
     requires plan { IsPlan plan.now.settings.now plan.now.flights.now plan.now.slots.now
         plan.now.next.now }
-    requires past { IsPast plan.now.settings.now plan.now.flights.now past.now.duties.now
-        past.now.minutes.now }
+    requires kept { AreKept plan.now.settings.now plan.now.flights.now kept.now.duties.now
+        plan.now.flights.now kept.now.stands.now }
     requires all { length counts.now ≡ length plan.now.flights.now }
     requires counts { AreExact (from_place plan.now.settings.now plan.now.flights.now) 0
         counts.now }
@@ -175,7 +212,7 @@ pub(crate) fn fill_beside(
 {
     let mut list = Vec::with_capacity(alloc, total)?;
     for place in 0..counts.len() {
-        append_from(alloc, &mut list, plan, past, place, counts[place])?;
+        append_from(alloc, &mut list, plan, kept, place, counts[place])?;
     }
     Ok(list)
 }

@@ -1,19 +1,13 @@
 //! All legal duties of a timetable.
 
-ghost use Rattle.std.specs.Prelude.{◌≡◌, ◌≤◌, ◌<◌, ◌↔◌, [], List, IsTrue, IfOk, length};
+ghost use Rattle.std.specs.Prelude.{◌≡◌, ◌≤◌, ◌↔◌, [], List, IsTrue, IfOk, length};
 ghost use Rattle.crew_flights.specs.Timetable.{IsSound};
 ghost use Rattle.crew_rules.specs.Settings.{IsChecked};
-ghost use Rattle.crew_duty.specs.Machinery.Kept.{IsPast};
-ghost use Rattle.crew_pairing.specs.Duties.{AreDuties, AreDutiesOver, HasTooMany, flights_of};
-ghost use Rattle.crew_pairing.specs.Machinery.Beginnings.{AreFlights};
-ghost use Rattle.crew_pairing.specs.Machinery.Listing.{all_duties};
+ghost use Rattle.crew_pairing.specs.Duties.{AreDuties, HasTooMany, flights_of};
 ghost use Rattle.crew_pairing.specs.declared.duty.Duty.{Duty};
 
-use crate::beside::{all_next_beside, count_beside, fill_beside};
-use crate::changes::changes_between;
 use crate::departures::index_of;
 use crate::fault::DutyFault;
-use crate::past::Past;
 use crate::pieces::{count_all, list_all, total_of};
 use crate::plan::{Plan, next_flights};
 use crate::search::DUTIES;
@@ -29,7 +23,7 @@ use std::thread::Threads;
 /// A contract sees their list.
 #[derive(Debug, Drop)]
 pub struct Duties {
-    list: Vec<Duty>,
+    pub(crate) list: Vec<Duty>,
 }
 
 impl Model for Duties {
@@ -72,8 +66,8 @@ impl Duties {
     }
 }
 
-// The flights of a timetable, by number.
-fn held_flights(alloc: Global, timetable: &Timetable) -> Result<Vec<Flight>, AllocError>
+/// The flights of a timetable, by number.
+pub(crate) fn held_flights(alloc: Global, timetable: &Timetable) -> Result<Vec<Flight>, AllocError>
     ensures held { IfOk result (λ flights. flights.items ≡ flights_of timetable.now) }
     ensures sound { IsSound timetable.now }
 {
@@ -113,84 +107,4 @@ pub fn list_duties<R: Threads + Sync>(
     }
     let list = list_all(rt, alloc, &plan, &counts, total)?;
     Ok(Duties { list })
-}
-
-// How many of some flights begin the same duties as before.
-fn kept_flights(settings: &Settings, flights: &[Flight], past: &Past<'_>) -> usize
-    requires checked { IsChecked settings.now }
-    requires past { IsPast settings.now flights.now past.now.duties.now past.now.minutes.now }
-{
-    let mut kept = 0;
-    for flight in flights {
-        if past.kept(settings, flight).is_some() {
-            kept += 1;
-        }
-    }
-    kept
-}
-
-// The legal duties over these flights, beside those of earlier ones.
-fn list_beside(
-    alloc: Global,
-    settings: &Settings,
-    flights: &[Flight],
-    past: &Past<'_>,
-) -> Result<Duties, DutyFault>
-    requires checked { IsChecked settings.now }
-    requires flights { AreFlights flights.now }
-    requires few { length flights.now ≤ 5_000 }
-    requires past { IsPast settings.now flights.now past.now.duties.now past.now.minutes.now }
-    ensures listed { IfOk result (λ duties. AreDutiesOver settings.now flights.now duties) }
-    ensures few { IfOk result (λ duties. length duties ≤ 200_000) }
-    ensures too_many { result ≡ Err DutyFault.TooManyDuties
-        → 200_000 < length (all_duties settings.now flights.now) }
-{
-    let slots = index_of(alloc, flights)?;
-    let next = all_next_beside(alloc, settings, flights, &slots, past)?;
-    let plan = Plan {
-        settings,
-        flights,
-        slots: &slots,
-        next: &next,
-    };
-    let counts = count_beside(alloc, &plan, past)?;
-    let total = total_of(&counts);
-    if total > DUTIES {
-        return Err(DutyFault::TooManyDuties);
-    }
-    let list = fill_beside(alloc, &plan, past, &counts, total)?;
-    Ok(Duties { list })
-}
-
-/// The legal duties of a timetable, as `list_duties` lists them, beside those of an earlier one.
-///
-/// The duties that begin with a flight are taken over where no flight that has come, gone or
-/// changed departs while one of them may last, and listed anew elsewhere. Where most would be
-/// listed anew, all are, by `list_duties`.
-pub fn list_next<R: Threads + Sync>(
-    rt: &R,
-    alloc: Global,
-    settings: &Settings,
-    earlier: &Timetable,
-    duties: &Duties,
-    timetable: &Timetable,
-) -> Result<Duties, DutyFault>
-    requires checked { IsChecked settings.now }
-    requires earlier { AreDuties settings.now earlier.now duties.now }
-    ensures listed { IfOk result (λ duties. AreDuties settings.now timetable.now duties) }
-    ensures few { IfOk result (λ duties. length duties ≤ 200_000) }
-    ensures too_many { result ≡ Err DutyFault.TooManyDuties
-        → HasTooMany settings.now timetable.now }
-{
-    let before = held_flights(alloc, earlier)?;
-    let flights = held_flights(alloc, timetable)?;
-    let minutes = changes_between(alloc, &flights, &before)?;
-    let past = Past {
-        duties: duties.as_slice(),
-        minutes: &minutes,
-    };
-    if kept_flights(settings, &flights, &past) < flights.len() / 2 {
-        return list_duties(rt, alloc, settings, timetable);
-    }
-    list_beside(alloc, settings, &flights, &past)
 }

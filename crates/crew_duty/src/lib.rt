@@ -10,11 +10,13 @@ mod duties;
 mod fault;
 pub mod laws;
 mod limits;
+mod next;
 mod past;
 mod pieces;
 mod plan;
 mod search;
 mod totals;
 
-pub use duties::{Duties, list_duties, list_next};
+pub use duties::{Duties, list_duties};
 pub use fault::DutyFault;
+pub use next::list_next;

@@ -1,5 +1,5 @@
 -- What the duties of an earlier timetable tell of those of a later one.
-use Rattle.std.specs.Prelude.{◌≡◌, ◌⊎◌, ◌≤◌, ◌<◌, ◌≤ℤ◌, ◌&&◌, int_le, nat_eq, Bool, true, false, ℕ, ℤ, List, [], ◌∷◌, filter, get_or, length}
+use Rattle.std.specs.Prelude.{◌≡◌, ◌⊎◌, ◌-◌, ◌≤◌, ◌<◌, ◌≤ℤ◌, ◌&&◌, int_le, nat_eq, Bool, true, false, ℕ, ℤ, List, [], ◌∷◌, None, Option, Some, drop, filter, get_or, length, take}
 use Rattle.crew_flights.specs.declared.flight.Flight.{Flight}
 use Rattle.crew_rules.specs.declared.settings.Settings.{Settings}
 use Rattle.crew_resource.specs.Members.{Each, Member}
@@ -7,6 +7,7 @@ use Rattle.crew_pairing.specs.Legs.{Leg}
 use Rattle.crew_pairing.specs.Machinery.Listing.{from_flight, timed}
 use Rattle.crew_pairing.specs.declared.duty.Duty.{Duty}
 use Rattle.crew_duty.specs.Machinery.Limits.{latest_departure}
+use Rattle.crew_duty.specs.declared.past.Block.{Block}
 
 -- a minute from one to another, both included
 abbrev pub is_within : ℤ → ℤ → ℤ → Bool
@@ -61,3 +62,34 @@ pub record IsPast (s : Settings) (flights : List Flight) (duties : List Duty)
   pub minutes_climb : ClimbInTime minutes
   pub same : Each (λ f. AreApart f.dep (reach_of s f) minutes
       → filter (begins_with f.id) duties ≡ from_flight s flights f) flights
+
+-- the first place of a duty that begins with a flight of no lesser number
+pub record IsStart (duties : List Duty) (number place : ℕ) : Type 0 where
+  pub within : place ≤ length duties
+  pub before : (k : ℕ) (d : Duty) → k < place → first_of (get_or duties k d).key < number
+  pub after : (k : ℕ) (d : Duty) → place ≤ k → k < length duties
+      → number ≤ first_of (get_or duties k d).key
+
+-- the duties from one place up to another
+abbrev pub taken : List Duty → Block → List Duty
+taken duties block = take (block.to - block.from) (drop block.from duties)
+
+-- earlier duties, between two places, that are those of a flight still
+pub record IsKept (s : Settings) (flights : List Flight) (duties : List Duty) (f : Flight)
+    (block : Block) : Type 0 where
+  pub ordered : block.from ≤ block.to
+  pub within : block.to ≤ length duties
+  pub same : taken duties block ≡ from_flight s flights f
+
+-- the same, where they are known to be
+abbrev pub MayBeKept : Settings → List Flight → List Duty → Flight → Option Block → Type 0
+MayBeKept s flights duties f None = Unit {0}
+MayBeKept s flights duties f (Some block) = IsKept s flights duties f block
+
+-- of each flight, what is known of its duties
+abbrev pub AreKept : Settings → List Flight → List Duty → List Flight → List (Option Block) → Type 0
+AreKept s flights duties [] [] = Unit {0}
+AreKept s flights duties [] (block ∷ blocks) = ⊥
+AreKept s flights duties (f ∷ fs) [] = ⊥
+AreKept s flights duties (f ∷ fs) (block ∷ blocks) = MayBeKept s flights duties f block
+    × AreKept s flights duties fs blocks

@@ -3,7 +3,7 @@ use Rattle.std.specs.List.{flat_map, range_with_len}
 use Rattle.crew_pairing.specs.Machinery.Listing.{all_duties, from_place}
 use Rattle.crew_pairing.proofs.InOrder.{all-duties}
 use Rattle.crew_duty.proofs.Counts.{all-listed, counts-few, counts-over}
-use Rattle.crew_duty.proofs.duties.list_beside.Goals as goal
+use Rattle.crew_duty.proofs.next.list_beside.Goals as goal
 
 pub returns-then-total-gt-DUTIES-clause-too_many : goal.returns-then-total-gt-DUTIES-clause-too_many
 returns-then-total-gt-DUTIES-clause-too_many c =

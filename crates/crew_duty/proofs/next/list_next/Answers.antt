@@ -4,12 +4,11 @@ use Rattle.crew_pairing.specs.Duties.{flights_of}
 use Rattle.crew_pairing.specs.Machinery.Listing.{all_duties}
 use Rattle.crew_pairing.proofs.InOrder.{all-duties}
 use Rattle.crew_pairing.proofs.Timetables.{flights-few, flights-of-timetable}
-use Rattle.crew_duty.specs.Machinery.Kept.{AreChanges}
 use Rattle.crew_duty.proofs.Kept.{past-of}
-use Rattle.crew_duty.proofs.duties.list_next.Goals as goal
+use Rattle.crew_duty.proofs.next.list_next.Goals as goal
 
-pub kept_flights-requires-clause-past : goal.kept_flights-requires-clause-past
-kept_flights-requires-clause-past g c =
+pub blocks-requires-clause-past : goal.blocks-requires-clause-past
+blocks-requires-clause-past g c =
     let now = c.args.timetable.now in
     let before = c.args.earlier.now in
     let held : c.deref.result.now ≡ flights_of now = c.deref.ensures.value ∙ c.in_ok-flights.ensures.held in
@@ -22,31 +21,20 @@ kept_flights-requires-clause-past g c =
 pub list_beside-requires-clause-flights : goal.list_beside-requires-clause-flights
 list_beside-requires-clause-flights g c =
     let now = c.args.timetable.now in
-    let fs : c.deref-5.result.now ≡ flights_of now = c.deref-5.ensures.value ∙ c.in_ok-flights.ensures.held in
+    let fs : c.deref-7.result.now ≡ flights_of now = c.deref-7.ensures.value ∙ c.in_ok-flights.ensures.held in
     rw fs (flights-of-timetable now c.held_flights-2.ensures.sound)
 
 pub list_beside-requires-clause-few : goal.list_beside-requires-clause-few
 list_beside-requires-clause-few g c =
     let now = c.args.timetable.now in
-    let fs : c.deref-5.result.now ≡ flights_of now = c.deref-5.ensures.value ∙ c.in_ok-flights.ensures.held in
+    let fs : c.deref-7.result.now ≡ flights_of now = c.deref-7.ensures.value ∙ c.in_ok-flights.ensures.held in
     rw fs (flights-few now c.held_flights-2.ensures.sound)
-
-pub list_beside-requires-clause-past : goal.list_beside-requires-clause-past
-list_beside-requires-clause-past g c =
-    let now = c.args.timetable.now in
-    let before = c.args.earlier.now in
-    let held : c.deref.result.now ≡ flights_of now = c.deref.ensures.value ∙ c.in_ok-flights.ensures.held in
-    let old : c.deref-2.result.now ≡ flights_of before = c.deref-2.ensures.value ∙ c.in_ok-before.ensures.held in
-    let told = rw (held, old) at c.in_ok-minutes.ensures in
-    let past = past-of c.args.settings.now now before c.args.duties.now c.in_ok-minutes.minutes.items c.requires.checked c.held_flights-2.ensures.sound c.held_flights.ensures.sound c.requires.earlier told in
-    let fs : c.deref-5.result.now ≡ flights_of now = c.deref-5.ensures.value ∙ c.in_ok-flights.ensures.held in
-    rw (fs, c.deref-3.ensures.value, c.as_slice.ensures) past
 
 pub returns-clause-too_many : goal.returns-clause-too_many
 returns-clause-too_many g c = λ e.
     let s = c.args.settings.now in
     let now = c.args.timetable.now in
-    let fs : c.deref-5.result.now ≡ flights_of now = c.deref-5.ensures.value ∙ c.in_ok-flights.ensures.held in
+    let fs : c.deref-7.result.now ≡ flights_of now = c.deref-7.ensures.value ∙ c.in_ok-flights.ensures.held in
     (
       all_duties s (flights_of now),
       all-duties s (flights_of now) (flights-of-timetable now c.held_flights-2.ensures.sound),

@@ -1,0 +1,180 @@
+-- Where the duties of a flight stand among earlier ones.
+use Rattle.std.proofs.Common.{◌≡◌, ◌≤◌, ◌<◌, ◌+◌, ◌-◌, ℕ, zero, suc, ℤ, List, [], ◌∷◌, ◌++◌, Bool, true, false, Some, None, Option, nat_le, nat_lt, nat_eq, length, refl, sym, ap, ◌∙◌, subst, arith, filter, take, drop, get_or, length-append}
+use Rattle.std.specs.Prelude.{IfSome, slice_get}
+use Rattle.std.specs.List.Sorted.{IsPartitionedBy, IsPartitionPoint}
+use Rattle.std.proofs.lemmas.Bool.Decides.{nat_tests}
+use Rattle.std.proofs.lemmas.List.{get_or-drop, get_or-take, get_or_default, length-drop, take_more}
+use Rattle.crew_flights.specs.declared.flight.Flight.{Flight}
+use Rattle.crew_rules.specs.declared.settings.Settings.{Settings}
+use Rattle.crew_resource.specs.Members.{Member}
+use Rattle.crew_pairing.specs.Machinery.Listing.{from_flight, from_place}
+use Rattle.crew_pairing.specs.declared.duty.Duty.{Duty}
+use Rattle.crew_duty.specs.Machinery.Kept.{AreKept, ClimbByFirst, IsKept, IsPast, IsStart, MayBeKept, begins_with, first_of, taken}
+use Rattle.crew_duty.specs.declared.past.Block.{Block}
+use Rattle.crew_duty.proofs.Parts.{place-gives, there}
+use Rattle.crew_duty.proofs.Slots.{window}
+
+-- lesser numbers before a place, and none from it on
+pub lesser-before : (duties : List Duty) (n place : ℕ) (e : Duty) → ClimbByFirst duties → place < length duties → first_of (get_or duties place e).key < n
+    → (k : ℕ) (d : Duty) → k ≤ place → first_of (get_or duties k d).key < n
+lesser-before duties n place e up within h k d o =
+    let there = ap (λ (x : Duty). first_of x.key) (get_or_default duties place d e within) in
+    let below = up k place d o within in
+    omega (arith, h, there, below)
+
+pub none-lesser : (duties : List Duty) (n place : ℕ) (e : Duty) → ClimbByFirst duties → n ≤ first_of (get_or duties place e).key
+    → (k : ℕ) (d : Duty) → place ≤ k → k < length duties → n ≤ first_of (get_or duties k d).key
+none-lesser duties n place e up h k d o within =
+    let there = ap (λ (x : Duty). first_of x.key) (get_or_default duties place d e (omega (arith, o, within))) in
+    let above = up place k d o within in
+    omega (arith, h, there, above)
+
+-- between two places
+length-between : (duties : List Duty) (from to : ℕ) → from ≤ to → to ≤ length duties → length (take (to - from) (drop from duties)) ≡ to - from
+length-between duties from to h k =
+    let all = length-drop from duties in
+    omega (arith, length-take-at (to - from) (drop from duties) (omega (arith, all, h, k)))
+  where
+    length-take-at : (n : ℕ) (ds : List Duty) → n ≤ length ds → length (take n ds) ≡ n
+    length-take-at zero ds h = refl
+    length-take-at (suc n) [] h = absurd (omega (arith, h))
+    length-take-at (suc n) (d ∷ ds) h = ap suc (length-take-at n ds (omega (arith, h)))
+
+between-at : (duties : List Duty) (from to j : ℕ) (d : Duty) → j < to - from → get_or (take (to - from) (drop from duties)) j d ≡ get_or duties (from + j) d
+between-at duties from to j d h = get_or-take (to - from) (drop from duties) j d h ∙ get_or-drop from duties j d
+
+pub parted-between : (duties : List Duty) (n from to : ℕ) → from ≤ to → to ≤ length duties → ClimbByFirst duties → IsPartitionedBy (λ d. nat_lt (first_of d.key) n) (take (to - from) (drop from duties))
+parted-between duties n from to h k up i j d a b =
+    let long = length-between duties from to h k in
+    let first = ap (λ (x : Duty). first_of x.key) (between-at duties from to i d (omega (arith, a, b, long))) in
+    let second = ap (λ (x : Duty). first_of x.key) (between-at duties from to j d (omega (arith, b, long))) in
+    let climbs = up (from + i) (from + j) d (omega (arith, a)) (omega (arith, b, long, h, k)) in
+    λ e. by (first_of (get_or (take (to - from) (drop from duties)) i d).key) (first_of (get_or (take (to - from) (drop from duties)) j d).key) (omega (arith, first, second, climbs)) e
+  where
+    by : (x y : ℕ) → x ≤ y → nat_lt y n ≡ true → nat_lt x n ≡ true
+    by x y o e = grind (arith, nat_tests)
+
+pub start-between : (duties : List Duty) (n from to i : ℕ) → from ≤ to → to ≤ length duties → i ≤ length (take (to - from) (drop from duties))
+    → ((k : ℕ) (d : Duty) → k < from → first_of (get_or duties k d).key < n)
+    → ((k : ℕ) (d : Duty) → to ≤ k → k < length duties → n ≤ first_of (get_or duties k d).key)
+    → IsPartitionPoint (λ d. nat_lt (first_of d.key) n ≡ true) (λ d. nat_lt (first_of d.key) n ≡ false) (take (to - from) (drop from duties)) i → IsStart duties n (from + i)
+start-between duties n from to i h k within before after part =
+    let long = length-between duties from to h k in
+    record {
+      within = omega (arith, within, long, h, k);
+      before = λ j d o. early j d o (nat_lt j from) refl;
+      after = λ j d o p. late j d o p (nat_lt j to) refl;
+    }
+  where
+    is-less : (x : ℕ) → nat_lt x n ≡ true → x < n
+    is-less x e = grind (arith, nat_tests)
+
+    is-none : (x : ℕ) → nat_lt x n ≡ false → n ≤ x
+    is-none x e = grind (arith, nat_tests)
+
+    early : (j : ℕ) (d : Duty) → j < from + i → (b : Bool) → nat_lt j from ≡ b → first_of (get_or duties j d).key < n
+    early j d o true e = before j d (grind (arith, nat_tests, e))
+    early j d o false e =
+        let past : from ≤ j = grind (arith, nat_tests, e) in
+        let long = length-between duties from to h k in
+        let place : from + (j - from) ≡ j = omega (arith, past) in
+        let read = between-at duties from to (j - from) d (omega (arith, o, past, within, long)) ∙ ap (λ (m : ℕ). get_or duties m d) place in
+        let less = is-less (first_of (get_or (take (to - from) (drop from duties)) (j - from) d).key) (part.0 (j - from) d (omega arith) (omega (arith, o, past))) in
+        omega (arith, less, ap (λ (x : Duty). first_of x.key) read)
+
+    late : (j : ℕ) (d : Duty) → from + i ≤ j → j < length duties → (b : Bool) → nat_lt j to ≡ b → n ≤ first_of (get_or duties j d).key
+    late j d o p true e =
+        let under : j < to = grind (arith, nat_tests, e) in
+        let long = length-between duties from to h k in
+        let place : from + (j - from) ≡ j = omega (arith, o) in
+        let read = between-at duties from to (j - from) d (omega (arith, o, under)) ∙ ap (λ (m : ℕ). get_or duties m d) place in
+        let none = is-none (first_of (get_or (take (to - from) (drop from duties)) (j - from) d).key) (part.1 (j - from) d (omega (arith, o)) (omega (arith, o, under, long))) in
+        omega (arith, none, ap (λ (x : Duty). first_of x.key) read)
+    late j d o p false e = after j d (grind (arith, nat_tests, e)) p
+
+-- the starts of two neighbours
+pub starts-ordered : (duties : List Duty) (n from to : ℕ) → IsStart duties n from → IsStart duties (n + 1) to → from ≤ to
+starts-ordered duties n from to a b = by (nat_lt to from) refl
+  where
+    some-of : (ds : List Duty) (k : ℕ) → k < length ds → Duty
+    some-of [] k h = absurd (omega (arith, h))
+    some-of (d ∷ ds) k h = d
+
+    by : (c : Bool) → nat_lt to from ≡ c → from ≤ to
+    by true q =
+        let less : to < from = grind (arith, nat_tests, q) in
+        let under : to < length duties = omega (arith, less, a.within) in
+        let e = some-of duties to under in
+        let x = a.before to e less in
+        let y = b.after to e (omega arith) under in
+        absurd (omega (arith, x, y))
+    by false q = grind (arith, nat_tests, q)
+
+pub starts-apart : (duties : List Duty) (n from to : ℕ) → from ≤ to → IsStart duties n from → IsStart duties (n + 1) to → take (to - from) (drop from duties) ≡ filter (begins_with n) duties
+starts-apart duties n from to h a b =
+    let all = length-drop from duties in
+    window (begins_with n) duties from (to - from) (omega (arith, all, h, b.within))
+    (λ k d o p. not-less (first_of (get_or duties k d).key) (a.before k d o))
+    (λ k d o.
+    let read = ap (λ (x : Duty). first_of x.key) (get_or-drop from duties k d) in
+    let least = a.after (from + k) d (omega arith) (omega (arith, o, h, b.within)) in
+    let most = b.before (from + k) d (omega (arith, o, h)) in
+    just (first_of (get_or (drop from duties) k d).key) (omega (arith, read, least)) (omega (arith, read, most)))
+    (λ k d o p.
+    let read = ap (λ (x : Duty). first_of x.key) (get_or-drop from duties k d) in
+    let more = b.after (from + k) d (omega (arith, o)) (omega (arith, p, all)) in
+    not-more (first_of (get_or (drop from duties) k d).key) (omega (arith, read, more)))
+  where
+    not-less : (x : ℕ) → x < n → nat_eq x n ≡ false
+    not-less x o = grind (arith, nat_tests)
+
+    just : (x : ℕ) → n ≤ x → x < n + 1 → nat_eq x n ≡ true
+    just x o p = grind (arith, nat_tests)
+
+    not-more : (x : ℕ) → n + 1 ≤ x → nat_eq x n ≡ false
+    not-more x o = grind (arith, nat_tests)
+
+-- what is known of the flights of a list
+pub AreKept-push : (s : Settings) (flights : List Flight) (duties : List Duty) (fs : List Flight) (blocks : List (Option Block)) (f : Flight) (block : Option Block) → AreKept s flights duties fs blocks → MayBeKept s flights duties f block
+    → AreKept s flights duties (fs ++ f ∷ []) (blocks ++ block ∷ [])
+AreKept-push s flights duties [] [] f block h e = (e, tt)
+AreKept-push s flights duties [] (b ∷ blocks) f block h e = absurd h
+AreKept-push s flights duties (g ∷ fs) [] f block h e = absurd h
+AreKept-push s flights duties (g ∷ fs) (b ∷ blocks) f block h e = (h.0, AreKept-push s flights duties fs blocks f block h.1 e)
+
+pub AreKept-more : (s : Settings) (flights : List Flight) (duties : List Duty) (blocks : List (Option Block)) (block : Option Block) (i : ℕ) (d : Flight) → i < length flights
+    → AreKept s flights duties (take i flights) blocks → MayBeKept s flights duties (get_or flights i d) block → AreKept s flights duties (take (i + 1) flights) (blocks ++ block ∷ [])
+AreKept-more s flights duties blocks block i d h n e =
+    rw (take_more flights i d h) (AreKept-push s flights duties (take i flights) blocks (get_or flights i d) block n e)
+
+pub AreKept-length : (s : Settings) (flights : List Flight) (duties : List Duty) (fs : List Flight) (blocks : List (Option Block)) → AreKept s flights duties fs blocks → length blocks ≡ length fs
+AreKept-length s flights duties [] [] h = refl
+AreKept-length s flights duties [] (b ∷ blocks) h = absurd h
+AreKept-length s flights duties (f ∷ fs) [] h = absurd h
+AreKept-length s flights duties (f ∷ fs) (b ∷ blocks) h = ap suc (AreKept-length s flights duties fs blocks h.1)
+
+AreKept-at : (s : Settings) (flights : List Flight) (duties : List Duty) (fs : List Flight) (blocks : List (Option Block)) (i : ℕ) (f : Flight) (block : Block) → AreKept s flights duties fs blocks → slice_get fs i ≡ Some f → slice_get blocks i ≡ Some (Some block)
+    → IsKept s flights duties f block
+AreKept-at s flights duties [] [] i f block h e k = cc
+AreKept-at s flights duties [] (b ∷ blocks) i f block h e k = absurd h
+AreKept-at s flights duties (g ∷ fs) [] i f block h e k = absurd h
+AreKept-at s flights duties (g ∷ fs) (b ∷ blocks) zero f block h e k =
+    let same : g ≡ f = cc in
+    let row : b ≡ Some block = cc in
+    let here = rw row at h.0 in
+    rw (← same) here
+AreKept-at s flights duties (g ∷ fs) (b ∷ blocks) (suc i) f block h e k = AreKept-at s flights duties fs blocks i f block h.1 e k
+
+-- a kept block at a place
+pub kept-at : (s : Settings) (flights : List Flight) (duties : List Duty) (blocks : List (Option Block)) (place : ℕ) (block : Block) → AreKept s flights duties flights blocks → place < length flights → slice_get blocks place ≡ Some (Some block)
+    → (block.from ≤ block.to) × (block.to ≤ length duties) × (taken duties block ≡ from_place s flights place)
+kept-at s flights duties blocks place block h within k =
+    let f = (there flights place within).0 in
+    let e = (there flights place within).1 in
+    let is = AreKept-at s flights duties flights blocks place f block h e k in
+    (is.ordered, is.within, is.same ∙ sym (place-gives (from_flight s flights) flights place f e))
+
+pub may-be-kept : (s : Settings) (flights : List Flight) (duties : List Duty) (minutes : List ℤ) (f : Flight) (o : Option Block) → IsPast s flights duties minutes → Member flights f
+    → IfSome o (λ b. (fs : List Flight) → IsPast s fs duties minutes → Member fs f → IsKept s fs duties f b) → MayBeKept s flights duties f o
+may-be-kept s flights duties minutes f None past m h = tt
+may-be-kept s flights duties minutes f (Some b) past m h = h flights past m
