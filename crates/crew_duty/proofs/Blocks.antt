@@ -1,5 +1,5 @@
 -- Where the duties of a flight stand among earlier ones.
-use Rattle.std.proofs.Common.{◌≡◌, ◌≤◌, ◌<◌, ◌+◌, ◌-◌, ℕ, zero, suc, ℤ, List, [], ◌∷◌, ◌++◌, Bool, true, false, Some, None, Option, nat_le, nat_lt, nat_eq, length, refl, sym, ap, ◌∙◌, subst, arith, filter, take, drop, get_or, length-append}
+use Rattle.std.proofs.Common.{◌≡◌, ◌≤◌, ◌<◌, ◌+◌, ◌-◌, ℕ, zero, suc, ℤ, List, [], ◌∷◌, ◌++◌, Bool, true, false, Some, None, Option, nat_lt, nat_eq, length, refl, sym, ap, ◌∙◌, arith, filter, take, drop, get_or}
 use Rattle.std.specs.Prelude.{IfSome, slice_get}
 use Rattle.std.specs.List.Sorted.{IsPartitionedBy, IsPartitionPoint}
 use Rattle.std.proofs.lemmas.Bool.Decides.{nat_tests}

@@ -1,6 +1,6 @@
 -- The duties that begin where nothing has changed are those of before.
-use Rattle.std.proofs.Common.{◌≡◌, ◌≤◌, ◌<◌, ◌≤ℤ◌, ◌+ℤ◌, ◌-◌, ℕ, zero, suc, ℤ, pos, List, [], ◌∷◌, ◌++◌, ◌&&◌, Bool, true, false, cond, int_le, nat_le, nat_lt, nat_eq, ◌+◌, take, drop, length, max, min, Some, refl, sym, ap, ◌∙◌, ◌⊎◌, subst, arith, filter, get_or, inl, inr, append-nil, if◌then◌else◌}
-use Rattle.std.specs.Prelude.{int_lt, slice_get}
+use Rattle.std.proofs.Common.{◌≡◌, ◌≤◌, ◌<◌, ◌≤ℤ◌, ◌+ℤ◌, ℕ, zero, suc, ℤ, pos, List, [], ◌∷◌, ◌++◌, ◌&&◌, Bool, true, false, cond, int_le, nat_le, nat_lt, nat_eq, length, max, refl, sym, ap, ◌∙◌, ◌⊎◌, subst, arith, filter, get_or, inl, inr, append-nil, if◌then◌else◌}
+use Rattle.std.specs.Prelude.{int_lt}
 use Rattle.std.specs.List.{flat_map}
 use Rattle.std.specs.List.Sorted.{IsPartitionedBy, IsPartitionPoint}
 use Rattle.std.specs.declared.cmp.Ordering.{Ordering}
@@ -11,12 +11,10 @@ use Rattle.std.proofs.lemmas.Bool.{and_from, and_parts}
 use Rattle.std.proofs.lemmas.Bool.Decides.{nat_tests}
 use Rattle.std.proofs.lemmas.Cmp.{int_ranked, ranked}
 use Rattle.std.proofs.lemmas.Int.{ints}
-use Rattle.std.proofs.lemmas.Option.{slice_get-get_or}
-use Rattle.std.proofs.lemmas.List.{get_or-drop, length-drop}
 use Rattle.std.proofs.lemmas.List.Elements.{filter-append}
 use Rattle.crew_flights.specs.Timetable.{IsFlight, IsSound, Timetable}
 use Rattle.crew_flights.specs.declared.flight.Flight.{Flight}
-use Rattle.crew_rules.specs.Tables.{Row, in_force, limits_from, rows_b, table_b}
+use Rattle.crew_rules.specs.Tables.{Row, in_force, rows_b, table_b}
 use Rattle.crew_rules.specs.Settings.{IsChecked}
 use Rattle.crew_rules.specs.declared.settings.Settings.{Settings}
 use Rattle.crew_resource.specs.Members.{Each, Member}
@@ -26,7 +24,7 @@ use Rattle.crew_pairing.specs.Keys.{key_cmp, leg_cmp}
 use Rattle.crew_pairing.specs.Legality.{last_of, leg_of, may_follow, segments}
 use Rattle.crew_pairing.specs.Legs.{Leg}
 use Rattle.crew_pairing.specs.Machinery.Beginnings.{AreFlights, Rises}
-use Rattle.crew_pairing.specs.Machinery.Listing.{all_duties, below, from_flight, from_place, is_hopeless, listing, own, timed}
+use Rattle.crew_pairing.specs.Machinery.Listing.{all_duties, below, from_flight, is_hopeless, listing, own, timed}
 use Rattle.crew_pairing.specs.declared.duty.Duty.{Duty}
 use Rattle.crew_pairing.specs.declared.leg.TimedLeg.{TimedLeg}
 use Rattle.crew_pairing.proofs.Falling.{table_b-falls}
@@ -40,8 +38,6 @@ use Rattle.crew_duty.specs.Machinery.Kept.{AreApart, AreChanges, ClimbByFirst, C
 use Rattle.crew_duty.specs.Machinery.Limits.{latest_departure}
 use Rattle.crew_duty.proofs.InPlace.{each-of}
 use Rattle.crew_duty.proofs.Leads.{fewer-give, le-fails, nothing-below, second-fails}
-use Rattle.crew_duty.proofs.Parts.{place-gives}
-use Rattle.crew_duty.proofs.Slots.{window}
 use Rattle.crew_duty.proofs.Unique.{unique}
 
 -- one filter after another
@@ -100,11 +96,10 @@ out-of-reach s fs first others room g sound after follows far =
 all-out-of-reach : (s : Settings) (all : List Flight) (first : TimedLeg) (others : List TimedLeg) (room : ℕ) (fs : List Flight) → AreSound fs → first.flight.dep ≤ℤ (last_of first others).flight.arr
     → Each (λ g. (may_follow s (last_of first others).flight g && departs_within first.flight.dep (latest_departure s first []) g) ≡ false → may_follow s (last_of first others).flight g ≡ true → below room s all first others g ≡ []) fs
 all-out-of-reach s all first others room [] h after = tt
-all-out-of-reach s all first others room (g ∷ fs) h after =
-    (
-      λ e k. out-of-reach s all first others room g h.0 after k (second-fails (may_follow s (last_of first others).flight g) (departs_within first.flight.dep (latest_departure s first []) g) e k),
-      all-out-of-reach s all first others room fs h.1 after,
-    )
+all-out-of-reach s all first others room (g ∷ fs) h after = (
+  λ e k. out-of-reach s all first others room g h.0 after k (second-fails (may_follow s (last_of first others).flight g) (departs_within first.flight.dep (latest_departure s first []) g) e k),
+  all-out-of-reach s all first others room fs h.1 after,
+)
 
 -- a listing is the same over flights that are the same within reach of the first leg
 same-listing : (room : ℕ) (s : Settings) (fs gs : List Flight) (first : TimedLeg) (others : List TimedLeg) → AreSound fs → AreSound gs

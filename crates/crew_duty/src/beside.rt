@@ -99,9 +99,7 @@ pub(crate) fn all_next_beside(
 {
     let mut next = Vec::with_capacity(alloc, flights.len())?;
     for flight in flights {
-        next.push(next_beside(
-            alloc, settings, flights, slots, minutes, flight,
-        )?)?;
+        next.push(next_beside(alloc, settings, flights, slots, minutes, flight)?)?;
     }
     Ok(next)
 }

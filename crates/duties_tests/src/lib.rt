@@ -6,4 +6,6 @@ mod audits;
 #[cfg(test)]
 mod duties;
 #[cfg(test)]
+mod next;
+#[cfg(test)]
 mod rows;

@@ -1,5 +1,5 @@
 -- What the duties of an earlier timetable tell of those of a later one.
-use Rattle.std.specs.Prelude.{◌≡◌, ◌⊎◌, ◌-◌, ◌≤◌, ◌<◌, ◌≤ℤ◌, ◌&&◌, int_le, nat_eq, Bool, true, false, ℕ, ℤ, List, [], ◌∷◌, None, Option, Some, drop, filter, get_or, length, take}
+use Rattle.std.specs.Prelude.{◌≡◌, ◌⊎◌, ◌-◌, ◌≤◌, ◌<◌, ◌≤ℤ◌, ◌&&◌, int_le, nat_eq, Bool, false, ℕ, ℤ, List, [], ◌∷◌, None, Option, Some, drop, filter, get_or, length, take}
 use Rattle.crew_flights.specs.declared.flight.Flight.{Flight}
 use Rattle.crew_rules.specs.declared.settings.Settings.{Settings}
 use Rattle.crew_resource.specs.Members.{Each, Member}

@@ -1,5 +1,4 @@
-use Rattle.std.proofs.Common.{◌≡◌, ◌+◌, ◌-◌, ◌∙◌, ap, arith, length, min, subst, ℕ}
-use Rattle.crew_duty.specs.Machinery.Counts.{AreCounts}
+use Rattle.std.proofs.Common.{◌≡◌, ◌+◌, ◌∙◌, ap, arith, length, min, ℕ}
 use Rattle.crew_pairing.specs.Machinery.Listing.{from_place}
 use Rattle.crew_duty.proofs.Counts.{counts-more, sum-more, total-more}
 use Rattle.crew_duty.proofs.beside.count_beside.Goals as goal

@@ -1,4 +1,4 @@
-use Rattle.std.proofs.Common.{◌≡◌, ◌≤◌, ◌+◌, ◌++◌, ◌∙◌, List, ℕ, ap, sym, length, arith}
+use Rattle.std.proofs.Common.{◌≡◌, ◌+◌, ◌++◌, ◌∙◌, List, ℕ, ap, sym, length, arith}
 use Rattle.std.specs.List.{flat_map, range_with_len}
 use Rattle.crew_pairing.specs.Machinery.Listing.{from_place}
 use Rattle.crew_pairing.specs.declared.duty.Duty.{Duty}

@@ -1,9 +1,8 @@
-use Rattle.std.proofs.Common.{◌≡◌, ◌+◌, ◌++◌, ◌∷◌, [], ◌⊎◌, ap, inl, inr, get_or, sym, subst, take, ℤ}
-use Rattle.std.proofs.lemmas.List.{take_all, take_more}
+use Rattle.std.proofs.Common.{◌⊎◌, inl, inr, get_or, subst, take}
+use Rattle.std.proofs.lemmas.List.{take_more}
 use Rattle.crew_flights.specs.declared.flight.Flight.{Flight}
 use Rattle.crew_resource.specs.Members.{Member}
 use Rattle.crew_pairing.proofs.Tree.{Each-map, Each-push}
-use Rattle.crew_duty.specs.Machinery.Kept.{TellChanges}
 use Rattle.crew_duty.proofs.changes.add_changes.Goals as goal
 
 pub loop-flight-preserved : goal.loop-flight-preserved

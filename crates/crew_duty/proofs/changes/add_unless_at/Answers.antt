@@ -1,4 +1,4 @@
-use Rattle.std.proofs.Common.{◌≡◌, ◌∷◌, [], ◌∙◌, arith, inl, inr, of_z, to_z, w64}
+use Rattle.std.proofs.Common.{◌≡◌, ◌∷◌, [], arith, inl, inr, of_z, to_z, w64}
 use Rattle.std.proofs.lemmas.Int.{ints}
 use Rattle.crew_pairing.proofs.InList.{Member-left, Member-right}
 use Rattle.crew_duty.proofs.changes.add_unless_at.Goals as goal

@@ -1,9 +1,9 @@
-use Rattle.std.proofs.Common.{◌≡◌, ◌⊎◌, ℤ, List, arith, get_or, inl, inr, sym}
+use Rattle.std.proofs.Common.{◌⊎◌, ℤ, List, get_or, inl, inr}
 use Rattle.std.specs.Ordering.{int_cmp, is_lt}
 use Rattle.std.specs.Cmp.{IsStrictWeakOrder, int_cmp_total}
 use Rattle.std.proofs.lemmas.List.Sorted.{ranks_by, sorted_far}
 use Rattle.crew_flights.specs.declared.flight.Flight.{Flight}
-use Rattle.crew_resource.specs.Members.{Each, Member}
+use Rattle.crew_resource.specs.Members.{Member}
 use Rattle.crew_pairing.proofs.Tree.{Each-map}
 use Rattle.crew_duty.specs.Machinery.Kept.{TellChanges}
 use Rattle.crew_duty.proofs.InPlace.{Member-shuffled}

@@ -34,8 +34,7 @@ pub returns-clause-too_many : goal.returns-clause-too_many
 returns-clause-too_many g c = λ e.
     let s = c.args.settings.now in
     let now = c.args.timetable.now in
-    let fs : c.deref-7.result.now ≡ flights_of now = c.deref-7.ensures.value ∙ c.in_ok-flights.ensures.held in
-    (
+    let fs : c.deref-7.result.now ≡ flights_of now = c.deref-7.ensures.value ∙ c.in_ok-flights.ensures.held in (
       all_duties s (flights_of now),
       all-duties s (flights_of now) (flights-of-timetable now c.held_flights-2.ensures.sound),
       subst (λ (l : List Flight). 200_000 < length (all_duties s l)) fs (c.list_beside.ensures.too_many e),

@@ -1,4 +1,4 @@
-use Rattle.std.proofs.Common.{◌≤◌, ◌<◌, ◌-◌, ap, arith, get_or, length}
+use Rattle.std.proofs.Common.{◌<◌, ◌-◌, ap, arith, get_or, length}
 use Rattle.std.proofs.lemmas.Bool.Decides.{nat_tests}
 use Rattle.crew_pairing.specs.declared.duty.Duty.{Duty}
 use Rattle.crew_duty.specs.Machinery.Kept.{first_of}
