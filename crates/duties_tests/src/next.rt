@@ -8,28 +8,26 @@ use std::fmt::Write;
 use std::test::Fail;
 use std::thread::Threads;
 
-const DAYS: i64 = 9;
+const DAYS: u8 = 9;
 
 // Five flights a day.
-const DAILY: i64 = 5;
-
-const SHUTTLES: i64 = DAYS * DAILY;
+const SHUTTLES: u8 = 45;
 
 // A flight of a number between New York and Boston, so many minutes after noon UTC of the first day.
-fn hop(number: i64, out: bool, after: i64, minutes: i64, price: i64) -> Result<Flight, Fail> {
+fn hop(number: u32, out: bool, after: u32, minutes: u8, price: i64) -> Result<Flight, Fail> {
     let ends = [
         Code::new(*b"JFK").ok_or("JFK")?,
         Code::new(*b"BOS").ok_or("BOS")?,
     ];
-    let start = read_minute(b"2025-07-01T12:00")?.get();
-    let dep = Minute::new(start + after).ok_or("dep")?;
-    let report = Minute::new(start + after - 60).ok_or("report")?;
+    let departs = read_minute(b"2025-07-01T12:00")?.get() + i64::from(after);
+    let dep = Minute::new(departs).ok_or("dep")?;
+    let report = Minute::new(departs - 60).ok_or("report")?;
     Ok(Flight {
-        id: FlightId::new(number as u32).ok_or("id")?,
+        id: FlightId::new(number).ok_or("id")?,
         from: ends[usize::from(!out)],
         to: ends[usize::from(out)],
         dep,
-        arr: Minute::new(start + after + minutes).ok_or("arr")?,
+        arr: Minute::new(departs + i64::from(minutes)).ok_or("arr")?,
         report_clock: Zone::read(b"EST5EDT,M3.2.0,M11.1.0")?.clock(report),
         price,
     })
@@ -37,15 +35,15 @@ fn hop(number: i64, out: bool, after: i64, minutes: i64, price: i64) -> Result<F
 
 // The k-th flight of a shuttle, two hours after the one before; those of a day have numbers far
 // apart.
-fn shuttle(k: i64) -> Result<Flight, Fail> {
+fn shuttle(k: u8) -> Result<Flight, Fail> {
     let day = k % DAYS;
     let turn = k / DAYS;
     hop(
-        1 + k,
+        1 + u32::from(k),
         turn % 2 == 0,
-        1_440 * day + 120 * turn,
+        1_440 * u32::from(day) + 120 * u32::from(turn),
         60,
-        1_000 + k,
+        1_000 + i64::from(k),
     )
 }
 
@@ -107,6 +105,15 @@ fn both_ways<R: Threads + Sync + AllocGlobal>(
     Ok((texts(alloc, &beside)?, texts(alloc, &anew)?))
 }
 
+// A timetable after some edits.
+fn edited(alloc: Global, earlier: &Timetable, edits: &[Edit]) -> Result<Timetable, Fail> {
+    let mut timetable = earlier.copy(alloc)?;
+    for edit in edits {
+        timetable.apply(edit)?;
+    }
+    Ok(timetable)
+}
+
 #[test]
 fn beside_is_anew(rt: HostRuntime) -> Result<(), Fail> {
     let alloc = rt.alloc();
@@ -136,10 +143,7 @@ fn beside_is_anew(rt: HostRuntime) -> Result<(), Fail> {
     ];
     let earlier = shuttles(alloc)?;
     for edits in cases {
-        let mut timetable = earlier.copy(alloc)?;
-        for edit in edits {
-            timetable.apply(edit)?;
-        }
+        let timetable = edited(alloc, &earlier, edits)?;
         let (beside, anew) = both_ways(&rt, &settings, &earlier, &timetable)?;
         assert_eq!(rt; beside.as_str(), anew.as_str());
         assert!(rt; !anew.as_str().is_empty());
@@ -157,7 +161,7 @@ fn beside_all_or_nothing(rt: HostRuntime) -> Result<(), Fail> {
     for k in 0..SHUTTLES {
         others.apply(&Edit::Price {
             id: shuttle(k)?.id,
-            price: 3 * k,
+            price: 3 * i64::from(k),
         })?;
     }
     for (before, after) in [(&earlier, &others), (&none, &earlier), (&earlier, &none)] {
@@ -183,7 +187,7 @@ fn reached<R: Threads + Sync + AllocGlobal>(
     for day in 0..DAYS {
         add(
             &mut earlier,
-            hop(10 + day, true, 1_440 * 3 * day, 60, 1_000)?,
+            hop(10 + u32::from(day), true, 4_320 * u32::from(day), 60, 1_000)?,
         )?;
     }
     let mut timetable = earlier.copy(alloc)?;
@@ -225,14 +229,17 @@ fn reach_ends_with_table_b(rt: HostRuntime) -> Result<(), Fail> {
     Ok(())
 }
 
-// Six flights every half hour, by turns out and back.
-fn add_dense(timetable: &mut Timetable, waves: i64) -> Result<(), Fail> {
+// One of the flights of a half hour, by turns out and back.
+fn dense(wave: u8, copy: u8) -> Result<Flight, Fail> {
+    let number = 1 + 6 * u32::from(wave) + u32::from(copy);
+    hop(number, wave % 2 == 0, 30 * u32::from(wave), 30, 0)
+}
+
+// Six flights every half hour.
+fn add_dense(timetable: &mut Timetable, waves: u8) -> Result<(), Fail> {
     for wave in 0..waves {
-        for copy in 0..6 {
-            add(
-                timetable,
-                hop(1 + 6 * wave + copy, wave % 2 == 0, 30 * wave, 30, 0)?,
-            )?;
+        for copy in 0..6u8 {
+            add(timetable, dense(wave, copy)?)?;
         }
     }
     Ok(())
@@ -249,10 +256,16 @@ fn too_many_beside(rt: HostRuntime) -> Result<(), Fail> {
     };
     settings.check()?;
     let mut earlier = Timetable::new(alloc);
-    for day in 0..60 {
+    for day in 0..60u8 {
         add(
             &mut earlier,
-            hop(1_000 + day, true, 1_440 * (3 + day), 60, 0)?,
+            hop(
+                1_000 + u32::from(day),
+                true,
+                1_440 * (3 + u32::from(day)),
+                60,
+                0,
+            )?,
         )?;
     }
     let mut timetable = earlier.copy(alloc)?;
