@@ -83,8 +83,8 @@ fn next_beside(
     next_of(alloc, settings, flights, slots, before)
 }
 
-/// What may follow each flight that may be a leg of a duty that is listed anew. Such a flight departs
-/// within a duty's length of one of some minutes.
+/// What may follow each flight that may be a leg of a duty that is listed anew. Such a flight
+/// departs within a duty's length of one of some minutes.
 pub(crate) fn all_next_beside(
     alloc: Global,
     settings: &Settings,

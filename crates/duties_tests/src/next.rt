@@ -13,7 +13,8 @@ const DAYS: u8 = 9;
 // Five flights a day.
 const SHUTTLES: u8 = 45;
 
-// A flight of a number between New York and Boston, so many minutes after noon UTC of the first day.
+// A flight of a number between New York and Boston, so many minutes after noon UTC of the first
+// day.
 fn hop(number: u32, out: bool, after: u32, minutes: u8, price: i64) -> Result<Flight, Fail> {
     let ends = [
         Code::new(*b"JFK").ok_or("JFK")?,

@@ -54,8 +54,8 @@ abbrev pub ClimbByFirst : List Duty → Type 0
 ClimbByFirst duties = (i j : ℕ) (d : Duty) → i ≤ j → j < length duties
     → first_of (get_or duties i d).key ≤ first_of (get_or duties j d).key
 
--- earlier duties, and when flights depart that have come, gone or changed since: where none of these
--- departs while a duty of a flight may last, the flight's duties are those of before
+-- earlier duties, and when flights depart that have come, gone or changed since: where none of
+-- these departs while a duty of a flight may last, the flight's duties are those of before
 pub record IsPast (s : Settings) (flights : List Flight) (duties : List Duty)
     (minutes : List ℤ) : Type 0 where
   pub duties_climb : ClimbByFirst duties
@@ -87,7 +87,8 @@ MayBeKept s flights duties f None = Unit {0}
 MayBeKept s flights duties f (Some block) = IsKept s flights duties f block
 
 -- of each flight, what is known of its duties
-abbrev pub AreKept : Settings → List Flight → List Duty → List Flight → List (Option Block) → Type 0
+abbrev pub AreKept : Settings → List Flight → List Duty → List Flight → List (Option Block)
+    → Type 0
 AreKept s flights duties [] [] = Unit {0}
 AreKept s flights duties [] (block ∷ blocks) = ⊥
 AreKept s flights duties (f ∷ fs) [] = ⊥
