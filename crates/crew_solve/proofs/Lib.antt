@@ -1,6 +1,7 @@
 pub mod Amounts
 pub mod Listed
 pub mod Pairings
+pub mod Floored
 pub mod Boarded
 pub mod Departing
 pub mod Fronted

@@ -1,11 +1,13 @@
 //! The least pairings of all that comes home.
-ghost use Rattle.std.specs.Prelude.{◌≡◌, ◌<◌, ◌≤◌, ℕ, IfOk, None, OnOk, Some, length, slice_get};
+ghost use Rattle.std.specs.Prelude.{◌≡◌, ◌<◌, ◌≤◌, ℕ, IfOk, None, OnOk, Some, [], get_or, length, slice_get};
 ghost use Rattle.std.specs.List.{flat_map};
 ghost use Rattle.crew_pairing.specs.Events.{IsSound, departure_of};
 ghost use Rattle.crew_pairing.specs.declared.duty.Duty.{Duty};
 ghost use Rattle.crew_pool.specs.LabelWalks.{walk_of_label};
 ghost use Rattle.crew_resource.specs.Machinery.Sum.{LiesWithin};
 ghost use Rattle.crew_resource.specs.Members.{Each, Member};
+ghost use Rattle.crew_solve.specs.Machinery.Floors as Floors;
+ghost use Rattle.crew_solve.specs.Machinery.Floors.{IsFloor};
 ghost use Rattle.crew_solve.specs.Machinery.Homes as Spec;
 ghost use Rattle.crew_solve.specs.Machinery.Keeps.{keep, keep_all};
 ghost use Rattle.crew_solve.specs.Machinery.Homes.{HasPay, IsFit, IsShowable};
@@ -95,7 +97,43 @@ fn keep_label(
     kept.keep(pairing)
 }
 
-// Keeps the least of the pairings that a duty ends.
+// Keeps the least of the pairings of the labels that board a duty.
+fn keep_boarding(
+    alloc: Global,
+    sweep: &Sweep,
+    trip_rig: u32,
+    index: usize,
+    rank: u32,
+    duty: &Duty,
+    minute: i64,
+    kept: &mut Kept,
+) -> Result<(), AllocError>
+    requires rate { trip_rig ≡ sweep.now.net.settings.trip_rig }
+    requires index { index < length sweep.now.net.by_report }
+    requires duty { slice_get sweep.now.net.duties rank ≡ Some duty.now }
+    requires own { slice_get (in_order sweep.now.net) index ≡ Some (departure_of duty.now) }
+    requires minute { minute ≡ duty.now.release }
+    requires within { LiesWithin 2_147_483_648 minute }
+    requires sound { IsSound duty.now }
+    requires fit { IsFit sweep.now }
+    ensures { OnOk result (kept.new ≡ keep_all kept.old (Spec.ended_by sweep.now index duty.now)) }
+{
+    let view = View::new(sweep.resource(), sweep.pool(index), duty, rank);
+    for label in view.iter() {
+        keep_label(alloc, sweep, trip_rig, minute, kept, &label)?;
+    }
+    Ok(())
+}
+
+// What the pairings that a duty ends cost at least.
+fn least_by(duty: &Duty, floor: i64) -> i64
+    requires { IsSound duty.now }
+    ensures { result ≡ Floors.least_by duty.now floor }
+{
+    floor.saturating_add(i64::from(duty.pay) - duty.price)
+}
+
+// Keeps the least of the pairings that a duty ends, and makes none where the duty's cost too much.
 fn keep_by(
     alloc: Global,
     sweep: &Sweep,
@@ -103,6 +141,7 @@ fn keep_by(
     index: usize,
     rank: u32,
     duty: &Duty,
+    floor: i64,
     kept: &mut Kept,
 ) -> Result<(), AllocError>
     requires rate { trip_rig ≡ sweep.now.net.settings.trip_rig }
@@ -110,15 +149,15 @@ fn keep_by(
     requires duty { slice_get sweep.now.net.duties rank ≡ Some duty.now }
     requires own { slice_get (in_order sweep.now.net) index ≡ Some (departure_of duty.now) }
     requires sound { IsSound duty.now }
+    requires floor { IsFloor floor (get_or sweep.now.pools index []) }
     requires fit { IsFit sweep.now }
     ensures { OnOk result (kept.new ≡ keep_all kept.old (Spec.ended_by sweep.now index duty.now)) }
 {
     let minute = i64::from(duty.release);
-    let view = View::new(sweep.resource(), sweep.pool(index), duty, rank);
-    for label in view.iter() {
-        keep_label(alloc, sweep, trip_rig, minute, kept, &label)?;
+    if !kept.wants(least_by(duty, floor)) {
+        return Ok(());
     }
-    Ok(())
+    keep_boarding(alloc, sweep, trip_rig, index, rank, duty, minute, kept)
 }
 
 // Keeps the least of what comes home by the duty of a rank.
@@ -128,6 +167,7 @@ fn keep_at(
     trip_rig: u32,
     index: usize,
     rank: u32,
+    floor: i64,
     kept: &mut Kept,
 ) -> Result<(), AllocError>
     requires rate { trip_rig ≡ sweep.now.net.settings.trip_rig }
@@ -135,6 +175,7 @@ fn keep_at(
     requires rank { rank < length sweep.now.net.duties }
     requires own { (d : Duty) → slice_get sweep.now.net.duties rank ≡ Some d
         → slice_get (in_order sweep.now.net) index ≡ Some (departure_of d) }
+    requires floor { IsFloor floor (get_or sweep.now.pools index []) }
     requires fit { IsFit sweep.now }
     ensures { OnOk result (kept.new ≡ keep_all kept.old (Spec.home_at sweep.now index rank)) }
 {
@@ -142,7 +183,18 @@ fn keep_at(
     if duty.to != sweep.base() {
         return Ok(());
     }
-    keep_by(alloc, sweep, trip_rig, index, rank, duty, kept)
+    keep_by(alloc, sweep, trip_rig, index, rank, duty, floor, kept)
+}
+
+// The least duty pay of a departure's labels.
+fn floor_of(labels: &[(PairingVector, LabelWalk)]) -> i64
+    ensures { IsFloor result labels.now }
+{
+    let mut floor = i64::MAX;
+    for (vector, _) in labels {
+        floor = floor.min(vector.duty_pay);
+    }
+    floor
 }
 
 // Keeps the least of what comes home by the duties of a departure.
@@ -160,8 +212,9 @@ fn keep_from(
 {
     let place = sweep.net().by_report()[index] as usize;
     let ranks = sweep.net().leaving(place);
+    let floor = floor_of(sweep.pool(index).as_slice());
     for &rank in ranks {
-        keep_at(alloc, sweep, trip_rig, index, rank, kept)?;
+        keep_at(alloc, sweep, trip_rig, index, rank, floor, kept)?;
     }
     Ok(())
 }

@@ -1,6 +1,6 @@
 //! The least of many pairings.
 
-ghost use Rattle.std.specs.Prelude.{◌≡◌, IfOk, OnOk, false, slice_get};
+ghost use Rattle.std.specs.Prelude.{◌≡◌, ◌≤ℤ◌, IfOk, OnOk, false, slice_get};
 ghost use Rattle.std.proofs.Common.{refl};
 ghost use Rattle.std.specs.Ordering.{as_partial_cmp, eq_by_cmp};
 ghost use Rattle.std.specs.Cmp.{eq_by_cmp_equiv, partial_equiv_from_equiv, partial_order_from_total};
@@ -100,9 +100,10 @@ impl Kept {
         }
     }
 
-    /// Whether a pairing of this cost may be among the least.
+    /// Whether a pairing that costs this or more may be among the least.
     pub(crate) fn wants(&self, cost: i64) -> bool
-        ensures { result ≡ false → (p : PairingOf) → p.cost ≡ cost → Spec.keep self.now p ≡ self.now }
+        ensures { result ≡ false → (p : PairingOf) → cost ≤ℤ p.cost
+            → Spec.keep self.now p ≡ self.now }
     {
         if self.pairings.len() < self.limit {
             return true;

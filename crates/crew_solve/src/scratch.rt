@@ -186,5 +186,13 @@ pub fn solve_next<R: Threads + Sync>(
         → HasTooMany settings.now timetable.now }
 {
     let duties = list_duties(rt, alloc, settings, timetable)?;
-    Ok(solve_listed(rt, alloc, settings, timetable, duties, Some(earlier), workers)?)
+    Ok(solve_listed(
+        rt,
+        alloc,
+        settings,
+        timetable,
+        duties,
+        Some(earlier),
+        workers,
+    )?)
 }

@@ -4,6 +4,7 @@ use Rattle.std.proofs.lemmas.Int.{ints}
 use Rattle.crew_pairing.specs.Vectors.{reduced_cost}
 use Rattle.crew_solve.specs.Machinery.Homes.{pairing_at}
 use Rattle.crew_solve.specs.Machinery.Keeps.{keep}
+use Rattle.crew_solve.proofs.Floored.{as-much}
 use Rattle.crew_solve.proofs.Pairings.{has-pay, paired, shown-as}
 use Rattle.crew_vector.specs.declared.priced.PricedPairing.{PricedPairing}
 use Rattle.crew_solve.proofs.best.keep_label.Goals as goal
@@ -21,7 +22,8 @@ returns-then-not-wants c =
     let whole : to_z w64 (of_z w64 c.args.minute) ≡ c.args.minute = omega (arith, ints) in
     let is = shown-as b c.resource.result.now _ c.args.minute l.0 c.show-vector.result c.show-vector.ensures c.resource.ensures whole in
     let cost : to_z w64 (of_z w64 c.reduced_cost.result) ≡ c.reduced_cost.result = omega (arith, ints) in
-    sym (c.wants.ensures c.if-not-wants.true (pairing_at b c.args.minute l) (sym (cost ∙ (c.reduced_cost.ensures ∙ ap reduced_cost is))))
+    let own = cost ∙ (c.reduced_cost.ensures ∙ ap reduced_cost is) in
+    sym (c.wants.ensures c.if-not-wants.true (pairing_at b c.args.minute l) (as-much _ _ own))
 
 pub returns : goal.returns
 returns c =

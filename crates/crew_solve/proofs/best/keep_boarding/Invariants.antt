@@ -1,7 +1,7 @@
 use Rattle.std.proofs.Common.{◌≡◌, map}
 use Rattle.crew_solve.specs.Machinery.Homes.{pairing_at}
 use Rattle.crew_solve.specs.Machinery.Keeps.{keep_all}
-use Rattle.crew_solve.proofs.best.keep_by.Given as goal
+use Rattle.crew_solve.proofs.best.keep_boarding.Given as goal
 
 abbrev pub invariant-loop-label : goal.invariant-loop-label
 invariant-loop-label l = l.kept ≡ keep_all l.initial.kept (map (pairing_at l.sweep l.duty.release) l.yielded)
