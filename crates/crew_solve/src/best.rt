@@ -197,6 +197,31 @@ fn floor_of(labels: &[(PairingVector, LabelWalk)]) -> i64
     floor
 }
 
+// Whether one of the duties of these ranks ends at the base.
+fn comes_home(sweep: &Sweep, ranks: &[u32]) -> bool {
+    let duties = sweep.net().duties().as_slice();
+    for &rank in ranks {
+        if let Some(duty) = duties.get(rank as usize) {
+            if duty.to == sweep.base() {
+                return true;
+            }
+        }
+    }
+    false
+}
+
+// A floor of a departure's labels: the least duty pay where one of its duties comes home.
+fn floor_at(sweep: &Sweep, index: usize, ranks: &[u32]) -> i64
+    requires index { index < length sweep.now.net.by_report }
+    ensures { IsFloor result (get_or sweep.now.pools index []) }
+{
+    let pool = sweep.pool(index);
+    if !comes_home(sweep, ranks) {
+        return i64::MIN;
+    }
+    floor_of(pool.as_slice())
+}
+
 // Keeps the least of what comes home by the duties of a departure.
 fn keep_from(
     alloc: Global,
@@ -212,7 +237,7 @@ fn keep_from(
 {
     let place = sweep.net().by_report()[index] as usize;
     let ranks = sweep.net().leaving(place);
-    let floor = floor_of(sweep.pool(index).as_slice());
+    let floor = floor_at(sweep, index, ranks);
     for &rank in ranks {
         keep_at(alloc, sweep, trip_rig, index, rank, floor, kept)?;
     }
