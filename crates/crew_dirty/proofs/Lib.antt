@@ -10,3 +10,4 @@ pub mod Nodes
 pub mod Priced
 pub mod Unchanging
 pub mod Fronts
+pub mod BasePlaces

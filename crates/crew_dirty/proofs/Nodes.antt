@@ -19,7 +19,7 @@ use Rattle.crew_net.proofs.Longest.{stands}
 use Rattle.crew_net.proofs.NodeList.{no-nodes, node-past, node-there}
 use Rattle.crew_net.proofs.Segments.{le-or-lt}
 use Rattle.crew_net.specs.Layers.{IsPath}
-use Rattle.crew_net.specs.Nets.{IsNodeOf, IsSlot, Net, nodes_of}
+use Rattle.crew_net.specs.Nets.{IsNodeOf, Net, nodes_of}
 use Rattle.crew_net.specs.declared.node.Node.{Node}
 use Rattle.crew_pairing.specs.Duties.{RiseByKey}
 use Rattle.crew_pairing.specs.Keys.{key_cmp}
@@ -42,13 +42,6 @@ one-duty duties rising d e m n same =
       ]
       | inr l ↦ absurd (less-equal (key_cmp e.key d.key) (rises duties rising j.0 i.0 e d l j.1 i.1) (key-tie d e same))
     ]
-
--- the base and the rank of a slot
-pub slot-parts : (net : Net) (node : Node) (slot : ℕ) (p : IsSlot net node slot) → (slot % 16 ≡ p.base) × (slot / 16 ≡ p.rank)
-slot-parts net node slot p =
-    let value = p.value in
-    let few = p.few_bases in
-    (omega (arith, value, few), omega (arith, value, few))
 
 module _ (t u : Timetable) (old new : Net) (c : Carried) (over : IsCarriedOver t u old new c) (b r : ℕ) (node : Node) (d : Duty)
     (base : slice_get new.bases b ≡ Some node.base) (known : slice_get new.duties r ≡ Some d) (key : d.key ≡ node.key) where

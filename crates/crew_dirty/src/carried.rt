@@ -13,6 +13,7 @@ ghost use Rattle.crew_resource.specs.Members.{Member};
 
 use crate::bases::same_prices;
 use crate::flags::flag;
+use crate::node_places::place_of;
 use crate::places::departure_places;
 use crate::reach::unreached_duties;
 use crate::same::same_duties;
@@ -103,8 +104,8 @@ impl Carried {
             → IsCarriedOver t u old net.now self.now
             → (IsTrue result ↔ IsKept t u old net.now node.now) }
     {
-        match net.slot(node) {
-            Some(slot) => self.is_kept_at(slot % 16, slot / 16),
+        match place_of(net, node) {
+            Some(place) => self.is_kept_at(place.base, place.rank),
             None => false,
         }
     }
@@ -134,15 +135,15 @@ impl Carried {
             → (IsTrue result ↔ IsUnchanged t u old net.now (S.standing_at standings.now)
             node.now) }
     {
-        let Some(slot) = net.slot(node) else {
+        let Some(place) = place_of(net, node) else {
             return false;
         };
-        let untouched = self.is_untouched_at(slot % 16, slot / 16);
+        let untouched = self.is_untouched_at(place.base, place.rank);
         if !untouched {
             return false;
         }
         let _arrivals = net.arrivals();
-        let departure = self.departure(slot / 16);
+        let departure = self.departure(place.rank);
         if departure >= net.departures().len() {
             return false;
         }

@@ -9,6 +9,7 @@ mod bases;
 mod carried;
 mod flags;
 pub mod laws;
+mod node_places;
 mod places;
 mod reach;
 mod same;

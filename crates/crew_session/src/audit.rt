@@ -7,8 +7,8 @@ ghost use Rattle.crew_session.specs.Faults.{IsLineFault};
 
 use crate::fault::SessionFault;
 use crate::lines::{write_audit, write_refused};
-use crew_version::Version;
 use crew_audit::tally_all;
+use crew_version::Version;
 use std::alloc::Global;
 use std::io::Write;
 

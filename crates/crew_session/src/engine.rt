@@ -8,8 +8,8 @@ ghost use Rattle.crew_session.specs.Entries.{entry_of};
 ghost use Rattle.crew_version.specs.Versions.{IsRight, Snapshot};
 
 use crate::engine_fault::EngineFault;
-use crew_version::Version;
 use crew_flights::Edit;
+use crew_version::Version;
 use std::thread::Threads;
 
 /// What takes edits and keeps a version, on a runtime that starts threads.

@@ -10,9 +10,9 @@ ghost use Rattle.crew_session.specs.Lines as Spec;
 
 use crate::fault::SessionFault;
 use crate::lines::{put_key, put_number, put_signed, put_walk, write_line};
-use crew_version::Version;
 use crew_flights::Code;
 use crew_pairing::{Key, PairingVector, Walk};
+use crew_version::Version;
 use std::alloc::{AllocError, Global};
 use std::io::Write;
 

@@ -9,11 +9,11 @@ ghost use Rattle.crew_session.specs.Verdicts.{verdict_text};
 ghost use Rattle.crew_version.specs.Versions.{verdicts_of};
 
 use crate::fault::SessionFault;
-use crew_version::Version;
 use crew_audit::Tally;
 use crew_flights::Verdict;
 use crew_pairing::{Key, Leg, Walk};
 use crew_vector::PricedPairing;
+use crew_version::Version;
 use std::alloc::{AllocError, Global};
 use std::io::Write;
 

@@ -9,8 +9,8 @@ ghost use Rattle.crew_session.specs.Pairings.{ShowsCheapest};
 
 use crate::fault::SessionFault;
 use crate::lines::{pairing_line, put_number, write_line};
-use crew_version::Version;
 use crew_vector::PricedPairing;
+use crew_version::Version;
 use std::alloc::{AllocError, Global};
 use std::io::Write;
 

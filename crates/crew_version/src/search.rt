@@ -9,10 +9,10 @@ ghost use Rattle.crew_version.specs.Machinery.Kept.{IsRightEarlier, IsSolutionOf
 
 use crate::fault::VersionFault;
 use crate::same::are_same;
-use crew_duty::DutyFault;
+use crew_duty::{DutyFault, list_next};
 use crew_flights::Timetable;
 use crew_rules::Settings;
-use crew_solve::{Solution, solve, solve_next};
+use crew_solve::{Solution, solve, solve_listed};
 use std::alloc::{AllocError, Global};
 use std::sync::Arc;
 use std::thread::Threads;
@@ -32,16 +32,20 @@ fn solution_of<R: Threads + Sync>(
     timetable: &Timetable,
     earlier: Option<&Earlier>,
 ) -> Result<Solution, DutyFault>
-    requires { IsChecked settings.now }
+    requires checked { IsChecked settings.now }
+    requires earlier { IfSome earlier (λ e. IsRightEarlier settings.now e.now) }
     ensures ok { IfOk result (IsSolutionOf settings.now timetable.now) }
     ensures few { OnOk result (HasFew settings.now timetable.now) }
     ensures too_many { result ≡ Err DutyFault.TooManyDuties
         → HasTooMany settings.now timetable.now }
 {
-    match earlier {
-        Some(earlier) => solve_next(rt, alloc, settings, timetable, earlier.solution, 0),
-        None => solve(rt, alloc, settings, timetable),
-    }
+    let Some(earlier) = earlier else {
+        return solve(rt, alloc, settings, timetable);
+    };
+    let solution = earlier.solution;
+    let before = solution.net().duties();
+    let duties = list_next(rt, alloc, settings, earlier.timetable, before, timetable)?;
+    Ok(solve_listed(rt, alloc, settings, timetable, duties, Some(solution), 0)?)
 }
 
 // The solution of a timetable found and put where versions share it.
@@ -52,7 +56,8 @@ fn found<R: Threads + Sync>(
     timetable: &Timetable,
     earlier: Option<&Earlier>,
 ) -> Result<Arc<Solution, Global>, VersionFault>
-    requires { IsChecked settings.now }
+    requires checked { IsChecked settings.now }
+    requires earlier { IfSome earlier (λ e. IsRightEarlier settings.now e.now) }
     ensures ok { IfOk result (λ solution. IsSolutionOf settings.now timetable.now
         (arc_value solution)) }
     ensures few { OnOk result (HasFew settings.now timetable.now) }

@@ -3,8 +3,8 @@
 use crew_flights::{Code, Edit, Flight, FlightId, Verdict};
 use crew_rules::Settings;
 use crew_session::{Engine, EngineFault, Plain};
-use crew_version::Version;
 use crew_time::{ClockMinute, Minute, read_minute};
+use crew_version::Version;
 use std::alloc::{AllocError, Global};
 use std::test::Fail;
 use std::thread::Threads;

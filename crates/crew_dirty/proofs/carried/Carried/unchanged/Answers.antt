@@ -3,7 +3,6 @@ use Rattle.std.specs.Prelude.{slice_get}
 use Rattle.crew_net.proofs.InTime.{item-at}
 use Rattle.crew_pairing.proofs.Tree.{slice_get-within}
 use Rattle.crew_pairing.specs.Events.{departure_of}
-use Rattle.crew_dirty.proofs.Nodes.{slot-parts}
 use Rattle.crew_dirty.proofs.Sames.{not-both}
 use Rattle.crew_dirty.proofs.Unchanging.{are-same, is-unchanged, is-untouched}
 use Rattle.crew_dirty.proofs.carried.Carried.unchanged.Goals as goal
@@ -13,15 +12,15 @@ returns-then-not-untouched g c = λ t u old over.
     let net = c.args.net.now in
     let own = c.args.self.now in
     let node = c.args.node.now in
-    let slot = c.in-Some.ensures.is in
-    let parts = slot-parts net node c.in-Some.slot slot in
-    let flags : c.is_untouched_at-untouched.result ≡ (get_or own.bases slot.base false && get_or own.same slot.rank false) =
-    c.is_untouched_at-untouched.ensures ∙ (λ i. get_or own.bases (parts.0 i) false && get_or own.same (parts.1 i) false) in (
+    let known = c.in-Some.ensures.is in
+    let at_node = c.in-Some.place in
+    let flags : c.is_untouched_at-untouched.result ≡ (get_or own.bases at_node.base false && get_or own.same at_node.rank false) =
+    c.is_untouched_at-untouched.ensures in (
       λ z. absurd (let q : ⊥ = (cc) in q),
       λ k.
           absurd
           (not-both c.is_untouched_at-untouched.result
-          (flags ∙ is-untouched t u old net own over slot.base slot.rank node slot.is_rank.0 slot.is_base slot.is_rank.2 slot.is_rank.1.key (g.S.Standings.standing_at c.args.standings.now) k)
+          (flags ∙ is-untouched t u old net own over at_node.base at_node.rank node known.is_rank.0 known.is_base known.is_rank.2 known.is_rank.1.key (g.S.Standings.standing_at c.args.standings.now) k)
           c.if-not-untouched.true),
     )
 
@@ -29,10 +28,10 @@ pub returns-then-departure-departures : goal.returns-then-departure-departures
 returns-then-departure-departures g c = λ t u old over.
     let net = c.args.net.now in
     let own = c.args.self.now in
-    let slot = c.in-Some.ensures.is in
-    let parts = slot-parts net c.args.node.now c.in-Some.slot slot in
-    let place = c.departure-departure.ensures ∙ ap (λ (r : ℕ). get_or own.departures r 0) parts.1 in
-    let within = slice_get-within net.departures (get_or own.departures slot.rank 0) (departure_of slot.is_rank.0) (over.leaves slot.rank slot.is_rank.0 slot.is_rank.2) in
+    let known = c.in-Some.ensures.is in
+    let at_node = c.in-Some.place in
+    let place = c.departure-departure.ensures in
+    let within = slice_get-within net.departures (get_or own.departures at_node.rank 0) (departure_of known.is_rank.0) (over.leaves at_node.rank known.is_rank.0 known.is_rank.2) in
     let events = ap length c.departures.ensures.events in
     let past = c.if-departure-departures.true in
     absurd (omega (arith, place, within, events, past))
@@ -58,15 +57,15 @@ returns g c = λ t u old over.
     let net = c.args.net.now in
     let own = c.args.self.now in
     let node = c.args.node.now in
-    let slot = c.in-Some.ensures.is in
-    let parts = slot-parts net node c.in-Some.slot slot in
-    let d = slot.is_rank.0 in
-    let place = c.departure-departure.ensures ∙ ap (λ (r : ℕ). get_or own.departures r 0) parts.1 in
-    let at : slice_get net.departures c.departure-departure.result ≡ Some (departure_of d) = ap (slice_get net.departures) place ∙ over.leaves slot.rank d slot.is_rank.2 in
+    let known = c.in-Some.ensures.is in
+    let at_node = c.in-Some.place in
+    let d = known.is_rank.0 in
+    let place = c.departure-departure.ensures in
+    let at : slice_get net.departures c.departure-departure.result ≡ Some (departure_of d) = ap (slice_get net.departures) place ∙ over.leaves at_node.rank d known.is_rank.2 in
     let window = c.window.ensures (departure_of d) at in
     let standing = g.S.Standings.standing_at c.args.standings.now in
-    let flags : (get_or own.bases slot.base false && get_or own.same slot.rank false) ≡ true =
-    sym (c.is_untouched_at-untouched.ensures ∙ (λ i. get_or own.bases (parts.0 i) false && get_or own.same (parts.1 i) false)) ∙ c.if-not-untouched.false in (
-      λ e. is-unchanged t u old net own over slot.base slot.rank node d slot.is_base slot.is_rank.2 slot.is_rank.1.key standing c.window.result window c.arrivals-arrivals.ensures.exact flags (c.are_same_before.ensures.0 e),
-      λ k. c.are_same_before.ensures.1 (are-same t u old net own over slot.base slot.rank node d slot.is_base slot.is_rank.2 slot.is_rank.1.key standing c.window.result window c.arrivals-arrivals.ensures.exact k),
+    let flags : (get_or own.bases at_node.base false && get_or own.same at_node.rank false) ≡ true =
+    sym c.is_untouched_at-untouched.ensures ∙ c.if-not-untouched.false in (
+      λ e. is-unchanged t u old net own over at_node.base at_node.rank node d known.is_base known.is_rank.2 known.is_rank.1.key standing c.window.result window c.arrivals-arrivals.ensures.exact flags (c.are_same_before.ensures.0 e),
+      λ k. c.are_same_before.ensures.1 (are-same t u old net own over at_node.base at_node.rank node d known.is_base known.is_rank.2 known.is_rank.1.key standing c.window.result window c.arrivals-arrivals.ensures.exact k),
     )
