@@ -19,7 +19,7 @@ ghost use Rattle.crew_sweep.specs.Sweeps.{AreTurns, in_order, keyed};
 
 use crate::earlier::Earlier;
 use crew_anchor::AnchoredResource;
-use crew_carry::{Carrier, are_alike};
+use crew_carry::{Carrier, Twins, are_alike};
 use crew_net::Net;
 use crew_pool::{Pool, Walks};
 use std::alloc::{AllocError, Global};
@@ -125,24 +125,51 @@ pub(crate) fn keep_one(
     Ok(true)
 }
 
-// Whether the pool of the departure at a place has the labels that it had.
+// Whether something may come of a comparison: whether duties of some ranks arrive where the same
+// duties arrived before and no change is marked. No clause says so, since it is there for speed.
+fn is_open(twins: &Twins, changed: &[bool], places: &[u32], ranks: &[u32]) -> bool
+    requires ranks { (rank : ℕ) → Member ranks.now rank → rank < length places.now }
+    requires places { (rank : ℕ) → Member ranks.now rank
+        → get_or places.now rank 0 < length changed.now }
+    requires twins { length twins.now.arrivals ≡ length changed.now }
+{
+    for rank in ranks {
+        let place = places[*rank as usize] as usize;
+        if !changed[place] && twins.arrival(place).is_some() {
+            return true;
+        }
+    }
+    false
+}
+
+// Whether the pool of the departure at a place has the labels that it had; where nothing would come
+// of that it isn't looked at, and the answer is no.
 fn is_as_before(
     alloc: Global,
     earlier: &Earlier,
     net: &Net,
+    places: &[u32],
     place: usize,
     pool: &Pool<AnchoredResource>,
     walks: &Walks,
+    changed: &[bool],
 ) -> Result<bool, AllocError>
     requires twins { AreTwins earlier.now.sweep.now.net net.now earlier.now.twins.now }
     requires turns { AreTurns earlier.now.sweep.now.net earlier.now.turns.now }
-    requires laid { IsLaid earlier.now.sweep.now.net }
+    requires places { AreArrivalPlaces net.now places.now }
+    requires old_laid { IsLaid earlier.now.sweep.now.net }
+    requires laid { IsLaid net.now }
+    requires marks { length changed.now ≡ length net.now.arrivals }
     requires place { place < length net.now.departures }
     requires counts { AreCounted (λ (v : PairingVector). v.duties) walks.now true pool.now }
     ensures { result ≡ Ok true → (g : Departure) → slice_get net.now.departures place ≡ Some g
         → HaveSame (keyed net.now walks.now pool.now) (get_or (keyed_pools earlier.now.sweep.now)
         (departure_place (in_order earlier.now.sweep.now.net) g) []) }
 {
+    let open = is_open(earlier.twins, changed, places, net.leaving(place));
+    if !open {
+        return Ok(false);
+    }
     let Some(turn) = earlier.turn(net, place) else {
         return Ok(false);
     };
@@ -197,7 +224,7 @@ pub(crate) fn note(
         → HaveSame (keyed net.now walks.now pool.now) (get_or (keyed_pools earlier.now.sweep.now)
         (departure_place (in_order earlier.now.sweep.now.net) g) [])) }
 {
-    if !is_as_before(alloc, earlier, net, place, pool, walks)? {
+    if !is_as_before(alloc, earlier, net, places, place, pool, walks, changed)? {
         mark(changed, places, net.leaving(place));
     }
     Ok(())
