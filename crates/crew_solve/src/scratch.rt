@@ -1,5 +1,5 @@
 //! From a timetable to its fronts and its best pairing.
-ghost use Rattle.std.specs.Prelude.{◌≡◌, ◌≤◌, Err, IfOk, IfSome, List, OnOk, length};
+ghost use Rattle.std.specs.Prelude.{◌≡◌, ◌≤◌, Err, IfOk, IfSome, List, OnOk, length, true};
 ghost use Rattle.std.specs.Arc.{arc_value};
 ghost use Rattle.crew_net.specs.Nets.{IsNetOf};
 ghost use Rattle.crew_pairing.specs.Duties.{AreDuties, HasFew, HasTooMany};
@@ -37,6 +37,22 @@ fn net_of(
 {
     let duties = Arc::new(alloc, duties)?;
     Ok(Arc::new(alloc, Net::build(alloc, settings, timetable, duties)?)?)
+}
+
+// The network of all legal duties, beside that of an earlier timetable under the same settings.
+fn net_beside(
+    alloc: Global,
+    earlier: &Net,
+    timetable: &Timetable,
+    duties: Duties,
+) -> Result<Arc<Net, Global>, AllocError>
+    requires duties { AreDuties earlier.now.settings timetable.now duties }
+    requires few { length duties ≤ 200_000 }
+    ensures { IfOk result (λ net. IsNetOf earlier.now.settings timetable.now duties
+        (arc_value net)) }
+{
+    let duties = Arc::new(alloc, duties)?;
+    Ok(Arc::new(alloc, earlier.next(alloc, timetable, duties)?)?)
 }
 
 // All fronts and the best pairing, given the network, beside what an earlier one has.
@@ -94,6 +110,13 @@ fn solve_beside<R: Threads + Sync>(
     solve_over(rt, alloc, settings, timetable, net, Some(&past), workers)
 }
 
+// Whether a solution was made under these settings.
+fn is_under(solution: &Solution, settings: &Settings) -> bool
+    ensures { result ≡ true → solution.now.net.settings ≡ settings.now }
+{
+    solution.net().settings() == settings
+}
+
 /// All fronts and the best pairing of a timetable, given its legal duties, beside an earlier
 /// solution, if there is one: as `solve_with` and `solve_next`, which list the duties first. The
 /// answer is that from scratch, whatever the earlier solution is of.
@@ -113,14 +136,14 @@ pub fn solve_listed<R: Threads + Sync>(
         (front_of solution) solution.best) }
     ensures network { IfOk result (HasNetOf settings.now timetable.now) }
 {
-    let net = net_of(alloc, settings, timetable, duties)?;
-    let Some(earlier) = earlier else {
-        return solve_over(rt, alloc, settings, timetable, net, None, workers);
-    };
-    if earlier.net().settings() != net.settings() {
-        return solve_over(rt, alloc, settings, timetable, net, None, workers);
+    if let Some(earlier) = earlier
+        && is_under(earlier, settings)
+    {
+        let net = net_beside(alloc, earlier.net(), timetable, duties)?;
+        return solve_beside(rt, alloc, settings, timetable, net, earlier, workers);
     }
-    solve_beside(rt, alloc, settings, timetable, net, earlier, workers)
+    let net = net_of(alloc, settings, timetable, duties)?;
+    solve_over(rt, alloc, settings, timetable, net, None, workers)
 }
 
 /// All fronts and the best pairing of a timetable, from scratch. `TooManyDuties` exactly where it
