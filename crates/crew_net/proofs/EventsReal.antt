@@ -9,7 +9,7 @@ use Rattle.crew_pairing.specs.declared.duty.Duty.{Duty}
 use Rattle.crew_pairing.specs.declared.events.Departure.{Departure}
 use Rattle.crew_resource.specs.Members.{Each, Member}
 
-each-of : {X : Type 0} (P : X → Type 0) (xs : List X) → ((x : X) → Member xs x → P x) → Each P xs
+pub each-of : {X : Type 0} (P : X → Type 0) (xs : List X) → ((x : X) → Member xs x → P x) → Each P xs
 each-of P [] h = tt
 each-of P (x ∷ xs) h = (h x (inl refl), each-of P xs (λ y m. h y (inr m)))
 

@@ -24,3 +24,4 @@ pub mod Raised
 pub mod Longest
 pub mod Laid
 pub mod InTime
+pub mod Beside

@@ -1,8 +1,8 @@
 //! The events of duties.
 
-ghost use Rattle.std.specs.Prelude.{◌≡◌, ◌<◌, ◌≤◌, ◌-◌, ℕ, ℤ, true, List, IfOk, length, map, get_or};
+ghost use Rattle.std.specs.Prelude.{◌≡◌, ◌↔◌, ◌<◌, ◌≤◌, ◌-◌, ℕ, ℤ, true, List, IfOk, IsTrue, length, map, get_or};
 ghost use Rattle.crew_net.specs.Machinery.Held as Spec;
-ghost use Rattle.crew_net.specs.Machinery.Held.{AreAt};
+ghost use Rattle.crew_net.specs.Machinery.Held.{AreAt, HaveSameEvents};
 ghost use Rattle.crew_net.specs.Machinery.Moments.{AreKeys, IsBounded, IsReal};
 ghost use Rattle.crew_net.specs.Machinery.Timelines.{IsTimeline};
 ghost use Rattle.crew_net.specs.Nets.{AreByReport};
@@ -14,6 +14,18 @@ use crate::timeline::{Timeline, moment, places_of, slot_key};
 use crew_pairing::{Arrival, Departure, Duty};
 use crew_resource::Placed;
 use std::alloc::{AllocError, Global};
+
+/// Where and when duties leave and arrive, with the ranks of those that do: all that a network
+/// keeps of them that depends on nothing else.
+#[derive(Drop)]
+pub(crate) struct Events {
+    pub(crate) leave: Timeline,
+    pub(crate) arrive: Timeline,
+    pub(crate) departures: Vec<Departure>,
+    pub(crate) arrivals: Vec<Arrival>,
+    /// The places of departures, in order of report.
+    pub(crate) by_report: Vec<u32>,
+}
 
 // When and where a duty leaves, as one number.
 fn leave_at(duty: &Duty) -> i64
@@ -120,4 +132,41 @@ pub(crate) fn by_report(alloc: Global, departures: &[Departure]) -> Result<Vec<u
     let mut keys = report_keys(alloc, departures)?;
     keys.sort_unstable();
     places_of(alloc, &keys)
+}
+
+// Whether two duties leave alike.
+fn leave_alike(before: &Duty, after: &Duty) -> bool
+    ensures { IsTrue result ↔ (departure_of before.now ≡ departure_of after.now) }
+{
+    before.from == after.from && before.report == after.report
+}
+
+// Whether two duties arrive alike.
+fn arrive_alike(before: &Duty, after: &Duty) -> bool
+    ensures { IsTrue result ↔ (arrival_of before.now ≡ arrival_of after.now) }
+{
+    before.to == after.to && before.release == after.release
+}
+
+// Whether two duties leave alike and arrive alike.
+fn has_same_events(before: &Duty, after: &Duty) -> bool
+    ensures { IsTrue result ↔ ((departure_of before.now ≡ departure_of after.now)
+        × (arrival_of before.now ≡ arrival_of after.now)) }
+{
+    leave_alike(before, after) && arrive_alike(before, after)
+}
+
+/// Whether the duties of two lists leave alike and arrive alike, one by one.
+pub(crate) fn have_same_events(before: &[Duty], after: &[Duty]) -> bool
+    ensures { IsTrue result ↔ HaveSameEvents before.now after.now }
+{
+    if before.len() != after.len() {
+        return false;
+    }
+    for rank in 0..before.len() {
+        if !has_same_events(&before[rank], &after[rank]) {
+            return false;
+        }
+    }
+    true
 }

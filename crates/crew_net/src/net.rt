@@ -6,6 +6,7 @@ ghost use Rattle.std.specs.FinMap as fin;
 ghost use Rattle.crew_flights.specs.Timetable as TimetableSpec;
 ghost use Rattle.crew_net.specs.Events.{AreEvents, IsWindow, arrival_cmp, arrives_at, departure_cmp, leaves_at};
 ghost use Rattle.crew_net.specs.Layers.{AreLayers};
+ghost use Rattle.crew_net.specs.Machinery.Held.{HaveSameEvents};
 ghost use Rattle.crew_net.specs.Machinery.Moments.{IsReal};
 ghost use Rattle.crew_net.specs.Nets.{AreByReport, ArePreds, IsNetOf, IsRank, IsRankOfKey, RiseByCode, nodes_of, ranks_before};
 ghost use Rattle.crew_net.specs.Ranks.{ranks_where};
@@ -17,7 +18,7 @@ ghost use Rattle.crew_pairing.specs.declared.events.Departure.{Departure};
 ghost use Rattle.crew_resource.specs.Members.{Member};
 ghost use Rattle.crew_rules.specs.Settings.{IsChecked};
 
-use crate::events::{arrivals_of, by_report, departures_of, event_keys};
+use crate::events::{Events, arrivals_of, by_report, departures_of, event_keys, have_same_events};
 use crate::layers::{greatest, raise};
 use crate::node::Node;
 use crate::ranks::rank_of;
@@ -44,11 +45,8 @@ pub struct Net {
     settings: Settings,
     bases: Vec<Code>,
     duties: Arc<Duties, Global>,
-    leave: Timeline,
-    arrive: Timeline,
-    departures: Vec<Departure>,
-    arrivals: Vec<Arrival>,
-    by_report: Vec<u32>,
+    // Networks of duties that differ in their prices alone share them.
+    events: Arc<Events, Global>,
 }
 
 impl Model for Net {
@@ -60,15 +58,16 @@ impl Model for Net {
       settings = n.settings;
       bases = n.bases.items;
       duties = n.duties.value;
-      departures = n.departures.items;
-      arrivals = n.arrivals.items;
-      by_report = n.by_report.items;
+      departures = n.events.value.departures.items;
+      arrivals = n.events.value.arrivals.items;
+      by_report = n.events.value.by_report.items;
     } };
 
     ghost use Rattle.crew_net.specs.Machinery.Held.{IsHeld};
 
-    ghost invariant = { λ n. IsHeld n.settings n.bases.items n.duties.value n.leave n.arrive
-        n.departures.items n.arrivals.items n.by_report.items };
+    ghost invariant = { λ n. IsHeld n.settings n.bases.items n.duties.value n.events.value.leave
+        n.events.value.arrive n.events.value.departures.items n.events.value.arrivals.items
+        n.events.value.by_report.items };
 }
 
 // The bases of a timetable, in order.
@@ -119,16 +118,62 @@ impl Net {
         let departures = departures_of(alloc, list, &leave)?;
         let arrivals = arrivals_of(alloc, list, &arrive)?;
         let by_report = by_report(alloc, &departures)?;
-        let bases = held_bases(alloc, timetable)?;
-        Ok(Net {
-            settings: *settings,
-            bases,
-            duties,
+        let events = Events {
             leave,
             arrive,
             departures,
             arrivals,
             by_report,
+        };
+        let events = Arc::new(alloc, events)?;
+        let bases = held_bases(alloc, timetable)?;
+        Ok(Net {
+            settings: *settings,
+            bases,
+            duties,
+            events,
+        })
+    }
+
+    /// The network of the legal duties of another timetable under the same settings. Where the
+    /// duties leave and arrive as this one's do, one by one, the events are shared; else it is
+    /// built.
+    pub fn next(
+        &self,
+        alloc: Global,
+        timetable: &Timetable,
+        duties: Arc<Duties, Global>,
+    ) -> Result<Net, AllocError>
+        requires duties { AreDuties self.now.settings timetable.now (arc_value duties) }
+        requires few { length (arc_value duties) ≤ 200_000 }
+        ensures { IfOk result (IsNetOf self.now.settings timetable.now (arc_value duties)) }
+    {
+        if have_same_events(self.duties.as_slice(), duties.as_slice()) {
+            self.sharing(alloc, timetable, duties)
+        } else {
+            Net::build(alloc, &self.settings, timetable, duties)
+        }
+    }
+
+    // The network of duties that leave and arrive as this one's do.
+    fn sharing(
+        &self,
+        alloc: Global,
+        timetable: &Timetable,
+        duties: Arc<Duties, Global>,
+    ) -> Result<Net, AllocError>
+        requires duties { AreDuties self.now.settings timetable.now (arc_value duties) }
+        requires few { length (arc_value duties) ≤ 200_000 }
+        requires same { HaveSameEvents self.now.duties (arc_value duties) }
+        ensures { IfOk result (IsNetOf self.now.settings timetable.now (arc_value duties)) }
+    {
+        let bases = held_bases(alloc, timetable)?;
+        let events = Arc::try_clone(&self.events)?;
+        Ok(Net {
+            settings: self.settings,
+            bases,
+            duties,
+            events,
         })
     }
 
@@ -161,7 +206,7 @@ impl Net {
         ensures real { (g : Departure) → Member self.now.departures g → IsReal g.report }
         ensures few { length self.now.departures ≤ 200_000 }
     {
-        &self.departures
+        &self.events.departures
     }
 
     /// The events at which duties arrive, by airport and release.
@@ -170,7 +215,7 @@ impl Net {
         ensures exact { AreEvents arrival_of arrival_cmp self.now.duties self.now.arrivals }
         ensures few { length self.now.arrivals ≤ 200_000 }
     {
-        &self.arrivals
+        &self.events.arrivals
     }
 
     /// The places of all departures, in order of report.
@@ -178,7 +223,7 @@ impl Net {
         ensures places { result.now ≡ self.now.by_report }
         ensures exact { AreByReport self.now.departures self.now.by_report }
     {
-        &self.by_report
+        &self.events.by_report
     }
 
     /// The duties that leave at a departure, by rank.
@@ -187,7 +232,7 @@ impl Net {
         ensures { (g : Departure) → slice_get self.now.departures departure ≡ Some g
             → result.now ≡ ranks_where (leaves_at g) self.now.duties }
     {
-        self.leave.places_in(Window {
+        self.events.leave.places_in(Window {
             from: departure,
             end: departure + 1,
         })
@@ -199,7 +244,7 @@ impl Net {
         ensures { (x : Arrival) → slice_get self.now.arrivals arrival ≡ Some x
             → result.now ≡ ranks_where (arrives_at x) self.now.duties }
     {
-        self.arrive.places_in(Window {
+        self.events.arrive.places_in(Window {
             from: arrival,
             end: arrival + 1,
         })
@@ -211,8 +256,8 @@ impl Net {
         ensures { (g : Departure) → slice_get self.now.departures departure ≡ Some g
             → IsWindow (λ x. may_wait self.now.settings x g) self.now.arrivals result }
     {
-        let event = &self.departures[departure];
-        waiting(&self.settings, &self.arrive.moments, event)
+        let event = &self.events.departures[departure];
+        waiting(&self.settings, &self.events.arrive.moments, event)
     }
 
     /// The departures that may follow an arrival.
@@ -221,8 +266,8 @@ impl Net {
         ensures { (x : Arrival) → slice_get self.now.arrivals arrival ≡ Some x
             → IsWindow (may_wait self.now.settings x) self.now.departures result }
     {
-        let event = &self.arrivals[arrival];
-        following(&self.settings, &self.leave.moments, event)
+        let event = &self.events.arrivals[arrival];
+        following(&self.settings, &self.events.leave.moments, event)
     }
 
     /// How many duties there are.
@@ -283,7 +328,7 @@ impl Net {
     {
         let places = arrival_places(alloc, self)?;
         let mut layers = vec![in alloc; 0; self.duties.len()]?;
-        let mut next = vec![in alloc; 0; self.arrivals.len()]?;
+        let mut next = vec![in alloc; 0; self.arrivals().len()]?;
         for departure in self.by_report() {
             let departure = *departure as usize;
             let layer = greatest(&next, self.window(departure));
@@ -300,8 +345,8 @@ impl Net {
             → ranks.items ≡ ranks_before self.now.settings self.now.duties d) }
     {
         let event = self.duties.as_slice()[rank].departure();
-        let window = waiting(&self.settings, &self.arrive.moments, &event);
-        let mut ranks = Vec::from_slice(alloc, self.arrive.places_in(window))?;
+        let window = waiting(&self.settings, &self.events.arrive.moments, &event);
+        let mut ranks = Vec::from_slice(alloc, self.events.arrive.places_in(window))?;
         ranks.sort_unstable();
         Ok(ranks)
     }

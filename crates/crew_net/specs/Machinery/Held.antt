@@ -65,3 +65,8 @@ pub record IsHeld (s : Settings) (bases : List (List ℕ)) (duties : List Duty)
   pub leave_events : AreAt departure_of leave_at duties leaving.moments.items departures
   pub arrive_events : AreAt arrival_of arrive_at duties arriving.moments.items arrivals
   pub in_time : AreByReport departures by_report
+
+-- the duties of two lists leave alike and arrive alike, one by one
+abbrev pub HaveSameEvents : List Duty → List Duty → Type 0
+HaveSameEvents before after = (map departure_of before ≡ map departure_of after)
+    × (map arrival_of before ≡ map arrival_of after)

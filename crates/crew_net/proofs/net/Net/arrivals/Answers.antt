@@ -11,14 +11,14 @@ use Rattle.crew_net.proofs.net.Net.arrivals.Goals as goal
 pub returns-clause-exact : goal.returns-clause-exact
 returns-clause-exact c =
     let n = c.self.inside in
-    subst (λ (net : Net). AreEvents arrival_of arrival_cmp net.duties net.arrivals) c.self.view_is (arrivals-are n.settings n.bases.items n.duties.value n.leave n.arrive n.departures.items n.arrivals.items n.by_report.items c.self.invariant)
+    subst (λ (net : Net). AreEvents arrival_of arrival_cmp net.duties net.arrivals) c.self.view_is (arrivals-are n.settings n.bases.items n.duties.value n.events.value.leave n.events.value.arrive n.events.value.departures.items n.events.value.arrivals.items n.events.value.by_report.items c.self.invariant)
 
 pub returns-clause-few : goal.returns-clause-few
 returns-clause-few c =
     let n = c.self.inside in
-    let moments = few-moments (map arrive_at n.duties.value) n.arrive c.self.invariant.arrive in
+    let moments = few-moments (map arrive_at n.duties.value) n.events.value.arrive c.self.invariant.arrive in
     let long = length-map n.duties.value arrive_at in
     let few = c.self.invariant.few in
     let events = c.self.invariant.arrive_events.long in
-    let all : length n.arrivals.items ≤ 200_000 = omega (arith, moments, long, few, events) in
+    let all : length n.events.value.arrivals.items ≤ 200_000 = omega (arith, moments, long, few, events) in
     subst (λ (net : Net). length net.arrivals ≤ 200_000) c.self.view_is all

@@ -8,7 +8,10 @@ use Rattle.crew_net.proofs.Shown.{arrivals-are, departures-are}
 use Rattle.crew_net.specs.Machinery.Held.{IsHeld, arrive_at, leave_at}
 use Rattle.crew_net.specs.Machinery.Moments.{IsReal}
 use Rattle.crew_pairing.specs.declared.events.Departure.{Departure}
-use Rattle.crew_net.specs.Nets.{RiseByCode}
+use Rattle.crew_net.specs.Events.{AreEvents, arrival_cmp, departure_cmp}
+use Rattle.crew_net.specs.Nets.{AreByReport, RiseByCode}
+use Rattle.crew_net.specs.declared.events.Events.{Events}
+use Rattle.crew_pairing.specs.Events.{arrival_of, departure_of}
 use Rattle.crew_resource.specs.Members.{Each}
 use Rattle.crew_net.proofs.net.Net.build.Goals as goal
 
@@ -46,11 +49,20 @@ returns c =
     let leave = c.in_ok-leave-2.ensures (map leave_at c.as_slice-list.result.now) (gathered-keys (map leave_at c.as_slice-list.result.now) c.in_ok-leave.leave.items _ c.in_ok-leave.ensures.leave (subst (λ (l : List ℕ). IsPermutation l c.in_ok-gathered.field-0.items) c.deref-2.ensures.value c.in_ok-gathered.ensures.same)) in
     let arrive = c.in_ok-arrive.ensures (map arrive_at c.as_slice-list.result.now) c.in_ok-leave.ensures.arrive in
     let held : IsHeld c.args.settings.now c.in_ok-bases.bases.items c.args.duties.value c.in_ok-leave-2.leave c.in_ok-arrive.arrive c.in_ok-departures.departures.items c.in_ok-arrivals.arrivals.items c.in_ok-by_report.by_report.items = search (rules, forward, leave, arrive, rising) in
+    let events : Events = record {
+      leave = c.in_ok-leave-2.leave;
+      arrive = c.in_ok-arrive.arrive;
+      departures = c.in_ok-departures.departures;
+      arrivals = c.in_ok-arrivals.arrivals;
+      by_report = c.in_ok-by_report.by_report;
+    }
+    in
+    let same : events ≡ c.in_ok-events.events.value = search rules in
     record {
       settings = refl;
       bases = c.in_ok-bases.ensures.bases;
       duties = refl;
-      departures = departures-are c.args.settings.now c.in_ok-bases.bases.items c.args.duties.value c.in_ok-leave-2.leave c.in_ok-arrive.arrive c.in_ok-departures.departures.items c.in_ok-arrivals.arrivals.items c.in_ok-by_report.by_report.items held;
-      by_report = held.in_time;
-      arrivals = arrivals-are c.args.settings.now c.in_ok-bases.bases.items c.args.duties.value c.in_ok-leave-2.leave c.in_ok-arrive.arrive c.in_ok-departures.departures.items c.in_ok-arrivals.arrivals.items c.in_ok-by_report.by_report.items held;
+      departures = subst (λ (e : Events). AreEvents departure_of departure_cmp c.args.duties.value e.departures.items) same (departures-are c.args.settings.now c.in_ok-bases.bases.items c.args.duties.value c.in_ok-leave-2.leave c.in_ok-arrive.arrive c.in_ok-departures.departures.items c.in_ok-arrivals.arrivals.items c.in_ok-by_report.by_report.items held);
+      by_report = subst (λ (e : Events). AreByReport e.departures.items e.by_report.items) same held.in_time;
+      arrivals = subst (λ (e : Events). AreEvents arrival_of arrival_cmp c.args.duties.value e.arrivals.items) same (arrivals-are c.args.settings.now c.in_ok-bases.bases.items c.args.duties.value c.in_ok-leave-2.leave c.in_ok-arrive.arrive c.in_ok-departures.departures.items c.in_ok-arrivals.arrivals.items c.in_ok-by_report.by_report.items held);
     }

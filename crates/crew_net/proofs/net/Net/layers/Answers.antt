@@ -34,21 +34,21 @@ loop-departure-init c =
     let layers = c.in_ok-layers.layers.items in
     let next = c.in_ok-next.next.items in
     let long : length layers ≡ length c.self.inside.duties.value = search rules in
-    let next-long : length next ≡ length c.self.inside.arrivals.items = search rules in
-    none-laid net layers next (long ∙ ap (λ (n : Net). length n.duties) c.self.view_is) (next-long ∙ ap (λ (n : Net). length n.arrivals) c.self.view_is) (zeros next c.len-2.result (c.in_ok-next.ensures.items_if_clones_equal (λ y e. e)))
+    let next-long : length next ≡ length net.arrivals = search rules in
+    none-laid net layers next (long ∙ ap (λ (n : Net). length n.duties) c.self.view_is) next-long (zeros next (length c.arrivals.result.now) (c.in_ok-next.ensures.items_if_clones_equal (λ y e. e)))
 
 pub window-requires : goal.window-requires
 window-requires c =
     let net = c.args.self.now in
     let n = c.self.inside in
-    let t = subst IsTimed c.self.view_is (is-timed n.settings n.bases.items n.duties.value n.leave n.arrive n.departures.items n.arrivals.items n.by_report.items c.self.invariant) in
+    let t = subst IsTimed c.self.view_is (is-timed n.settings n.bases.items n.duties.value n.events.value.leave n.events.value.arrive n.events.value.departures.items n.events.value.arrivals.items n.events.value.by_report.items c.self.invariant) in
     place-within net c.by_report-departure-items.result.now c.by_report-departure-items.ensures.places c.loop-departure.departure-index c.loop-departure-test.true t.timed.ordered
 
 pub greatest-layer-requires : goal.greatest-layer-requires
 greatest-layer-requires c =
     let net = c.args.self.now in
     let n = c.self.inside in
-    let t = subst IsTimed c.self.view_is (is-timed n.settings n.bases.items n.duties.value n.leave n.arrive n.departures.items n.arrivals.items n.by_report.items c.self.invariant) in
+    let t = subst IsTimed c.self.view_is (is-timed n.settings n.bases.items n.duties.value n.events.value.leave n.events.value.arrive n.events.value.departures.items n.events.value.arrivals.items n.events.value.by_report.items c.self.invariant) in
     let p = get_or c.by_report-departure-items.result.now c.loop-departure.departure-index 0 in
     let within = place-within net c.by_report-departure-items.result.now c.by_report-departure-items.ensures.places c.loop-departure.departure-index c.loop-departure-test.true t.timed.ordered in
     let g = item-at net.departures p within in
@@ -62,21 +62,21 @@ pub leaving-requires : goal.leaving-requires
 leaving-requires c =
     let net = c.args.self.now in
     let n = c.self.inside in
-    let t = subst IsTimed c.self.view_is (is-timed n.settings n.bases.items n.duties.value n.leave n.arrive n.departures.items n.arrivals.items n.by_report.items c.self.invariant) in
+    let t = subst IsTimed c.self.view_is (is-timed n.settings n.bases.items n.duties.value n.events.value.leave n.events.value.arrive n.events.value.departures.items n.events.value.arrivals.items n.events.value.by_report.items c.self.invariant) in
     place-within net c.by_report-departure-items.result.now c.by_report-departure-items.ensures.places c.loop-departure.departure-index c.loop-departure-test.true t.timed.ordered
 
 pub leaving-requires-in-loop-departure : goal.leaving-requires-in-loop-departure
 leaving-requires-in-loop-departure c =
     let net = c.args.self.now in
     let n = c.self.inside in
-    let t = subst IsTimed c.self.view_is (is-timed n.settings n.bases.items n.duties.value n.leave n.arrive n.departures.items n.arrivals.items n.by_report.items c.self.invariant) in
+    let t = subst IsTimed c.self.view_is (is-timed n.settings n.bases.items n.duties.value n.events.value.leave n.events.value.arrive n.events.value.departures.items n.events.value.arrivals.items n.events.value.by_report.items c.self.invariant) in
     place-within net c.by_report-departure-items.result.now c.by_report-departure-items.ensures.places c.loop-departure.departure-index c.loop-departure-test.true t.timed.ordered
 
 pub put-requires : goal.put-requires
 put-requires c = λ rank m.
     let net = c.args.self.now in
     let n = c.self.inside in
-    let t = subst IsTimed c.self.view_is (is-timed n.settings n.bases.items n.duties.value n.leave n.arrive n.departures.items n.arrivals.items n.by_report.items c.self.invariant) in
+    let t = subst IsTimed c.self.view_is (is-timed n.settings n.bases.items n.duties.value n.events.value.leave n.events.value.arrive n.events.value.departures.items n.events.value.arrivals.items n.events.value.by_report.items c.self.invariant) in
     let p = get_or c.by_report-departure-items.result.now c.loop-departure.departure-index 0 in
     let within = place-within net c.by_report-departure-items.result.now c.by_report-departure-items.ensures.places c.loop-departure.departure-index c.loop-departure-test.true t.timed.ordered in
     let g = item-at net.departures p within in
@@ -89,7 +89,7 @@ pub overflow_add-layer : goal.overflow_add-layer
 overflow_add-layer c =
     let net = c.args.self.now in
     let n = c.self.inside in
-    let t = subst IsTimed c.self.view_is (is-timed n.settings n.bases.items n.duties.value n.leave n.arrive n.departures.items n.arrivals.items n.by_report.items c.self.invariant) in
+    let t = subst IsTimed c.self.view_is (is-timed n.settings n.bases.items n.duties.value n.events.value.leave n.events.value.arrive n.events.value.departures.items n.events.value.arrivals.items n.events.value.by_report.items c.self.invariant) in
     let order = c.by_report-departure-items.result.now in
     let i = c.loop-departure.departure-index in
     let p = get_or order i 0 in
@@ -113,7 +113,7 @@ pub raise-requires-clause-ranks : goal.raise-requires-clause-ranks
 raise-requires-clause-ranks c = λ rank m.
     let net = c.args.self.now in
     let n = c.self.inside in
-    let t = subst IsTimed c.self.view_is (is-timed n.settings n.bases.items n.duties.value n.leave n.arrive n.departures.items n.arrivals.items n.by_report.items c.self.invariant) in
+    let t = subst IsTimed c.self.view_is (is-timed n.settings n.bases.items n.duties.value n.events.value.leave n.events.value.arrive n.events.value.departures.items n.events.value.arrivals.items n.events.value.by_report.items c.self.invariant) in
     let p = get_or c.by_report-departure-items.result.now c.loop-departure.departure-index 0 in
     let within = place-within net c.by_report-departure-items.result.now c.by_report-departure-items.ensures.places c.loop-departure.departure-index c.loop-departure-test.true t.timed.ordered in
     let g = item-at net.departures p within in
@@ -126,7 +126,7 @@ pub raise-requires-clause-places : goal.raise-requires-clause-places
 raise-requires-clause-places c = λ rank m.
     let net = c.args.self.now in
     let n = c.self.inside in
-    let t = subst IsTimed c.self.view_is (is-timed n.settings n.bases.items n.duties.value n.leave n.arrive n.departures.items n.arrivals.items n.by_report.items c.self.invariant) in
+    let t = subst IsTimed c.self.view_is (is-timed n.settings n.bases.items n.duties.value n.events.value.leave n.events.value.arrive n.events.value.departures.items n.events.value.arrivals.items n.events.value.by_report.items c.self.invariant) in
     let p = get_or c.by_report-departure-items.result.now c.loop-departure.departure-index 0 in
     let within = place-within net c.by_report-departure-items.result.now c.by_report-departure-items.ensures.places c.loop-departure.departure-index c.loop-departure-test.true t.timed.ordered in
     let g = item-at net.departures p within in
@@ -140,7 +140,7 @@ pub loop-departure-preserved : goal.loop-departure-preserved
 loop-departure-preserved c =
     let net = c.args.self.now in
     let n = c.self.inside in
-    let t = subst IsTimed c.self.view_is (is-timed n.settings n.bases.items n.duties.value n.leave n.arrive n.departures.items n.arrivals.items n.by_report.items c.self.invariant) in
+    let t = subst IsTimed c.self.view_is (is-timed n.settings n.bases.items n.duties.value n.events.value.leave n.events.value.arrive n.events.value.departures.items n.events.value.arrivals.items n.events.value.by_report.items c.self.invariant) in
     let order = c.by_report-departure-items.result.now in
     let i = c.loop-departure.departure-index in
     let p = get_or order i 0 in
@@ -181,7 +181,7 @@ pub returns : goal.returns
 returns c =
     let net = c.args.self.now in
     let n = c.self.inside in
-    let t = subst IsTimed c.self.view_is (is-timed n.settings n.bases.items n.duties.value n.leave n.arrive n.departures.items n.arrivals.items n.by_report.items c.self.invariant) in
+    let t = subst IsTimed c.self.view_is (is-timed n.settings n.bases.items n.duties.value n.events.value.leave n.events.value.arrive n.events.value.departures.items n.events.value.arrivals.items n.events.value.by_report.items c.self.invariant) in
     let all = c.loop-departure-test.false in
     let long = ap length c.by_report-departure-items.ensures.places in
     all-laid net t.timed c.loop-departure.departure-index c.loop-departure.layers.items c.loop-departure.next.items (omega (arith, all, long)) c.loop-departure.invariant
