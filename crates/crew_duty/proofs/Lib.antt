@@ -1,9 +1,11 @@
 pub mod Blocks
 pub mod Counts
+pub mod Facts
 pub mod Filling
 pub mod InPlace
 pub mod Kept
 pub mod Leads
+pub mod NewPrices
 pub mod Parts
 pub mod Paths
 pub mod Places

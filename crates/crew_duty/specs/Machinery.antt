@@ -6,5 +6,6 @@ pub mod Kept
 pub mod Limits
 pub mod Paths
 pub mod Plans
+pub mod Prices
 pub mod Running
 pub mod Slots

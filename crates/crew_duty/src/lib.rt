@@ -14,6 +14,7 @@ mod next;
 mod past;
 mod pieces;
 mod plan;
+mod priced;
 mod search;
 mod totals;
 

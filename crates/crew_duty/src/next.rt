@@ -15,6 +15,7 @@ use crate::fault::DutyFault;
 use crate::past::{Block, Past};
 use crate::pieces::total_of;
 use crate::plan::Plan;
+use crate::priced::{can_reprice, list_priced};
 use crate::search::DUTIES;
 use crew_flights::{Flight, Timetable};
 use crew_rules::Settings;
@@ -65,8 +66,9 @@ fn list_beside(
 /// The legal duties of a timetable, as `list_duties` lists them, beside those of an earlier one.
 /// `TooManyDuties` where there are more than 200,000, and `Memory` only where a growth was refused.
 ///
-/// The duties that begin with a flight are taken over where no flight that has come, gone or
-/// changed departs while one of them may last, and listed anew elsewhere. Where most would be
+/// Where the flights differ in their prices alone, all duties are taken over, at their new prices.
+/// Otherwise the duties that begin with a flight are taken over where no flight that has come, gone
+/// or changed departs while one of them may last, and listed anew elsewhere. Where most would be
 /// listed anew, all are, by `list_duties`.
 pub fn list_next<R: Threads + Sync>(
     rt: &R,
@@ -85,6 +87,10 @@ pub fn list_next<R: Threads + Sync>(
 {
     let before = held_flights(alloc, earlier)?;
     let flights = held_flights(alloc, timetable)?;
+    if can_reprice(duties.as_slice(), &flights, &before) {
+        let list = list_priced(alloc, &flights, duties.as_slice())?;
+        return Ok(Duties { list });
+    }
     let minutes = changes_between(alloc, &flights, &before)?;
     let past = Past {
         duties: duties.as_slice(),

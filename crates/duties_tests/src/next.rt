@@ -172,6 +172,48 @@ fn beside_all_or_nothing(rt: HostRuntime) -> Result<(), Fail> {
     Ok(())
 }
 
+// A timetable with other prices of some flights.
+fn priced(alloc: Global, earlier: &Timetable, prices: &[(u32, i64)]) -> Result<Timetable, Fail> {
+    let mut timetable = earlier.copy(alloc)?;
+    for (id, price) in prices {
+        timetable.apply(&Edit::Price {
+            id: number(*id)?,
+            price: *price,
+        })?;
+    }
+    Ok(timetable)
+}
+
+// Three flights, two hours apart, of which one may be ridden, under new prices of 1, -20 and 300.
+#[test]
+fn new_prices(rt: HostRuntime) -> Result<(), Fail> {
+    let alloc = rt.alloc();
+    let settings = Settings {
+        deadheads: 1,
+        ..Settings::standard()
+    };
+    settings.check()?;
+    let mut earlier = Timetable::new(alloc);
+    add(&mut earlier, hop(10, true, 0, 60, 1_000)?)?;
+    add(&mut earlier, hop(11, false, 120, 60, 2_000)?)?;
+    add(&mut earlier, hop(999_999, true, 240, 60, 3_000)?)?;
+    let timetable = priced(alloc, &earlier, &[(10, 1), (11, -20), (999_999, 300)])?;
+    let before = list_duties(&rt, alloc, &settings, &earlier)?;
+    let beside = list_next(&rt, alloc, &settings, &earlier, &before, &timetable)?;
+    let mut text = String::new(alloc);
+    for duty in beside.as_slice() {
+        write_key(&mut text, &duty.key)?;
+        write!(text, " {}\n", duty.price)?;
+    }
+    assert_eq!(rt;
+        text.as_str(),
+        "10 1\n10-11 -19\n10-11-999999 281\n10-11d-999999 301\n10d-11 -20\n10d-11-999999 280\n11 -20\n11-999999 280\n11d-999999 300\n999999 300\n"
+    );
+    let (repriced, anew) = both_ways(&rt, &settings, &earlier, &timetable)?;
+    assert_eq!(rt; repriced.as_str(), anew.as_str());
+    Ok(())
+}
+
 // The duties that begin with the first flight of the first day, after the flights of the other days
 // and this one.
 fn reached<R: Threads + Sync + AllocGlobal>(

@@ -1,0 +1,152 @@
+//! The duties of an earlier timetable under new prices. What makes a list of legs a legal duty
+//! reads no price, so where nothing else has changed the duties are those of before, in the same
+//! order, each at its new price.
+
+ghost use Rattle.std.specs.Prelude.{◌≡◌, ◌≤◌, ◌<◌, ◌≤ℤ◌, ℕ, List, IsTrue, IfOk, get_or, length, map, negsuc, pos};
+ghost use Rattle.crew_flights.specs.declared.flight.Flight.{Flight};
+ghost use Rattle.crew_rules.specs.declared.settings.Settings.{Settings};
+ghost use Rattle.crew_pairing.specs.Duties.{AreDutiesOver};
+ghost use Rattle.crew_pairing.specs.Legality.{total};
+ghost use Rattle.crew_pairing.specs.Machinery.Beginnings.{AreFlights};
+ghost use Rattle.crew_duty.specs.Machinery.Prices as Spec;
+ghost use Rattle.crew_duty.specs.Machinery.Prices.{AreInLimits, AreSameButPrices, HaveFewLegs, HavePrices, at_price, under_prices};
+
+use crate::search::DUTIES;
+use crew_flights::Flight;
+use crew_pairing::{Duty, Leg};
+use std::alloc::{AllocError, Global};
+
+// Whether two flights are the same but for their prices.
+fn is_same_but_price(flight: &Flight, before: &Flight) -> bool
+    ensures { IsTrue result → flight.now ≡ at_price flight.now.price before.now }
+{
+    let again = Flight {
+        price: flight.price,
+        ..*before
+    };
+    again == *flight
+}
+
+// Whether two lists have the same flights, one by one, but for their prices.
+fn are_same_but_prices(flights: &[Flight], before: &[Flight]) -> bool
+    ensures { IsTrue result → AreSameButPrices flights.now before.now }
+{
+    if flights.len() != before.len() {
+        return false;
+    }
+    for place in 0..flights.len() {
+        if !is_same_but_price(&flights[place], &before[place]) {
+            return false;
+        }
+    }
+    true
+}
+
+/// Whether flights are those of before, one by one, but for their prices, and the duties of before
+/// are no more than may be listed.
+pub(crate) fn can_reprice(duties: &[Duty], flights: &[Flight], before: &[Flight]) -> bool
+    ensures same { IsTrue result → AreSameButPrices flights.now before.now }
+    ensures few { IsTrue result → length duties.now ≤ 200_000 }
+{
+    duties.len() <= DUTIES && are_same_but_prices(flights, before)
+}
+
+// How many numbers there are up to that of the last flight, with 0.
+fn numbers_of(flights: &[Flight]) -> usize
+    requires { AreFlights flights.now }
+    ensures { (i : ℕ) (d : Flight) → i < length flights.now
+        → (get_or flights.now i d).id < result }
+{
+    match flights.last() {
+        Some(last) => last.id.get() as usize + 1,
+        None => 0,
+    }
+}
+
+// The prices of flights by their numbers, so that a leg's price is found at once.
+fn prices_by_number(alloc: Global, flights: &[Flight]) -> Result<Vec<i64>, AllocError>
+    requires { AreFlights flights.now }
+    ensures held { IfOk result (λ prices. HavePrices prices.items flights.now) }
+    ensures limits { IfOk result (λ prices. AreInLimits prices.items) }
+{
+    let mut prices = vec![in alloc; 0i64; numbers_of(flights)]?;
+    for flight in flights {
+        prices[flight.id.get() as usize] = flight.price;
+    }
+    Ok(prices)
+}
+
+// The price of a leg, if the crew flies it.
+#[inline(always)]
+fn leg_price(prices: &[i64], leg: Leg) -> i64
+    requires { AreInLimits prices.now }
+    ensures value { result ≡ Spec.leg_price prices.now leg }
+    ensures bound { (negsuc 999_999_999 ≤ℤ result) × (result ≤ℤ pos 1_000_000_000) }
+{
+    if leg.is_deadhead() {
+        return 0;
+    }
+    match prices.get(leg.flight().get() as usize) {
+        Some(price) => *price,
+        None => 0,
+    }
+}
+
+// The prices of the legs that the crew flies.
+#[inline(always)]
+fn price_of(prices: &[i64], legs: &[Leg]) -> i64
+    requires limits { AreInLimits prices.now }
+    requires few { length legs.now ≤ 8 }
+    ensures { result ≡ total (Spec.leg_price prices.now) legs.now }
+{
+    let mut sum = 0;
+    for leg in legs {
+        sum += leg_price(prices, *leg);
+    }
+    sum
+}
+
+// A duty under these prices.
+#[inline(always)]
+fn duty_under(prices: &[i64], duty: &Duty) -> Duty
+    requires limits { AreInLimits prices.now }
+    requires few { length duty.now.key ≤ 8 }
+    ensures { result ≡ under_prices prices.now duty.now }
+{
+    Duty {
+        key: duty.key.copy(),
+        price: price_of(prices, duty.key.legs()),
+        ..*duty
+    }
+}
+
+// Duties under these prices.
+fn all_under(alloc: Global, prices: &[i64], duties: &[Duty]) -> Result<Vec<Duty>, AllocError>
+    requires limits { AreInLimits prices.now }
+    requires few { HaveFewLegs duties.now }
+    ensures { IfOk result (λ list. list.items ≡ map (under_prices prices.now) duties.now) }
+{
+    let mut list = Vec::with_capacity(alloc, duties.len())?;
+    for duty in duties {
+        list.push(duty_under(prices, duty))?;
+    }
+    Ok(list)
+}
+
+/// Duties under the prices of these flights: where these were all legal ones over flights that are
+/// the same but for their prices, they are all over these.
+pub(crate) fn list_priced(
+    alloc: Global,
+    flights: &[Flight],
+    duties: &[Duty],
+) -> Result<Vec<Duty>, AllocError>
+    requires flights { AreFlights flights.now }
+    requires few { HaveFewLegs duties.now }
+    ensures listed { IfOk result (λ list. (s : Settings) (before : List Flight)
+        → AreSameButPrices flights.now before → AreDutiesOver s before duties.now
+        → AreDutiesOver s flights.now list.items) }
+    ensures count { IfOk result (λ list. length list.items ≡ length duties.now) }
+{
+    let prices = prices_by_number(alloc, flights)?;
+    all_under(alloc, &prices, duties)
+}
