@@ -1,10 +1,10 @@
 use Rattle.std.proofs.Common.{[], ℕ, List, Option, arith, get_or, subst}
-use Rattle.crew_resource.specs.Members.{Member}
-use Rattle.crew_sweep.proofs.Marks.{leaving-within}
-use Rattle.crew_sweep.proofs.Slidings.{stands}
 use Rattle.crew_pairing.specs.declared.vector.PairingVector.{PairingVector}
 use Rattle.crew_pool.specs.declared.label_walk.LabelWalk.{LabelWalk}
+use Rattle.crew_resource.specs.Members.{Member}
 use Rattle.crew_sweep.proofs.KeptSteps.{AreAlike, alike-is}
+use Rattle.crew_sweep.proofs.Marks.{leaving-within}
+use Rattle.crew_sweep.proofs.Slidings.{stands}
 use Rattle.crew_sweep.proofs.renewal.is_as_before.Goals as goal
 
 pub returns : goal.returns
