@@ -12,7 +12,8 @@ use crate::same::are_same;
 use crew_duty::{DutyFault, list_next};
 use crew_flights::Timetable;
 use crew_rules::Settings;
-use crew_solve::{Solution, solve, solve_listed};
+use crew_solve::{Solution, solve_listed, solve_with};
+use rayon::current_num_threads;
 use std::alloc::{AllocError, Global};
 use std::sync::Arc;
 use std::thread::Threads;
@@ -24,7 +25,8 @@ pub(crate) struct Earlier<'a> {
     pub(crate) solution: &'a Arc<Solution, Global>,
 }
 
-// The solution of a timetable, beside an earlier one, if there is one.
+// The solution of a timetable, beside an earlier one, if there is one, by as many workers as there
+// are processors for.
 fn solution_of<R: Threads + Sync>(
     rt: &R,
     alloc: Global,
@@ -39,13 +41,22 @@ fn solution_of<R: Threads + Sync>(
     ensures too_many { result ≡ Err DutyFault.TooManyDuties
         → HasTooMany settings.now timetable.now }
 {
+    let workers = current_num_threads(rt);
     let Some(earlier) = earlier else {
-        return solve(rt, alloc, settings, timetable);
+        return solve_with(rt, alloc, settings, timetable, workers);
     };
     let solution = earlier.solution;
     let before = solution.net().duties();
     let duties = list_next(rt, alloc, settings, earlier.timetable, before, timetable)?;
-    Ok(solve_listed(rt, alloc, settings, timetable, duties, Some(solution), 0)?)
+    Ok(solve_listed(
+        rt,
+        alloc,
+        settings,
+        timetable,
+        duties,
+        Some(solution),
+        workers,
+    )?)
 }
 
 // The solution of a timetable found and put where versions share it.
