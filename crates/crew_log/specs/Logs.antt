@@ -1,5 +1,5 @@
 -- Logs, their seats, and receipts of entries.
-use Rattle.std.specs.Prelude.{◌≡◌, ◌+◌, ◌∷◌, ℕ, suc, List, []}
+use Rattle.std.specs.Prelude.{◌≡◌, ◌+◌, ◌∷◌, ℕ, suc, List, [], All}
 use Rattle.boxcar.specs.Table.{Shelves, Shows, Where}
 use Rattle.crew_flights.specs.declared.edit.Edit.{Edit}
 use Rattle.crew_flights.specs.declared.entries.Entry.{Entry}
@@ -39,7 +39,11 @@ with_entry seat = record seat { made = seat.made + 1 }
 abbrev pub IsOf : Log → Where Entry → Type 0
 IsOf log receipt = Shows log.row receipt
 
--- receipts of this log, for the places from this one on, with no gap
-abbrev pub IsRun : Log → ℕ → List (Where Entry) → Type 0
-IsRun log from [] = Unit {0}
-IsRun log from (r ∷ rs) = IsOf log r × (r.index ≡ from) × IsRun log (suc from) rs
+-- receipts of this log
+abbrev pub AreOf : Log → List (Where Entry) → Type 0
+AreOf log receipts = All (λ receipt. IsOf log receipt) receipts
+
+-- receipts of the places from this one on, with no gap
+abbrev pub IsRun : ℕ → List (Where Entry) → Type 0
+IsRun from [] = Unit {0}
+IsRun from (r ∷ rs) = (r.index ≡ from) × IsRun (suc from) rs

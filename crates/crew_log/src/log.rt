@@ -1,7 +1,7 @@
 //! The log.
 
 ghost use Rattle.std.specs.Prelude.{◌≡◌, ◌<◌, ◌+◌, ◌^◌, IfOk, IfErr};
-ghost use Rattle.crew_log.specs.Logs.{IsOf, IsRun, new_seat, with_seat};
+ghost use Rattle.crew_log.specs.Logs.{AreOf, IsOf, IsRun, new_seat, with_seat};
 ghost use Rattle.crew_log.specs.declared.fault.LogFault.TheVariants.{TooManySeats};
 
 use crate::fault::LogFault;
@@ -65,7 +65,8 @@ impl Log {
     /// A submit that found no memory may leave a place that is never shown; a reading from at or
     /// below it ends there.
     pub fn read_from(&self, alloc: Global, from: usize) -> Result<Vec<Receipt>, AllocError>
-        ensures { IfOk result (λ receipts. IsRun self.now from receipts.items) }
+        ensures of { IfOk result (λ receipts. AreOf self.now receipts.items) }
+        ensures places { IfOk result (λ receipts. IsRun from receipts.items) }
     {
         let mut receipts = Vec::new(alloc);
         for place in from..usize::MAX {
