@@ -1,0 +1,44 @@
+//! Receipts.
+
+ghost use Rattle.std.specs.Prelude.{◌≡◌};
+ghost use Rattle.crew_log.specs.Logs.{IsOf};
+
+use crate::log::Log;
+use boxcar::Pushed;
+use crew_flights::Entry;
+use std::marker::Model;
+
+/// What shows that a place of a log has an entry, for good. It is used with the log that it came
+/// from.
+///
+/// A contract sees the place as `index`, the entry as `value`, and what ties it to its log.
+#[derive(Drop)]
+pub struct Receipt {
+    pub(crate) at: Pushed<Entry>,
+}
+
+impl Model for Receipt {
+    ghost use Rattle.boxcar.specs.Table.{Where};
+    ghost use Rattle.crew_flights.specs.declared.entries.Entry.{Entry};
+
+    ghost Value = { Where Entry };
+
+    ghost view = { λ r. r.at };
+}
+
+impl Receipt {
+    /// The place, 0 and up.
+    pub fn place(&self) -> usize
+        ensures { result ≡ self.now.index }
+    {
+        self.at.index()
+    }
+
+    /// The entry at the place.
+    pub fn entry<'a>(&self, log: &'a Log) -> &'a Entry
+        requires { IsOf log.now self.now }
+        ensures { result.now ≡ self.now.value }
+    {
+        log.row.value(&self.at)
+    }
+}
