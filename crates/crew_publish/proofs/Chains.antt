@@ -8,7 +8,7 @@ use Rattle.std.proofs.lemmas.Bool.Decides.{nat_tests}
 use Rattle.std.proofs.lemmas.List.{take-append-drop}
 use Rattle.crew_version.specs.Versions.{Snapshot}
 use Rattle.crew_publish.specs.Chain.{Follows, ChainFrom, IsChain, last_or, Ends}
-use Rattle.crew_publish.specs.Machinery.Rule.{AllBegin}
+use Rattle.crew_publish.specs.Machinery.Rule.{AllBegin, seen_by}
 
 pub prefix_self : {A : Type 0} (xs : List A) → IsPrefix xs xs
 prefix_self [] = ([], refl)
@@ -79,3 +79,8 @@ starts_prefix later earlier h = (drop (length earlier) later, ap (λ w. w ++ dro
 pub all_rest : (more ls : List (List Snapshot)) (whole : List Snapshot) → AllBegin (more ++ ls) whole → AllBegin ls whole
 all_rest [] ls whole h = h
 all_rest (m ∷ ms) ls whole h = all_rest ms ls whole h.1
+
+-- the list that was seen last begins what all lists begin
+pub first_begins : (ls : List (List Snapshot)) (whole : List Snapshot) → AllBegin ls whole → IsPrefix (seen_by ls) whole
+first_begins [] whole h = (whole, refl)
+first_begins (l ∷ ls) whole h = h.0

@@ -68,18 +68,19 @@ shows_last {O = O} value x next before ops last is e =
     (ap (λ (z : Face). z.version) all, ap (λ (z : Face). z.opening) all)
 
 -- after a publication the seat stands for the list with what is shown at its end
+pub held_chain : (v : List (List Snapshot)) (x : Shown) → IsHeld v x → IsChain (list_of v (arc_value x.version))
+held_chain [] x held = tt
+held_chain (l ∷ ls) x held = held.1
+
+pub held_ends : (v : List (List Snapshot)) (x : Shown) → IsHeld v x → Ends (list_of v (arc_value x.version)) (arc_value x.version)
+held_ends [] x held = refl
+held_ends (l ∷ ls) x held = held.2
+
 pub held_after : (v w : List (List Snapshot)) (x y : Shown) → Added v x y w → IsHeld v x → Follows (arc_value x.version) (arc_value y.version) → IsHeld w y
 held_after v w x y is held follows =
     let l = list_of v (arc_value x.version) in
     let new = arc_value y.version in
-    subst (λ (u : List (List Snapshot)). IsHeld u y) (sym is) (refl, chain_push l (arc_value x.version) new (chain_of v x held) (ends_of v x held) follows, ends_push l new)
-  where
-    chain_of : (v : List (List Snapshot)) (x : Shown) → IsHeld v x → IsChain (list_of v (arc_value x.version))
-    chain_of [] x held = tt
-    chain_of (l ∷ ls) x held = held.1
-    ends_of : (v : List (List Snapshot)) (x : Shown) → IsHeld v x → Ends (list_of v (arc_value x.version)) (arc_value x.version)
-    ends_of [] x held = refl
-    ends_of (l ∷ ls) x held = held.2
+    subst (λ (u : List (List Snapshot)). IsHeld u y) (sym is) (refl, chain_push l (arc_value x.version) new (held_chain v x held) (held_ends v x held) follows, ends_push l new)
 
 -- at the start one version is shown, and the writer's seat knows nothing
 pub begins : (v : Snapshot) (x : Shown) → arc_value x.version ≡ v → Kept x ([] ∷ [])
