@@ -1,5 +1,5 @@
 -- Why a pair isn't made, a version isn't published, or a view isn't given.
-use Rattle.std.specs.Prelude.{◌≡◌, ◌≤◌, ◌<◌, ℕ, List, Option, Some, None}
+use Rattle.std.specs.Prelude.{◌≤◌, ◌<◌, ℕ, List, Option, Some, None}
 use Rattle.crew_version.specs.Versions.{Snapshot}
 use Rattle.crew_publish.specs.Chain.{IsNext}
 use Rattle.crew_publish.specs.declared.fault.PairFault.{PairFault}

@@ -27,7 +27,7 @@ fn turn<R: Wait>(rt: &R, pen: Pen, version: Arc<Version>) -> (Pen, Result<(), Al
     ensures ok { IfOk result.1 (λ _. list_of (view result.0.desk.place)
         (arc_value result.0.desk.shown.value.version)
         ≡ list_of (view pen.desk.place) (arc_value pen.desk.shown.value.version)
-            ++ arc_value version ∷ []) }
+        ++ arc_value version ∷ []) }
     ensures shown { IfOk result.1 (λ _. arc_value result.0.desk.shown.value.version
         ≡ arc_value version) }
     ensures told { IfOk result.1 (λ _. view result.0.desk.place
@@ -78,7 +78,7 @@ impl<R: Wait + Drop> Model for Publisher<R> {
 
     ghost invariant = { λ p. IsHeld (seat_view p.pen.desk.place) p.pen.desk.shown.value
         × (seat_view p.pen.desk.place ≡ list_of (seat_view p.pen.desk.place)
-            (arc_value p.pen.desk.shown.value.version) ∷ []) };
+        (arc_value p.pen.desk.shown.value.version) ∷ []) };
 }
 
 impl<R: Wait + Drop> Publisher<R> {

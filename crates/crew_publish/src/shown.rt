@@ -1,6 +1,6 @@
 // What readers take, and the rule over it.
-use crew_version::Version;
 use atomic_table::{Join, Split};
+use crew_version::Version;
 use crossbeam_utils::rule::{Outcome, Protocol};
 use left_right::Absorb;
 use left_right::reader::Reader;

@@ -1,4 +1,4 @@
-use Rattle.std.proofs.Common.{◌≡◌, ◌≤◌, ◌<◌, ℕ, arith, length, subst}
+use Rattle.std.proofs.Common.{arith}
 use Rattle.crew_publish.proofs.Places.{prefix-from}
 use Rattle.crew_publish.proofs.follow.begins.Goals as goal
 

@@ -1,11 +1,11 @@
-use Rattle.std.proofs.Common.{rules, ◌≡◌, List, drop, fold, false, sym, ap, ◌∙◌, subst, ◌++◌, ◌∷◌, []}
+use Rattle.std.proofs.Common.{◌≡◌, drop, fold, false, sym, subst, []}
 use Rattle.std.proofs.lemmas.Result.{MatchResult-at_ok}
 use Rattle.crew_publish.specs.declared.shown.Face.{Face}
 use Rattle.std.specs.Arc.{arc_value}
 use Rattle.left_right.specs.Sides.{view}
 use Rattle.crew_version.specs.Versions.{Snapshot}
 use Rattle.crew_publish.specs.Chain.{Follows}
-use Rattle.crew_publish.specs.Machinery.Rule.{list_of, Added, IsHeld}
+use Rattle.crew_publish.specs.Machinery.Rule.{Added, IsHeld}
 use Rattle.crew_publish.proofs.Moves.{adds, shows_last, held_after, face}
 use Rattle.crew_publish.proofs.publisher.turn.Goals as goal
 use Rattle.crew_publish.proofs.publisher.turn.Goals.{After-publish_as-pen, In-Ok, In-Ok-done}
@@ -28,7 +28,7 @@ shown_after g c =
     let next = c.publish_as-pen.result.0 in
     let ops = drop now.behind now.log.items in
     let values = MatchResult-at_ok (λ _. (face next.desk.shown.value ≡ fold (λ (s : Face) a. record { version = arc_value a; opening = false }) (face now.desk.shown.value) ops) × (drop next.behind next.log.items ≡ []))
-        (λ _. (next.desk.shown.value ≡ now.desk.shown.value) × (drop next.behind next.log.items ≡ ops)) c.in-Ok-done.field-0 c.in-Ok-done.is c.publish_as-pen.ensures.values in
+    (λ _. (next.desk.shown.value ≡ now.desk.shown.value) × (drop next.behind next.log.items ≡ ops)) c.in-Ok-done.field-0 c.in-Ok-done.is c.publish_as-pen.ensures.values in
     (shows_last arc_value now.desk.shown.value next.desk.shown.value (drop c.args.pen.behind c.args.pen.log.items) ops c.args.version c.in-Ok.ensures.pending values.0).0
 
 rule_after : (g : _) (c : In-Ok-done g) → Added (view c.append.new.self.desk.place) c.append.new.self.desk.shown.value c.publish_as-pen.result.0.desk.shown.value (view c.publish_as-pen.result.0.desk.place)

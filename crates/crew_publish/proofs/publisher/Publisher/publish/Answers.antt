@@ -1,4 +1,4 @@
-use Rattle.std.proofs.Common.{◌≡◌, sym, ap, ◌∙◌, subst, length, List}
+use Rattle.std.proofs.Common.{sym, ap, ◌∙◌, subst, length, List}
 use Rattle.std.specs.Arc.{arc_value}
 use Rattle.crew_version.specs.Versions.{Snapshot}
 use Rattle.crew_publish.specs.Chain.{Ends}
