@@ -8,7 +8,8 @@ use crew_version::Version;
 
 // Whether the entry at a place of both versions is one.
 fn is_same_at(earlier: &Version, later: &Version, place: usize) -> bool
-    ensures { IsTrue result ↔ (slice_get earlier.now.entries place ≡ slice_get later.now.entries place) }
+    ensures { IsTrue result ↔ (slice_get earlier.now.entries place
+        ≡ slice_get later.now.entries place) }
 {
     match (earlier.entry(place), later.entry(place)) {
         (Some(one), Some(other)) => is_entry(&one, &other),

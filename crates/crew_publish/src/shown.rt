@@ -1,4 +1,4 @@
-// What readers take, and the rule over it.
+//! What readers take, and the rule over it.
 use atomic_table::{Join, Split};
 use crew_version::Version;
 use crossbeam_utils::rule::{Outcome, Protocol};
