@@ -24,9 +24,11 @@ fn after<R: Threads + Sync>(
         number: 0,
         edit: Edit::AddBase { code, price },
     })?;
-    Ok(version
-        .next(rt, alloc, entries)
-        .map_err(|_| "a next version")?)
+    Ok(
+        version
+            .next(rt, alloc, entries)
+            .map_err(|_| "a next version")?,
+    )
 }
 
 // The version before any entry and so many after it.
@@ -73,8 +75,14 @@ fn one_of_two_learns(rt: HostRuntime) -> Result<(), Fail> {
     one.learn(&note);
     assert_eq!(rt; seen(&mut one), Ok((1, 1)));
     assert!(rt; seen(&mut other)?.0 <= 1);
-    assert_eq!(rt; published(&mut publisher, &all[1]), Err(PublishFault::NotNext));
-    assert_eq!(rt; published(&mut publisher, &all[0]), Err(PublishFault::NotNext));
+    assert_eq!(rt;
+        published(&mut publisher, &all[1]),
+        Err(PublishFault::NotNext)
+    );
+    assert_eq!(rt;
+        published(&mut publisher, &all[0]),
+        Err(PublishFault::NotNext)
+    );
     assert_eq!(rt; publisher.last().number(), 1);
     Ok(())
 }
@@ -102,15 +110,23 @@ fn other_entries_do_not_follow(rt: HostRuntime) -> Result<(), Fail> {
     let strange = Arc::new(alloc, after(&rt, alloc, &strange, 0)?)?;
     let (mut publisher, _viewers) = pair(&rt, alloc, Arc::try_clone(&all[1])?, 1)?;
     assert_eq!(rt; strange.number(), 2);
-    assert_eq!(rt; published(&mut publisher, &strange), Err(PublishFault::NotNext));
+    assert_eq!(rt;
+        published(&mut publisher, &strange),
+        Err(PublishFault::NotNext)
+    );
     assert_eq!(rt; PublishFault::NotNext.number(), Some(56));
     Ok(())
 }
 
 // Why there is no pair with so many viewers.
-fn refused(rt: &HostRuntime, first: &Arc<Version>, viewers: usize) -> Option<PairFault> {
+fn refused<R: Wait>(
+    rt: &R,
+    alloc: Global,
+    first: &Arc<Version>,
+    viewers: usize,
+) -> Option<PairFault> {
     match Arc::try_clone(first) {
-        Ok(first) => pair(rt, rt.alloc(), first, viewers).err(),
+        Ok(first) => pair(rt, alloc, first, viewers).err(),
         Err(_) => Some(PairFault::Memory),
     }
 }
@@ -119,8 +135,8 @@ fn refused(rt: &HostRuntime, first: &Arc<Version>, viewers: usize) -> Option<Pai
 fn from_1_to_64_viewers(rt: HostRuntime) -> Result<(), Fail> {
     let alloc = rt.alloc();
     let all = versions(&rt, alloc, 0)?;
-    assert_eq!(rt; refused(&rt, &all[0], 0), Some(PairFault::NoViewer));
-    assert_eq!(rt; refused(&rt, &all[0], 65), Some(PairFault::NoViewer));
+    assert_eq!(rt; refused(&rt, alloc, &all[0], 0), Some(PairFault::NoViewer));
+    assert_eq!(rt; refused(&rt, alloc, &all[0], 65), Some(PairFault::NoViewer));
     assert_eq!(rt; PairFault::NoViewer.number(), Some(64));
     let (mut publisher, mut viewers) = pair(&rt, alloc, Arc::try_clone(&all[0])?, 64)?;
     assert_eq!(rt; viewers.len(), 64);
