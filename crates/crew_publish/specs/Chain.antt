@@ -1,0 +1,33 @@
+-- Chains of versions.
+use Rattle.std.specs.Prelude.{◌≡◌, ◌<◌, List, [], ◌∷◌}
+use mathlib.Core.List.{IsPrefix}
+use Rattle.crew_version.specs.Versions.{Snapshot}
+
+-- w may come after v: its number is greater, and its entries begin with those of v
+pub record Follows (v : Snapshot) (w : Snapshot) : Type 0 where
+  pub rises : v.number < w.number
+  pub begins : IsPrefix v.entries w.entries
+
+-- each of these follows the one before it, the first of them v
+abbrev pub ChainFrom : Snapshot → List Snapshot → Type 0
+ChainFrom v [] = Unit {0}
+ChainFrom v (w ∷ ws) = Follows v w × ChainFrom w ws
+
+-- each version of a list follows the one before it
+abbrev pub IsChain : List Snapshot → Type 0
+IsChain [] = Unit {0}
+IsChain (v ∷ vs) = ChainFrom v vs
+
+-- the last of these, or v where there is none
+abbrev pub last_or : Snapshot → List Snapshot → Snapshot
+last_or v [] = v
+last_or v (w ∷ ws) = last_or w ws
+
+-- a list ends with v
+abbrev pub Ends : List Snapshot → Snapshot → Type 0
+Ends [] v = ⊥
+Ends (w ∷ ws) v = last_or w ws ≡ v
+
+-- v may come next: it follows the last one
+abbrev pub IsNext : List Snapshot → Snapshot → Type 0
+IsNext list v = (last : Snapshot) × Ends list last × Follows last v

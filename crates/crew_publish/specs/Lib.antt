@@ -1,0 +1,4 @@
+pub mod Chain
+pub mod Views
+pub mod Faults
+pub mod Machinery

@@ -1,0 +1,2 @@
+-- What the rule over the two copies needs.
+pub mod Rule
