@@ -1,6 +1,0 @@
-//! Tests of the published pair, over its public items. They stand in a crate of their own so that
-//! the library is proved once; it promises nothing to others.
-#![tactic(auto)]
-
-#[cfg(test)]
-mod pairs;
