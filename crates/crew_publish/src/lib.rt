@@ -2,7 +2,8 @@
 //! meanwhile, and wait for nobody. The crate promises that what is published is a chain, in which
 //! numbers rise and each version's entries begin with those of the one before, and that no viewer
 //! ever goes back: the list that a view ends begins with the list of each earlier view of its
-//! viewer, and with the list that was published when the viewer was made.
+//! viewer, and with the list that was published when the viewer was made. One that goes on as a
+//! fresh viewer has that one's list, and still takes no lesser number and no fewer entries.
 #![tactic(auto)]
 
 mod fault;
