@@ -12,7 +12,7 @@ use Rattle.crew_pairing.specs.declared.duty.Duty.{Duty}
 use Rattle.crew_duty.specs.Machinery.Kept.{AreKept, ClimbByFirst, IsKept, IsPast, IsStart, MayBeKept, begins_with, first_of, taken}
 use Rattle.crew_duty.specs.declared.past.Block.{Block}
 use Rattle.crew_duty.proofs.Parts.{place-gives, there}
-use Rattle.crew_duty.proofs.Slots.{window}
+use Rattle.crew_pairing.proofs.Windows.{window}
 
 -- lesser numbers before a place, and none from it on
 pub lesser-before : (duties : List Duty) (n place : ℕ) (e : Duty) → ClimbByFirst duties → place < length duties → first_of (get_or duties place e).key < n

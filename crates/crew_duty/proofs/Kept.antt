@@ -36,7 +36,7 @@ use Rattle.crew_pairing.proofs.Timetables.{flights-of-timetable}
 use Rattle.crew_pairing.proofs.Tree.{Each-map, Each-member, listing-closed, listing-none, listing-open}
 use Rattle.crew_duty.specs.Machinery.Kept.{AreApart, AreChanges, ClimbByFirst, ClimbInTime, IsPast, TellChanges, begins_with, departs_within, first_of, is_within, reach_of}
 use Rattle.crew_duty.specs.Machinery.Limits.{latest_departure}
-use Rattle.crew_duty.proofs.InPlace.{each-of}
+use Rattle.crew_pairing.proofs.Shuffled.{each-of}
 use Rattle.crew_duty.proofs.Leads.{fewer-give, le-fails, nothing-below, second-fails}
 use Rattle.crew_duty.proofs.Unique.{unique}
 

@@ -22,7 +22,7 @@ use Rattle.crew_pairing.specs.declared.duty.Duty.{Duty}
 use Rattle.crew_pairing.specs.declared.leg.TimedLeg.{TimedLeg}
 use Rattle.crew_pairing.proofs.Tree.{Each-member}
 use Rattle.crew_duty.specs.Machinery.Prices.{AreInLimits, AreSameButPrices, HaveFewLegs, HavePrices, at_price, leg_price, price_at, under_prices}
-use Rattle.crew_duty.proofs.InPlace.{each-of}
+use Rattle.crew_pairing.proofs.Shuffled.{each-of}
 
 -- a flight with the price that stands at its number
 abbrev pub priced : List ℤ → Flight → Flight

@@ -1,10 +1,9 @@
 //! All legal duties of a timetable.
 
-ghost use Rattle.std.specs.Prelude.{◌≡◌, ◌≤◌, ◌↔◌, [], List, IsTrue, IfOk, length};
+ghost use Rattle.std.specs.Prelude.{◌≡◌, ◌≤◌, IfOk, length};
 ghost use Rattle.crew_flights.specs.Timetable.{IsSound};
 ghost use Rattle.crew_rules.specs.Settings.{IsChecked};
 ghost use Rattle.crew_pairing.specs.Duties.{AreDuties, HasTooMany, flights_of};
-ghost use Rattle.crew_pairing.specs.declared.duty.Duty.{Duty};
 
 use crate::departures::index_of;
 use crate::fault::DutyFault;
@@ -12,59 +11,10 @@ use crate::pieces::{count_all, list_all, total_of};
 use crate::plan::{Plan, next_flights};
 use crate::search::DUTIES;
 use crew_flights::{Flight, Timetable};
-use crew_pairing::Duty;
+use crew_pairing::Duties;
 use crew_rules::Settings;
 use std::alloc::{AllocError, Global};
-use std::marker::Model;
 use std::thread::Threads;
-
-/// The legal duties of a timetable, by key.
-///
-/// A contract sees their list.
-#[derive(Debug, Drop)]
-pub struct Duties {
-    pub(crate) list: Vec<Duty>,
-}
-
-impl Model for Duties {
-    ghost Value = { List Duty };
-
-    ghost view = { λ duties. duties.list.items };
-}
-
-impl Duties {
-    /// How many there are.
-    pub fn len(&self) -> usize
-        ensures { result ≡ length self.now }
-    {
-        self.list.len()
-    }
-
-    /// Whether there are none.
-    pub fn is_empty(&self) -> bool
-        ensures { IsTrue result ↔ (self.now ≡ []) }
-    {
-        self.list.is_empty()
-    }
-
-    /// Equal duties.
-    pub fn copy(&self, alloc: Global) -> Result<Duties, AllocError>
-        ensures { IfOk result (λ duties. duties ≡ self.now) }
-    {
-        let mut list = Vec::with_capacity(alloc, self.len())?;
-        for duty in &self.list {
-            list.push(duty.copy())?;
-        }
-        Ok(Duties { list })
-    }
-
-    /// The duties, by key.
-    pub fn as_slice(&self) -> &[Duty]
-        ensures { result.now ≡ self.now }
-    {
-        &self.list
-    }
-}
 
 /// The flights of a timetable, by number.
 pub(crate) fn held_flights(alloc: Global, timetable: &Timetable) -> Result<Vec<Flight>, AllocError>
@@ -106,5 +56,5 @@ pub fn list_duties<R: Threads + Sync>(
         return Err(DutyFault::TooManyDuties);
     }
     let list = list_all(rt, alloc, &plan, &counts, total)?;
-    Ok(Duties { list })
+    Ok(Duties::of(list))
 }

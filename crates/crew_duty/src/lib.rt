@@ -18,6 +18,6 @@ mod priced;
 mod search;
 mod totals;
 
-pub use duties::{Duties, list_duties};
+pub use duties::list_duties;
 pub use fault::DutyFault;
 pub use next::list_next;

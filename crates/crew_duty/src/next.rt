@@ -10,7 +10,7 @@ ghost use Rattle.crew_duty.specs.Machinery.Kept.{AreKept, ClimbInTime};
 use crate::beside::{Kept, all_next_beside, count_beside, fill_beside};
 use crate::changes::changes_between;
 use crate::departures::index_of;
-use crate::duties::{Duties, held_flights, list_duties};
+use crate::duties::{held_flights, list_duties};
 use crate::fault::DutyFault;
 use crate::past::{Block, Past};
 use crate::pieces::total_of;
@@ -18,6 +18,7 @@ use crate::plan::Plan;
 use crate::priced::{can_reprice, list_priced};
 use crate::search::DUTIES;
 use crew_flights::{Flight, Timetable};
+use crew_pairing::Duties;
 use crew_rules::Settings;
 use std::alloc::Global;
 use std::thread::Threads;
@@ -60,7 +61,7 @@ fn list_beside(
         return Err(DutyFault::TooManyDuties);
     }
     let list = fill_beside(alloc, &plan, kept, &counts, total)?;
-    Ok(Duties { list })
+    Ok(Duties::of(list))
 }
 
 /// The legal duties of a timetable, as `list_duties` lists them, beside those of an earlier one.
@@ -89,7 +90,7 @@ pub fn list_next<R: Threads + Sync>(
     let flights = held_flights(alloc, timetable)?;
     if can_reprice(duties.as_slice(), &flights, &before) {
         let list = list_priced(alloc, &flights, duties.as_slice())?;
-        return Ok(Duties { list });
+        return Ok(Duties::of(list));
     }
     let minutes = changes_between(alloc, &flights, &before)?;
     let past = Past {

@@ -20,7 +20,7 @@ use Rattle.crew_pairing.proofs.Tree.{slice_get-within}
 use Rattle.crew_pairing.specs.declared.duty.Duty.{Duty}
 use Rattle.crew_resource.specs.Members.{Member}
 use Rattle.crew_resource.proofs.Members.{Member-get}
-use Rattle.crew_duty.proofs.InPlace.{Member-shuffled}
+use Rattle.crew_pairing.proofs.Shuffled.{Member-shuffled}
 
 nat-less : (a b : ℕ) → a < b → nat_cmp a b ≡ Less
 nat-less a b h = grind (arith, h)

@@ -5,7 +5,7 @@ use Rattle.std.proofs.lemmas.List.Sorted.{IsPermutation-sym}
 use Rattle.std.proofs.lemmas.Int.{ints}
 use Rattle.crew_resource.specs.Members.{Member}
 use Rattle.crew_resource.proofs.Members.{Member-get}
-use Rattle.crew_duty.proofs.InPlace.{Member-shuffled}
+use Rattle.crew_pairing.proofs.Shuffled.{Member-shuffled}
 use Rattle.crew_net.specs.Machinery.Moments.{AreInOrder, slots_from}
 use Rattle.crew_net.specs.Machinery.Timelines.{IsTimeline}
 use Rattle.crew_net.specs.Machinery.Moments.{Slot}

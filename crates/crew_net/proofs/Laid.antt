@@ -12,7 +12,7 @@ use Rattle.std.proofs.lemmas.Int.{ints}
 use Rattle.std.proofs.lemmas.List.FromFn.{get_or-range_with_len, length-range_with_len}
 use Rattle.std.proofs.lemmas.Map.Keys.{IsDistinct-IsPermutation, IsDistinct-from_apart, IsDistinct-head, IsDistinct-tail}
 use Rattle.crew_flights.specs.Codes.{code_cmp}
-use Rattle.crew_duty.proofs.InPlace.{Member-shuffled}
+use Rattle.crew_pairing.proofs.Shuffled.{Member-shuffled}
 use Rattle.crew_pairing.proofs.Tree.{slice_get-within}
 use Rattle.crew_pairing.specs.Events.{arrival_of, departure_of, may_wait}
 use Rattle.crew_pairing.specs.Pairings.{may_stand_after}

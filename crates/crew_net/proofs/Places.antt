@@ -8,7 +8,7 @@ use Rattle.std.proofs.lemmas.Map.Keys.{IsDistinct-IsPermutation, IsDistinct-head
 use Rattle.crew_resource.specs.Members.{Each, Member}
 use Rattle.crew_pairing.proofs.InList.{Member-filter, filter-Member}
 use Rattle.crew_pairing.proofs.Tree.{Each-map}
-use Rattle.crew_duty.proofs.InPlace.{Climb, climb-unique, climb-sorted, Member-shuffled}
+use Rattle.crew_pairing.proofs.Shuffled.{Climb, climb-unique, climb-sorted, Member-shuffled}
 use Rattle.crew_net.specs.Machinery.Moments.{slots_from}
 use Rattle.crew_net.specs.Ranks.{places_from}
 use Rattle.crew_net.specs.Machinery.Moments.{Slot}

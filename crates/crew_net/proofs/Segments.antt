@@ -14,7 +14,7 @@ use Rattle.std.proofs.lemmas.Int.{ints}
 use Rattle.crew_resource.specs.Members.{Member}
 use Rattle.crew_resource.proofs.Members.{Member-get}
 use Rattle.crew_pairing.proofs.InList.{filter-Member}
-use Rattle.crew_duty.proofs.Slots.{window}
+use Rattle.crew_pairing.proofs.Windows.{window}
 use Rattle.crew_net.specs.Machinery.Moments.{AreMoments, AreStarts, slot_cmp}
 use Rattle.crew_net.specs.Machinery.Timelines.{IsShape, IsTimeline, IsWithin}
 use Rattle.crew_net.specs.Ranks.{places_from}

@@ -9,5 +9,7 @@ pub mod InOrder
 pub mod Keys
 pub mod Legal
 pub mod Rising
+pub mod Shuffled
 pub mod Timetables
 pub mod WalkOrder
+pub mod Windows

@@ -6,6 +6,7 @@
 //! for those that do.
 #![tactic(auto)]
 
+mod duties;
 mod duty;
 mod events;
 pub mod facts;
@@ -13,6 +14,7 @@ mod key;
 mod leg;
 mod vector;
 
+pub use duties::Duties;
 pub use duty::Duty;
 pub use events::{Arrival, Departure};
 pub use key::{Key, Walk};

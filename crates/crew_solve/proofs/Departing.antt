@@ -12,7 +12,7 @@ use Rattle.std.proofs.lemmas.Map.Keys.{IsDistinct-IsPermutation, IsDistinct-from
 use Rattle.std.specs.Cmp.{IsTotalOrder, int_cmp_total, on_total, then_total}
 use Rattle.std.proofs.lemmas.Cmp.{tied_itself}
 use Rattle.crew_flights.specs.Codes.{code_cmp_total}
-use Rattle.crew_duty.proofs.InPlace.{Member-shuffled}
+use Rattle.crew_pairing.proofs.Shuffled.{Member-shuffled}
 use Rattle.crew_net.specs.Events.{AreEvents, departure_cmp, leaves_at}
 use Rattle.crew_net.specs.Nets.{AreByReport, Net}
 use Rattle.crew_net.specs.Ranks.{places_from, ranks_where}

@@ -3,7 +3,7 @@ use Rattle.std.proofs.Common.{◌≡◌, ℕ, List, Some, subst, length, arith}
 use Rattle.std.specs.Prelude.{slice_get}
 use Rattle.std.specs.List.{range_with_len}
 use Rattle.std.proofs.lemmas.List.FromFn.{get_or-range_with_len, length-range_with_len}
-use Rattle.crew_duty.proofs.InPlace.{Member-shuffled}
+use Rattle.crew_pairing.proofs.Shuffled.{Member-shuffled}
 use Rattle.crew_net.specs.Events.{AreEvents, departure_cmp}
 use Rattle.crew_net.specs.Nets.{AreByReport, Net}
 use Rattle.crew_pairing.specs.Events.{departure_of}

@@ -9,7 +9,7 @@ use Rattle.crew_anchor.specs.Anchors.{anchored, shown}
 use Rattle.crew_anchor.proofs.Labels.{Member-shown, shown-Member}
 use Rattle.crew_anchor.proofs.Shifting.{anchored-shown, shown-anchored}
 use Rattle.crew_anchor.specs.Machinery.Bounds.{fits_in, is_ready}
-use Rattle.crew_duty.proofs.InPlace.{Member-shuffled}
+use Rattle.crew_pairing.proofs.Shuffled.{Member-shuffled}
 use Rattle.crew_flights.specs.Codes.{code_cmp}
 use Rattle.crew_flights.specs.Timetable.{IsSound, Timetable}
 use Rattle.crew_net.specs.Events.{leaves_at}

@@ -1,6 +1,7 @@
 use crate::rows::write_key;
-use crew_duty::{Duties, DutyFault, list_duties, list_next};
+use crew_duty::{DutyFault, list_duties, list_next};
 use crew_flights::{Code, Edit, Flight, FlightId, Timetable};
+use crew_pairing::Duties;
 use crew_rules::Settings;
 use crew_time::{Minute, Zone, read_minute};
 use std::alloc::Global;

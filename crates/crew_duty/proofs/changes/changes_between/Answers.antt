@@ -6,7 +6,7 @@ use Rattle.crew_flights.specs.declared.flight.Flight.{Flight}
 use Rattle.crew_resource.specs.Members.{Member}
 use Rattle.crew_pairing.proofs.Tree.{Each-map}
 use Rattle.crew_duty.specs.Machinery.Kept.{TellChanges}
-use Rattle.crew_duty.proofs.InPlace.{Member-shuffled}
+use Rattle.crew_pairing.proofs.Shuffled.{Member-shuffled}
 use Rattle.crew_duty.proofs.Kept.{not-later}
 use Rattle.crew_duty.proofs.changes.changes_between.Goals as goal
 

@@ -60,4 +60,4 @@ returns-then-can_reprice-clause-listed g c =
     let same = rw (new, old) at c.if-can_reprice.ensures.same in
     let asked : c.deref-then-can_reprice.result.now ≡ flights_of now = c.deref-then-can_reprice.ensures.value ∙ c.in_ok-flights.ensures.held in
     let listed = rw (asked, c.as_slice-then-can_reprice.ensures) at c.in_ok-list.ensures.listed in
-    listed s (flights_of before) (same refl) c.requires.earlier
+    rw c.of.ensures (listed s (flights_of before) (same refl) c.requires.earlier)
