@@ -1,9 +1,9 @@
 //! What a duty and a pairing are, under 14 CFR part 117 for unaugmented operations: legs, keys,
-//! walks and duties with their orders, the facts of a list of legs, and the vector of a list of
-//! duties. `specs/` says which lists of legs are legal duties, and which lists of duties are
-//! partial pairings and pairings; the crate promises that its facts are those of the definitions.
-//! It lists nothing: the theory of the tree in which legal duties are found stands in `proofs/`,
-//! for those that do.
+//! walks and duties with their orders, lists of duties, the facts of a list of legs, and the vector
+//! of a list of duties. `specs/` says which lists of legs are legal duties, and which lists of
+//! duties are partial pairings and pairings; the crate promises that its facts are those of the
+//! definitions. It searches for nothing: the theory of the tree in which legal duties are found
+//! stands in `proofs/`, for those that do.
 #![tactic(auto)]
 
 mod duties;
