@@ -1,0 +1,6 @@
+mod Alike
+mod Boards
+mod Cells
+mod CrewLaws
+mod Progress
+mod Runs

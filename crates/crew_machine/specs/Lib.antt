@@ -1,0 +1,6 @@
+pub mod Worlds
+pub mod Rounds
+pub mod Steps
+pub mod Chains
+pub mod Crew
+pub mod Machinery

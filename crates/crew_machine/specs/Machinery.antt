@@ -1,0 +1,3 @@
+-- What every run keeps.
+pub mod Sound
+pub mod Worked

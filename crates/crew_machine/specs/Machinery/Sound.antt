@@ -1,0 +1,33 @@
+-- What every run keeps: done fronts are right, versions are from scratch, the published list is a
+-- chain.
+use Rattle.std.specs.Prelude.{◌≡◌, ◌⊎◌, ℕ, Some, map}
+use mathlib.Core.List.{IsPrefix}
+use Rattle.std.specs.List.{slice_get}
+use Rattle.crew_resource.specs.Members.{Member}
+use Rattle.crew_machine.specs.Chains.{Follows, IsChain}
+use Rattle.crew_machine.specs.Rounds.{Board, Round, Version}
+use Rattle.crew_machine.specs.Steps.{State, last_of}
+use Rattle.crew_machine.specs.Worlds.{AreNodes, IsScratch, World}
+use Rattle.crew_machine.specs.declared.rounds.Cell.TheVariants.{Done}
+
+module _ {E D N I F B : Type 0} (w : World E D N I F B) where
+  abbrev pub IsVersion : Version E N F B → Type 0
+  IsVersion v = IsScratch w (w.fold v.entries) v.fronts v.best
+
+  pub record IsRound (sealed : Version E N F B) (round : Round E N F) : Type 0 where
+    pub nodes : AreNodes w (w.fold round.entries) (map (λ c. c.0) round.cells)
+    pub right : (n : N) (f : F) → Member round.cells (n, Done f)
+        → w.IsFront (w.fold round.entries) n f
+    pub begins : IsPrefix sealed.entries round.entries
+    pub small : w.IsSmall (w.fold round.entries)
+
+  pub record IsStanding (board : Board E N F B) : Type 0 where
+    pub sealed : IsVersion board.sealed
+    pub round : (r : Round E N F) → board.round ≡ Some r → IsRound board.sealed r
+
+  pub record IsSound (s : State E N I F B) : Type 0 where
+    pub board : IsStanding s.board
+    pub published : (k : ℕ) (v : Version E N F B) → slice_get s.published k ≡ Some v → IsVersion v
+    pub chain : IsChain s.published
+    pub newest : (v : Version E N F B) × (last_of s.published ≡ Some v)
+        × ((v ≡ s.board.sealed) ⊎ Follows v s.board.sealed)
