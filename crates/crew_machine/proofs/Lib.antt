@@ -1,6 +1,7 @@
 mod Alike
 mod Boards
 mod Cells
+mod Claimed
 mod CrewLaws
 mod Progress
 mod Runs

@@ -1,20 +1,21 @@
--- A round never gets stuck: where nothing is out, and a node isn't done, some node is ready.
+-- A round never gets stuck: where nothing is out, and a node isn't done, some node can be claimed.
 use Rattle.std.proofs.Common.{◌≡◌, ℕ, zero, suc, ◌+◌, ◌<◌, true, false, List, [], ◌∷◌, map, Some, ◌⊎◌, inl, inr, pos, refl, sym, ◌∙◌, ap, subst, ⊎_elim, arith}
 use Rattle.std.specs.List.{slice_get}
 use Rattle.std.specs.Ordering.{eq_by_cmp}
+use Rattle.std.specs.declared.cmp.Ordering.TheVariants.{Less}
 use Rattle.std.proofs.lemmas.Bool.{cases_Bool}
 use Rattle.crew_flights.specs.Codes.{code_cmp}
 use Rattle.crew_flights.specs.Timetable.{IsSound, Timetable}
 use Rattle.crew_machine.proofs.Cells.{Member-map, Member-map_out}
-use Rattle.crew_machine.specs.Crew.{DutyNode, Entries, IsNodeOf, MayPrecede, crew}
+use Rattle.crew_machine.specs.Crew.{DutyNode, DutyWork, Entries, IsNodeOf, MayPrecede, RiseByNode, crew, node_cmp}
 use Rattle.crew_machine.specs.Rounds.{IsDone, IsReady, IsUndone}
-use Rattle.crew_machine.specs.Worlds.{AreNodes, IsBefore}
+use Rattle.crew_machine.specs.Worlds.{AreNodes, IsBefore, IsWorkOf}
 use Rattle.crew_machine.specs.declared.rounds.Cell.{Cell}
 use Rattle.crew_machine.specs.declared.rounds.Cell.TheVariants.{Waiting, Out, Done}
 use Rattle.crew_pairing.specs.Pairings.{may_stand_after}
 use Rattle.crew_pairing.specs.declared.duty.Duty.{Duty}
 use Rattle.crew_resource.proofs.Members.{Member-filter_in}
-use Rattle.crew_resource.specs.Members.{Member}
+use Rattle.crew_resource.specs.Members.{Each, Member}
 use Rattle.crew_rules.specs.Settings.{IsChecked}
 use Rattle.crew_rules.specs.declared.settings.Settings.{Settings}
 use Rattle.crew_vector.proofs.Nodes.{Known, arcs-rise, rank}
@@ -82,6 +83,44 @@ module _ (s : Settings) where
       turned (inl a) = inr a
       turned (inr b) = inl b
 
+  -- the nodes before one, each with its front, where all of them are done
+  record AreBefores (n : DutyNode) (cells : List (DutyNode × Cell Entries)) (before : List (DutyNode × Entries)) : Type 0 where
+    pub names-out : (p : DutyNode) → Member (map (λ b. b.0) before) p → Member (map (λ c. c.0) cells) p × MayPrecede s p n
+    pub names-in : (p : DutyNode) → Member (map (λ c. c.0) cells) p → MayPrecede s p n → Member (map (λ b. b.0) before) p
+    pub fronts : (p : DutyNode) (f : Entries) → Member before (p, f) → Member cells (p, Done f)
+    pub each : (x : DutyNode) → Each (λ m. node_cmp x m ≡ Less) (map (λ c. c.0) cells) → Each (λ m. node_cmp x m ≡ Less) (map (λ b. b.0) before)
+    pub rise : RiseByNode (map (λ c. c.0) cells) → RiseByNode (map (λ b. b.0) before)
+
+  befores-more : (n : DutyNode) (x : DutyNode × Cell Entries) (cells : List (DutyNode × Cell Entries)) (f : Entries) (before : List (DutyNode × Entries)) → x.1 ≡ Done f → MayPrecede s x.0 n → AreBefores n cells before → AreBefores n (x ∷ cells) ((x.0, f) ∷ before)
+  befores-more n x cells f before is arc b = record {
+    names-out = λ p m. ⊎_elim (λ e. (inl e, subst (λ (z : DutyNode). MayPrecede s z n) e arc)) (λ k. let r = b.names-out p k in (inr r.0, r.1)) m;
+    names-in = λ p m a. ⊎_elim (λ e. inl e) (λ k. inr (b.names-in p k a)) m;
+    fronts = λ p g m. ⊎_elim
+        (λ e. inl (ap (λ (c : Cell Entries). let z : DutyNode × Cell Entries = (x.0, c) in z) is ∙ ap (λ (y : DutyNode × Entries). let z : DutyNode × Cell Entries = (y.0, Done y.1) in z) e))
+        (λ k. inr (b.fronts p g k))
+        m;
+    each = λ y h. (h.0, b.each y h.1);
+    rise = λ h. (b.each x.0 h.0, b.rise h.1);
+  }
+
+  befores-same : (n : DutyNode) (x : DutyNode × Cell Entries) (cells : List (DutyNode × Cell Entries)) (before : List (DutyNode × Entries)) → (MayPrecede s x.0 n → ⊥) → AreBefores n cells before → AreBefores n (x ∷ cells) before
+  befores-same n x cells before none b = record {
+    names-out = λ p m. (let r = b.names-out p m in (inr r.0, r.1));
+    names-in = λ p m a. ⊎_elim (λ e. absurd (none (subst (λ (z : DutyNode). MayPrecede s z n) (sym e) a))) (λ k. b.names-in p k a) m;
+    fronts = λ p g m. inr (b.fronts p g m);
+    each = λ y h. b.each y h.1;
+    rise = λ h. b.rise h.1;
+  }
+
+  befores : (n : DutyNode) (cells : List (DutyNode × Cell Entries)) → AllDone n cells → (before : List (DutyNode × Entries)) × AreBefores n cells before
+  befores n [] all = ([], record { names-out = λ p m. absurd m; names-in = λ p m a. m; fronts = λ p f m. absurd m; each = λ y h. h; rise = λ h. h })
+  befores n (x ∷ cells) all =
+      let rest = befores n cells (λ p c m a. all p c (inr m) a) in
+      ⊎_elim
+      (λ arc. let d = all x.0 x.1 (inl refl) arc in ((x.0, d.0) ∷ rest.0, befores-more n x cells d.0 rest.0 d.1 arc rest.1))
+      (λ none. (rest.0, befores-same n x cells rest.0 none rest.1))
+      (arc-or-not x.0 n)
+
   module _ (checked : IsChecked s) (t : Timetable) (sound : IsSound t) (cells : List (DutyNode × Cell Entries)) (nodes : AreNodes (crew s) t (map (λ c. c.0) cells)) (none_out : (n : DutyNode) → Member cells (n, Out) → ⊥) where
     time-of : DutyNode → ℕ
     time-of n = rank s t [] (pos 0) checked sound n.duty
@@ -94,30 +133,60 @@ module _ (s : Settings) where
     earlier p n is a =
         arcs-rise s t [] (pos 0) checked sound p.duty n.duty (Member-filter_in (λ (x : Duty). may_stand_after s x n.duty) (Known s t [] (pos 0) checked sound) p.duty (legal-known s t [] (pos 0) checked sound p.duty is.legal) a.rested)
 
-    abbrev SomeReady : Type 0
-    SomeReady = (place : ℕ) × (n : DutyNode) × IsReady (crew s) t cells place n
+    -- a node that waits, where all that may stand just before it is done
+    record Found : Type 0 where
+      pub node : DutyNode
+      pub waits : Member cells (node, Waiting)
+      pub all : AllDone node cells
 
-    ready-one : (n : DutyNode) (c : Cell Entries) → Member cells (n, c) → IsUndone c → AllDone n cells → SomeReady
-    ready-one n (Done f) m u all = absurd u
-    ready-one n Out m u all = absurd (none_out n m)
-    ready-one n Waiting m u all =
-        let at = Member-at cells (n, Waiting) m in
-        let before : (p : DutyNode) → IsBefore (crew s) t p n → (f : Entries) × IsDone (crew s) cells p f = λ p b.
-        (
-        let from = Member-map_out (λ (x : DutyNode × Cell Entries). x.0) cells p ((nodes.exact p).1 b.0) in
-        let arc : MayPrecede s from.0.0 n = subst (λ (z : DutyNode). MayPrecede s z n) (sym from.2) b.1 in
-        let done = all from.0.0 from.0.1 from.1 arc in
-        let there : Member cells (p, from.0.1) = subst (λ (z : DutyNode). Member cells (z, from.0.1)) from.2 from.1 in
-        (done.0, subst (λ (c : Cell Entries). Member cells (p, c)) done.1 there)) in
-        (at.0, n, (at.1, before))
+    found-at : (n : DutyNode) (c : Cell Entries) → Member cells (n, c) → IsUndone c → AllDone n cells → Found
+    found-at n (Done f) m u all = absurd u
+    found-at n Out m u all = absurd (none_out n m)
+    found-at n Waiting m u all = record { node = n; waits = m; all = all }
 
-    ready-below : (k : ℕ) (n : DutyNode) (c : Cell Entries) → time-of n < k → Member cells (n, c) → IsUndone c → SomeReady
-    ready-below zero n c low m u = absurd (omega (arith, low))
-    ready-below (suc k) n c low m u =
+    found-below : (k : ℕ) (n : DutyNode) (c : Cell Entries) → time-of n < k → Member cells (n, c) → IsUndone c → Found
+    found-below zero n c low m u = absurd (omega (arith, low))
+    found-below (suc k) n c low m u =
         ⊎_elim
-        (λ all. ready-one n c m u all)
-        (λ r. let less = earlier r.before n (node-in r.before r.cell r.there) r.arc in ready-below k r.before r.cell (omega (arith, low, less)) r.there r.undone)
+        (λ all. found-at n c m u all)
+        (λ r. let less = earlier r.before n (node-in r.before r.cell r.there) r.arc in found-below k r.before r.cell (omega (arith, low, less)) r.there r.undone)
         (look n cells)
 
-    pub some-ready : (n : DutyNode) (c : Cell Entries) → Member cells (n, c) → IsUndone c → SomeReady
-    some-ready n c m u = ready-below (time-of n + 1) n c (omega arith) m u
+    is-ready : (f : Found) (p : DutyNode) → IsBefore (crew s) t p f.node → (e : Entries) × IsDone (crew s) cells p e
+    is-ready f p b =
+        let from = Member-map_out (λ (x : DutyNode × Cell Entries). x.0) cells p ((nodes.exact p).1 b.0) in
+        let arc : MayPrecede s from.0.0 f.node = subst (λ (z : DutyNode). MayPrecede s z f.node) (sym from.2) b.1 in
+        let done = f.all from.0.0 from.0.1 from.1 arc in
+        let there : Member cells (p, from.0.1) = subst (λ (z : DutyNode). Member cells (z, from.0.1)) from.2 from.1 in
+        (done.0, subst (λ (c : Cell Entries). Member cells (p, c)) done.1 there)
+
+    -- the own job of such a node
+    own-job : (f : Found) → (job : DutyWork) × (job.node ≡ f.node) × IsWorkOf (crew s) t (IsDone (crew s) cells) job
+    own-job f =
+        let b = befores f.node cells f.all in
+        let job : DutyWork = record { node = f.node; input = (crew s).input t f.node; before = b.0 } in
+        (
+          job,
+          refl,
+          record {
+            input = refl;
+            before = record {
+              rise = b.1.rise nodes.rise;
+              exact = λ p. (
+                  λ m. (let k = b.1.names-out p m in ((nodes.exact p).0 k.0, k.1)),
+                  λ k. b.1.names-in p ((nodes.exact p).1 k.0) k.1,
+                );
+            };
+            fronts = b.1.fronts;
+          },
+        )
+
+    -- the step that claims it
+    pub some-claim : (n : DutyNode) (c : Cell Entries) → Member cells (n, c) → IsUndone c → (place : ℕ) × (job : DutyWork) × IsReady (crew s) t cells place job.node × (slice_get cells place ≡ Some (job.node, Waiting)) × IsWorkOf (crew s) t (IsDone (crew s) cells) job
+    unfolding own-job found-below
+    some-claim n c m u =
+        let f = found-below (time-of n + 1) n c (omega arith) m u in
+        let at = Member-at cells (f.node, Waiting) f.waits in
+        let own = own-job f in
+        let here : slice_get cells at.0 ≡ Some (own.0.node, Waiting) = at.1 in
+        (at.0, own.0, (here, is-ready f), here, own.2)

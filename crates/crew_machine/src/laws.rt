@@ -3,9 +3,9 @@
 ghost use Rattle.std.specs.Prelude.{◌≡◌, ℕ, List, Some};
 ghost use Rattle.std.specs.List.{slice_get};
 ghost use Rattle.crew_machine.specs.Chains.{IsChain, NeverFalls, answers_to};
-ghost use Rattle.crew_machine.specs.Crew.{CrewAct, CrewReply, CrewRound, CrewState, CrewVersion, DutyNode, Entries, IsFromScratch, IsFrontOf, crew, timetable_of};
-ghost use Rattle.crew_machine.specs.Rounds.{IsReady, IsUndone};
-ghost use Rattle.crew_machine.specs.Steps.{Answered, Run, start};
+ghost use Rattle.crew_machine.specs.Crew.{CrewAct, CrewReply, CrewRound, CrewState, CrewVersion, DutyNode, DutyWork, Entries, IsFromScratch, IsFrontOf, crew, timetable_of};
+ghost use Rattle.crew_machine.specs.Rounds.{IsUndone};
+ghost use Rattle.crew_machine.specs.Steps.{Answered, Claim, Claimed, Run, Step, start};
 ghost use Rattle.crew_machine.specs.declared.rounds.Cell.{Cell};
 ghost use Rattle.crew_machine.specs.declared.rounds.Cell.TheVariants.{Done, Out};
 ghost use Rattle.crew_resource.specs.Members.{Member};
@@ -13,9 +13,9 @@ ghost use Rattle.crew_rules.specs.Settings.{IsChecked};
 ghost use Rattle.crew_rules.specs.declared.settings.Settings.{Settings};
 
 /// At the end of every run, and so at each moment of one, whatever its steps and its free choices:
-/// what is done in the round that is open is the front of its node in the round's own timetable; the
-/// published versions are a chain, and each is from scratch of the entries that it names; and each
-/// answer is a published version, none before the one that its reader was answered last.
+/// what is done in the round that is open is the front of its node in the round's own timetable;
+/// the published versions are a chain, and each is from scratch of the entries that it names; and
+/// each answer is a published version, none before the one that its reader was answered last.
 pub fn all_interleavings()
     ensures fronts { (s : Settings) (acts : List CrewAct) (replies : List CrewReply)
         (state : CrewState) → IsChecked s → Run (crew s) (start (crew s)) acts replies state
@@ -38,8 +38,8 @@ pub fn all_interleavings()
         → (reader : ℕ) → NeverFalls 0 (answers_to reader acts replies) }
 {}
 
-/// What a run publishes depends on entries alone: two versions of the same entries, of one run or of
-/// two, have the same fronts and the same best.
+/// What a run publishes depends on entries alone: two versions of the same entries, of one run or
+/// of two, have the same fronts and the same best.
 pub fn versions_are_told_by_their_entries()
     ensures { (s : Settings) (acts others : List CrewAct) (replies answers : List CrewReply)
         (state other : CrewState) → IsChecked s
@@ -50,8 +50,8 @@ pub fn versions_are_told_by_their_entries()
         → (v.fronts ≡ w.fronts) × (v.best ≡ w.best) }
 {}
 
-/// A round never gets stuck: where none of its nodes is out, and one isn't done, some node is ready
-/// to be claimed.
+/// A round never gets stuck: where none of its nodes is out, and one isn't done, the next step may
+/// claim one.
 pub fn rounds_never_get_stuck()
     ensures { (s : Settings) (acts : List CrewAct) (replies : List CrewReply) (state : CrewState)
         → IsChecked s → Run (crew s) (start (crew s)) acts replies state
@@ -59,6 +59,5 @@ pub fn rounds_never_get_stuck()
         → state.board.round ≡ Some round
         → ((m : DutyNode) → Member round.cells (m, Out) → ⊥)
         → Member round.cells (n, cell) → IsUndone cell
-        → (place : ℕ) × (m : DutyNode)
-        × IsReady (crew s) (timetable_of round.entries) round.cells place m }
+        → (job : DutyWork) × (next : CrewState) × Step (crew s) state Claim (Claimed job) next }
 {}

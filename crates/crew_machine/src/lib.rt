@@ -1,9 +1,9 @@
-//! The machine of the engine's steps: a log that edits are pushed to, a round of work on the nodes of
-//! a timetable, versions that are sealed and published, and readers that ask. `specs/` says what each
-//! step does, and which choices are free; `laws` has it that in every run, whatever its steps and
-//! those choices, what is done in a round are the fronts of the round's timetable, published versions
-//! form a chain and are each from scratch, and no reader is answered a version before its last. No
-//! code runs here: a board of jobs, and the threads over it, are held to these steps.
+//! The machine of the engine's steps: a log that edits are pushed to, a round of work on the nodes
+//! of a timetable, versions that are sealed and published, and readers that ask. `specs/` says what
+//! each step does, and which choices are free. `laws` has it that in every run, whatever its steps
+//! and those choices, what is done in a round are the fronts of the round's timetable, published
+//! versions are a chain and each is from scratch, and no reader is answered a version before its
+//! last. No code runs here: a board of jobs, and the threads over it, are held to these steps.
 #![tactic(auto)]
 
 pub mod laws;
