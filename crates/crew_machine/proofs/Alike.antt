@@ -28,7 +28,7 @@ module _ (s : Settings) (checked : IsChecked s) where
   same-nodes t ns ms h k =
       same-rising node_cmp node-total ns ms (rising ns h.rise) (rising ms k.rise) (λ n m. (k.exact n).1 ((h.exact n).0 m)) (λ n m. (h.exact n).1 ((k.exact n).0 m))
 
-  same-front-of : (t : Timetable) (n : DutyNode) (f g : Entries) → IsFrontOf s t n f → IsFrontOf s t n g → f ≡ g
+  pub same-front-of : (t : Timetable) (n : DutyNode) (f g : Entries) → IsFrontOf s t n f → IsFrontOf s t n g → f ≡ g
   same-front-of t n f g h k =
       let price = one-price s checked t n.base n.base k.price h.price refl k.based h.based in
       same-listed s t n.base h.price n.duty f g h.front (subst (λ (p : ℤ). IsFrontAt s t n.base p n.duty g) price k.front) h.rises k.rises

@@ -1,5 +1,5 @@
 -- A job that can be handed out is a step.
-use Rattle.std.proofs.Common.{◌≡◌, ℕ, List, [], ◌∷◌, ◌++◌, slice_set, Option, Some, refl}
+use Rattle.std.proofs.Common.{◌≡◌, ℕ, [], ◌∷◌, ◌++◌, slice_set, Some, refl}
 use Rattle.std.specs.List.{slice_get}
 use Rattle.crew_machine.specs.Crew.{CrewRound, CrewState, DutyWork, crew, timetable_of}
 use Rattle.crew_machine.specs.Rounds.{Claims, IsDone, IsReady, with_cells}

@@ -4,4 +4,5 @@ mod Cells
 mod Claimed
 mod CrewLaws
 mod Progress
+mod Reuse
 mod Runs

@@ -7,6 +7,7 @@ use Rattle.std.proofs.lemmas.Bool.{cases_Bool}
 use Rattle.crew_flights.specs.Codes.{code_cmp}
 use Rattle.crew_flights.specs.Timetable.{IsSound, Timetable}
 use Rattle.crew_machine.proofs.Cells.{Member-map, Member-map_out}
+use Rattle.crew_machine.proofs.Reuse.{Member-at}
 use Rattle.crew_machine.specs.Crew.{DutyNode, DutyWork, Entries, IsNodeOf, MayPrecede, RiseByNode, crew, node_cmp}
 use Rattle.crew_machine.specs.Rounds.{IsDone, IsReady, IsUndone}
 use Rattle.crew_machine.specs.Worlds.{AreNodes, IsBefore, IsWorkOf}
@@ -21,10 +22,6 @@ use Rattle.crew_rules.specs.declared.settings.Settings.{Settings}
 use Rattle.crew_vector.proofs.Nodes.{Known, arcs-rise, rank}
 use Rattle.crew_vector.proofs.Orders.{code-itself, same-code}
 use Rattle.crew_vector.proofs.Paths.{legal-known}
-
-Member-at : {X : Type 0} (xs : List X) (x : X) → Member xs x → (i : ℕ) × (slice_get xs i ≡ Some x)
-Member-at [] x m = absurd m
-Member-at (y ∷ ys) x m = ⊎_elim (λ e. (0, ap Some e)) (λ k. let r = Member-at ys x k in (suc r.0, r.1)) m
 
 done-or-not : (c : Cell Entries) → ((f : Entries) × (c ≡ Done f)) ⊎ IsUndone c
 done-or-not Waiting = inr tt
@@ -164,8 +161,7 @@ module _ (s : Settings) where
     own-job : (f : Found) → (job : DutyWork) × (job.node ≡ f.node) × IsWorkOf (crew s) t (IsDone (crew s) cells) job
     own-job f =
         let b = befores f.node cells f.all in
-        let job : DutyWork = record { node = f.node; input = (crew s).input t f.node; before = b.0 } in
-        (
+        let job : DutyWork = record { node = f.node; input = (crew s).input t f.node; before = b.0 } in (
           job,
           refl,
           record {
@@ -173,9 +169,9 @@ module _ (s : Settings) where
             before = record {
               rise = b.1.rise nodes.rise;
               exact = λ p. (
-                  λ m. (let k = b.1.names-out p m in ((nodes.exact p).0 k.0, k.1)),
-                  λ k. b.1.names-in p ((nodes.exact p).1 k.0) k.1,
-                );
+                λ m. (let k = b.1.names-out p m in ((nodes.exact p).0 k.0, k.1)),
+                λ k. b.1.names-in p ((nodes.exact p).1 k.0) k.1,
+              );
             };
             fronts = b.1.fronts;
           },

@@ -111,6 +111,11 @@ module _ {E D N I F B : Type 0} (w : World E D N I F B) where
       IsReusable sealed (record { entries = entries; cells = old }) m.0 m.1.0 m.1.1
       × Reuses sealed entries (slice_set old m.0 (m.1.0.node, Done m.1.1)) ms new
 
+  -- .. until there is none left
+  abbrev pub NoneReusable : Version E N F B → List E → List (N × Cell F) → Type 0
+  NoneReusable sealed entries cells = (place : ℕ) (job : Work N I F) (f : F)
+      → IsReusable sealed (record { entries = entries; cells = cells }) place job f → ⊥
+
   -- the job is its node's own now, whatever is known of the node
   abbrev pub IsCurrent : Board E N F B → Work N I F → Type 0
   IsCurrent old job = (round : Round E N F) × (place : ℕ) × (cell : Cell F)

@@ -2,9 +2,10 @@
 
 ghost use Rattle.std.specs.Prelude.{◌≡◌, ℕ, List, Some};
 ghost use Rattle.std.specs.List.{slice_get};
+ghost use Rattle.crew_flights.specs.declared.entries.Entry.{Entry};
 ghost use Rattle.crew_machine.specs.Chains.{IsChain, NeverFalls, answers_to};
 ghost use Rattle.crew_machine.specs.Crew.{CrewAct, CrewReply, CrewRound, CrewState, CrewVersion, DutyNode, DutyWork, Entries, IsFromScratch, IsFrontOf, crew, timetable_of};
-ghost use Rattle.crew_machine.specs.Rounds.{IsUndone};
+ghost use Rattle.crew_machine.specs.Rounds.{IsCarried, IsUndone, NoneReusable, Reuses};
 ghost use Rattle.crew_machine.specs.Steps.{Answered, Claim, Claimed, Run, Step, start};
 ghost use Rattle.crew_machine.specs.declared.rounds.Cell.{Cell};
 ghost use Rattle.crew_machine.specs.declared.rounds.Cell.TheVariants.{Done, Out};
@@ -60,4 +61,18 @@ pub fn rounds_never_get_stuck()
         → ((m : DutyNode) → Member round.cells (m, Out) → ⊥)
         → Member round.cells (n, cell) → IsUndone cell
         → (job : DutyWork) × (next : CrewState) × Step (crew s) state Claim (Claimed job) next }
+{}
+
+/// Reuse has one end: where equal jobs are marked one after another until none is left, the cells
+/// are the same whatever the order. After a round is begun there is none to mark.
+pub fn reuse_has_one_end()
+    ensures alike { (s : Settings) (sealed : CrewVersion) (entries : List Entry)
+        (old a b : List (DutyNode × Cell Entries)) (ms ns : List (ℕ × (DutyWork × Entries)))
+        → IsChecked s → IsFromScratch s sealed
+        → Reuses (crew s) sealed entries old ms a → NoneReusable (crew s) sealed entries a
+        → Reuses (crew s) sealed entries old ns b → NoneReusable (crew s) sealed entries b
+        → a ≡ b }
+    ensures begun { (s : Settings) (sealed : CrewVersion) (entries : List Entry)
+        (cells : List (DutyNode × Cell Entries)) → IsCarried (crew s) sealed entries cells
+        → NoneReusable (crew s) sealed entries cells }
 {}

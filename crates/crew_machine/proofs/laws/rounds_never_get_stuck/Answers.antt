@@ -1,4 +1,3 @@
-use Rattle.std.proofs.Common.{refl}
 use Rattle.crew_machine.proofs.CrewLaws.{crew-laws, timetable-sound}
 use Rattle.crew_machine.proofs.Progress.{some-claim}
 use Rattle.crew_machine.proofs.Runs.{all_sound}
