@@ -10,7 +10,8 @@ use Rattle.crew_machine.specs.declared.rounds.Brought.{Brought}
 use Rattle.crew_machine.specs.declared.rounds.Brought.TheVariants.{Stale, Again, Stored}
 use Rattle.crew_machine.specs.Machinery.Sound.{IsVersion, IsRound, IsStanding}
 use Rattle.crew_machine.specs.Machinery.Worked.{Laws}
-use Rattle.crew_machine.proofs.Cells.{Some-same, Member-slice_get, Member-slice_set, map-slice_set_same, Member-map, map-map_lem}
+use Rattle.crew_machine.proofs.Cells.{Some-same, Member-slice_set, map-slice_set_same, map-map_lem}
+use Rattle.crew_resource.proofs.Members.{Member-at, Member-map_in}
 
 abbrev front_in : {F : Type 0} → Cell F → F → F
 front_in Waiting f = f
@@ -29,7 +30,7 @@ module _ {E D N I F B : Type 0} (w : World E D N I F B) (laws : Laws w) where
   own_front : (sealed : Version E N F B) (r : Round E N F) (i : ℕ) (cell : Cell F) (job : Work N I F) (f : F)
       → IsRound w sealed r → IsOwn w r i cell job → w.IsLocal job f → w.IsFront (w.fold r.entries) job.node f
   own_front sealed r i cell job f sound own local =
-      let there : w.IsNode (w.fold r.entries) job.node = (sound.nodes.exact job.node).0 (Member-map (λ c. c.0) r.cells (job.node, cell) (Member-slice_get r.cells i (job.node, cell) own.0)) in
+      let there : w.IsNode (w.fold r.entries) job.node = (sound.nodes.exact job.node).0 (Member-map_in (λ c. c.0) r.cells (job.node, cell) (Member-at r.cells i (job.node, cell) own.0)) in
       laws.local_in r.entries job f there (IsWorkOf-weaker w (w.fold r.entries) (IsDone w r.cells) (w.IsFront (w.fold r.entries)) job sound.right own.1) local
 
   -- a cell is written with what is right
@@ -83,7 +84,7 @@ module _ {E D N I F B : Type 0} (w : World E D N I F B) (laws : Laws w) where
     nodes = o.carried.nodes;
     right = λ n f m.
         let d = o.carried.done n f m in
-        let there : w.IsNode (w.fold entries) n = (o.carried.nodes.exact n).0 (Member-map (λ c. c.0) o.cells (n, Done f) m) in
+        let there : w.IsNode (w.fold entries) n = (o.carried.nodes.exact n).0 (Member-map_in (λ c. c.0) o.cells (n, Done f) m) in
         laws.carried old.sealed.entries entries n f there d.0 (s.sealed.right n f d.1);
     begins = o.begins;
     small = o.small;
@@ -127,7 +128,7 @@ module _ {E D N I F B : Type 0} (w : World E D N I F B) (laws : Laws w) where
       let nodes : AreNodes w (w.fold version.entries) (map (λ e. e.0) version.fronts) =
       subst (λ z. AreNodes w z (map (λ e. e.0) version.fronts)) d (subst (AreNodes w (w.fold c.round.entries)) (sym listed) sound.nodes) in
       let right : (n : N) (f : F) → Member version.fronts (n, f) → w.IsFront (w.fold version.entries) n f =
-      λ n f m. subst (λ z. w.IsFront z n f) d (sound.right n f (subst (λ z. Member z (n, Done f)) c.fronts (Member-map (λ e. (e.0, Done e.1)) version.fronts (n, f) m))) in
+      λ n f m. subst (λ z. w.IsFront z n f) d (sound.right n f (subst (λ z. Member z (n, Done f)) c.fronts (Member-map_in (λ e. (e.0, Done e.1)) version.fronts (n, f) m))) in
       record { nodes = nodes; right = right; best_is = laws.least version.entries version.fronts version.best nodes right c.least; small = subst w.IsSmall d sound.small }
 
   pub seals_sound : (old : Board E N F B) (version : Version E N F B) (new : Board E N F B) → IsStanding w old → Seals w old version new → IsStanding w new

@@ -11,7 +11,8 @@ use Rattle.crew_flights.specs.declared.edit.Edit.{Edit}
 use Rattle.crew_flights.specs.declared.edit.Refusal.{Refusal}
 use Rattle.crew_flights.specs.declared.entries.Entry.{Entry}
 use Rattle.crew_flights.specs.declared.flight.Flight.{Flight}
-use Rattle.crew_machine.proofs.Cells.{Member-map, Member-map_out, Some-same}
+use Rattle.crew_machine.proofs.Cells.{Some-same}
+use Rattle.crew_resource.proofs.Members.{Member-map_in, Member-map_out}
 use Rattle.crew_machine.specs.Crew.{ComesHome, CrewVersion, DutyNode, DutyWork, Entries, Inputs, IsFromScratch, IsFrontOf, IsLeastOf, IsLocalOf, IsNodeOf, MayPrecede, crew, feed_of, pairing_of, timetable_of}
 use Rattle.crew_machine.specs.Machinery.Sound.{IsVersion}
 use Rattle.crew_machine.specs.Machinery.Worked.{Laws}
@@ -104,7 +105,7 @@ module _ (s : Settings) (checked : IsChecked s) where
 
     fed-one : (b : DutyNode × Entries) → Member job.before b → Fed (b.0.duty, b.1)
     fed-one b m =
-        let at = (work.before.exact b.0).0 (Member-map (λ c. c.0) job.before b m) in
+        let at = (work.before.exact b.0).0 (Member-map_in (λ c. c.0) job.before b m) in
         let is = at.0 in
         let may = at.1 in
         let f = work.fronts b.0 b.1 m in
@@ -121,7 +122,7 @@ module _ (s : Settings) (checked : IsChecked s) where
           let is : IsNodeOf s t (node-of job.node.base e) = record { price = price; based = based; legal = legal } in
           let precedes : MayPrecede s (node-of job.node.base e) job.node = record { base = refl; rested = may } in
           let from = Member-map_out (λ (c : DutyNode × Entries). c.0) job.before (node-of job.node.base e) ((work.before.exact (node-of job.node.base e)).1 (is, precedes)) in
-          let there = Member-map (λ (b : DutyNode × Entries). let z : Duty × Entries = (b.0.duty, b.1) in z) job.before from.0 from.1 in
+          let there = Member-map_in (λ (b : DutyNode × Entries). let z : Duty × Entries = (b.0.duty, b.1) in z) job.before from.0 from.1 in
           let duty : from.0.0.duty ≡ e = ap (λ (n : DutyNode). n.duty) from.2 in
           (from.0.1, subst (λ (x : Duty). Member (feed_of job.before) (x, from.0.1)) duty there);
     }
@@ -229,7 +230,7 @@ module _ (s : Settings) (checked : IsChecked s) where
     module _ (fronts : List (DutyNode × Entries)) (nodes : AreNodes (crew s) t (map (λ e. e.0) fronts)) (right : (n : DutyNode) (f : Entries) → Member fronts (n, f) → IsFrontOf s t n f) where
       home-to : (base : List ℕ) (v : PairingVector) (w : List (List Leg)) → ComesHome fronts base v w → IsHomeEntry s t canon base v w
       home-to base v w h =
-          let is = (nodes.exact (node-of base h.duty)).0 (Member-map (λ (e : DutyNode × Entries). e.0) fronts (node-of base h.duty, h.entries) h.node) in
+          let is = (nodes.exact (node-of base h.duty)).0 (Member-map_in (λ (e : DutyNode × Entries). e.0) fronts (node-of base h.duty, h.entries) h.node) in
           let front = front-at t base is.price h.duty h.entries is.based (right (node-of base h.duty) h.entries h.node) in
           record {
             price = is.price;
@@ -317,7 +318,7 @@ module _ (s : Settings) (checked : IsChecked s) where
         let from = Member-map_out (λ (e : DutyNode × Entries). e.0) v.fronts (node-of base d) ((is.nodes.exact (node-of base d)).1 node) in
         let there : Member v.fronts (node-of base d, from.0.1) = subst (λ (n : DutyNode). Member v.fronts (n, from.0.1)) from.2 from.1 in
         (from.0.1, there, front-at (timetable_of v.entries) base price d from.0.1 based (is.right (node-of base d) from.0.1 there));
-    only = λ n entries m. ((is.nodes.exact n).0 (Member-map (λ (e : DutyNode × Entries). e.0) v.fronts (n, entries) m), is.right n entries m);
+    only = λ n entries m. ((is.nodes.exact n).0 (Member-map_in (λ (e : DutyNode × Entries). e.0) v.fronts (n, entries) m), is.right n entries m);
     best = is.best_is;
     few = is.small;
   }

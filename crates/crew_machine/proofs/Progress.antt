@@ -6,8 +6,8 @@ use Rattle.std.specs.declared.cmp.Ordering.TheVariants.{Less}
 use Rattle.std.proofs.lemmas.Bool.{cases_Bool}
 use Rattle.crew_flights.specs.Codes.{code_cmp}
 use Rattle.crew_flights.specs.Timetable.{IsSound, Timetable}
-use Rattle.crew_machine.proofs.Cells.{Member-map, Member-map_out}
-use Rattle.crew_machine.proofs.Reuse.{Member-at}
+use Rattle.crew_resource.proofs.Members.{Member-map_in, Member-map_out}
+use Rattle.crew_machine.proofs.Reuse.{place-of-member}
 use Rattle.crew_machine.specs.Crew.{DutyNode, DutyWork, Entries, IsNodeOf, MayPrecede, RiseByNode, crew, node_cmp}
 use Rattle.crew_machine.specs.Rounds.{IsDone, IsReady, IsUndone}
 use Rattle.crew_machine.specs.Worlds.{AreNodes, IsBefore, IsWorkOf}
@@ -123,7 +123,7 @@ module _ (s : Settings) where
     time-of n = rank s t [] (pos 0) checked sound n.duty
 
     node-in : (n : DutyNode) (c : Cell Entries) → Member cells (n, c) → IsNodeOf s t n
-    node-in n c m = (nodes.exact n).0 (Member-map (λ (x : DutyNode × Cell Entries). x.0) cells (n, c) m)
+    node-in n c m = (nodes.exact n).0 (Member-map_in (λ (x : DutyNode × Cell Entries). x.0) cells (n, c) m)
 
     earlier : (p n : DutyNode) → IsNodeOf s t p → MayPrecede s p n → time-of p < time-of n
     unfolding time-of
@@ -182,7 +182,7 @@ module _ (s : Settings) where
     unfolding own-job found-below
     some-claim n c m u =
         let f = found-below (time-of n + 1) n c (omega arith) m u in
-        let at = Member-at cells (f.node, Waiting) f.waits in
+        let at = place-of-member cells (f.node, Waiting) f.waits in
         let own = own-job f in
         let here : slice_get cells at.0 ≡ Some (own.0.node, Waiting) = at.1 in
         (at.0, own.0, (here, is-ready f), here, own.2)

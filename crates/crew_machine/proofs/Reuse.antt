@@ -6,11 +6,12 @@ use Rattle.crew_machine.specs.Worlds.{IsBefore, IsUnreached, IsUntouched, IsWork
 use Rattle.crew_machine.specs.declared.rounds.Cell.{Cell}
 use Rattle.crew_machine.specs.declared.rounds.Cell.TheVariants.{Waiting, Done}
 use Rattle.crew_machine.specs.Rounds.{IsCarried, IsDone, IsReusable, IsUndone, NoneReusable, Reuses, Version}
-use Rattle.crew_machine.proofs.Cells.{Member-map_out, Member-slice_get, Some-same}
+use Rattle.crew_machine.proofs.Cells.{Some-same}
+use Rattle.crew_resource.proofs.Members.{Member-at, Member-map_out}
 
-pub Member-at : {X : Type 0} (xs : List X) (x : X) → Member xs x → (i : ℕ) × (slice_get xs i ≡ Some x)
-Member-at [] x m = absurd m
-Member-at (y ∷ ys) x m = ⊎_elim (λ e. (zero, ap Some e)) (λ k. let r = Member-at ys x k in (suc r.0, r.1)) m
+pub place-of-member : {X : Type 0} (xs : List X) (x : X) → Member xs x → (i : ℕ) × (slice_get xs i ≡ Some x)
+place-of-member [] x m = absurd m
+place-of-member (y ∷ ys) x m = ⊎_elim (λ e. (zero, ap Some e)) (λ k. let r = place-of-member ys x k in (suc r.0, r.1)) m
 
 pub waits-not-done : {N F : Type 0} (n m : N) (f : F) → ◌≡◌ {A = Option (N × Cell F)} (Some (n, Done f)) (Some (m, Waiting)) → ⊥
 waits-not-done {N} {F} n m f e =
@@ -71,8 +72,8 @@ module _ {E D N I F B : Type 0} (w : World E D N I F B) (sealed : Version E N F 
           input = r.0.0.1.input;
           before = r.0.0.1.before;
           fronts = λ p q x.
-              let at = Member-at mid (p, Done q) (r.0.0.1.fronts p q x) in
-              Member-slice_get end at.0 (p, Done q) (within at.0 p q at.1);
+              let at = place-of-member mid (p, Done q) (r.0.0.1.fronts p q x) in
+              Member-at end at.0 (p, Done q) (within at.0 p q at.1);
         } in
         let was : slice_get old i ≡ Some (job.node, Waiting) = ⊎_elim (λ s. sym s ∙ waits) (λ s. absurd (waits-not-done s.0 job.node s.1 (sym s.3 ∙ waits))) (h i) in
         let there : slice_get end i ≡ Some (job.node, Done f) =
@@ -149,5 +150,5 @@ module _ {E D N I F B : Type 0} (w : World E D N I F B) where
       let k = (carried.done r.0 at.0.1 (u.0.1.fronts r.0 at.0.1 there)).0 in
       k m r.1 is r.3)
       (Leads-last w new m way job.node h) in
-      let kept = carried.kept job.node Waiting (Member-slice_get cells i (job.node, Waiting) u.0.0) unreached in
+      let kept = carried.kept job.node Waiting (Member-at cells i (job.node, Waiting) u.0.0) unreached in
       subst IsUndone kept.1 tt

@@ -15,11 +15,14 @@
 //! second number is then the least minutes between two legs.
 #![tactic(auto)]
 
+ghost use Rattle.std.specs.Prelude.{◌≤◌, length};
+ghost use Rattle.crew_pairing.specs.Duties.{AreDuties};
 ghost use Rattle.crew_rules.specs.Settings.{IsChecked};
 
 use crew_duty::list_duties;
 use crew_flights::{Code, Edit, Flight, FlightId, Timetable};
 use crew_net::Net;
+use crew_pairing::Duties;
 use crew_rules::Settings;
 use crew_solve::solve_with;
 use crew_time::{Minute, Zone, read_minute};
@@ -104,16 +107,73 @@ fn measure_list<R: Threads + Sync + Clock + Eprint + Print>(
 {
     let start = Instant::now(rt)?;
     let duties = list_duties(rt, alloc, settings, timetable);
-    let list = start.elapsed(rt)?.as_micros();
-    match duties {
-        Ok(duties) => println!(rt; "duties {}", duties.len())?,
-        Err(_) => println!(rt; "duties refused")?,
+    let taken = start.elapsed(rt);
+    let count = match duties {
+        Ok(duties) => Some(duties.len()),
+        Err(_) => None,
+    };
+    let list = taken?.as_micros();
+    match count {
+        Some(count) => println!(rt; "duties {count}")?,
+        None => println!(rt; "duties refused")?,
     }
     eprintln!(rt; "list {list}")?;
     Ok(())
 }
 
-// Lists the duties and builds their network, and prints what there is and what it took.
+// How large a network is.
+#[derive(Clone, Copy)]
+struct Sizes {
+    duties: usize,
+    nodes: usize,
+    departures: usize,
+    arrivals: usize,
+}
+
+// Builds the network of some duties: the microseconds that it took, and how large it is.
+fn build_once<R: Clock>(
+    rt: &R,
+    alloc: Global,
+    settings: &Settings,
+    timetable: &Timetable,
+    duties: Arc<Duties>,
+) -> io::Result<(u128, Sizes)>
+    requires checked { IsChecked settings.now }
+    requires duties { AreDuties settings.now timetable.now duties.value }
+    requires few { length duties.value ≤ 200_000 }
+{
+    let start = Instant::now(rt)?;
+    let net = Net::build(alloc, settings, timetable, duties)?;
+    let built = start.elapsed(rt)?.as_micros();
+    let sizes = Sizes {
+        duties: net.duties().len(),
+        nodes: net.len(),
+        departures: net.departures().len(),
+        arrivals: net.arrivals().len(),
+    };
+    Ok((built, sizes))
+}
+
+// Lists the duties and builds their network: the microseconds that each took, and how large it is.
+fn measure_once<R: Threads + Sync + Clock>(
+    rt: &R,
+    alloc: Global,
+    settings: &Settings,
+    timetable: &Timetable,
+) -> io::Result<Option<(u128, u128, Sizes)>>
+    requires { IsChecked settings.now }
+{
+    let start = Instant::now(rt)?;
+    let Ok(duties) = list_duties(rt, alloc, settings, timetable) else {
+        return Ok(None);
+    };
+    let listed = start.elapsed(rt)?.as_micros();
+    let duties = Arc::new(alloc, duties)?;
+    let (built, sizes) = build_once(rt, alloc, settings, timetable, duties)?;
+    Ok(Some((listed, built, sizes)))
+}
+
+// Measures so many times, and prints what there is and what it took.
 fn measure<R: Threads + Sync + Clock + Eprint + Print>(
     rt: &R,
     alloc: Global,
@@ -122,35 +182,22 @@ fn measure<R: Threads + Sync + Clock + Eprint + Print>(
 ) -> io::Result<()>
     requires { IsChecked settings.now }
 {
-    let mut list = u128::MAX;
-    let mut build = u128::MAX;
-    let mut first = (0, 0);
-    for round in 0..ROUNDS {
-        let start = Instant::now(rt)?;
-        let Ok(duties) = list_duties(rt, alloc, settings, timetable) else {
-            return Ok(());
-        };
-        let listed = start.elapsed(rt)?.as_micros();
-        let shared = Arc::new(alloc, duties)?;
-        let start = Instant::now(rt)?;
-        let net = Net::build(alloc, settings, timetable, shared)?;
-        let built = start.elapsed(rt)?.as_micros();
-        list = list.min(listed);
-        build = build.min(built);
-        if round == 0 {
-            first = (listed, built);
-        }
-        if round + 1 == ROUNDS {
-            println!(rt;
-                "duties {} nodes {} departures {} arrivals {}",
-                net.duties().len(),
-                net.len(),
-                net.departures().len(),
-                net.arrivals().len()
-            )?;
+    let Some((first_list, first_build, sizes)) = measure_once(rt, alloc, settings, timetable)?
+    else {
+        return Ok(());
+    };
+    let mut list = first_list;
+    let mut build = first_build;
+    for _ in 1..ROUNDS {
+        if let Some((listed, built, _)) = measure_once(rt, alloc, settings, timetable)? {
+            list = list.min(listed);
+            build = build.min(built);
         }
     }
-    let (first_list, first_build) = first;
+    println!(rt;
+        "duties {} nodes {} departures {} arrivals {}",
+        sizes.duties, sizes.nodes, sizes.departures, sizes.arrivals
+    )?;
     eprintln!(rt; "list {list} build {build} first {first_list} {first_build}")?;
     Ok(())
 }
@@ -177,12 +224,15 @@ fn solve_by<R: Threads + Sync + Clock + Eprint + Print>(
     requires { IsChecked settings.now }
 {
     let start = Instant::now(rt)?;
-    let Ok(solution) = solve_with(rt, alloc, settings, timetable, workers as usize) else {
-        return Ok(());
+    let solved = solve_with(rt, alloc, settings, timetable, workers as usize);
+    let taken = start.elapsed(rt);
+    let cost = match solved {
+        Ok(solution) => solution.best().map(|best| best.cost),
+        Err(_) => return Ok(()),
     };
-    let taken = start.elapsed(rt)?.as_micros();
-    if let Some(best) = solution.best() {
-        println!(rt; "workers {workers} cost {}", best.cost)?;
+    let taken = taken?.as_micros();
+    if let Some(cost) = cost {
+        println!(rt; "workers {workers} cost {cost}")?;
     }
     eprintln!(rt; "workers {workers} solve {taken}")?;
     Ok(())
@@ -197,43 +247,73 @@ fn has_word<R: Env + AllocGlobal>(rt: &R, wanted: &str) -> io::Result<bool> {
     Ok(found)
 }
 
-fn main(rt: HostRuntime) -> io::Result<()> {
-    let alloc = rt.alloc();
-    let numbers = numbers_of(&rt)?;
-    let lists = has_word(&rt, "list")?;
+// Takes a record in: an airport's clock into the zones, a base or a flight into the timetable.
+fn take_line(
+    settings: &Settings,
+    zones: &mut Vec<(Code, Zone)>,
+    timetable: &mut Timetable,
+    line: io::Result<String>,
+) -> io::Result<()> {
+    let line = line?;
+    if let Some(zone) = read_zone(line.as_str()) {
+        zones.push(zone)?;
+    } else if let Some(base) = read_base(line.as_str()) {
+        timetable.apply(&base)?;
+    } else if let Some(flight) = read_flight(settings, zones, line.as_str()) {
+        timetable.apply(&flight)?;
+    }
+    Ok(())
+}
+
+// Measures what the words ask for: listing alone, or listing, building and solving.
+fn measure_all<R: Threads + Sync + Clock + Eprint + Print>(
+    rt: &R,
+    alloc: Global,
+    settings: &Settings,
+    timetable: &Timetable,
+    lists: bool,
+    numbers: &[u32],
+) -> io::Result<()>
+    requires { IsChecked settings.now }
+{
+    if lists {
+        return measure_list(rt, alloc, settings, timetable);
+    }
+    measure(rt, alloc, settings, timetable)?;
+    for workers in numbers.iter().skip(1) {
+        solve_by(rt, alloc, settings, timetable, *workers)?;
+    }
+    Ok(())
+}
+
+// The settings that the numbers among the words ask for.
+fn settings_by(numbers: &[u32], lists: bool) -> Settings {
     let standard = Settings::standard();
     let connect = if lists {
         numbers.get(1).copied().unwrap_or(standard.connect)
     } else {
         standard.connect
     };
-    let settings = Settings {
+    Settings {
         sit: numbers.first().copied().unwrap_or(80),
         connect,
         max_duties: 4,
         ..standard
-    };
+    }
+}
+
+fn main(rt: HostRuntime) -> io::Result<()> {
+    let alloc = rt.alloc();
+    let numbers = numbers_of(&rt)?;
+    let lists = has_word(&rt, "list")?;
+    let settings = settings_by(&numbers, lists);
     if settings.check().is_err() {
         return Ok(());
     }
     let mut zones = Vec::new(alloc);
     let mut timetable = Timetable::new(alloc);
     for line in BufReader::new(alloc, rt.reader())?.lines(alloc) {
-        let line = line?;
-        if let Some(zone) = read_zone(line.as_str()) {
-            zones.push(zone)?;
-        } else if let Some(base) = read_base(line.as_str()) {
-            timetable.apply(&base)?;
-        } else if let Some(flight) = read_flight(&settings, &zones, line.as_str()) {
-            timetable.apply(&flight)?;
-        }
+        take_line(&settings, &mut zones, &mut timetable, line)?;
     }
-    if lists {
-        return measure_list(&rt, alloc, &settings, &timetable);
-    }
-    measure(&rt, alloc, &settings, &timetable)?;
-    for workers in numbers.iter().skip(1) {
-        solve_by(&rt, alloc, &settings, &timetable, *workers)?;
-    }
-    Ok(())
+    measure_all(&rt, alloc, &settings, &timetable, lists, &numbers)
 }
