@@ -3,6 +3,9 @@ mod Boards
 mod Cells
 mod Claimed
 mod CrewLaws
+mod Finish
+mod Least
 mod Progress
 mod Reuse
 mod Runs
+mod Sorted

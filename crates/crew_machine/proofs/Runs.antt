@@ -22,7 +22,7 @@ slice_get_push_old [] y i h = absurd (omega arith)
 slice_get_push_old (x ∷ xs) y zero h = refl
 slice_get_push_old (x ∷ xs) y (suc i) h = slice_get_push_old xs y i (omega arith)
 
-slice_get_push_new : {X : Type 0} (xs : List X) (y : X) → slice_get (xs ++ y ∷ []) (length xs) ≡ Some y
+pub slice_get_push_new : {X : Type 0} (xs : List X) (y : X) → slice_get (xs ++ y ∷ []) (length xs) ≡ Some y
 slice_get_push_new [] y = refl
 slice_get_push_new (x ∷ xs) y = slice_get_push_new xs y
 

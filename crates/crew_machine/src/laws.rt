@@ -1,6 +1,6 @@
 //! What holds of every run.
 
-ghost use Rattle.std.specs.Prelude.{◌≡◌, ℕ, List, Some};
+ghost use Rattle.std.specs.Prelude.{◌≡◌, ℕ, List, Some, None};
 ghost use Rattle.std.specs.List.{slice_get};
 ghost use Rattle.crew_flights.specs.declared.entries.Entry.{Entry};
 ghost use Rattle.crew_machine.specs.Chains.{IsChain, NeverFalls, answers_to};
@@ -61,6 +61,17 @@ pub fn rounds_never_get_stuck()
         → ((m : DutyNode) → Member round.cells (m, Out) → ⊥)
         → Member round.cells (n, cell) → IsUndone cell
         → (job : DutyWork) × (next : CrewState) × Step (crew s) state Claim (Claimed job) next }
+{}
+
+/// A round can be finished: where none of its nodes is out, further steps seal it.
+pub fn rounds_can_be_finished()
+    ensures { (s : Settings) (acts : List CrewAct) (replies : List CrewReply) (state : CrewState)
+        → IsChecked s → Run (crew s) (start (crew s)) acts replies state
+        → (round : CrewRound) → state.board.round ≡ Some round
+        → ((m : DutyNode) → Member round.cells (m, Out) → ⊥)
+        → (more : List CrewAct) × (others : List CrewReply) × (next : CrewState)
+        × Run (crew s) state more others next × (next.board.round ≡ None)
+        × (next.board.sealed.entries ≡ round.entries) }
 {}
 
 /// Reuse has one end: where equal jobs are marked one after another until none is left, the cells
