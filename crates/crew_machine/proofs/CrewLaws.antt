@@ -287,13 +287,13 @@ module _ (s : Settings) (checked : IsChecked s) where
   none-known : {A : Type 0} (flight : Flight) → Member (flights_of empty_timetable) flight → A
   none-known flight m = absurd (subst (λ (fs : List Flight). Member fs flight) no-flights m)
 
-  no-duty : {A : Type 0} (d : Duty) → IsDuty s (flights_of empty_timetable) d → A
+  pub no-duty : {A : Type 0} (d : Duty) → IsDuty s (flights_of empty_timetable) d → A
   no-duty d legal = none-known _ legal.2.known.0
 
   opening-few : HasFew s empty_timetable
   opening-few = ([], record { sound = λ d m. absurd m; every = λ first others legal. none-known _ (legal.known.0); rising = tt }, omega arith)
 
-  opening-scratch : IsScratch (crew s) (timetable_of []) [] None
+  pub opening-scratch : IsScratch (crew s) (timetable_of []) [] None
   opening-scratch = record {
     nodes = record { rise = tt; exact = λ n. (λ m. absurd m, λ is. no-duty n.duty is.legal) };
     right = λ n f m. absurd m;

@@ -77,7 +77,7 @@ not-done : (n m : DutyNode) (f : Entries) → ◌≡◌ {A = DutyNode × Cell En
 not-done n m f e = let q : Waiting ≡ Done f = ap (λ (z : DutyNode × Cell Entries). z.1) e in let r : ⊥ = (cc) in r
 
 module _ (s : Settings) (checked : IsChecked s) where
-  runs-on : (old mid new : CrewState) (acts more : List CrewAct) (replies others : List CrewReply) → Run (crew s) old acts replies mid → Run (crew s) mid more others new → Run (crew s) old (acts ++ more) (replies ++ others) new
+  pub runs-on : (old mid new : CrewState) (acts more : List CrewAct) (replies others : List CrewReply) → Run (crew s) old acts replies mid → Run (crew s) mid more others new → Run (crew s) old (acts ++ more) (replies ++ others) new
   runs-on old mid new [] more [] others h k = subst (λ (z : CrewState). Run (crew s) z more others new) h k
   runs-on old mid new [] more (r ∷ rs) others h k = absurd h
   runs-on old mid new (a ∷ acts) more [] others h k = absurd h
@@ -181,7 +181,7 @@ module _ (s : Settings) (checked : IsChecked s) where
         }
 
     -- then the round is sealed
-    pub finished : (cells : Cells) (jobs : List DutyWork) → Going cells → (acts : List CrewAct) × (replies : List CrewReply) × (next : CrewState) × Run (crew s) (over cells jobs) acts replies next × (next.board.round ≡ None) × (next.board.sealed.entries ≡ entries)
+    pub finished : (cells : Cells) (jobs : List DutyWork) → Going cells → (acts : List CrewAct) × (replies : List CrewReply) × (next : CrewState) × Run (crew s) (over cells jobs) acts replies next × (next.board.round ≡ None) × (next.board.sealed.entries ≡ entries) × (next.board.sealed.number ≡ sealed.number + 1) × (next.published ≡ published)
     finished cells jobs g =
         let all = filled (left cells) cells jobs refl g in
         let f = fronts-of all.cells' all.none_left in
@@ -191,10 +191,10 @@ module _ (s : Settings) (checked : IsChecked s) where
         let next : CrewState = record { log = log; board = board; jobs = all.jobs'; published = published; seen = seen } in
         let seals : Seals (crew s) (over all.cells' all.jobs').board version board = record { round = record { entries = entries; cells = all.cells' }; is_open = refl; number = refl; entries = refl; fronts = f.1; least = best.1; after = refl } in
         let last : Closes (crew s) (over all.cells' all.jobs') version next = record { board = board; seals = seals; after = refl } in
-        (all.acts ++ Seal ∷ [], all.replies ++ Sealed version ∷ [], next, runs-on (over cells jobs) (over all.cells' all.jobs') next all.acts (Seal ∷ []) all.replies (Sealed version ∷ []) all.run (next, last, refl), refl, refl)
+        (all.acts ++ Seal ∷ [], all.replies ++ Sealed version ∷ [], next, runs-on (over cells jobs) (over all.cells' all.jobs') next all.acts (Seal ∷ []) all.replies (Sealed version ∷ []) all.run (next, last, refl), refl, refl, refl, refl)
 
-  abbrev Ends : CrewRound → CrewState → Type 0
-  Ends round state = (more : List CrewAct) × (others : List CrewReply) × (next : CrewState) × Run (crew s) state more others next × (next.board.round ≡ None) × (next.board.sealed.entries ≡ round.entries)
+  abbrev pub Ends : CrewRound → CrewState → Type 0
+  Ends round state = (more : List CrewAct) × (others : List CrewReply) × (next : CrewState) × Run (crew s) state more others next × (next.board.round ≡ None) × (next.board.sealed.entries ≡ round.entries) × (next.board.sealed.number ≡ state.board.sealed.number + 1) × (next.published ≡ state.published)
 
   pub round-ends : (state : CrewState) (round : CrewRound) → state.board.round ≡ Some round → IsRound (crew s) state.board.sealed round → ((n : DutyNode) → Member round.cells (n, Out) → ⊥) → Ends round state
   round-ends state round is sound none =

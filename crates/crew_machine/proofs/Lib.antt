@@ -5,7 +5,9 @@ mod Claimed
 mod CrewLaws
 mod Finish
 mod Least
+mod NodeList
 mod Progress
+mod Published
 mod Reuse
 mod Runs
 mod Sorted

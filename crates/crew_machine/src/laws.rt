@@ -1,6 +1,6 @@
 //! What holds of every run.
 
-ghost use Rattle.std.specs.Prelude.{◌≡◌, ℕ, List, Some, None};
+ghost use Rattle.std.specs.Prelude.{◌≡◌, ℕ, ◌+◌, List, Some, None};
 ghost use Rattle.std.specs.List.{slice_get};
 ghost use Rattle.crew_flights.specs.declared.entries.Entry.{Entry};
 ghost use Rattle.crew_machine.specs.Chains.{IsChain, NeverFalls, answers_to};
@@ -9,6 +9,7 @@ ghost use Rattle.crew_machine.specs.Rounds.{IsCarried, IsUndone, NoneReusable, R
 ghost use Rattle.crew_machine.specs.Steps.{Answered, Claim, Claimed, Run, Step, start};
 ghost use Rattle.crew_machine.specs.declared.rounds.Cell.{Cell};
 ghost use Rattle.crew_machine.specs.declared.rounds.Cell.TheVariants.{Done, Out};
+ghost use Rattle.crew_pairing.specs.Duties.{HasFew};
 ghost use Rattle.crew_resource.specs.Members.{Member};
 ghost use Rattle.crew_rules.specs.Settings.{IsChecked};
 ghost use Rattle.crew_rules.specs.declared.settings.Settings.{Settings};
@@ -71,7 +72,19 @@ pub fn rounds_can_be_finished()
         → ((m : DutyNode) → Member round.cells (m, Out) → ⊥)
         → (more : List CrewAct) × (others : List CrewReply) × (next : CrewState)
         × Run (crew s) state more others next × (next.board.round ≡ None)
-        × (next.board.sealed.entries ≡ round.entries) }
+        × (next.board.sealed.entries ≡ round.entries)
+        × (next.board.sealed.number ≡ state.board.sealed.number + 1)
+        × (next.published ≡ state.published) }
+{}
+
+/// Each log can be published: some run publishes a version of all its entries, where they come to
+/// at most 200,000 legal duties.
+pub fn each_log_can_be_published()
+    ensures { (s : Settings) (entries : List Entry) → IsChecked s
+        → HasFew s (timetable_of entries) → (acts : List CrewAct) × (replies : List CrewReply)
+        × (state : CrewState) × Run (crew s) (start (crew s)) acts replies state
+        × ((place : ℕ) × (version : CrewVersion)
+        × (slice_get state.published place ≡ Some version) × (version.entries ≡ entries)) }
 {}
 
 /// Reuse has one end: where equal jobs are marked one after another until none is left, the cells
