@@ -6,7 +6,7 @@ use crate::timetables::{LIMITS, SAMPLES, settings_of, timetable_of};
 use crew_audit::{Partial, enumerate};
 use crew_duty::list_duties;
 use crew_flights::{Code, Timetable};
-use crew_pairing::{Key, PairingVector, Walk};
+use crew_pairing::{Duty, Key, PairingVector, Walk};
 use crew_rules::Settings;
 use crew_solve::{Solution, solve_with};
 use crew_vector::PricedPairing;
@@ -24,7 +24,10 @@ fn solved<R: Threads + Sync>(
 ) -> Result<Solution, Fail>
     requires { IsChecked settings.now }
 {
-    Ok(solve_with(rt, alloc, settings, timetable, workers)?)
+    match solve_with(rt, alloc, settings, timetable, workers) {
+        Ok(solution) => Ok(solution),
+        Err(_) => Err(Fail::new("a solution")),
+    }
 }
 
 // Whether a pairing is the partial that was picked.
@@ -67,6 +70,36 @@ fn has_front(
     Ok(are_picked(&entries, &picked))
 }
 
+// Whether the fronts of all bases and duties are those that were picked.
+fn have_fronts(
+    alloc: Global,
+    timetable: &Timetable,
+    solution: &Solution,
+    clean: &[&Partial],
+    duties: &[Duty],
+) -> Result<bool, Fail> {
+    for (base, _) in timetable.bases() {
+        for duty in duties {
+            if !has_front(alloc, solution, clean, *base, &duty.key)? {
+                return Ok(false);
+            }
+        }
+    }
+    Ok(true)
+}
+
+// Whether all fronts, and the best, are those that are picked from these partials.
+fn is_right(
+    alloc: Global,
+    timetable: &Timetable,
+    solution: &Solution,
+    partials: &[Partial],
+    duties: &[Duty],
+) -> Result<bool, Fail> {
+    let clean = clean_of(alloc, partials)?;
+    Ok(has_best(solution, &clean) && have_fronts(alloc, timetable, solution, &clean, duties)?)
+}
+
 // Whether all fronts, and the best, are those that are picked from all partials.
 fn is_as_picked<R: Threads + Sync>(
     rt: &R,
@@ -76,17 +109,10 @@ fn is_as_picked<R: Threads + Sync>(
     workers: usize,
 ) -> Result<bool, Fail> {
     settings.check()?;
-    let solution = solved(rt, alloc, settings, timetable, workers)?;
-    let partials = enumerate(alloc, settings, timetable, 1_000)?;
-    let clean = clean_of(alloc, &partials)?;
     let duties = list_duties(rt, alloc, settings, timetable)?;
-    let mut is_same = has_best(&solution, &clean);
-    for (base, _) in timetable.bases() {
-        for duty in duties.as_slice() {
-            is_same = is_same && has_front(alloc, &solution, &clean, *base, &duty.key)?;
-        }
-    }
-    Ok(is_same)
+    let partials = enumerate(alloc, settings, timetable, 1_000)?;
+    let solution = solved(rt, alloc, settings, timetable, workers)?;
+    is_right(alloc, timetable, &solution, &partials, duties.as_slice())
 }
 
 #[test]

@@ -1,7 +1,7 @@
 //! Timetables of at most seven flights, and settings.
 use crew_flights::{Code, Edit, Flight, FlightId, Timetable};
 use crew_rules::Settings;
-use crew_time::{Minute, Zone, read_minute};
+use crew_time::{ClockMinute, Minute, Zone, read_minute};
 use std::alloc::Global;
 use std::test::Fail;
 
@@ -172,6 +172,16 @@ pub fn settings_of(limits: &[u32; 7]) -> Settings {
     }
 }
 
+// The instant so many minutes after another.
+fn after(instant: Minute, minutes: i64) -> Option<Minute> {
+    Minute::new(instant.get().checked_add(minutes)?)
+}
+
+// What a clock shows at an instant an hour earlier.
+fn clock_an_hour_before(zone: &Zone, instant: Minute) -> Option<ClockMinute> {
+    Some(zone.clock(after(instant, -60)?))
+}
+
 // The flight of a row, between airports on the clock of New York, an hour after its report.
 fn flight_of(zone: &Zone, row: &Row) -> Option<Flight> {
     let (id, from, to, dep, minutes, price) = *row;
@@ -181,8 +191,8 @@ fn flight_of(zone: &Zone, row: &Row) -> Option<Flight> {
         from: Code::new(*from)?,
         to: Code::new(*to)?,
         dep,
-        arr: Minute::new(dep.get() + i64::from(minutes))?,
-        report_clock: zone.clock(Minute::new(dep.get() - 60)?),
+        arr: after(dep, i64::from(minutes))?,
+        report_clock: clock_an_hour_before(zone, dep)?,
         price,
     })
 }
