@@ -193,24 +193,37 @@ fn whole(rides: i64, fare: i64, walk: u32) -> Labelled
     )
 }
 
+/// The fare of the pool's last label.
+fn last_fare(pool: &Pool<Rides>) -> i64 {
+    let mut fare = 0;
+    for label in pool.iter() {
+        fare = label.0.1;
+    }
+    fare
+}
+
+/// The fare of the last label of a copy, once the pool itself is empty.
+fn last_fare_of_copy(alloc: Global, pool: &mut Pool<Rides>) -> Option<i64> {
+    match pool.copy(alloc, &rides()) {
+        Ok(copied) => {
+            pool.clear();
+            Some(last_fare(&copied))
+        }
+        Err(_) => None,
+    }
+}
+
 #[test]
-fn pools_are_lists(rt: HostRuntime) -> Result<(), Fail> {
+fn pools_are_lists(rt: HostRuntime) {
     let alloc = rt.alloc();
     let mut labels = Vec::new(alloc);
-    labels.push(whole(1, 18, 0))?;
+    assert!(rt; labels.push(whole(1, 18, 0)).is_ok());
     let mut pool = Pool::<Rides>::from_apart(labels);
     assert!(rt; pool.len() == 1);
     assert!(rt; !pool.is_empty());
     assert!(rt; pool.as_slice() == [whole(1, 18, 0)].as_slice());
-    let other = pool.copy(alloc, &rides())?;
-    pool.clear();
+    assert!(rt; last_fare_of_copy(alloc, &mut pool) == Some(18));
     assert!(rt; pool.is_empty());
-    let mut fares = 0;
-    for label in other.iter() {
-        fares = label.0.1;
-    }
-    assert!(rt; fares == 18);
-    Ok(())
 }
 
 /// The pool of two labels that are apart.
@@ -246,6 +259,23 @@ fn absorbs_what_boards(rt: HostRuntime) -> Result<(), Fail> {
     Ok(())
 }
 
+/// Whether the view lists these labels.
+fn lists(alloc: Global, view: &View<'_, Ride, Rides>, labels: &[Labelled]) -> bool {
+    match view.list(alloc) {
+        Ok(entries) => entries.as_slice() == labels,
+        Err(_) => false,
+    }
+}
+
+/// The duty of the last label that the view goes through.
+fn last_duty(view: &View<'_, Ride, Rides>) -> u32 {
+    let mut duty = 0;
+    for entry in view.iter() {
+        duty = entry.1.duty;
+    }
+    duty
+}
+
 #[test]
 fn views_show_what_boards(rt: HostRuntime) -> Result<(), Fail> {
     let alloc = rt.alloc();
@@ -255,20 +285,33 @@ fn views_show_what_boards(rt: HostRuntime) -> Result<(), Fail> {
     let view = View::new(&rides, &list, &ride, 2);
     assert!(rt; view.len() == 2);
     assert!(rt; !view.is_empty());
-    let entries = view.list(alloc)?;
     let lesser = ((2, 10), LabelWalk { walk: 0, duty: 2 });
     let greater = ((3, 9), LabelWalk { walk: 1, duty: 2 });
-    assert!(rt; entries.as_slice() == [lesser, greater].as_slice());
-    let mut duty = 0;
-    for entry in view.iter() {
-        duty = entry.1.duty;
-    }
-    assert!(rt; duty == 2);
+    assert!(rt; lists(alloc, &view, &[lesser, greater]));
+    assert!(rt; last_duty(&view) == 2);
+    Ok(())
+}
+
+#[test]
+fn views_leave_out_what_cannot_board(rt: HostRuntime) -> Result<(), Fail> {
+    let list = pool_of_two(rt.alloc(), whole(2, 5, 1), whole(1, 6, 0))?;
+    let rides = rides();
     let dear = ride_for(15);
     let narrow = View::new(&rides, &list, &dear, 2);
     assert!(rt; narrow.len() == 1);
+    Ok(())
+}
+
+#[test]
+fn views_may_be_empty(rt: HostRuntime) -> Result<(), Fail> {
+    let list = pool_of_two(rt.alloc(), whole(2, 5, 1), whole(1, 6, 0))?;
+    let rides = rides();
     let none = ride_for(16);
     assert!(rt; View::new(&rides, &list, &none, 2).is_empty());
-    laws::pools_by_rank_are_pools_by_key::<Rides>();
     Ok(())
+}
+
+#[test]
+fn laws_of_pools(_rt: HostRuntime) {
+    laws::pools_by_rank_are_pools_by_key::<Rides>();
 }
