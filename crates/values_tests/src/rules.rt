@@ -29,16 +29,6 @@ fn duty_limit(start: u16, segments: u8) -> Option<u16> {
     Some(table_b(ClockMinute::new(start)?, segments))
 }
 
-// The limit in tenths of an hour, if it is a whole number of them.
-fn limit_in_tenths(start: u16, segments: u8) -> Option<u16> {
-    let limit = duty_limit(start, segments)?;
-    if limit % 6 == 0 {
-        Some(limit / 6)
-    } else {
-        None
-    }
-}
-
 // The table of 14 CFR 117.13 as it is printed: first and last minute, and tenths of an hour.
 static DUTY_LIMITS: [(u16, u16, [u16; 7]); 10] = [
     (0, 239, [90, 90, 90, 90, 90, 90, 90]),
@@ -56,7 +46,7 @@ static DUTY_LIMITS: [(u16, u16, [u16; 7]); 10] = [
 // Whether the limits of one to seven segments are these tenths of an hour.
 fn has_limits(start: u16, tenths: &[u16; 7]) -> bool {
     for (segments, tenth) in (1..8u8).zip(tenths) {
-        if limit_in_tenths(start, segments) != Some(*tenth) {
+        if duty_limit(start, segments) != tenth.checked_mul(6) {
             return false;
         }
     }

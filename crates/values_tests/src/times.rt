@@ -33,98 +33,102 @@ fn kept_clock(value: u16) -> Option<u16> {
     Some(ClockMinute::new(value)?.get())
 }
 
-static CLOCKS: [(&str, u16); 5] = [
-    ("2025-03-09T06:59", 119),
-    ("2025-03-09T07:00", 180),
-    ("2025-11-02T05:59", 119),
-    ("2025-11-02T06:00", 60),
-    ("2099-12-31T23:59", 1139),
+static CLOCKS: [(&[u8], u16); 5] = [
+    (b"2025-03-09T06:59", 119),
+    (b"2025-03-09T07:00", 180),
+    (b"2025-11-02T05:59", 119),
+    (b"2025-11-02T06:00", 60),
+    (b"2099-12-31T23:59", 1139),
 ];
 
 fn clock_at(zone: &Zone, text: &[u8]) -> Option<u16> {
     Some(zone.clock(read(text)?).get())
 }
 
-// The first time at which the zone has another clock.
-fn wrong_clock(zone: &Zone) -> Option<&'static str> {
+// Whether the zone has these clocks.
+fn has_clocks(zone: &Zone) -> bool {
     for (text, clock) in &CLOCKS {
-        if clock_at(zone, text.as_bytes()) != Some(*clock) {
-            return Some(*text);
+        if clock_at(zone, text) != Some(*clock) {
+            return false;
         }
     }
-    None
+    true
 }
 
-// The first wrong time of a copy of the zone, if it can be copied.
-fn wrong_clock_of_copy(zone: &Zone) -> Option<Option<&'static str>> {
+fn copy_has_clocks(zone: &Zone) -> bool {
     match zone.clone() {
-        Ok(copied) => Some(wrong_clock(&copied)),
-        Err(_) => None,
+        Ok(copied) => has_clocks(&copied),
+        Err(_) => false,
     }
 }
 
-// The first wrong times of a zone and of a copy.
-fn wrong_clocks(text: &[u8]) -> Option<(Option<&'static str>, Option<Option<&'static str>>)> {
+// Whether the zone has these clocks, and whether a copy has.
+fn have_clocks(text: &[u8]) -> (bool, bool) {
     match Zone::read(text) {
-        Ok(zone) => Some((wrong_clock(&zone), wrong_clock_of_copy(&zone))),
-        Err(_) => None,
+        Ok(zone) => (has_clocks(&zone), copy_has_clocks(&zone)),
+        Err(_) => (false, false),
     }
 }
 
 #[test]
 fn clocks_at_both_changes_of_a_year(rt: HostRuntime) {
-    assert_eq!(rt;
-        wrong_clocks(b"EST5EDT,M3.2.0,M11.1.0"),
-        Some((None, Some(None)))
-    );
+    let (zone, copied) = have_clocks(b"EST5EDT,M3.2.0,M11.1.0");
+    assert!(rt; zone, "the zone");
+    assert!(rt; copied, "its copy");
 }
 
-static TEXTS: [(&str, i64); 5] = [
-    ("2000-01-01T00:00", 15_778_080),
-    ("2000-02-29T12:34", 15_863_794),
-    ("2025-03-09T06:59", 29_025_059),
-    ("2096-02-29T00:00", 66_355_200),
-    ("2099-12-31T23:59", 68_374_079),
+static TEXTS: [(&[u8], i64); 5] = [
+    (b"2000-01-01T00:00", 15_778_080),
+    (b"2000-02-29T12:34", 15_863_794),
+    (b"2025-03-09T06:59", 29_025_059),
+    (b"2096-02-29T00:00", 66_355_200),
+    (b"2099-12-31T23:59", 68_374_079),
 ];
 
 #[test]
 fn times_and_their_texts(rt: HostRuntime) {
     for (text, value) in &TEXTS {
-        let bytes = text.as_bytes();
-        assert!(rt; is_read(bytes, *value), "{text}");
-        assert!(rt; is_written(rt.alloc(), read(bytes), bytes), "{text}");
+        assert!(rt; is_read(text, *value), "{value}");
+        assert!(rt; is_written(rt.alloc(), read(text), text), "{value}");
     }
+}
+
+// Adds all these texts; whether that went well.
+fn append_all(out: &mut Vec<u8>) -> bool {
+    for (text, _) in &TEXTS {
+        if !append(out, read(text)) {
+            return false;
+        }
+    }
+    true
 }
 
 #[test]
 fn texts_one_after_another(rt: HostRuntime) {
     let mut all = Vec::new(rt.alloc());
-    for (text, _) in &TEXTS {
-        assert!(rt; append(&mut all, read(text.as_bytes())), "{text}");
-    }
-    assert_eq!(rt; all.len(), 80);
+    assert!(rt; append_all(&mut all));
+    assert!(rt; all.len() == 80);
 }
 
 #[test]
 fn the_last_minute_of_a_day(rt: HostRuntime) {
-    assert_eq!(rt; kept_clock(1_439), Some(1_439));
+    assert!(rt; kept_clock(1_439) == Some(1_439));
 }
 
 // The day before the first year and the day after the last: instants that no text names.
-static OUTSIDE: [(i64, &str); 2] = [
-    (15_776_640, "1999-12-31T00:00"),
-    (68_375_519, "2100-01-01T23:59"),
+static OUTSIDE: [(i64, &[u8]); 2] = [
+    (15_776_640, b"1999-12-31T00:00"),
+    (68_375_519, b"2100-01-01T23:59"),
 ];
 
 #[test]
 fn the_days_on_either_side(rt: HostRuntime) {
     for (value, text) in &OUTSIDE {
-        let bytes = text.as_bytes();
         assert!(rt;
-            is_written(rt.alloc(), Minute::new(*value), bytes),
-            "{text}"
+            is_written(rt.alloc(), Minute::new(*value), text),
+            "{value}"
         );
-        assert!(rt; fault(bytes) == Some(TimeFault::YearRange), "{text}");
+        assert!(rt; fault(text) == Some(TimeFault::YearRange), "{value}");
     }
 }
 
