@@ -276,21 +276,19 @@ fn steps_of_two_values(rt: HostRuntime) {
     assert!(rt; ordered == Ok((Some((12, (2, 130))), Some((13, (2, 130))))));
 }
 
-// Each by its own stages: the inner option is the value, if it has one.
-fn back_by_stages() -> Option<Option<Value>> {
+// A ride after the one out, by its stages: the inner option is the value, if it has one.
+fn by_stages(next: &Ride) -> Option<Option<Value>>
+    requires sound { LiesWithin 1000 next.now.fare
+        × LiesWithin 1000 (next.now.arrives -ℤ next.now.leaves) }
+    requires follows { LiesWithin 1000 (next.now.leaves -ℤ pos 160) }
+{
     let trip = trips();
     let first = start_staged(&trip, &OUT)?;
-    Some(extend_staged(&trip, &first, &OUT, &BACK))
-}
-
-fn late_by_stages() -> Option<Option<Value>> {
-    let trip = trips();
-    let first = start_staged(&trip, &OUT)?;
-    Some(extend_staged(&trip, &first, &OUT, &LATE))
+    Some(extend_staged(&trip, &first, &OUT, next))
 }
 
 #[test]
 fn steps_by_stages(rt: HostRuntime) {
-    assert!(rt; back_by_stages() == Some(Some((12, (2, 130)))));
-    assert!(rt; late_by_stages() == Some(None));
+    assert!(rt; by_stages(&BACK) == Some(Some((12, (2, 130)))));
+    assert!(rt; by_stages(&LATE) == Some(None));
 }
