@@ -14,6 +14,17 @@ use std::test::Fail;
 
 const SEVEN: [i64; 7] = [5_040, 5_880, 8_400, 250, 130, 2, 1_470];
 
+// Whether a label of these walks has these ranks.
+fn has_ranks(alloc: Global, walks: &Walks, label: LabelWalk, ranks: &[u32]) -> bool {
+    if walks.count() <= label.walk as usize {
+        return false;
+    }
+    match walks.ranks(alloc, label) {
+        Ok(found) => found.as_slice() == ranks,
+        Err(_) => false,
+    }
+}
+
 #[test]
 fn walks_share_their_beginnings(rt: HostRuntime) -> Result<(), Fail> {
     let mut walks = Walks::new(rt.alloc());
@@ -33,25 +44,39 @@ fn walks_share_their_beginnings(rt: HostRuntime) -> Result<(), Fail> {
     Ok(())
 }
 
+// The place of a walk with a duty more than the one at a place, if there is one.
+fn added(walks: &mut Walks, before: u32, duty: u32) -> Option<u32> {
+    if walks.count() <= before as usize {
+        return None;
+    }
+    walks.add(before, duty).ok()
+}
+
+// Whether each of 70,000 walks of one duty has its place.
+fn adds_70_000(walks: &mut Walks) -> bool {
+    for duty in 0..70_000u32 {
+        if added(walks, 0, duty) != Some(duty + 1) {
+            return false;
+        }
+    }
+    true
+}
+
 // More walks than 16 bits number.
 #[test]
-fn holds_many_walks(rt: HostRuntime) -> Result<(), Fail> {
+fn holds_many_walks(rt: HostRuntime) {
     let mut walks = Walks::new(rt.alloc());
-    for duty in 0..70_000u32 {
-        assert!(rt; walks.add(0, duty)? == duty + 1);
-    }
-    let last = walks.add(70_000, 7)?;
-    assert!(rt; last == 70_001);
+    assert!(rt; adds_70_000(&mut walks));
+    assert!(rt; added(&mut walks, 70_000, 7) == Some(70_001));
     let label = LabelWalk {
-        walk: last,
+        walk: 70_001,
         duty: NO_DUTY,
     };
-    assert!(rt; walks.ranks(rt.alloc(), label)?.as_slice() == [69_999, 7].as_slice());
-    Ok(())
+    assert!(rt; has_ranks(rt.alloc(), &walks, label, &[69_999, 7]));
 }
 
 #[test]
-fn merges_into_an_empty_pool(rt: HostRuntime) -> Result<(), Fail> {
+fn merges_into_an_empty_pool(rt: HostRuntime) {
     let alloc = rt.alloc();
     let walks = Walks::new(alloc);
     let mut labels = Vec::new(alloc);
@@ -59,14 +84,13 @@ fn merges_into_an_empty_pool(rt: HostRuntime) -> Result<(), Fail> {
         walk: 0,
         duty: NO_DUTY,
     };
-    labels.push((vector(SEVEN), label))?;
+    assert!(rt; labels.push((vector(SEVEN), label)).is_ok());
     let list = Pool::<VectorResource>::from_apart(labels);
     let mut pool = Pool::new(alloc);
     let mut room = Workspace::new(alloc);
-    pool.merge(&resource(), &mut room, &list, &walks)?;
+    assert!(rt; pool.merge(&resource(), &mut room, &list, &walks).is_ok());
     assert!(rt; pool.len() == 1);
     assert!(rt; pool.as_slice()[0].0 == vector(SEVEN));
-    Ok(())
 }
 
 /// A bus ride, at one moment: only its fare counts.
@@ -193,24 +217,37 @@ fn whole(rides: i64, fare: i64, walk: u32) -> Labelled
     )
 }
 
+/// The fare of the pool's last label.
+fn last_fare(pool: &Pool<Rides>) -> i64 {
+    let mut fare = 0;
+    for label in pool.iter() {
+        fare = label.0.1;
+    }
+    fare
+}
+
+/// The fare of the last label of a copy, once the pool itself is empty.
+fn last_fare_of_copy(alloc: Global, pool: &mut Pool<Rides>) -> Option<i64> {
+    match pool.copy(alloc, &rides()) {
+        Ok(copied) => {
+            pool.clear();
+            Some(last_fare(&copied))
+        }
+        Err(_) => None,
+    }
+}
+
 #[test]
-fn pools_are_lists(rt: HostRuntime) -> Result<(), Fail> {
+fn pools_are_lists(rt: HostRuntime) {
     let alloc = rt.alloc();
     let mut labels = Vec::new(alloc);
-    labels.push(whole(1, 18, 0))?;
+    assert!(rt; labels.push(whole(1, 18, 0)).is_ok());
     let mut pool = Pool::<Rides>::from_apart(labels);
     assert!(rt; pool.len() == 1);
     assert!(rt; !pool.is_empty());
     assert!(rt; pool.as_slice() == [whole(1, 18, 0)].as_slice());
-    let other = pool.copy(alloc, &rides())?;
-    pool.clear();
+    assert!(rt; last_fare_of_copy(alloc, &mut pool) == Some(18));
     assert!(rt; pool.is_empty());
-    let mut fares = 0;
-    for label in other.iter() {
-        fares = label.0.1;
-    }
-    assert!(rt; fares == 18);
-    Ok(())
 }
 
 /// The pool of two labels that are apart.
@@ -246,6 +283,23 @@ fn absorbs_what_boards(rt: HostRuntime) -> Result<(), Fail> {
     Ok(())
 }
 
+/// Whether the view lists these labels.
+fn lists(alloc: Global, view: &View<'_, Ride, Rides>, labels: &[Labelled]) -> bool {
+    match view.list(alloc) {
+        Ok(entries) => entries.as_slice() == labels,
+        Err(_) => false,
+    }
+}
+
+/// The duty of the last label that the view goes through.
+fn last_duty(view: &View<'_, Ride, Rides>) -> u32 {
+    let mut duty = 0;
+    for entry in view.iter() {
+        duty = entry.1.duty;
+    }
+    duty
+}
+
 #[test]
 fn views_show_what_boards(rt: HostRuntime) -> Result<(), Fail> {
     let alloc = rt.alloc();
@@ -255,20 +309,33 @@ fn views_show_what_boards(rt: HostRuntime) -> Result<(), Fail> {
     let view = View::new(&rides, &list, &ride, 2);
     assert!(rt; view.len() == 2);
     assert!(rt; !view.is_empty());
-    let entries = view.list(alloc)?;
     let lesser = ((2, 10), LabelWalk { walk: 0, duty: 2 });
     let greater = ((3, 9), LabelWalk { walk: 1, duty: 2 });
-    assert!(rt; entries.as_slice() == [lesser, greater].as_slice());
-    let mut duty = 0;
-    for entry in view.iter() {
-        duty = entry.1.duty;
-    }
-    assert!(rt; duty == 2);
+    assert!(rt; lists(alloc, &view, &[lesser, greater]));
+    assert!(rt; last_duty(&view) == 2);
+    Ok(())
+}
+
+#[test]
+fn views_leave_out_what_cannot_board(rt: HostRuntime) -> Result<(), Fail> {
+    let list = pool_of_two(rt.alloc(), whole(2, 5, 1), whole(1, 6, 0))?;
+    let rides = rides();
     let dear = ride_for(15);
     let narrow = View::new(&rides, &list, &dear, 2);
     assert!(rt; narrow.len() == 1);
+    Ok(())
+}
+
+#[test]
+fn views_may_be_empty(rt: HostRuntime) -> Result<(), Fail> {
+    let list = pool_of_two(rt.alloc(), whole(2, 5, 1), whole(1, 6, 0))?;
+    let rides = rides();
     let none = ride_for(16);
     assert!(rt; View::new(&rides, &list, &none, 2).is_empty());
-    laws::pools_by_rank_are_pools_by_key::<Rides>();
     Ok(())
+}
+
+#[test]
+fn laws_of_pools(_rt: HostRuntime) {
+    laws::pools_by_rank_are_pools_by_key::<Rides>();
 }

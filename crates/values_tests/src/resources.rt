@@ -182,6 +182,9 @@ impl Cost<Sum<Fare>> for FareCost {
 
 type Trip = Both<Sum<Fare>, Both<Count<Ride>, Sum<Away>>>;
 
+/// Fares, the number of rides, and the minutes away.
+type Value = (i64, (i64, i64));
+
 /// Trips of at most two rides and 130 minutes.
 fn trips() -> Trip
     ensures { result.second.second.amount.most ≡ pos 130 }
@@ -254,23 +257,38 @@ fn values(rt: HostRuntime) {
     assert!(rt; !trip.at_most(&dear, &cheap));
     assert!(rt; !trip.at_most(&cheap, &(6, (1, 59))));
     assert!(rt; trip.copy(&dear) == Ok(dear));
-    assert!(rt; trip.grade(&(12, (2, 130))) == 2);
-    assert!(rt; trip.second.first.grade(&-1) == 0);
-    assert!(rt; trip.second.first.grade(&0x1_0000_0000) == 0xffff_ffff);
     assert!(rt; is_same(&trip, &cheap, &cheap));
     assert!(rt; !is_same(&trip, &cheap, &dear));
     assert!(rt; FareCost.cost(&5) == 5);
-    let ordered = extend_ordered(&trip, &cheap, &dear, &OUT, &BACK);
+}
+
+#[test]
+fn grades(rt: HostRuntime) {
+    let trip = trips();
+    assert!(rt; trip.grade(&(12, (2, 130))) == 2);
+    assert!(rt; trip.second.first.grade(&-1) == 0);
+    assert!(rt; trip.second.first.grade(&0x1_0000_0000) == 0xffff_ffff);
+}
+
+#[test]
+fn steps_of_two_values(rt: HostRuntime) {
+    let ordered = extend_ordered(&trips(), &(5, (1, 60)), &(6, (1, 60)), &OUT, &BACK);
     assert!(rt; ordered == Ok((Some((12, (2, 130))), Some((13, (2, 130))))));
+}
+
+// A ride after the one out, by its stages: the inner option is the value, if it has one.
+fn by_stages(next: &Ride) -> Option<Option<Value>>
+    requires sound { LiesWithin 1000 next.now.fare
+        × LiesWithin 1000 (next.now.arrives -ℤ next.now.leaves) }
+    requires follows { LiesWithin 1000 (next.now.leaves -ℤ pos 160) }
+{
+    let trip = trips();
+    let first = start_staged(&trip, &OUT)?;
+    Some(extend_staged(&trip, &first, &OUT, next))
 }
 
 #[test]
 fn steps_by_stages(rt: HostRuntime) {
-    let trip = trips();
-    let Some(first) = start_staged(&trip, &OUT) else {
-        assert!(rt; false, "no value");
-        return;
-    };
-    assert!(rt; extend_staged(&trip, &first, &OUT, &BACK) == Some((12, (2, 130))));
-    assert!(rt; extend_staged(&trip, &first, &OUT, &LATE) == None);
+    assert!(rt; by_stages(&BACK) == Some(Some((12, (2, 130)))));
+    assert!(rt; by_stages(&LATE) == Some(None));
 }
