@@ -1,6 +1,6 @@
 use crate::duties::duties_of;
 use crate::rows::{
-    apply, clock_at, ends, instant, with_a_deadhead, write_code, write_key, write_numbers,
+    apply, clock_at, ends, instant, with_a_deadhead, write_code, write_key, write_next,
 };
 use crew_duty::{DutyFault, list_duties, list_next};
 use crew_flights::{Edit, Flight, FlightId, Timetable};
@@ -147,14 +147,18 @@ fn beside<R: Abort + Threads + Sync + AllocGlobal>(
     duties
 }
 
+fn write_times(text: &mut String, duty: &Duty) -> Option<()> {
+    write_next(text, i64::from(duty.report))?;
+    write_next(text, i64::from(duty.release))?;
+    write_next(text, i64::from(duty.fdp))
+}
+
 fn write_facts(text: &mut String, duty: &Duty) -> Option<()> {
-    let (report, release) = (i64::from(duty.report), i64::from(duty.release));
-    let (fdp, fly, pay) = (
-        i64::from(duty.fdp),
-        i64::from(duty.fly),
-        i64::from(duty.pay),
-    );
-    write_numbers(text, &[report, release, fdp, fly, pay, duty.price])
+    write_times(text, duty)?;
+    write_next(text, i64::from(duty.fly))?;
+    write_next(text, i64::from(duty.pay))?;
+    write_next(text, duty.price)?;
+    text.push('\n').ok()
 }
 
 // Writes duties with all their facts, one a line.
@@ -262,7 +266,8 @@ static NEW_PRICES: [Change; 3] = [
 fn write_prices(text: &mut String, duties: &Duties) -> Option<()> {
     for duty in duties.as_slice() {
         write_key(text, &duty.key)?;
-        write_numbers(text, &[duty.price])?;
+        write_next(text, duty.price)?;
+        text.push('\n').ok()?;
     }
     Some(())
 }
@@ -322,7 +327,9 @@ static REACHED: [(&[Change], &str); 4] = [
 
 fn write_short(text: &mut String, duty: &Duty) -> Option<()> {
     write_key(text, &duty.key)?;
-    write_numbers(text, &[i64::from(duty.fdp), duty.price])
+    write_next(text, i64::from(duty.fdp))?;
+    write_next(text, duty.price)?;
+    text.push('\n').ok()
 }
 
 fn write_two(text: &mut String, duties: &Duties) -> Option<()> {

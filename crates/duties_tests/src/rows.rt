@@ -107,8 +107,7 @@ pub fn write_code(text: &mut String, code: Code) -> Option<()> {
     Some(())
 }
 
-/// Writes a number.
-pub fn write_number(text: &mut String, number: i64) -> Option<()> {
+fn write_number(text: &mut String, number: i64) -> Option<()> {
     write!(text, "{number}").ok()
 }
 
@@ -120,13 +119,10 @@ fn write_leg(text: &mut String, leg: &Leg) -> Option<()> {
     Some(())
 }
 
-/// Writes numbers, each behind a space, and ends the line.
-pub fn write_numbers(text: &mut String, numbers: &[i64]) -> Option<()> {
-    for number in numbers {
-        text.push(' ').ok()?;
-        write_number(text, *number)?;
-    }
-    text.push('\n').ok()
+/// Writes a space, and a number.
+pub fn write_next(text: &mut String, number: i64) -> Option<()> {
+    text.push(' ').ok()?;
+    write_number(text, number)
 }
 
 /// Writes a key: ids joined by `-`, with `d` behind a deadheaded one.
