@@ -1,13 +1,9 @@
-use crate::rows::{Row, timetable_of};
+use crate::rows::{Base, Row, apply, net_over, node_of, timetable_of, write_number};
 use crew_dirty::{Carried, Standing, Standings, carry};
-use crew_duty::list_duties;
 use crew_flights::{Code, Edit, FlightId, Timetable};
 use crew_net::{Net, Node};
-use crew_pairing::{Key, Leg};
 use crew_rules::Settings;
-use std::alloc::Global;
-use std::sync::Arc;
-use std::test::Fail;
+use std::process::Abort;
 use std::thread::Threads;
 
 // What an edit leaves standing, beside the network after it.
@@ -15,76 +11,82 @@ fn carried_over<R: Threads + Sync + AllocGlobal>(
     rt: &R,
     old_timetable: &Timetable,
     timetable: &Timetable,
-) -> Result<(Carried, Net), Fail> {
-    let alloc = rt.alloc();
-    let settings = Settings::standard();
-    settings.check()?;
-    let duties = Arc::new(alloc, list_duties(rt, alloc, &settings, old_timetable)?)?;
-    let old = Net::build(alloc, &settings, old_timetable, duties)?;
-    let duties = Arc::new(alloc, list_duties(rt, alloc, &settings, timetable)?)?;
-    let new = Net::build(alloc, &settings, timetable, duties)?;
-    let carried = carry(alloc, &old, old_timetable, &new, timetable)?;
-    Ok((carried, new))
+) -> Option<(Carried, Net)> {
+    let old = net_over(rt, old_timetable)?;
+    let new = net_over(rt, timetable)?;
+    let carried = carry(rt.alloc(), &old, old_timetable, &new, timetable).ok()?;
+    Some((carried, new))
 }
 
 // The same after one edit of a timetable of these bases and flights.
-fn after<R: Threads + Sync + AllocGlobal>(
+fn after<R: Abort + Threads + Sync + AllocGlobal>(
     rt: &R,
-    bases: &[(&[u8; 3], i64)],
-    rows: &[Row<'_>],
+    bases: &[Base],
+    rows: &[Row],
     edit: &Edit,
-) -> Result<(Carried, Net), Fail> {
-    let old = timetable_of(rt.alloc(), &Settings::standard(), bases, rows)?;
-    let mut new = old.copy(rt.alloc())?;
-    new.apply(edit)?;
-    carried_over(rt, &old, &new)
+) -> (Carried, Net) {
+    let old = timetable_of(rt, &Settings::standard(), bases, rows);
+    let mut new = old.copy(rt.alloc()).expect(rt, "a copy");
+    assert!(rt; apply(&mut new, edit).is_some());
+    carried_over(rt, &old, &new).expect(rt, "what is carried over")
 }
 
-// The base of a node, and the flights of its duty.
-fn push_node(alloc: Global, text: &mut String, node: &Node) -> Result<(), Fail> {
-    text.push(' ')?;
+// Writes the base of a node, and the flights of its duty.
+fn write_node(text: &mut String, node: &Node) -> Option<()> {
+    text.push(' ').ok()?;
     for letter in node.base.get() {
-        text.push(char::from(letter))?;
+        text.push(char::from(letter)).ok()?;
     }
     for leg in node.key.legs() {
-        text.push_str(format!(in alloc; "-{}", leg.flight().get())?.as_str())?;
+        text.push('-').ok()?;
+        write_number(text, leg.flight().get() as usize)?;
     }
-    Ok(())
+    Some(())
+}
+
+// Writes the node at a place where it isn't kept; `None` also where it is kept and dirty, or
+// neither.
+fn write_dirty(text: &mut String, carried: &Carried, net: &Net, place: usize) -> Option<()> {
+    let node = net.node(place)?;
+    let is_dirty = carried.next_dirty(net, place) == Some(place);
+    if is_dirty == carried.is_kept(net, &node) {
+        return None;
+    }
+    if is_dirty {
+        return write_node(text, &node);
+    }
+    Some(())
+}
+
+fn write_all_dirty(text: &mut String, carried: &Carried, net: &Net) -> Option<()> {
+    for place in 0..net.len() {
+        write_dirty(text, carried, net, place)?;
+    }
+    Some(())
 }
 
 // The nodes that are not kept, in order.
-fn dirty_of<R: AllocGlobal>(rt: &R, carried: &Carried, net: &Net) -> Result<String, Fail> {
+fn check_dirty<R: Abort + AllocGlobal>(rt: &R, carried: &Carried, net: &Net, want: &str) {
     let mut text = String::new(rt.alloc());
-    for place in 0..net.len() {
-        let node = net.node(place).ok_or("node")?;
-        let is_next = carried.next_dirty(net, place) == Some(place);
-        if is_next == carried.is_kept(net, &node) {
-            return Err("kept and dirty".into());
-        }
-        if is_next {
-            push_node(rt.alloc(), &mut text, &node)?;
-        }
-    }
-    Ok(text)
+    let written = write_all_dirty(&mut text, carried, net);
+    assert!(rt; written.is_some());
+    assert_eq!(rt; text.as_str(), want);
 }
 
-fn code(letters: &[u8; 3]) -> Result<Code, Fail> {
-    Ok(Code::new(*letters).ok_or("code")?)
+// The first place from a place on that isn't kept.
+fn check_next<R: Abort>(rt: &R, carried: &Carried, net: &Net, from: usize, want: Option<usize>) {
+    assert!(rt; carried.next_dirty(net, from) == want);
 }
 
-fn number(flight: u32) -> Result<FlightId, Fail> {
-    Ok(FlightId::new(flight).ok_or("flight")?)
+// Whether a base's duty of one leg is kept; `None` where there are no such base and flight.
+fn is_kept(carried: &Carried, net: &Net, base: &[u8; 3], flight: u32) -> Option<bool> {
+    Some(carried.is_kept(net, &node_of(base, flight)?))
 }
 
-fn node_of(base: &[u8; 3], flight: u32) -> Result<Node, Fail> {
-    Ok(Node {
-        base: code(base)?,
-        key: Key::of(Leg::new(number(flight)?, false)),
-    })
-}
+const JFK: [Base; 1] = [(b"JFK", 0)];
 
 // 101 and 102 make one duty of one day; 801 leaves a week later.
-const FLIGHTS: [Row<'static>; 3] = [
+const FLIGHTS: [Row; 3] = [
     (
         101,
         b"JFK",
@@ -112,89 +114,94 @@ const FLIGHTS: [Row<'static>; 3] = [
 ];
 
 // 2 may stand after 1, and 3 after 2; 4 stands alone.
-const ROW: [Row<'static>; 4] = [
+const ROW: [Row; 4] = [
     (1, b"JFK", b"BOS", "2025-07-01T12:00", "2025-07-01T13:00", 0),
     (2, b"BOS", b"JFK", "2025-07-02T12:00", "2025-07-02T13:00", 0),
     (3, b"JFK", b"BOS", "2025-07-03T12:00", "2025-07-03T13:00", 0),
     (4, b"MIA", b"LAX", "2025-07-03T12:00", "2025-07-03T17:00", 0),
 ];
 
+fn number<R: Abort>(rt: &R, flight: u32) -> FlightId {
+    FlightId::new(flight).expect(rt, "a flight's number")
+}
+
+fn code<R: Abort>(rt: &R, letters: &[u8; 3]) -> Code {
+    Code::new(*letters).expect(rt, "a code")
+}
+
+// Another price of a flight.
+fn priced<R: Abort>(rt: &R, flight: u32, price: i64) -> Edit {
+    Edit::Price {
+        id: number(rt, flight),
+        price,
+    }
+}
+
 #[test]
-fn another_price_of_a_flight(rt: HostRuntime) -> Result<(), Fail> {
-    let edit = Edit::Price {
-        id: number(801)?,
-        price: 5,
-    };
-    let (carried, net) = after(&rt, &[(b"JFK", 0)], &FLIGHTS, &edit)?;
-    assert_eq!(rt; net.len(), 4);
-    assert_eq!(rt; dirty_of(&rt, &carried, &net)?.as_str(), " JFK-801");
-    let edit = Edit::Price {
-        id: number(101)?,
-        price: 2999,
-    };
-    let (carried, net) = after(&rt, &[(b"JFK", 0)], &FLIGHTS, &edit)?;
-    assert_eq!(rt;
-        dirty_of(&rt, &carried, &net)?.as_str(),
-        " JFK-101 JFK-101-102"
-    );
-    assert_eq!(rt; carried.next_dirty(&net, 0), Some(0));
-    assert_eq!(rt; carried.next_dirty(&net, 1), Some(1));
-    assert_eq!(rt; carried.next_dirty(&net, 2), None);
-    assert_eq!(rt; carried.next_dirty(&net, 9), None);
-    Ok(())
+fn another_price_of_a_flight(rt: HostRuntime) {
+    let (carried, net) = after(&rt, &JFK, &FLIGHTS, &priced(&rt, 801, 5));
+    assert!(rt; net.len() == 4);
+    check_dirty(&rt, &carried, &net, " JFK-801");
+}
+
+#[test]
+fn another_price_of_the_first_flight(rt: HostRuntime) {
+    let (carried, net) = after(&rt, &JFK, &FLIGHTS, &priced(&rt, 101, 2999));
+    check_dirty(&rt, &carried, &net, " JFK-101 JFK-101-102");
+    check_next(&rt, &carried, &net, 0, Some(0));
+    check_next(&rt, &carried, &net, 1, Some(1));
+    check_next(&rt, &carried, &net, 2, None);
+    check_next(&rt, &carried, &net, 9, None);
 }
 
 // The price that it has already.
 #[test]
-fn no_other_price(rt: HostRuntime) -> Result<(), Fail> {
-    let edit = Edit::Price {
-        id: number(801)?,
-        price: 0,
-    };
-    let (carried, net) = after(&rt, &[(b"JFK", 0)], &FLIGHTS, &edit)?;
-    assert_eq!(rt; carried.next_dirty(&net, 0), None);
-    assert!(rt; carried.is_kept(&net, &node_of(b"JFK", 801)?));
-    assert!(rt; !carried.is_kept(&net, &node_of(b"JFK", 802)?));
-    assert!(rt; !carried.is_kept(&net, &node_of(b"BOS", 801)?));
-    Ok(())
+fn no_other_price(rt: HostRuntime) {
+    let (carried, net) = after(&rt, &JFK, &FLIGHTS, &priced(&rt, 801, 0));
+    check_next(&rt, &carried, &net, 0, None);
+    assert!(rt; is_kept(&carried, &net, b"JFK", 801) == Some(true));
+    assert!(rt; is_kept(&carried, &net, b"JFK", 802) == Some(false));
+    assert!(rt; is_kept(&carried, &net, b"BOS", 801) == Some(false));
 }
 
 #[test]
-fn another_price_of_a_base(rt: HostRuntime) -> Result<(), Fail> {
+fn another_price_of_a_base(rt: HostRuntime) {
     let edit = Edit::BasePrice {
-        code: code(b"JFK")?,
+        code: code(&rt, b"JFK"),
         price: 1,
     };
-    let bases: [(&[u8; 3], i64); 2] = [(b"BOS", 0), (b"JFK", 0)];
-    let (carried, net) = after(&rt, &bases, &FLIGHTS, &edit)?;
-    assert_eq!(rt; net.len(), 8);
-    let all = " JFK-101 JFK-101-102 JFK-102 JFK-801";
-    assert_eq!(rt; dirty_of(&rt, &carried, &net)?.as_str(), all);
-    Ok(())
+    let (carried, net) = after(&rt, &[(b"BOS", 0), (b"JFK", 0)], &FLIGHTS, &edit);
+    assert!(rt; net.len() == 8);
+    let want = " JFK-101 JFK-101-102 JFK-102 JFK-801";
+    check_dirty(&rt, &carried, &net, want);
 }
 
 #[test]
-fn another_base(rt: HostRuntime) -> Result<(), Fail> {
+fn another_base(rt: HostRuntime) {
     let edit = Edit::AddBase {
-        code: code(b"BOS")?,
+        code: code(&rt, b"BOS"),
         price: 0,
     };
-    let (carried, net) = after(&rt, &[(b"JFK", 0)], &FLIGHTS, &edit)?;
-    let all = " BOS-101 BOS-101-102 BOS-102 BOS-801";
-    assert_eq!(rt; dirty_of(&rt, &carried, &net)?.as_str(), all);
-    Ok(())
+    let (carried, net) = after(&rt, &JFK, &FLIGHTS, &edit);
+    let want = " BOS-101 BOS-101-102 BOS-102 BOS-801";
+    check_dirty(&rt, &carried, &net, want);
+}
+
+// Flights that go, each with the nodes that are not kept.
+static GONE: [(u32, &str); 3] = [(1, " JFK-2 JFK-3"), (2, " JFK-3"), (4, "")];
+
+fn check_gone<R: Abort + Threads + Sync + AllocGlobal>(rt: &R, flight: u32, want: &str) {
+    let edit = Edit::Cancel(number(rt, flight));
+    let (carried, net) = after(rt, &JFK, &ROW, &edit);
+    check_dirty(rt, &carried, &net, want);
 }
 
 // What may stand after a flight that is gone is reached, and what may stand after that too.
 #[test]
-fn a_flight_less(rt: HostRuntime) -> Result<(), Fail> {
-    let (carried, net) = after(&rt, &[(b"JFK", 0)], &ROW, &Edit::Cancel(number(1)?))?;
-    assert_eq!(rt; dirty_of(&rt, &carried, &net)?.as_str(), " JFK-2 JFK-3");
-    let (carried, net) = after(&rt, &[(b"JFK", 0)], &ROW, &Edit::Cancel(number(2)?))?;
-    assert_eq!(rt; dirty_of(&rt, &carried, &net)?.as_str(), " JFK-3");
-    let (carried, net) = after(&rt, &[(b"JFK", 0)], &ROW, &Edit::Cancel(number(4)?))?;
-    assert_eq!(rt; dirty_of(&rt, &carried, &net)?.as_str(), "");
-    Ok(())
+fn a_flight_less(rt: HostRuntime) {
+    for (flight, want) in &GONE {
+        check_gone(&rt, *flight, *want);
+    }
 }
 
 // The same standing at every node.
@@ -211,29 +218,26 @@ impl Standings for Everywhere {
     }
 }
 
-fn is_unchanged(
-    carried: &Carried,
-    net: &Net,
-    flight: u32,
-    standing: Standing,
-) -> Result<bool, Fail> {
+// Whether JFK's duty of one leg is unchanged under a standing at every node.
+fn is_unchanged(carried: &Carried, net: &Net, flight: u32, standing: Standing) -> Option<bool> {
     let everywhere = Everywhere { standing };
-    Ok(carried.unchanged(net, &node_of(b"JFK", flight)?, &everywhere))
+    Some(carried.unchanged(net, &node_of(b"JFK", flight)?, &everywhere))
 }
 
+static UNCHANGED: [(u32, Standing, bool); 7] = [
+    (1, Standing::Same, false),
+    (2, Standing::Same, false),
+    (3, Standing::Same, true),
+    (3, Standing::Other, false),
+    (3, Standing::Undone, false),
+    (4, Standing::Undone, true),
+    (5, Standing::Same, false),
+];
+
 #[test]
-fn nodes_that_are_unchanged(rt: HostRuntime) -> Result<(), Fail> {
-    let edit = Edit::Price {
-        id: number(1)?,
-        price: 5,
-    };
-    let (carried, net) = after(&rt, &[(b"JFK", 0)], &ROW, &edit)?;
-    assert!(rt; !is_unchanged(&carried, &net, 1, Standing::Same)?);
-    assert!(rt; !is_unchanged(&carried, &net, 2, Standing::Same)?);
-    assert!(rt; is_unchanged(&carried, &net, 3, Standing::Same)?);
-    assert!(rt; !is_unchanged(&carried, &net, 3, Standing::Other)?);
-    assert!(rt; !is_unchanged(&carried, &net, 3, Standing::Undone)?);
-    assert!(rt; is_unchanged(&carried, &net, 4, Standing::Undone)?);
-    assert!(rt; !is_unchanged(&carried, &net, 5, Standing::Same)?);
-    Ok(())
+fn nodes_that_are_unchanged(rt: HostRuntime) {
+    let (carried, net) = after(&rt, &JFK, &ROW, &priced(&rt, 1, 5));
+    for (flight, standing, want) in &UNCHANGED {
+        assert!(rt; is_unchanged(&carried, &net, *flight, *standing) == Some(*want));
+    }
 }
