@@ -3,8 +3,12 @@
 #![tactic(auto)]
 
 #[cfg(test)]
+mod notes;
+#[cfg(test)]
 mod pairs;
 #[cfg(test)]
 mod seats;
 #[cfg(test)]
 mod versions;
+#[cfg(test)]
+mod views;

@@ -1,9 +1,9 @@
-//! What doesn't follow what was published.
+//! What follows what was published, and who learns of it.
+use crate::notes::{publish, teach};
+use crate::seats::{all_see, see};
 use crate::versions::{after, fill};
-use crew_publish::{PairFault, PublishFault, Publisher, ViewFault, pair};
-use crew_version::Version;
-use std::process::Abort;
-use std::sync::{Arc, Wait};
+use crew_publish::{PairFault, PublishFault, ViewFault, pair};
+use std::sync::Arc;
 use std::test::Fail;
 
 #[test]
@@ -12,21 +12,6 @@ fn faults_have_numbers(rt: HostRuntime) -> Result<(), Fail> {
     assert_eq!(rt; PairFault::NoViewer.number(), Some(64));
     assert_eq!(rt; ViewFault::NoView.number(), Some(65));
     Ok(())
-}
-
-// Why a version isn't published. Where it is, the test ends there.
-fn refused<R: Abort, Q: Wait + Drop>(
-    rt: &R,
-    publisher: &mut Publisher<Q>,
-    version: &Arc<Version>,
-) -> PublishFault {
-    let Ok(version) = Arc::try_clone(version) else {
-        return PublishFault::Memory;
-    };
-    match publisher.publish(version) {
-        Ok(_note) => panic!(rt; "published"),
-        Err(fault) => fault,
-    }
 }
 
 #[test]
@@ -44,8 +29,35 @@ fn none_of_these_follows(rt: HostRuntime) -> Result<(), Fail> {
         panic!(rt; "no pair");
     };
     for version in [&all[0], &all[1], &stranger] {
-        let fault = refused(&rt, &mut publisher, version);
-        assert_eq!(rt; fault, PublishFault::NotNext);
+        let refused = publish(&rt, &mut publisher, version);
+        assert_eq!(rt; refused, Err(PublishFault::NotNext));
+    }
+    assert_eq!(rt; publisher.last().number(), 1);
+    Ok(())
+}
+
+#[test]
+fn one_of_two_learns(rt: HostRuntime) -> Result<(), Fail> {
+    let alloc = rt.alloc();
+    let mut all = Vec::new(alloc);
+    let is_filled = fill(&rt, alloc, &mut all, 1);
+    assert!(rt; is_filled);
+    assert!(rt; all.len() == 2);
+    let first = Arc::try_clone(&all[0]).expect(&rt, "memory");
+    let Ok((mut publisher, mut viewers)) = pair(&rt, alloc, first, 2) else {
+        panic!(rt; "no pair");
+    };
+    let mut other = viewers.pop().expect(&rt, "a viewer");
+    assert_eq!(rt; viewers.len(), 1);
+    assert!(rt; all_see(&mut viewers, 0, 0));
+    let told = teach(&rt, &mut publisher, &all[1], &mut viewers);
+    assert_eq!(rt; told, Some((1, 1)));
+    assert!(rt; all_see(&mut viewers, 1, 1));
+    let seen = see(&mut other);
+    assert!(rt; seen == Ok((0, 0)) || seen == Ok((1, 1)));
+    for version in &all {
+        let refused = publish(&rt, &mut publisher, version);
+        assert_eq!(rt; refused, Err(PublishFault::NotNext));
     }
     assert_eq!(rt; publisher.last().number(), 1);
     Ok(())

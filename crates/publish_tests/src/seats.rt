@@ -65,16 +65,16 @@ fn let_go(viewers: &mut Vec<Viewer>) -> bool {
     }
 }
 
-// The number of the version that a viewer sees, and how many entries it has.
-fn see(viewer: &mut Viewer) -> Result<(u64, usize), ViewFault> {
+/// The number of the version that a viewer sees, and how many entries it has.
+pub fn see(viewer: &mut Viewer) -> Result<(u64, usize), ViewFault> {
     match viewer.view() {
         Ok(view) => Ok((view.version().number(), view.version().count())),
         Err(fault) => Err(fault),
     }
 }
 
-// Whether each viewer sees a version of this number, with so many entries.
-fn all_see(viewers: &mut [Viewer], number: u64, count: usize) -> bool {
+/// Whether each viewer sees a version of this number, with so many entries.
+pub fn all_see(viewers: &mut [Viewer], number: u64, count: usize) -> bool {
     for viewer in viewers {
         if see(viewer) != Ok((number, count)) {
             return false;
