@@ -7,6 +7,7 @@ use Rattle.std.proofs.lemmas.Bool.{and_parts}
 use Rattle.std.proofs.lemmas.Bool.Decides.{nat_tests}
 use Rattle.std.proofs.lemmas.List.{take-append-drop}
 use Rattle.crew_version.specs.Versions.{Snapshot}
+use Rattle.crew_publish.specs.Views.{IsViewOf}
 use Rattle.crew_publish.specs.Chain.{Follows, ChainFrom, IsChain, last_or, Ends}
 use Rattle.crew_publish.specs.Machinery.Rule.{AllBegin, seen_by}
 
@@ -40,6 +41,10 @@ chain_push (v ∷ vs) last z h e f = chain_from_push v vs z h (subst (λ (u : Sn
 pub ends_push : (vs : List Snapshot) (z : Snapshot) → Ends (vs ++ z ∷ []) z
 ends_push [] z = refl
 ends_push (v ∷ vs) z = last_or_push v vs z
+
+-- what follows the last of a chain is the last of the longer one
+pub view_push : (vs l : List Snapshot) (last z : Snapshot) → l ≡ vs ++ z ∷ [] → IsChain vs → Ends vs last → Follows last z → IsViewOf l z
+view_push vs l last z is h e f = (subst IsChain (sym is) (chain_push vs last z h e f), subst (λ (m : List Snapshot). Ends m z) (sym is) (ends_push vs z))
 
 -- where a beginning ends as the whole does, nothing is left
 nothing_left : (v : Snapshot) (vs rest : List Snapshot) → ChainFrom v (vs ++ rest) → last_or v vs ≡ last_or v (vs ++ rest) → rest ≡ []

@@ -1,29 +1,24 @@
 //! Notes of what was published.
 ghost use Rattle.std.specs.Prelude.{◌≡◌};
-ghost use Rattle.std.specs.Arc.{arc_value};
-ghost use Rattle.left_right.specs.Sides.{view};
-ghost use Rattle.crew_publish.specs.Machinery.Rule.{list_of};
 ghost use Rattle.crew_publish.specs.Views.{IsNoteOf};
 
-use crate::shown::Pen;
+use crate::publisher::Publisher;
 use std::marker::Model;
 use std::snapshot::Snapshot;
+use std::sync::Wait;
 
-/// A note of a publication, for viewers to learn.
+/// A note of a publication by a publisher with this runtime, for viewers to learn.
 ///
 /// A contract sees the number of its version, how many entries this has, and the list that it
 /// ended, which is a chain.
 #[derive(Drop)]
-pub struct Note {
+pub struct Note<R: Wait + Drop> {
     number: u64,
     count: usize,
-    published: Snapshot<Pen>,
+    publisher: Snapshot<Publisher<R>>,
 }
 
-impl Model for Note {
-    ghost use Rattle.std.specs.Arc.{arc_value};
-    ghost use Rattle.left_right.specs.Sides.{view as seat_view};
-    ghost use Rattle.crew_publish.specs.Machinery.Rule.{list_of};
+impl<R: Wait + Drop> Model for Note<R> {
     ghost use Rattle.crew_publish.specs.Views.{Noted, IsNoteOf};
 
     ghost Value = { Noted };
@@ -31,27 +26,23 @@ impl Model for Note {
     ghost view = { λ n. record {
       number = n.number;
       count = n.count;
-      list = list_of (seat_view n.published.value.desk.place)
-          (arc_value n.published.value.desk.shown.value.version);
+      list = n.publisher.value.list;
     } };
 
-    ghost invariant = { λ n. IsNoteOf (list_of (seat_view n.published.value.desk.place)
-        (arc_value n.published.value.desk.shown.value.version)) n.number n.count };
+    ghost invariant = { λ n. IsNoteOf n.publisher.value.list n.number n.count };
 }
 
-impl Note {
-    // The note of what the writer shows.
-    pub(crate) fn of(pen: &Pen, number: u64, count: usize) -> Note
-        requires { IsNoteOf (list_of (view pen.now.desk.place)
-            (arc_value pen.now.desk.shown.value.version)) number count }
-        ensures list { result.list ≡ list_of (view pen.now.desk.place)
-            (arc_value pen.now.desk.shown.value.version) }
+impl<R: Wait + Drop> Note<R> {
+    // The note of what was published last.
+    pub(crate) fn of(publisher: &Publisher<R>, number: u64, count: usize) -> Note<R>
+        requires { IsNoteOf publisher.now.list number count }
+        ensures list { result.list ≡ publisher.now.list }
         ensures tells { (result.number ≡ number) × (result.count ≡ count) }
     {
         Note {
             number,
             count,
-            published: Snapshot::of(pen),
+            publisher: Snapshot::of(publisher),
         }
     }
 

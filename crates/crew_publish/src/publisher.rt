@@ -105,7 +105,7 @@ impl<R: Wait + Drop> Publisher<R> {
     /// follow the last one: its number isn't greater, or its entries don't begin with those of the
     /// last one; or `Memory`. After either the version handed in is dropped, and the publisher is
     /// as it was. It may wait for viewers that look right then.
-    pub fn publish(&mut self, version: Arc<Version>) -> Result<Note, PublishFault>
+    pub fn publish(&mut self, version: Arc<Version>) -> Result<Note<R>, PublishFault>
         ensures added { OnOk result (self.new.list ≡ self.old.list ++ arc_value version ∷ []) }
         ensures note { IfOk result (λ n. (n.list ≡ self.new.list)
             × (n.number ≡ (arc_value version).number)
@@ -120,7 +120,7 @@ impl<R: Wait + Drop> Publisher<R> {
         }
         let (number, count) = (version.number(), version.count());
         self.add(version)?;
-        Ok(Note::of(&self.pen, number, count))
+        Ok(Note::of(self, number, count))
     }
 
     /// A fresh viewer, which has seen all that was published. `NoViewer` where there is no place

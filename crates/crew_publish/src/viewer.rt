@@ -14,7 +14,7 @@ use core::mem::replace_with;
 use crew_version::Version;
 use std::marker::Model;
 use std::snapshot::Snapshot;
-use std::sync::Arc;
+use std::sync::{Arc, Wait};
 
 // Looks once, and waits for nobody.
 fn look(seat: Seat) -> (Seat, Result<Arc<Version>, ViewFault>)
@@ -171,7 +171,7 @@ impl Viewer {
 
     /// From now on it takes no version of a lesser number, or of fewer entries, than this note
     /// tells. It takes no memory, and waits for nobody.
-    pub fn learn(&mut self, note: &Note)
+    pub fn learn<R: Wait + Drop>(&mut self, note: &Note<R>)
         ensures seen { self.new.seen ≡ self.old.seen }
         ensures floor { (self.new.number ≡ max self.old.number note.now.number)
             × (self.new.count ≡ max self.old.count note.now.count) }

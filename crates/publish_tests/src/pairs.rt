@@ -29,7 +29,7 @@ fn none_of_these_follows(rt: HostRuntime) -> Result<(), Fail> {
         panic!(rt; "no pair");
     };
     for version in [&all[0], &all[1], &stranger] {
-        let refused = publish(&rt, &mut publisher, version);
+        let refused = publish(&mut publisher, version);
         assert_eq!(rt; refused, Err(PublishFault::NotNext));
     }
     assert_eq!(rt; publisher.last().number(), 1);
@@ -50,13 +50,13 @@ fn one_of_two_learns(rt: HostRuntime) -> Result<(), Fail> {
     let mut other = viewers.pop().expect(&rt, "a viewer");
     assert_eq!(rt; viewers.len(), 1);
     assert!(rt; all_see(&mut viewers, 0, 0));
-    let told = teach(&rt, &mut publisher, &all[1], &mut viewers);
+    let told = teach(&mut publisher, &all[1], &mut viewers);
     assert_eq!(rt; told, Some((1, 1)));
     assert!(rt; all_see(&mut viewers, 1, 1));
     let seen = see(&mut other);
     assert!(rt; seen == Ok((0, 0)) || seen == Ok((1, 1)));
     for version in &all {
-        let refused = publish(&rt, &mut publisher, version);
+        let refused = publish(&mut publisher, version);
         assert_eq!(rt; refused, Err(PublishFault::NotNext));
     }
     assert_eq!(rt; publisher.last().number(), 1);

@@ -25,7 +25,7 @@ fn a_view_is_held_over_three_publications(rt: HostRuntime) -> Result<(), Fail> {
     };
     let mut viewer = viewers.pop().expect(&rt, "a viewer");
     let held = viewer.view().expect(&rt, "a view");
-    assert!(rt; publish_all(&rt, &mut publisher, &all[1..]));
+    assert!(rt; publish_all(&mut publisher, &all[1..]));
     assert_eq!(rt; publisher.last().number(), 3);
     assert!(rt; is_of(&held, 0, 0));
     assert_eq!(rt; see(&mut viewer), Ok((3, 3)));
@@ -74,8 +74,8 @@ fn each_of_64_viewers_holds_a_view(rt: HostRuntime) -> Result<(), Fail> {
     let mut held = Vec::new(alloc);
     let mut later = Vec::new(alloc);
     assert!(rt; hold_all(&mut viewers, &mut held));
-    assert!(rt; publish_all(&rt, &mut publisher, &all[1..3]));
-    let told = teach(&rt, &mut publisher, &all[3], &mut viewers);
+    assert!(rt; publish_all(&mut publisher, &all[1..3]));
+    let told = teach(&mut publisher, &all[3], &mut viewers);
     assert_eq!(rt; told, Some((3, 3)));
     assert!(rt; hold_all(&mut viewers, &mut later));
     assert_eq!(rt; (held.len(), later.len()), (64, 64));
@@ -114,7 +114,7 @@ fn views_beside_publications(rt: HostRuntime) -> Result<(), Fail> {
     let later = &all[1..];
     let (has_published, has_kept) = join(
         &rt,
-        || publish_all(&rt, &mut publisher, later),
+        || publish_all(&mut publisher, later),
         || never_back(&mut viewer, 20_000),
     );
     assert!(rt; has_published && has_kept);
