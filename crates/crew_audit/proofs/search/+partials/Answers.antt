@@ -12,7 +12,6 @@ use Rattle.crew_pairing.proofs.Tree.{IsBeginning-more, listing-closed, listing-n
 use Rattle.crew_audit.specs.Machinery.Listing.{with_next}
 use Rattle.crew_audit.specs.declared.partial.Partial.{Partial}
 use Rattle.crew_pairing.specs.Pairings.{is_within_caps}
-use Rattle.std.proofs.lemmas.Grind.{common_steps}
 use Rattle.crew_audit.proofs.Flat.{item-at, item-known}
 use Rattle.crew_audit.proofs.Taking.{joined-up, over-after, took-at, took-none, took-over, took-skip}
 use Rattle.crew_audit.proofs.Steps.{after-flights, after-full, join-legs, legs-open, more-than, not-joined, not-within, onward, onward-off, onward-on, own-listed}
@@ -65,13 +64,13 @@ list_after-loop-flight-preserved bound t c =
     let F : Flight → List Partial = λ g. flat_map (with_next n s flights base price before) (from_flight s flights g) in
     elim c.if-may_leave.branch [
       | list_after-then-may_leave+in_ok-list_from w ↦
-          let same : c.if-may_leave.found ≡ w.list_from.new.found = grind (arith, common_steps) in
+          let same : c.if-may_leave.found ≡ w.list_from.new.found = w.found-is in
           record {
             found = rw same (took-at bound.F.Sink.count bound.F.Sink.holds F flights i f c.args.found.now c.loop-flight.found w.list_from.new.found at c.loop-flight.invariant.found w.in_ok-list_from.ensures.ok);
             room = rw same w.in_ok-list_from.ensures.room;
           }
       | list_after-else-may_leave w ↦
-          let same : c.if-may_leave.found ≡ c.loop-flight.found = grind (arith, common_steps) in
+          let same : c.if-may_leave.found ≡ c.loop-flight.found = w.found-is in
           let none = not-joined n s flights base price before f known (sym c.may_leave.ensures ∙ w.if-may_leave.false) in
           record {
             found = rw same (took-skip bound.F.Sink.count bound.F.Sink.holds F flights i f c.args.found.now c.loop-flight.found at c.loop-flight.invariant.found none);
@@ -222,14 +221,14 @@ list_legs-loop-flight-preserved bound t c =
     let F : Flight → List Partial = onward room s flights base price before first others in
     elim c.if-may_come_next.branch [
       | list_legs-then-may_come_next+in_ok-list_below w ↦
-          let same : c.if-may_come_next.found ≡ w.list_below.new.found = grind (arith, common_steps) in
+          let same : c.if-may_come_next.found ≡ w.list_below.new.found = w.found-is in
           let ward = onward-on room s flights base price before first others g (test ∙ w.if-may_come_next.true) in
           record {
             found = rw same (took-at bound.F.Sink.count bound.F.Sink.holds F flights i g c.list_own.new.found c.loop-flight.found w.list_below.new.found at c.loop-flight.invariant.found (rw ward w.in_ok-list_below.ensures.ok));
             room = rw same w.in_ok-list_below.ensures.room;
           }
       | list_legs-else-may_come_next w ↦
-          let same : c.if-may_come_next.found ≡ c.loop-flight.found = grind (arith, common_steps) in
+          let same : c.if-may_come_next.found ≡ c.loop-flight.found = w.found-is in
           let none = onward-off room s flights base price before first others g (test ∙ w.if-may_come_next.false) in
           record {
             found = rw same (took-skip bound.F.Sink.count bound.F.Sink.holds F flights i g c.list_own.new.found c.loop-flight.found at c.loop-flight.invariant.found none);

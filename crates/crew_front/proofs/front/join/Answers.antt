@@ -1,4 +1,4 @@
-use Rattle.std.proofs.Common.{◌∙◌, ap, not, arith, List, ◌≡◌, false, subst}
+use Rattle.std.proofs.Common.{rules, ◌∙◌, ap, not, arith, List, ◌≡◌, false, subst}
 use Rattle.std.specs.List.{filter, insert, position_or_len}
 use Rattle.std.specs.Ordering.{is_lt}
 use Rattle.std.proofs.lemmas.List.Sums.{prefix_len-le-length}
@@ -31,3 +31,6 @@ returns-clause-ok g c =
     ∙ (ap (λ i. insert items i x) (c.gap_for-gap.ensures ∙ ap (position_or_len p) c.deref.ensures.value)
     ∙ (insert-first p x items
     ∙ ap (placed p x) (c.drop_beaten.ensures.kept ∙ ap (filter q) c.in_ok-reserve.ensures.items)))
+
+pub returns-in_err-insert-clause-err : goal.returns-in_err-insert-clause-err
+returns-in_err-insert-clause-err g c = search rules

@@ -1,5 +1,6 @@
 use Rattle.std.proofs.Common.{◌++◌, List, sym, ◌∙◌, ap}
-use Rattle.crew_pool.specs.Counted.{boarded_label}
+use Rattle.std.proofs.lemmas.List.{take_all}
+use Rattle.crew_pool.specs.Counted.{boarded_label, boarded_labels}
 use Rattle.crew_pool.specs.declared.label_walk.LabelWalk.{LabelWalk}
 use Rattle.crew_pool.proofs.BoardLemmas.{boarded_more}
 use Rattle.crew_resource.proofs.Members.{Member-get_or}
@@ -16,3 +17,8 @@ loop-label-preserved g c =
     c.in_ok-board_one.ensures
     ∙ (ap (λ (r : List (g.row.R-Value.Denot × LabelWalk)). r ++ f c.label-item.result) c.loop-label.invariant
     ∙ boarded_more (λ (v : g.row.R-Value.Denot). g.R.Staged.boards c.args.resource.now v c.args.item.now) c.args.duty c.args.list.now c.loop-label.label-index c.label-item.result c.loop-label-test.true c.label-item.is)
+
+pub returns : goal.returns
+returns g c =
+    c.loop-label.invariant
+    ∙ ap (boarded_labels (λ (v : g.row.R-Value.Denot). g.R.Staged.boards c.args.resource.now v c.args.item.now) c.args.duty) (take_all c.loop-label.label-index c.args.list.now c.loop-label-test.false)

@@ -166,3 +166,9 @@ returns-clause-beaten g c =
           (subst (λ (es : List (g.row.R-Value.Denot × List (List Leg))). IsApart g.R.Value.Ord.cmp g.R.Resource.below (map (λ e. e.0) es)) c.self.view_is c.self.invariant.0)
           tied.2 any),
     )
+
+pub returns-clause-memory : goal.returns-clause-memory
+returns-clause-memory g c = tt
+
+pub returns-clause-err : goal.returns-clause-err
+returns-clause-err g c = tt
