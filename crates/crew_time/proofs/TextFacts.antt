@@ -12,7 +12,7 @@ use Rattle.jiff_core.proofs.SignedLemmas.{signed_arith}
 use Rattle.crew_time.specs.Civil.{IsTextOf, is_civil, minutes_of, option_minute, parts_minute, text_minute, ◌>>=◌, form_of, has_marks, is_digit, two_of}
 use Rattle.crew_time.specs.declared.civil.Parts.{Parts}
 use Rattle.crew_time.specs.declared.fault.TimeFault.{TimeFault}
-use Rattle.std.specs.Prelude.{IfOk, OnOk, Err, is_ok, if◌then◌else◌}
+use Rattle.std.specs.Prelude.{IfOk, OnOk, OnErr, Err, is_ok, if◌then◌else◌}
 
 -- two digits are those of their number
 pub two_of-known : (a b n : ℕ) → two_of a b ≡ Some n → (a ≡ 48 + n / 10) × (b ≡ 48 + n % 10)
@@ -259,6 +259,15 @@ read-years (Ok m) p s e = parts-years p m s (sym e)
 read-years (Err fault) p s e = tt
 
 -- the two laws, on what a vector holds before and after a text is appended
+pub appended : {E : Type 0} (r : Result (Unit {0}) E) (before after t : List ℕ) (m : ℤ) → after ≡ (if is_ok r then before ++ t else before) → IsTextOf m t
+    → OnOk r ((text : List ℕ) × (after ≡ before ++ text) × IsTextOf m text)
+appended (Err e) before after t m h w = tt
+appended (Ok x) before after t m h w = (t, h, w)
+
+pub left : {E : Type 0} (r : Result (Unit {0}) E) (before after t : List ℕ) → after ≡ (if is_ok r then before ++ t else before) → OnErr r (after ≡ before)
+left (Err e) before after t h = h
+left (Ok x) before after t h = tt
+
 pub reads-back : {E : Type 0} (r : Result (Unit {0}) E) (before after t : List ℕ) (m : ℤ) → after ≡ (if is_ok r then before ++ t else before) → IsTextOf m t
     → OnOk r (IsInYears m → text_minute (drop (length before) after) ≡ Ok m)
 reads-back (Err e) before after t m h w = tt

@@ -4,6 +4,9 @@ use Rattle.jiff_core.proofs.SignedLemmas.{signed_arith}
 use Rattle.crew_time.proofs.CivilFacts.{day-after_year, day-before_year, known-days}
 use Rattle.crew_time.proofs.texts.minute_of.Goals as goal
 
+pub returns-then-parts-lt2000 : goal.returns-then-parts-lt2000
+returns-then-parts-lt2000 c = search rules
+
 pub unreachable-requires : goal.unreachable-requires
 unreachable-requires c =
     let date = c.in-Some.date in

@@ -1,5 +1,9 @@
-use Rattle.crew_time.proofs.TextFacts.{only-text, reads-back}
+use Rattle.crew_time.proofs.TextFacts.{appended, left, only-text, reads-back}
 use Rattle.crew_time.proofs.texts.write_minute.Goals as goal
+
+pub returns-clause-ok : goal.returns-clause-ok
+returns-clause-ok c =
+    appended c.extend_from_slice.result c.args.out.now.items c.extend_from_slice.new.self.items c.minute_text.result c.args.minute c.extend_from_slice.ensures.items c.minute_text.ensures
 
 pub returns-clause-reads_back : goal.returns-clause-reads_back
 returns-clause-reads_back c =
@@ -8,3 +12,7 @@ returns-clause-reads_back c =
 pub returns-clause-only_text : goal.returns-clause-only_text
 returns-clause-only_text c =
     only-text c.extend_from_slice.result c.args.out.now.items c.extend_from_slice.new.self.items c.minute_text.result c.args.minute c.extend_from_slice.ensures.items c.minute_text.ensures
+
+pub returns-clause-err : goal.returns-clause-err
+returns-clause-err c =
+    left c.extend_from_slice.result c.args.out.now.items c.extend_from_slice.new.self.items c.minute_text.result c.extend_from_slice.ensures.items
