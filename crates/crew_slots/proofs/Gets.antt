@@ -1,7 +1,7 @@
 -- What stands at a place of a list that is written to or made longer.
-use Rattle.std.proofs.Common.{◌≡◌, ◌≢◌, ◌<◌, ◌≤◌, ◌+◌, ◌++◌, ◌⊎◌, ℕ, zero, suc, List, [], ◌∷◌, Option, Some, None, inl, inr, length, refl, ap, sym, ◌∙◌, arith, set}
-use Rattle.std.specs.Prelude.{slice_get}
-use Rattle.std.proofs.lemmas.Option.{same_Some}
+use Rattle.std.proofs.Common.{Bool, true, false, not, get_or, ◌≡◌, ◌≢◌, ◌<◌, ◌≤◌, ◌+◌, ◌++◌, ◌⊎◌, ℕ, zero, suc, List, [], ◌∷◌, Option, Some, None, inl, inr, length, refl, ap, sym, ◌∙◌, arith, set}
+use Rattle.std.specs.Prelude.{slice_get, is_some}
+use Rattle.std.proofs.lemmas.Option.{same_Some, slice_get-get_or}
 
 pub none-below : {X : Type 0} (i : ℕ) (x : X) → slice_get [] i ≡ Some x → ⊥
 none-below zero x e = (cc)
@@ -83,3 +83,11 @@ pub earlier-or-later : (j i : ℕ) → (j < i) ⊎ (i ≤ j)
 earlier-or-later j zero = inr (omega arith)
 earlier-or-later zero (suc i) = inl (omega arith)
 earlier-or-later (suc j) (suc i) = elim (earlier-or-later j i) [ inl h ↦ inl (omega (arith, h)) | inr h ↦ inr (omega (arith, h)) ]
+
+-- no item is read where there is none
+pub empty-read : (o : Option ℕ) → is_some o ≡ false → o ≡ None
+empty-read None e = λ i. None
+empty-read (Some x) e = (cc)
+
+pub none-here : (kept : List (Option ℕ)) (i : ℕ) (b : Bool) → i < length kept → is_some (get_or kept i None) ≡ not b → b ≡ true → slice_get kept i ≡ Some None
+none-here kept i b h e t = slice_get-get_or kept i None h ∙ ap (λ (x : Option ℕ). Some x) (empty-read (get_or kept i None) (e ∙ ap not t))

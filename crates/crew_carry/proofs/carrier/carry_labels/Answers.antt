@@ -1,5 +1,6 @@
-use Rattle.std.proofs.Common.{◌<◌, ◌+◌, ◌++◌, ◌∷◌, [], ℕ, List, Option, length, take, refl, ap, sym, subst}
+use Rattle.std.proofs.Common.{arith, ◌<◌, ◌+◌, ◌++◌, ◌∷◌, [], ℕ, List, Option, length, take, refl, ap, sym, subst}
 use Rattle.std.specs.Prelude.{IfSome, is_some}
+use Rattle.std.proofs.lemmas.List.{take_all}
 use Rattle.crew_carry.specs.Carried.{AreTwinWalks}
 use Rattle.crew_carry.specs.Labels.{AreCarriedLabels, IsCarriedLabel}
 use Rattle.crew_pool.specs.Arena.{walk_at}
@@ -48,3 +49,8 @@ loop-label-preserved g c =
       subst (λ (ns : List Label). AreCarriedLabels ranks from to (take (i + 1) c.args.labels.now) ns) pushed
           (subst (λ (os : List Label). AreCarriedLabels ranks from to os (items ++ x ∷ [])) taken more),
     )
+
+pub returns-clause-labels : goal.returns-clause-labels
+returns-clause-labels g c =
+    let all = take_all c.loop-label.label-index c.args.labels.now (omega arith) in
+    subst (λ (os : List (g.row.R-Value.Denot × LabelWalk)). AreCarriedLabels c.args.ranks.now c.args.from.now c.loop-label.to os c.loop-label.carried.items) all c.loop-label.invariant.2

@@ -1,4 +1,4 @@
-use Rattle.std.proofs.Common.{true, false, ◌≡◌, ◌<◌, ◌∙◌, ℕ, List, Option, Some, length, subst, sym}
+use Rattle.std.proofs.Common.{rules, true, false, ◌≡◌, ◌<◌, ◌∙◌, ℕ, List, Option, Some, length, subst, sym}
 use Rattle.std.specs.Prelude.{IfSome, slice_get}
 use Rattle.crew_net.proofs.ArrivalPlaces.{rank-within}
 use Rattle.crew_pairing.specs.declared.duty.Duty.{Duty}
@@ -29,7 +29,7 @@ returns-then-are_same-clause-same c =
     let at = subst (λ (o : Option ℕ). IfSome o Found) c.in_ok-was.was c.requires in
     let listed =
     same-listed _ _ _ _ _ _ _ _ (c.as_slice.ensures ∙ c.duties.ensures) (c.as_slice-2.ensures ∙ c.duties-2.ensures) (c.arriving-olds.ensures at.0 at.1) (c.arriving-news.ensures at.0 at.2)
-    (c.are_same.ensures.0 c.if-are_same.true) in
+    (c.are_same.ensures.0 (search rules)) in
     (at.0, at.1, at.2, same-arriving c.args.old.now c.args.new.now at.0 listed)
 
 pub returns-clause-all : goal.returns-clause-all

@@ -1,10 +1,13 @@
-use Rattle.std.proofs.Common.{arith, sym}
+use Rattle.std.proofs.Common.{◌∙◌, ap, arith, length, sym}
 use Rattle.crew_net.proofs.Oks.{IfOk-from}
 use Rattle.crew_slots.specs.Machinery.Kept.{StayIn}
 use Rattle.crew_slots.specs.Machinery.Places.{Keeps}
 use Rattle.crew_slots.specs.declared.places.Places.{Places}
 use Rattle.crew_slots.proofs.Keeping.{are-kept, codes-distinct, kept-along, stay-in}
 use Rattle.crew_slots.proofs.kept.next_bases.Goals as goal
+
+pub kept_bases-requires : goal.kept_bases-requires
+kept_bases-requires c = ap length c.deref.ensures.value ∙ (c.requires.long ∙ ap length (sym c.bases.ensures))
 
 pub settle-requires-clause-kept : goal.settle-requires-clause-kept
 settle-requires-clause-kept c =

@@ -1,10 +1,13 @@
-use Rattle.std.proofs.Common.{arith, refl, sym}
+use Rattle.std.proofs.Common.{◌∙◌, ap, arith, length, refl, sym}
 use Rattle.crew_net.proofs.Oks.{IfOk-from}
 use Rattle.crew_slots.specs.Machinery.Kept.{StayIn}
 use Rattle.crew_slots.specs.Machinery.Places.{Keeps}
 use Rattle.crew_slots.specs.declared.places.Places.{Places}
 use Rattle.crew_slots.proofs.Keeping.{are-kept, kept-along, keys-distinct, keys_of, stay-in}
 use Rattle.crew_slots.proofs.kept.next_duties.Goals as goal
+
+pub kept_duties-requires : goal.kept_duties-requires
+kept_duties-requires c = ap length c.deref.ensures.value ∙ c.requires.long
 
 pub settle-requires-clause-kept : goal.settle-requires-clause-kept
 settle-requires-clause-kept c =

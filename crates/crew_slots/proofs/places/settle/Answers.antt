@@ -2,18 +2,10 @@ use Rattle.std.proofs.Common.{rules, ◌≡◌, ◌≤◌, ◌<◌, ◌+◌, ◌
 use Rattle.std.specs.Prelude.{unwrap_or}
 use Rattle.std.specs.Prelude.{slice_get, is_some}
 use Rattle.std.proofs.lemmas.Option.{slice_get-get_or}
-use Rattle.crew_slots.proofs.Gets.{within}
+use Rattle.crew_slots.proofs.Gets.{empty-read, none-here, within}
 use Rattle.crew_slots.proofs.Seats.{AreSettled, free-left, settled-all, settled-keep, settled-take}
 use Rattle.crew_slots.proofs.places.settle.Goals as goal
 use Rattle.crew_slots.proofs.places.settle.Goals.{then-is_none, else-is_none}
-
--- no item is read where there is none
-empty-read : (o : Option ℕ) → is_some o ≡ false → o ≡ None
-empty-read None e = λ i. None
-empty-read (Some x) e = (cc)
-
-none-here : (kept : List (Option ℕ)) (i : ℕ) (b : Bool) → i < length kept → is_some (get_or kept i None) ≡ not b → b ≡ true → slice_get kept i ≡ Some None
-none-here kept i b h e t = slice_get-get_or kept i None h ∙ ap (λ (x : Option ℕ). Some x) (empty-read (get_or kept i None) (e ∙ ap not t))
 
 pub first_free-free-requires : goal.first_free-free-requires
 first_free-free-requires c =

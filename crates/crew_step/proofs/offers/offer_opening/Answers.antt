@@ -1,0 +1,5 @@
+use Rattle.std.proofs.Common.{rules}
+use Rattle.crew_step.proofs.offers.offer_opening.Goals as goal
+
+pub returns : goal.returns
+returns g c = search rules
