@@ -5,6 +5,26 @@ use Rattle.crew_pairing.proofs.InOrder.{all-duties}
 use Rattle.crew_duty.proofs.Counts.{all-listed, counts-few, counts-over}
 use Rattle.crew_duty.proofs.next.list_beside.Goals as goal
 
+pub count_beside-requires-clause-plan : goal.count_beside-requires-clause-plan
+count_beside-requires-clause-plan c =
+    record {
+      checked = c.requires.checked;
+      are_flights = c.requires.flights;
+      few = c.requires.few;
+      index = rw c.deref-2.ensures.value c.in_ok-slots.ensures;
+      are_next = rw c.deref-3.ensures.value c.in_ok-next.ensures;
+    }
+
+pub fill_beside-requires-clause-plan : goal.fill_beside-requires-clause-plan
+fill_beside-requires-clause-plan c =
+    record {
+      checked = c.requires.checked;
+      are_flights = c.requires.flights;
+      few = c.requires.few;
+      index = rw c.deref-2.ensures.value c.in_ok-slots.ensures;
+      are_next = rw c.deref-3.ensures.value c.in_ok-next.ensures;
+    }
+
 pub returns-then-total-gt-DUTIES-clause-too_many : goal.returns-then-total-gt-DUTIES-clause-too_many
 returns-then-total-gt-DUTIES-clause-too_many c =
     let counts = c.in_ok-counts.counts.items in

@@ -1,6 +1,7 @@
-use Rattle.std.proofs.Common.{subst}
+use Rattle.std.proofs.Common.{List, subst}
+use Rattle.std.proofs.lemmas.List.{take_all}
 use Rattle.crew_flights.specs.declared.flight.Flight.{Flight}
-use Rattle.crew_duty.specs.Machinery.Plans.{IsNext}
+use Rattle.crew_duty.specs.Machinery.Plans.{AreNext, IsNext}
 use Rattle.crew_duty.proofs.Places.{AreNext-more}
 use Rattle.crew_duty.proofs.plan.next_flights.Goals as goal
 
@@ -13,3 +14,10 @@ loop-flight-preserved c =
     let d = c.flight-item.result in
     let here = subst (λ (f : Flight). IsNext s flights f next) c.flight-item.is c.in_ok-next_of.ensures in
     rw c.in_ok-push.ensures.items (AreNext-more s flights c.loop-flight.next.items next i d c.loop-flight-test.true c.loop-flight.invariant here)
+
+pub returns : goal.returns
+returns c =
+    let s = c.args.settings.now in
+    let flights = c.args.flights.now in
+    let all = take_all c.loop-flight.flight-index flights c.loop-flight-test.false in
+    subst (λ (fs : List Flight). AreNext s flights fs c.loop-flight.next.items) all c.loop-flight.invariant
