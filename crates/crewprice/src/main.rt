@@ -8,26 +8,11 @@
 ghost use Rattle.std.specs.Prelude.{◌≡◌, ◌≢◌};
 ghost use Rattle.std.specs.IoError.{error_kind};
 
-mod fault;
-mod program;
-mod streams;
-
-use fault::Fault;
-use program::command;
+use crew_command::{Fault, Outlet, command};
 use std::io::ErrorKind;
 use std::process::ExitCode;
 use std::rt::Env;
 use std::{env, io};
-use streams::Outlet;
-
-#[cfg(test)]
-mod rows;
-#[cfg(test)]
-mod sessions;
-#[cfg(test)]
-mod tests;
-#[cfg(test)]
-mod texts;
 
 // The words of the command line, the program's own name first.
 fn words_of<R: Env + AllocGlobal>(rt: &R) -> io::Result<Vec<String>> {

@@ -1,11 +1,20 @@
-//! Tests of legal duties and of the audit: what no clause of theirs says.
+//! Tests of legal duties, of their network, of slots and of what an edit leaves standing, and of the
+//! audit: what no clause of theirs says.
 #![tactic(auto)]
 
 #[cfg(test)]
 mod audits;
 #[cfg(test)]
+mod dirty;
+#[cfg(test)]
 mod duties;
+#[cfg(test)]
+mod nets;
 #[cfg(test)]
 mod next;
 #[cfg(test)]
 mod rows;
+#[cfg(test)]
+mod slots;
+#[cfg(test)]
+mod small_nets;

@@ -1,4 +1,5 @@
 //! Timetables of a few rows, and keys as texts.
+
 use crew_flights::{Code, Edit, Flight, FlightId, Timetable};
 use crew_pairing::{Key, Leg};
 use crew_rules::Settings;
@@ -107,7 +108,8 @@ pub fn write_code(text: &mut String, code: Code) -> Option<()> {
     Some(())
 }
 
-fn write_number(text: &mut String, number: i64) -> Option<()> {
+/// Writes a number.
+pub fn write_number(text: &mut String, number: i64) -> Option<()> {
     write!(text, "{number}").ok()
 }
 

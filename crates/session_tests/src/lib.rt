@@ -1,7 +1,10 @@
-//! Tests of records, sessions and the engine without workers, over their public items. They stand
-//! in a crate of their own so that the libraries are proved once; it promises nothing to others.
+//! Tests of records, sessions and the engine without workers, and of whole runs of the program, over
+//! their public items. They stand in a crate of their own so that the libraries are proved once; it
+//! promises nothing to others.
 #![tactic(auto)]
 
+#[cfg(test)]
+mod command;
 #[cfg(test)]
 mod engines;
 #[cfg(test)]
