@@ -1,8 +1,9 @@
 -- Lists of duties: their last, their caps, and their sums.
-use Rattle.std.proofs.Common.{◌≡◌, ◌≤◌, ◌<◌, ◌+◌, ◌-◌, ◌*◌, ◌&&◌, ℕ, suc, ℤ, pos, negsuc, ◌+ℤ◌, ◌-ℤ◌, ◌*ℤ◌, ◌≤ℤ◌, ◌<ℤ◌, int_le, Bool, true, false, List, [], ◌∷◌, ◌++◌, Some, length, refl, sym, ap, subst, ◌∙◌, arith, get_or, length-append, of_z, take, to_z, w64}
+use Rattle.std.proofs.Common.{◌≡◌, ◌≤◌, ◌<◌, ◌+◌, ◌-◌, ◌*◌, ◌&&◌, ℕ, suc, ℤ, pos, negsuc, ◌+ℤ◌, ◌-ℤ◌, ◌*ℤ◌, ◌≤ℤ◌, ◌<ℤ◌, int_le, Bool, true, false, List, [], ◌∷◌, ◌++◌, Some, length, refl, sym, ap, subst, ◌∙◌, arith, get_or, length-append, of_z, take, to_z, w32, w64, add-one}
 use Rattle.std.specs.Prelude.{slice_get}
+use mir.Val.{SFits}
 use Rattle.std.specs.Ordering.{eq_by_cmp}
-use Rattle.std.proofs.Math.Nat.{mul-le-mul_left}
+use Rattle.std.proofs.Math.Nat.{mul-le-mul_left, mul-suc}
 use Rattle.std.proofs.lemmas.Bool.{and_parts}
 use Rattle.std.proofs.lemmas.Int.{ints}
 use Rattle.std.proofs.lemmas.Option.{slice_get-get_or}
@@ -175,6 +176,49 @@ sum-more f ds i x before now h e b n =
     let more = total-take f ds i x h in
     let read : f x ≡ f (get_or ds i x) = ap f e in
     omega (arith, ints, more, read, b, n)
+
+-- one duty more in a sum: it fits, it is the longer sum, and it keeps its bounds
+pub record SumTo (share : ℕ) (f : Duty → ℤ) (ds : List Duty) (i : ℕ) (sum : ℤ) : Type 0 where
+  pub all : sum ≡ total f (take i ds)
+  pub least : (pos 0 -ℤ pos (share * i)) ≤ℤ sum
+  pub most : sum ≤ℤ pos (share * i)
+
+-- least and most of one duty's share
+pub record Shares (d : Duty) : Type 0 where
+  pub fdp : (pos 0 -ℤ pos 100_000_000) ≤ℤ d.fdp
+  pub fdp_wide : (pos 0 -ℤ pos 1_000_000_000) ≤ℤ d.fdp
+  pub fdp_most : d.fdp ≤ℤ pos 1_000_000_000
+  pub fly : (pos 0 -ℤ pos 1_000_000_000) ≤ℤ d.fly
+  pub pay : (pos 0 -ℤ pos 10_000_000_000) ≤ℤ d.pay
+  pub price : (pos 0 -ℤ pos 10_000_000_000) ≤ℤ d.price
+
+pub shares-of : (d : Duty) → IsInRange d → Shares d
+shares-of d r = record { fdp = omega (arith, ints, r.fdp); fdp_wide = omega (arith, ints, r.fdp); fdp_most = omega (arith, ints, r.fdp_most); fly = omega (arith, ints, r.fly); pay = omega (arith, ints, r.pay); price = omega (arith, ints, r.price) }
+
+pub read-32 : (z : ℤ) → (pos 0 -ℤ pos 1_000_000_000) ≤ℤ z → z ≤ℤ pos 1_000_000_000 → to_z w32 (of_z w32 z) ≡ z
+read-32 z h k = omega (arith, ints, h, k)
+
+least-on : (sum x now : ℤ) (m k n : ℕ) → now ≡ sum +ℤ x → n ≡ m + k → (pos 0 -ℤ pos m) ≤ℤ sum → (pos 0 -ℤ pos k) ≤ℤ x → (pos 0 -ℤ pos n) ≤ℤ now
+least-on sum x now m k n e g h j = omega (arith, ints, e, g, h, j)
+
+most-on : (sum x now : ℤ) (m k n : ℕ) → now ≡ sum +ℤ x → n ≡ m + k → sum ≤ℤ pos m → x ≤ℤ pos k → now ≤ℤ pos n
+most-on sum x now m k n e g h j = omega (arith, ints, e, g, h, j)
+
+pub sum-on : (share : ℕ) (f : Duty → ℤ) (ds : List Duty) (i : ℕ) (x : Duty) (sum add : ℤ) → add ≡ f x → sum ≡ total f (take i ds) → (pos 0 -ℤ pos (share * i)) ≤ℤ sum → sum ≤ℤ pos (share * i)
+    → (pos 0 -ℤ pos share) ≤ℤ f x → f x ≤ℤ pos share → i < length ds → x ≡ get_or ds i x → length ds ≤ 13 → share ≤ 10_000_000_000
+    → SumTo share f ds (i + 1) (to_z w64 (of_z w64 (to_z w64 (of_z w64 sum) +ℤ to_z w64 (of_z w64 add))))
+sum-on share f ds i x sum add is so_far least most p q here at few small =
+    let fits : to_z w64 (of_z w64 (to_z w64 (of_z w64 sum) +ℤ to_z w64 (of_z w64 add))) ≡ sum +ℤ f x = rw is (fits-add share i 13 sum (f x) least most p q (omega arith) (omega arith)) in
+    let grown : share * (i + 1) ≡ share * i + share = rw add-one (mul-suc share i) in
+    record {
+      all = sum-more f ds i x sum _ here at so_far fits;
+      least = least-on sum (f x) _ (share * i) share (share * (i + 1)) fits grown least p;
+      most = most-on sum (f x) _ (share * i) share (share * (i + 1)) fits grown most q;
+    }
+
+pub sum-fits : (share i : ℕ) (sum x add : ℤ) → add ≡ x → (pos 0 -ℤ pos (share * i)) ≤ℤ sum → sum ≤ℤ pos (share * i) → (pos 0 -ℤ pos share) ≤ℤ x → x ≤ℤ pos share → i ≤ 13 → share ≤ 10_000_000_000
+    → SFits w64 (to_z w64 (of_z w64 sum) +ℤ to_z w64 (of_z w64 add))
+sum-fits share i sum x add is a b d e h k = let p = mul-le-mul_left share h in omega (arith, ints, is, p, a, b, d, e, k)
 
 -- numbers that fit
 pub fits-self : (z : ℤ) → (pos 0 -ℤ pos 200_000_000_000) ≤ℤ z → z ≤ℤ pos 200_000_000_000 → to_z w64 (of_z w64 z) ≡ z

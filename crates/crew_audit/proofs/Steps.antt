@@ -8,7 +8,7 @@ use Rattle.crew_rules.specs.declared.settings.Settings.{Settings}
 use Rattle.crew_pairing.specs.Legality.{AllConnect, IsLegal, duty_of, last_of, may_follow, minutes_flown}
 use Rattle.crew_pairing.specs.Machinery.Listing.{all_duties, below, from_flight, is_hopeless, listing, own, timed}
 use Rattle.crew_flights.specs.Timetable.{IsFlight}
-use Rattle.crew_resource.specs.Members.{Member}
+use Rattle.crew_resource.specs.Members.{Each, Member}
 use Rattle.crew_pairing.specs.Pairings.{is_within_caps}
 use Rattle.crew_pairing.specs.Machinery.Beginnings.{AreFlights, IsBeginning}
 use Rattle.crew_pairing.specs.declared.duty.Duty.{Duty}
@@ -18,8 +18,9 @@ use Rattle.crew_pairing.proofs.InList.{Member-either}
 use Rattle.crew_pairing.proofs.Legal.{AllConnect-after, Each-after, known-sound, last_of-append}
 use Rattle.crew_pairing.proofs.Sums.{total-append}
 use Rattle.crew_pairing.proofs.Times.{AllSound, ends-later, flown-total, no-earlier}
-use Rattle.crew_pairing.proofs.Tree.{listing-at}
+use Rattle.crew_pairing.proofs.Tree.{Each-push, listing-at}
 use Rattle.crew_audit.specs.Machinery.Listing.{after, goes_on, listed, may_join, with_next}
+use Rattle.crew_audit.specs.Machinery.Ranges.{IsInRange}
 use Rattle.crew_audit.specs.declared.partial.Partial.{Partial}
 use Rattle.crew_audit.proofs.Chains.{both-on, caps-shorter}
 use Rattle.crew_audit.proofs.Flat.{flat-filter, flat-flat, flat-none}
@@ -183,3 +184,10 @@ own-listed room s flights base price before d longer last end e l =
 -- more than so many in the first of two lists
 pub more-than : (n m : ℕ) (mine own rest : List Partial) → mine ≡ own → n < m + length mine → n < m + length (own ++ rest)
 more-than n m mine own rest e h = omega (arith, h, ap length e, length-append own rest)
+
+-- one duty more, as the code has them
+pub longer-few : (before longer : List Duty) (d : Duty) (most : ℕ) → longer ≡ before ++ d ∷ [] → length before < most → length longer ≤ most
+longer-few before longer d most e h = omega (arith, h, ap length e, length-append before (d ∷ []))
+
+pub longer-ranges : (before longer : List Duty) (d : Duty) → longer ≡ before ++ d ∷ [] → Each IsInRange before → IsInRange d → Each IsInRange longer
+longer-ranges before longer d e ranges range = rw e (Each-push IsInRange before d ranges range)

@@ -2,6 +2,7 @@
 use Rattle.std.proofs.Common.{◌≡◌, ◌<◌, ◌+◌, ℕ, List, [], ◌++◌, Some, length, refl, sym, ap, subst, arith, take, append_assoc, append-nil, length-append}
 use Rattle.std.specs.Prelude.{slice_get}
 use Rattle.std.specs.List.{flat_map}
+use Rattle.std.proofs.lemmas.Grind.{flat_map-append}
 use Rattle.crew_pairing.proofs.Tree.{flat_map-room}
 use Rattle.crew_audit.specs.Machinery.Taking.{Took}
 use Rattle.crew_audit.specs.declared.partial.Partial.{Partial}
@@ -43,3 +44,22 @@ pub joined-up : {S : Type 0} (count : S → ℕ) (holds : S → List Partial →
     → Took count holds now end rest → Took count holds start end (own ++ rest)
 joined-up count holds start now end mine own rest e a b =
     took-join count holds start now end own rest (subst (Took count holds start now) e a) b
+
+-- what two lists lead to, one after the other, as the code has them
+pub took-both : {S X : Type 0} (count : S → ℕ) (holds : S → List Partial → Type 0) (f : X → List Partial) (start now end : S) (mine more xs ys : List X) → mine ≡ xs → more ≡ ys
+    → Took count holds start now (flat_map f mine) → Took count holds now end (flat_map f more) → Took count holds start end (flat_map f (xs ++ ys))
+took-both {S} {X} count holds f start now end mine more xs ys e g a b =
+    rw flat_map-append (subst (λ (zs : List X). Took count holds start end (flat_map f xs ++ flat_map f zs)) g (subst (λ (zs : List X). Took count holds start end (flat_map f zs ++ flat_map f more)) e (took-join count holds start now end (flat_map f mine) (flat_map f more) a b)))
+
+pub over-first : {X : Type 0} (f : X → List Partial) (n m : ℕ) (mine xs ys : List X) → mine ≡ xs → n < m + length (flat_map f mine) → n < m + length (flat_map f (xs ++ ys))
+over-first {X} f n m mine xs ys e h =
+    let same = ap (λ (zs : List X). length (flat_map f zs)) e in
+    omega (arith, h, same, ap length (flat_map-append f xs ys), length-append (flat_map f xs) (flat_map f ys))
+
+pub over-second : {S X : Type 0} (count : S → ℕ) (holds : S → List Partial → Type 0) (f : X → List Partial) (start now : S) (n : ℕ) (mine more xs ys : List X) → mine ≡ xs → more ≡ ys
+    → Took count holds start now (flat_map f mine) → n < count now + length (flat_map f more) → n < count start + length (flat_map f (xs ++ ys))
+over-second {S} {X} count holds f start now n mine more xs ys e g a h =
+    let taken = a.more in
+    let one = ap (λ (zs : List X). length (flat_map f zs)) e in
+    let two = ap (λ (zs : List X). length (flat_map f zs)) g in
+    omega (arith, h, taken, one, two, ap length (flat_map-append f xs ys), length-append (flat_map f xs) (flat_map f ys))

@@ -9,6 +9,7 @@ pub mod NewPrices
 pub mod Parts
 pub mod Paths
 pub mod Places
+pub mod ReadNumbers
 pub mod Running
 pub mod Slots
 pub mod Steps

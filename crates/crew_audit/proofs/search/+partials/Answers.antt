@@ -1,20 +1,20 @@
-use Rattle.std.proofs.Common.{◌≡◌, ◌+◌, ◌-◌, ◌++◌, ◌∷◌, [], ◌∙◌, List, true, false, sym, ap, arith, length, length-append, take}
+use Rattle.std.proofs.Common.{refl, ◌≡◌, ◌≤◌, ◌+◌, ◌-◌, ◌++◌, ◌∷◌, [], ◌∙◌, List, true, false, sym, ap, arith, length, length-append, take}
 use Rattle.std.specs.List.{flat_map}
 use Rattle.std.proofs.lemmas.List.{take_all}
-use Rattle.std.proofs.lemmas.Result.{err_from_is_err_and}
+use Rattle.std.proofs.lemmas.Result.{err_from_is_err_and, on_ok_weaker}
 use Rattle.crew_flights.specs.declared.flight.Flight.{Flight}
 use Rattle.crew_pairing.specs.Legality.{duty_of, last_of, may_follow}
 use Rattle.crew_pairing.specs.Machinery.Listing.{from_flight, listing, timed}
 use Rattle.crew_pairing.specs.declared.duty.Duty.{Duty}
 use Rattle.crew_pairing.specs.declared.leg.TimedLeg.{TimedLeg}
 use Rattle.crew_pairing.proofs.Legal.{known-sound}
-use Rattle.crew_pairing.proofs.Tree.{IsBeginning-more, listing-closed, listing-none}
+use Rattle.crew_pairing.proofs.Tree.{IsBeginning-more, listing-closed, listing-longer, listing-none}
 use Rattle.crew_audit.specs.Machinery.Listing.{with_next}
 use Rattle.crew_audit.specs.declared.partial.Partial.{Partial}
 use Rattle.crew_pairing.specs.Pairings.{is_within_caps}
 use Rattle.crew_audit.proofs.Flat.{item-at, item-known}
-use Rattle.crew_audit.proofs.Taking.{joined-up, over-after, took-at, took-none, took-over, took-skip}
-use Rattle.crew_audit.proofs.Steps.{after-flights, after-full, join-legs, legs-open, more-than, not-joined, not-within, onward, onward-off, onward-on, own-listed}
+use Rattle.crew_audit.proofs.Taking.{joined-up, over-after, over-first, over-second, took-at, took-both, took-join, took-none, took-over, took-skip}
+use Rattle.crew_audit.proofs.Steps.{after-flights, after-full, join-legs, legs-open, longer-few, longer-ranges, more-than, not-joined, not-within, onward, onward-off, onward-on, own-listed}
 use Rattle.crew_audit.proofs.search.+partials.Goals as goal
 use Rattle.crew_audit.proofs.search.+partials.Goals.{list_after-then-may_leave+in_ok-list_from, list_after-else-may_leave, list_legs-then-others-ge-LEGS-via-then-others-ge-LEGS, list_legs-then-others-ge-LEGS-via-else-others-ge-LEGS+then-cannot_begin, list_legs-then-may_come_next+in_ok-list_below, list_legs-else-may_come_next}
 
@@ -256,3 +256,111 @@ list_legs-returns-clause-ok bound t c =
     let all : take c.loop-flight.flight-index flights ≡ flights = take_all c.loop-flight.flight-index flights (omega arith) in
     let done = rw all at c.loop-flight.invariant.found in
     rw opened (joined-up bound.F.Sink.count bound.F.Sink.holds c.args.found.now c.list_own.new.found c.loop-flight.found _ _ (flat_map (onward room s flights base price before first others) flights) own-is c.in_ok-list_own.ensures.ok done)
+
+pub list_below-returns-in_err-list_legs-clause-over : goal.list_below-returns-in_err-list_legs-clause-over
+list_below-returns-in_err-list_legs-clause-over bound t c =
+    let s = c.args.scope.now.settings.now in
+    let flights = c.args.scope.now.flights.now in
+    let base = c.args.scope.now.base in
+    let price = c.args.scope.now.base_price in
+    let before = c.args.before.now in
+    let W = with_next (s.max_duties - (length before + 1)) s flights base price before in
+    let first = c.args.first.now in
+    let others = c.args.others.now in
+    let g = c.args.flight.now in
+    let flown = listing-longer s flights first others c.deref.result.now (timed false g) (c.deref.ensures.value ∙ c.in_ok-flown.ensures) in
+    let p = err_from_is_err_and c.from_residual-in_err-list_legs.result c.from_residual-in_err-list_legs.ensures.1 in
+    λ e. over-first W c.args.scope.now.limit _ _ _ _ flown (c.in_err-list_legs.ensures.over (cc))
+
+pub list_below-returns-clause-ok : goal.list_below-returns-clause-ok
+list_below-returns-clause-ok bound t c =
+    let s = c.args.scope.now.settings.now in
+    let flights = c.args.scope.now.flights.now in
+    let base = c.args.scope.now.base in
+    let price = c.args.scope.now.base_price in
+    let before = c.args.before.now in
+    let W = with_next (s.max_duties - (length before + 1)) s flights base price before in
+    let first = c.args.first.now in
+    let others = c.args.others.now in
+    let g = c.args.flight.now in
+    let flown = listing-longer s flights first others c.deref.result.now (timed false g) (c.deref.ensures.value ∙ c.in_ok-flown.ensures) in
+    let ridden = listing-longer s flights first others c.deref-2.result.now (timed true g) (c.deref-2.ensures.value ∙ c.in_ok-ridden.ensures) in
+    on_ok_weaker c.list_legs-2.result (λ more. took-both bound.F.Sink.count bound.F.Sink.holds W c.args.found.now c.list_legs.new.found c.list_legs-2.new.found _ _ _ _ flown ridden c.in_ok-list_legs.ensures.ok more)
+    c.list_legs-2.ensures.ok
+
+pub list_below-returns-clause-over : goal.list_below-returns-clause-over
+list_below-returns-clause-over bound t c =
+    let s = c.args.scope.now.settings.now in
+    let flights = c.args.scope.now.flights.now in
+    let base = c.args.scope.now.base in
+    let price = c.args.scope.now.base_price in
+    let before = c.args.before.now in
+    let W = with_next (s.max_duties - (length before + 1)) s flights base price before in
+    let first = c.args.first.now in
+    let others = c.args.others.now in
+    let g = c.args.flight.now in
+    let flown = listing-longer s flights first others c.deref.result.now (timed false g) (c.deref.ensures.value ∙ c.in_ok-flown.ensures) in
+    let ridden = listing-longer s flights first others c.deref-2.result.now (timed true g) (c.deref-2.ensures.value ∙ c.in_ok-ridden.ensures) in
+    λ e. over-second bound.F.Sink.count bound.F.Sink.holds W c.args.found.now c.list_legs.new.found c.args.scope.now.limit _ _ _ _ flown ridden c.in_ok-list_legs.ensures.ok (c.list_legs-2.ensures.over e)
+
+pub list_from-returns-in_err-list_legs-clause-over : goal.list_from-returns-in_err-list_legs-clause-over
+list_from-returns-in_err-list_legs-clause-over bound t c =
+    let s = c.args.scope.now.settings.now in
+    let flights = c.args.scope.now.flights.now in
+    let base = c.args.scope.now.base in
+    let price = c.args.scope.now.base_price in
+    let before = c.args.before.now in
+    let W = with_next (s.max_duties - (length before + 1)) s flights base price before in
+    let f = c.args.flight.now in
+    let p = err_from_is_err_and c.from_residual.result c.from_residual.ensures.1 in
+    λ e. over-first W c.args.scope.now.limit _ (listing 8 s flights (timed false f) []) _ (listing 8 s flights (timed true f) []) refl (c.in_err-list_legs.ensures.over (cc))
+
+pub list_from-returns-clause-ok : goal.list_from-returns-clause-ok
+list_from-returns-clause-ok bound t c =
+    let s = c.args.scope.now.settings.now in
+    let flights = c.args.scope.now.flights.now in
+    let base = c.args.scope.now.base in
+    let price = c.args.scope.now.base_price in
+    let before = c.args.before.now in
+    let W = with_next (s.max_duties - (length before + 1)) s flights base price before in
+    let f = c.args.flight.now in
+    on_ok_weaker c.list_legs-2.result
+    (λ more. took-both bound.F.Sink.count bound.F.Sink.holds W c.args.found.now c.list_legs.new.found c.list_legs-2.new.found (listing 8 s flights (timed false f) []) (listing 8 s flights (timed true f) []) _ _ refl refl
+    c.in_ok-list_legs.ensures.ok more)
+    c.list_legs-2.ensures.ok
+
+pub list_from-returns-clause-over : goal.list_from-returns-clause-over
+list_from-returns-clause-over bound t c =
+    let s = c.args.scope.now.settings.now in
+    let flights = c.args.scope.now.flights.now in
+    let base = c.args.scope.now.base in
+    let price = c.args.scope.now.base_price in
+    let before = c.args.before.now in
+    let W = with_next (s.max_duties - (length before + 1)) s flights base price before in
+    let f = c.args.flight.now in
+    λ e. over-second bound.F.Sink.count bound.F.Sink.holds W c.args.found.now c.list_legs.new.found c.args.scope.now.limit (listing 8 s flights (timed false f) []) (listing 8 s flights (timed true f) []) _ _ refl refl
+    c.in_ok-list_legs.ensures.ok (c.list_legs-2.ensures.over e)
+
+pub list_legs-keep_within_caps-requires-clause-few : goal.list_legs-keep_within_caps-requires-clause-few
+list_legs-keep_within_caps-requires-clause-few bound t c =
+    let few : length c.deref.result.now ≤ c.args.scope.now.settings.now.max_duties =
+    longer-few c.args.before.now c.deref.result.now c.duty_from-next.result c.args.scope.now.settings.now.max_duties (c.deref.ensures.value ∙ c.in_ok-longer.ensures) c.requires.few in
+    omega (arith, few)
+
+pub list_legs-keep_within_caps-requires-clause-ranges : goal.list_legs-keep_within_caps-requires-clause-ranges
+list_legs-keep_within_caps-requires-clause-ranges bound t c =
+    longer-ranges c.args.before.now c.deref.result.now c.duty_from-next.result (c.deref.ensures.value ∙ c.in_ok-longer.ensures) c.requires.ranges c.duty_from-next.ensures.range
+
+pub list_legs-list_own-requires : goal.list_legs-list_own-requires
+list_legs-list_own-requires bound t c =
+    let longer = c.deref-2.ensures.value ∙ c.in_ok-longer.ensures in
+    let few = longer-few c.args.before.now c.deref-2.result.now c.duty_from-next.result c.args.scope.now.settings.now.max_duties longer c.requires.few in
+    let ranges = longer-ranges c.args.before.now c.deref-2.result.now c.duty_from-next.result longer c.requires.ranges c.duty_from-next.ensures.range in
+    let long : length c.deref-2.result.now ≡ length c.args.before.now + 1 = ap length longer ∙ length-append c.args.before.now (c.duty_from-next.result ∷ []) in
+    λ κs within. (omega arith, (within, (c.requires.checked, (c.requires.flights, (c.requires.price, (few, (ranges, c.requires.room)))))))
+
+pub list_own-returns-clause-ok : goal.list_own-returns-clause-ok
+list_own-returns-clause-ok bound t c =
+    let s = c.args.scope.now.settings.now in
+    rw c.if-deadhead.false
+    (on_ok_weaker c.list_after.result (λ more. took-join bound.F.Sink.count bound.F.Sink.holds c.args.found.now c.list_one.new.found c.list_after.new.found (_ ∷ []) _ c.in_ok-list_one.ensures.ok more) c.list_after.ensures.ok)

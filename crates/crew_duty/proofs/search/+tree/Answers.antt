@@ -1,4 +1,4 @@
-use Rattle.std.proofs.Common.{◌≡◌, ◌≤◌, ◌<◌, ◌+◌, ◌-◌, ◌++◌, ◌∷◌, [], ◌∙◌, ◌<ℤ◌, true, sym, ap, arith, append-nil, get_or, length, length-append, take, refl, List, subst}
+use Rattle.std.proofs.Common.{◌≡◌, ◌≤◌, ◌<◌, ◌+◌, ◌-◌, ◌*◌, ℕ, Fits, w64, ◌++◌, ◌∷◌, [], ◌∙◌, ◌<ℤ◌, true, sym, ap, arith, append-nil, get_or, length, length-append, take, refl, List, subst}
 use Rattle.std.specs.List.{flat_map}
 use Rattle.std.proofs.lemmas.List.{take_all}
 use Rattle.std.proofs.lemmas.Option.{get_or_from_slice_get, slice_get-get_or}
@@ -32,6 +32,19 @@ step-returns-then-totals-limits-clause-goes t c = λ others g path goes.
     let closed = ridden-closed s first others g (omega (arith, c.if-totals-limits.true, path.are_totals.deadheads, c.requires.limits.deadheads)) in
     let none : listing (7 - length others) s flights first longer ≡ [] = listing-closed (7 - length others) s flights first longer closed in
     rw (c.if-deadhead.true, none) (goes-none c.args.so_far c.args.found.now c.requires.so_far)
+
+-- the place of a flight, or of what comes next, in memory
+offset-flight : (place n : ℕ) → place < n → n ≤ 5_000 → Fits w64 (place * 32)
+offset-flight place n h k = omega arith
+
+offset-next : (place n : ℕ) → place < n → n ≤ 5_000 → Fits w64 (place * 40)
+offset-next place n h k = omega arith
+
+pub step-offset_bounds-plan-place : goal.step-offset_bounds-plan-place
+step-offset_bounds-plan-place t c =
+    let p = c.requires.path in
+    let flights = c.args.plan.now.flights.now in
+    offset-flight c.args.place (length flights) (slice_get-within flights c.args.place p.1 p.3.flight) c.requires.plan.few
 
 pub step-bounds-plan-place : goal.step-bounds-plan-place
 step-bounds-plan-place t c = let p = c.requires.path in slice_get-within c.args.plan.now.flights.now c.args.place p.1 p.3.flight
@@ -120,6 +133,11 @@ enter-returns-then-legs-ge-LEGS-clause-goes t c = λ others path ends.
     let first = c.args.first.now in
     let full : length others ≡ 7 = omega (arith, c.if-legs-ge-LEGS.true, ap length c.legs.ensures, path-length path, path.few) in
     rw (listing-last s flights first others full path.hope) (c.put_own-counted.ensures others path ends)
+
+pub enter-offset_bounds-plan-last : goal.enter-offset_bounds-plan-last
+enter-offset_bounds-plan-last t c =
+    let flights = c.args.plan.now.flights.now in
+    offset-next c.args.last (length flights) (slice_get-within flights c.args.last _ c.requires.path.2.flight) c.requires.plan.few
 
 pub enter-bounds-plan-last : goal.enter-bounds-plan-last
 enter-bounds-plan-last t c =
