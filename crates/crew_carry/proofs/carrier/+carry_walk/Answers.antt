@@ -1,5 +1,5 @@
-use Rattle.std.proofs.Common.{◌<◌, Option, Some, None, length, ◌++◌, ◌∷◌, ◌∙◌, [], inl, List, ℕ, refl, ap, sym, subst}
-use Rattle.std.specs.Prelude.{IfSome, is_some}
+use Rattle.std.proofs.Common.{◌≡◌, ◌<◌, arith, set, suc, zero, Option, Some, None, length, ◌++◌, ◌∷◌, ◌∙◌, [], inl, List, ℕ, refl, ap, sym, subst}
+use Rattle.std.specs.Prelude.{IfSome, is_some, slice_get}
 use Rattle.std.proofs.lemmas.Option.{slice_get-get_or}
 use Rattle.crew_pool.specs.Arena.{walk_at}
 use Rattle.crew_carry.specs.Carried.{AreTwinWalks, IsCarried}
@@ -95,3 +95,17 @@ returns-clause-grown t c =
     let to = c.carry_walk.new.to in
     let w = walk_at to c.in-Some-2.first ++ c.in-Some-twin.twin ∷ [] in
     grown-through c.args.to.now to c.add.new.self c.carry_walk.ensures.grown (subst (HasGrown to) (sym c.in_ok-place.ensures.added) (grown-more to w))
+
+set-there : {X : Type 0} (xs : List X) (i : ℕ) (y : X) → i < length xs → slice_get (set xs i y) i ≡ Some y
+set-there [] i y h = absurd (let q : ⊥ = omega arith in q)
+set-there (x ∷ xs) zero y h = refl
+set-there (x ∷ xs) (suc i) y h = set-there xs i y (omega arith)
+
+pub returns-clause-walk : goal.returns-clause-walk
+returns-clause-walk t c =
+    let places = c.carry_walk.new.places in
+    let place = c.in_ok-place.place in
+    let after : IsCarried c.args.ranks.now c.args.from.now c.add.new.self (set places c.args.walk (Some place)) = returns-clause-carried t c in
+    let within = subst (λ (n : ℕ). c.args.walk < n) (sym c.carry_walk.ensures.carried.long) c.requires.there in
+    let at = set-there places c.args.walk (Some place) within in
+    (after.there c.args.walk place at, after.shows c.args.walk place at)
