@@ -1,6 +1,7 @@
 use Rattle.std.proofs.Common.{◌≡◌, cond, ℕ, ◌++◌, inr, List, [], ◌∷◌, map, not, sym, ◌∙◌, ap, subst, ⊎_elim, take, arith}
 use Rattle.std.specs.List.{filter, list_any}
 use Rattle.std.proofs.lemmas.List.{take_all}
+use Rattle.std.specs.List.Sorted.{IsPermutation}
 use Rattle.std.proofs.lemmas.List.Sorted.{IsPermutation-trans}
 use Rattle.crew_resource.specs.Members.{Member}
 use Rattle.crew_resource.proofs.Members.{Member-append, Member-filter_out, Member-get_or}
@@ -12,6 +13,14 @@ use Rattle.crew_resource.proofs.Order.{order}
 use Rattle.crew_pool.proofs.MergeLemmas.{filter-take_more, is_free-permuted, map_filter-take_more, merged_apart, merged_local, on_err}
 use Rattle.crew_pool.proofs.Permuted.{AreApart-permuted}
 use Rattle.crew_pool.proofs.merge.merge_labels.Goals as goal
+
+-- labels that stay as they were
+module _ {V : Type 0} (now was : List (V × LabelWalk)) (same : now ≡ was) where
+  same-members : (a : V × LabelWalk) → Member now a → Member was a
+  same-members a m = subst (λ ls. Member ls a) same m
+
+  same-permuted : (vs : List V) → IsPermutation vs (vectors_of was) → IsPermutation vs (vectors_of now)
+  same-permuted vs p = subst (λ ls. IsPermutation vs (vectors_of ls)) (sym same) p
 
 pub meet-requires-clause-apart : goal.meet-requires-clause-apart
 meet-requires-clause-apart g c = AreApart-permuted g.R.Resource.below g.met.R.Resource.order.reflexive (vectors_of c.args.labels.now.items) (vectors_of c.loop-label.labels.items) c.loop-label.invariant.0 c.requires.labels
@@ -102,3 +111,10 @@ returns-in_err-reserve-clause-apart g c =
     let below = g.R.Resource.below in
     subst (λ (xs : List (g.row.R-Value.Denot × LabelWalk)). AreApart below (vectors_of xs)) (sym c.reserve.ensures.items)
     (AreApart-permuted below g.met.R.Resource.order.reflexive before (vectors_of c.loop-label.labels.items) c.loop-label.invariant.0 c.requires.labels)
+
+pub returns-in_err-reserve-clause-from : goal.returns-in_err-reserve-clause-from
+returns-in_err-reserve-clause-from g c a m = c.loop-label.invariant.1 a (same-members c.reserve.new.self.items c.loop-label.labels.items c.reserve.ensures.items a m)
+
+pub returns-in_err-reserve-clause-err : goal.returns-in_err-reserve-clause-err
+returns-in_err-reserve-clause-err g c =
+    on_err c.from_residual-in_err-reserve.result (same-permuted c.reserve.new.self.items c.loop-label.labels.items c.reserve.ensures.items (vectors_of c.args.labels.now.items) c.loop-label.invariant.0)

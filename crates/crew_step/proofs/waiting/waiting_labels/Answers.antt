@@ -3,7 +3,7 @@ use Rattle.std.proofs.lemmas.List.{take_all}
 use Rattle.crew_resource.specs.Members.{Member}
 use Rattle.crew_resource.proofs.Members.{Member-append}
 use Rattle.crew_pool.specs.Apart.{AreApart}
-use Rattle.crew_pool.specs.Counted.{IsCounted}
+use Rattle.crew_pool.specs.Counted.{AreCounted, IsCounted}
 use Rattle.crew_pool.specs.LabelWalks.{shown}
 use Rattle.crew_pool.specs.declared.label_walk.LabelWalk.{LabelWalk}
 use Rattle.crew_step.proofs.Grown.{all-shown-grown, counted-grown, grown-itself, grown-through, one-more-shown, shown-grown, vectors-shown}
@@ -68,3 +68,11 @@ returns-clause-same g c =
     let first = c.args.walks.now in
     let all = take_all c.loop-label.label-index c.as_slice-label-items.result.now (omega arith) ∙ c.as_slice-label-items.ensures.all in
     ap (map (shown c.loop-label.walks)) c.from_apart.ensures ∙ (c.loop-label.invariant.1 ∙ ap (map (shown first)) all)
+
+pub returns-clause-counts : goal.returns-clause-counts
+returns-clause-counts g c =
+    let counted = λ (ls : List (g.row.R-Value.Denot × LabelWalk)). AreCounted (g.R.Staged.count_of c.args.resource.now) c.loop-label.walks true ls in
+    subst counted (sym c.from_apart.ensures) c.loop-label.invariant.2
+
+pub returns-clause-grown : goal.returns-clause-grown
+returns-clause-grown g c = c.loop-label.invariant.0

@@ -1,6 +1,8 @@
-use Rattle.std.proofs.Common.{◌≡◌, List, Option, Some, ℕ, Vec, true, length, map, ap, sym, subst, ◌∙◌}
+use Rattle.std.proofs.Common.{◌≡◌, ◌≤◌, ◌++◌, arith, drop, take, List, Option, Some, ℕ, Vec, true, length, map, ap, sym, subst, ◌∙◌}
 use Rattle.std.specs.Global.{Global}
 use Rattle.std.specs.Prelude.{IfSome, is_some}
+use Rattle.std.proofs.lemmas.List.{take-append-le, take_all}
+use Rattle.crew_carry.specs.Carried.{IsCarried}
 use Rattle.crew_carry.specs.Labels.{AreCarriedLabels}
 use Rattle.crew_pool.specs.Apart.{AreApart}
 use Rattle.crew_pool.specs.Counted.{AreCounted, AreWhole}
@@ -17,6 +19,37 @@ carried {V} ranks from to items o new e h =
     let Are : Option (Vec (V × LabelWalk) Global) → Type 0 = λ z. IfSome z (λ ns. AreCarriedLabels ranks from to items ns.items) in
     subst Are e h
 
+-- places that are put back where they were borrowed
+put-back : (ranks : List (Option ℕ)) (from was to : List (List ℕ)) (old places : List (Option ℕ)) (n : ℕ) → n ≡ length old → IsCarried ranks from was old → IsCarried ranks from to places
+    → IsCarried ranks from to (take n (places ++ drop (length places) old))
+put-back ranks from was to old places n e h k =
+    let long : n ≡ length places = e ∙ (h.long ∙ sym k.long) in
+    let short : n ≤ length places = omega (arith, long) in
+    let whole : take n (places ++ drop (length places) old) ≡ places = take-append-le n places (drop (length places) old) short ∙ take_all n places (omega (arith, long)) in
+    subst (IsCarried ranks from to) (sym whole) k
+
+pub carry_labels-requires-clause-there : goal.carry_labels-requires-clause-there
+carry_labels-requires-clause-there g c = λ l m. c.requires.there l (subst (λ (ls : List (g.row.R-Value.Denot × LabelWalk)). Member ls l) c.as_slice-labels.ensures.all m)
+
+pub carry_labels-requires-clause-carried : goal.carry_labels-requires-clause-carried
+carry_labels-requires-clause-carried g c = subst (IsCarried c.args.ranks.now c.args.from.now c.args.to.now) (sym (c.deref_mut.ensures.value ∙ c.self.view_is)) c.requires.carried
+
+pub returns-in_err-carried-clause-carried : goal.returns-in_err-carried-clause-carried
+returns-in_err-carried-clause-carried g c =
+    let before = subst (IsCarried c.args.ranks.now c.args.from.now c.args.to.now) (sym c.self.view_is) c.requires.carried in
+    put-back c.args.ranks.now c.args.from.now c.args.to.now c.carry_labels.new.to c.self.inside.places.items c.carry_labels.new.places c.self.inside.places.len c.self.inside.places.ok.0 before c.carry_labels.ensures.carried
+
+pub returns-in_err-carried-clause-grown : goal.returns-in_err-carried-clause-grown
+returns-in_err-carried-clause-grown g c = c.carry_labels.ensures.grown
+
+pub returns-in_default-clause-carried : goal.returns-in_default-clause-carried
+returns-in_default-clause-carried g c =
+    let before = subst (IsCarried c.args.ranks.now c.args.from.now c.args.to.now) (sym c.self.view_is) c.requires.carried in
+    put-back c.args.ranks.now c.args.from.now c.args.to.now c.carry_labels.new.to c.self.inside.places.items c.carry_labels.new.places c.self.inside.places.len c.self.inside.places.ok.0 before c.carry_labels.ensures.carried
+
+pub returns-in_default-clause-grown : goal.returns-in_default-clause-grown
+returns-in_default-clause-grown g c = c.carry_labels.ensures.grown
+
 pub from_apart-requires : goal.from_apart-requires
 from_apart-requires g c =
     let V = g.row.R-Value.Denot in
@@ -31,6 +64,14 @@ pub returns-in_default-clause-none : goal.returns-in_default-clause-none
 returns-in_default-clause-none g c =
     let lacks = c.in_ok-carried.ensures.none (ap is_some c.in_default.is) in
     λ _. (lacks.0, subst (λ (os : List (g.row.R-Value.Denot × LabelWalk)). Member os lacks.0) c.as_slice-labels.ensures.all lacks.1, lacks.2)
+
+pub returns-clause-carried : goal.returns-clause-carried
+returns-clause-carried g c =
+    let before = subst (IsCarried c.args.ranks.now c.args.from.now c.args.to.now) (sym c.self.view_is) c.requires.carried in
+    put-back c.args.ranks.now c.args.from.now c.args.to.now c.carry_labels.new.to c.self.inside.places.items c.carry_labels.new.places c.self.inside.places.len c.self.inside.places.ok.0 before c.carry_labels.ensures.carried
+
+pub returns-clause-grown : goal.returns-clause-grown
+returns-clause-grown g c = c.carry_labels.ensures.grown
 
 pub returns-clause-labels : goal.returns-clause-labels
 returns-clause-labels g c olds news twins =
