@@ -3,6 +3,7 @@
 ghost use Rattle.std.specs.Prelude.{◌≡◌, ◌↔◌, ◌<◌, ◌≤◌, ◌-◌, ℕ, ℤ, true, List, IfOk, IsTrue, length, map, get_or};
 ghost use Rattle.crew_net.specs.Machinery.Held as Spec;
 ghost use Rattle.crew_net.specs.Machinery.Held.{AreAt, HaveSameEvents};
+ghost use Rattle.crew_net.specs.Machinery.Made.{AreEventsOf};
 ghost use Rattle.crew_net.specs.Machinery.Moments.{AreKeys, IsBounded, IsReal};
 ghost use Rattle.crew_net.specs.Machinery.Timelines.{IsTimeline};
 ghost use Rattle.crew_net.specs.Nets.{AreByReport};
@@ -138,18 +139,7 @@ fn by_report(alloc: Global, departures: &[Departure]) -> Result<Vec<u32>, AllocE
 /// When and where duties leave and arrive, with the ranks of those that do.
 pub(crate) fn events_of(alloc: Global, duties: &[Duty]) -> Result<Events, AllocError>
     requires { length duties.now ≤ 200_000 }
-    ensures left { IfOk result (λ events. Each Spec.IsLeft duties.now) }
-    ensures reached { IfOk result (λ events. Each Spec.IsReached duties.now) }
-    ensures leave { IfOk result (λ events.
-        IsTimeline (map Spec.leave_at duties.now) events.leave) }
-    ensures arrive { IfOk result (λ events.
-        IsTimeline (map Spec.arrive_at duties.now) events.arrive) }
-    ensures departures { IfOk result (λ events. AreAt departure_of Spec.leave_at duties.now
-        events.leave.moments.items events.departures.items) }
-    ensures arrivals { IfOk result (λ events. AreAt arrival_of Spec.arrive_at duties.now
-        events.arrive.moments.items events.arrivals.items) }
-    ensures by_report { IfOk result (λ events. AreByReport events.departures.items
-        events.by_report.items) }
+    ensures { IfOk result (AreEventsOf duties.now) }
 {
     let (leave, arrive) = event_keys(alloc, duties)?;
     let leave = Timeline::of(alloc, gathered(alloc, &leave)?)?;

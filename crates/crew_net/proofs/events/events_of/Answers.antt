@@ -28,23 +28,13 @@ by_report-requires-clause-real c =
     subst (Each (λ (g : Departure). IsReal g.report)) (sym c.deref-2.ensures.value)
     (events-real c.args.duties.now c.in_ok-leave-2.leave.moments.items c.in_ok-departures.departures.items c.in_ok-departures.ensures c.in_ok-leave.ensures.left)
 
-pub returns-clause-left : goal.returns-clause-left
-returns-clause-left c = c.in_ok-leave.ensures.left
-
-pub returns-clause-reached : goal.returns-clause-reached
-returns-clause-reached c = c.in_ok-leave.ensures.reached
-
-pub returns-clause-leave : goal.returns-clause-leave
-returns-clause-leave c = c.in_ok-leave-2.ensures (map leave_at c.args.duties.now) (gathered-keys (map leave_at c.args.duties.now) c.in_ok-leave.leave.items _ c.in_ok-leave.ensures.leave (subst (λ (l : List ℕ). IsPermutation l c.in_ok-gathered.field-0.items) c.deref.ensures.value c.in_ok-gathered.ensures.same))
-
-pub returns-clause-arrive : goal.returns-clause-arrive
-returns-clause-arrive c = c.in_ok-arrive.ensures (map arrive_at c.args.duties.now) c.in_ok-leave.ensures.arrive
-
-pub returns-clause-departures : goal.returns-clause-departures
-returns-clause-departures c = c.in_ok-departures.ensures
-
-pub returns-clause-arrivals : goal.returns-clause-arrivals
-returns-clause-arrivals c = c.in_ok-arrivals.ensures
-
-pub returns-clause-by_report : goal.returns-clause-by_report
-returns-clause-by_report c = subst (λ (gs : List Departure). AreByReport gs c.in_ok-by_report.by_report.items) c.deref-2.ensures.value c.in_ok-by_report.ensures
+pub returns : goal.returns
+returns c = record {
+  left = c.in_ok-leave.ensures.left;
+  reached = c.in_ok-leave.ensures.reached;
+  leave = c.in_ok-leave-2.ensures (map leave_at c.args.duties.now) (gathered-keys (map leave_at c.args.duties.now) c.in_ok-leave.leave.items _ c.in_ok-leave.ensures.leave (subst (λ (l : List ℕ). IsPermutation l c.in_ok-gathered.field-0.items) c.deref.ensures.value c.in_ok-gathered.ensures.same));
+  arrive = c.in_ok-arrive.ensures (map arrive_at c.args.duties.now) c.in_ok-leave.ensures.arrive;
+  departures = c.in_ok-departures.ensures;
+  arrivals = c.in_ok-arrivals.ensures;
+  by_report = subst (λ (gs : List Departure). AreByReport gs c.in_ok-by_report.by_report.items) c.deref-2.ensures.value c.in_ok-by_report.ensures;
+}
