@@ -1,5 +1,5 @@
 -- Lists that rise with no element at most another.
-use Rattle.std.proofs.Common.{◌≡◌, ◌≢◌, ℕ, suc, ◌+◌, Bool, true, false, cond, not, List, [], ◌∷◌, ◌++◌, length, take, drop, map, get_or, Some, inl, inr, refl, sym, ◌∙◌, ap, subst, ⊎_elim, arith, Ordering}
+use Rattle.std.proofs.Common.{◌≡◌, ◌≢◌, ◌≤◌, ◌<◌, ℕ, suc, ◌+◌, Bool, true, false, cond, not, List, [], ◌∷◌, ◌++◌, length, take, drop, map, get_or, Some, inl, inr, refl, sym, ◌∙◌, ap, subst, ⊎_elim, arith, Ordering}
 use Rattle.std.specs.Prelude.{slice_get, unwrap_or, Result, Ok, Err, OnErr}
 use Rattle.std.specs.List.{filter, insert, position, position_or_len, prefix_len, All, Any, AllByRecursion}
 use Rattle.std.proofs.lemmas.List.Quantifiers.{position-Some}
@@ -22,6 +22,10 @@ use Rattle.crew_resource.specs.Entries.{Parted, PartedFromAll, IsApart, placed}
 pub on_err : {T E : Type 0} (r : Result T E) (P : Type 0) → P → OnErr r P
 on_err (Ok x) P p = tt
 on_err (Err e) P p = p
+
+-- where there was room for one more, there is room when fewer stand there
+pub room : {n m k l : ℕ} → n + 1 ≤ k → m ≤ n → l ≡ k → m < l
+room {n} {m} {k} {l} some fewer same = omega (arith, some, fewer, same)
 
 -- an insert at the first place that passes
 pub insert-first : {X : Type 0} (p : X → Bool) (x : X) (xs : List X) → insert xs (position_or_len p xs) x ≡ placed p x xs

@@ -1,5 +1,6 @@
 -- What the network works with.
 pub mod Held
+pub mod Made
 pub mod Moments
 pub mod Raised
 pub mod Runs

@@ -3,6 +3,7 @@
 ghost use Rattle.std.specs.Prelude.{◌≡◌, ◌↔◌, ◌<◌, ◌≤◌, ◌-◌, ℕ, ℤ, true, List, IfOk, IsTrue, length, map, get_or};
 ghost use Rattle.crew_net.specs.Machinery.Held as Spec;
 ghost use Rattle.crew_net.specs.Machinery.Held.{AreAt, HaveSameEvents};
+ghost use Rattle.crew_net.specs.Machinery.Made.{AreEventsOf};
 ghost use Rattle.crew_net.specs.Machinery.Moments.{AreKeys, IsBounded, IsReal};
 ghost use Rattle.crew_net.specs.Machinery.Timelines.{IsTimeline};
 ghost use Rattle.crew_net.specs.Nets.{AreByReport};
@@ -10,6 +11,7 @@ ghost use Rattle.crew_pairing.specs.Events.{arrival_of, departure_of};
 ghost use Rattle.crew_pairing.specs.declared.duty.Duty.{Duty};
 ghost use Rattle.crew_resource.specs.Members.{Each};
 
+use crate::runs::gathered;
 use crate::timeline::{Timeline, moment, places_of, slot_key};
 use crew_pairing::{Arrival, Departure, Duty};
 use crew_resource::Placed;
@@ -45,8 +47,8 @@ fn arrive_at(duty: &Duty) -> i64
     moment(duty.to, i64::from(duty.release))
 }
 
-/// The keys of when and where duties leave, and of when and where they arrive.
-pub(crate) fn event_keys(alloc: Global, duties: &[Duty]) -> Result<(Vec<u64>, Vec<u64>), AllocError>
+// The keys of when and where duties leave, and of when and where they arrive.
+fn event_keys(alloc: Global, duties: &[Duty]) -> Result<(Vec<u64>, Vec<u64>), AllocError>
     requires { length duties.now ≤ 200_000 }
     ensures left { IfOk result (λ keys. Each Spec.IsLeft duties.now) }
     ensures reached { IfOk result (λ keys. Each Spec.IsReached duties.now) }
@@ -76,8 +78,8 @@ fn first_of<'a>(duties: &'a [Duty], timeline: &Timeline, event: usize) -> &'a Du
     &duties[rank]
 }
 
-/// The departure events of duties.
-pub(crate) fn departures_of(
+// The departure events of duties.
+fn departures_of(
     alloc: Global,
     duties: &[Duty],
     leaving: &Timeline,
@@ -93,8 +95,8 @@ pub(crate) fn departures_of(
     Ok(events)
 }
 
-/// The arrival events of duties.
-pub(crate) fn arrivals_of(
+// The arrival events of duties.
+fn arrivals_of(
     alloc: Global,
     duties: &[Duty],
     arriving: &Timeline,
@@ -123,8 +125,8 @@ fn report_keys(alloc: Global, departures: &[Departure]) -> Result<Vec<u64>, Allo
     Ok(keys)
 }
 
-/// The places of departures, by report.
-pub(crate) fn by_report(alloc: Global, departures: &[Departure]) -> Result<Vec<u32>, AllocError>
+// The places of departures, by report.
+fn by_report(alloc: Global, departures: &[Departure]) -> Result<Vec<u32>, AllocError>
     requires few { length departures.now ≤ 200_000 }
     requires real { Each (λ g. IsReal g.report) departures.now }
     ensures { IfOk result (λ places. AreByReport departures.now places.items) }
@@ -132,6 +134,26 @@ pub(crate) fn by_report(alloc: Global, departures: &[Departure]) -> Result<Vec<u
     let mut keys = report_keys(alloc, departures)?;
     keys.sort_unstable();
     places_of(alloc, &keys)
+}
+
+/// When and where duties leave and arrive, with the ranks of those that do.
+pub(crate) fn events_of(alloc: Global, duties: &[Duty]) -> Result<Events, AllocError>
+    requires { length duties.now ≤ 200_000 }
+    ensures { IfOk result (AreEventsOf duties.now) }
+{
+    let (leave, arrive) = event_keys(alloc, duties)?;
+    let leave = Timeline::of(alloc, gathered(alloc, &leave)?)?;
+    let arrive = Timeline::of(alloc, arrive)?;
+    let departures = departures_of(alloc, duties, &leave)?;
+    let arrivals = arrivals_of(alloc, duties, &arrive)?;
+    let by_report = by_report(alloc, &departures)?;
+    Ok(Events {
+        leave,
+        arrive,
+        departures,
+        arrivals,
+        by_report,
+    })
 }
 
 // Whether two duties leave alike.

@@ -18,12 +18,11 @@ ghost use Rattle.crew_pairing.specs.declared.events.Departure.{Departure};
 ghost use Rattle.crew_resource.specs.Members.{Member};
 ghost use Rattle.crew_rules.specs.Settings.{IsChecked};
 
-use crate::events::{Events, arrivals_of, by_report, departures_of, event_keys, have_same_events};
+use crate::events::{Events, events_of, have_same_events};
 use crate::layers::{greatest, raise};
 use crate::node::Node;
 use crate::ranks::rank_of;
 use crate::reached::{arrival_places, put};
-use crate::runs::gathered;
 use crate::timeline::Timeline;
 use crate::window::Window;
 use crate::windows::{following, waiting};
@@ -110,20 +109,7 @@ impl Net {
         requires few { length (arc_value duties) ≤ 200_000 }
         ensures { IfOk result (IsNetOf settings.now timetable.now (arc_value duties)) }
     {
-        let list = duties.as_slice();
-        let (leave, arrive) = event_keys(alloc, list)?;
-        let leave = Timeline::of(alloc, gathered(alloc, &leave)?)?;
-        let arrive = Timeline::of(alloc, arrive)?;
-        let departures = departures_of(alloc, list, &leave)?;
-        let arrivals = arrivals_of(alloc, list, &arrive)?;
-        let by_report = by_report(alloc, &departures)?;
-        let events = Events {
-            leave,
-            arrive,
-            departures,
-            arrivals,
-            by_report,
-        };
+        let events = events_of(alloc, duties.as_slice())?;
         let events = Arc::new(alloc, events)?;
         let bases = held_bases(alloc, timetable)?;
         Ok(Net {

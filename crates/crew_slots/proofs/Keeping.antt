@@ -1,6 +1,6 @@
 -- The places that what two networks have alike keeps.
-use Rattle.std.proofs.Common.{Bool, false, cond, get_or, ◌≡◌, ◌≤◌, ◌+◌, ◌++◌, ◌∙◌, ℕ, zero, suc, List, [], ◌∷◌, Option, Some, None, Ordering, inl, inr, length, length-append, map, refl, ap, sym, subst, true, arith}
-use Rattle.std.specs.Prelude.{nat_lt, slice_get, option_and_then}
+use Rattle.std.proofs.Common.{Bool, false, cond, get_or, ◌≡◌, ◌≤◌, ◌<◌, ◌+◌, ◌++◌, ◌∙◌, ℕ, zero, suc, List, [], ◌∷◌, Option, Some, None, Ordering, inl, inr, length, length-append, map, refl, ap, sym, subst, true, arith}
+use Rattle.std.specs.Prelude.{IfSome, nat_lt, slice_get, option_and_then}
 use Rattle.std.specs.List.{position, position_or_len}
 use Rattle.std.specs.Ordering.{eq_by_cmp}
 use Rattle.std.proofs.lemmas.Bool.Decides.{nat_tests}
@@ -75,6 +75,11 @@ kept-place olds places k (Some r) o long f e =
     let w = within olds r k f in
     let p = there places r (omega (arith, w, long)) in
     subst (IsKeptPlace olds places k) (sym (e ∙ p.1)) (r, f, p.1)
+
+-- what was found stands at a place
+pub found-within : {K : Type 0} (olds : List K) (places : List ℕ) (k : K) (found : Option ℕ) → length places ≡ length olds → IsFoundAt olds k found → IfSome found (λ p. p < length places)
+found-within olds places k None long f = tt
+found-within olds places k (Some r) long f = let w = within olds r k f in omega (arith, w, long)
 
 -- what has been found so far
 pub record AreKeptSo {K : Type 0} (olds news : List K) (places : List ℕ) (n : ℕ) (kept : List (Option ℕ)) : Type 0 where

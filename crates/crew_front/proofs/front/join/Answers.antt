@@ -1,12 +1,14 @@
-use Rattle.std.proofs.Common.{rules, ◌∙◌, ap, not, arith, List, ◌≡◌, false, subst}
+use Rattle.std.proofs.Common.{◌∙◌, ap, not, arith, List, ◌≡◌, false, refl, subst}
 use Rattle.std.specs.List.{filter, insert, position_or_len}
 use Rattle.std.specs.Ordering.{is_lt}
+use Rattle.std.proofs.lemmas.Bool.{false≢true}
 use Rattle.std.proofs.lemmas.List.Sums.{prefix_len-le-length}
 use Rattle.crew_resource.specs.Members.{Member}
-use Rattle.crew_front.proofs.EntryLemmas.{insert-first}
+use Rattle.crew_front.proofs.EntryLemmas.{insert-first, on_err, room}
 use Rattle.crew_resource.proofs.Members.{Member-map_in}
 use Rattle.crew_pairing.specs.Legs.{Leg}
 use Rattle.crew_resource.specs.Entries.{placed}
+use Rattle.crew_front.specs.Machinery.Grades.{Admitted}
 use Rattle.crew_front.proofs.front.join.Goals as goal
 
 pub drop_beaten-requires : goal.drop_beaten-requires
@@ -32,5 +34,21 @@ returns-clause-ok g c =
     ∙ (insert-first p x items
     ∙ ap (placed p x) (c.drop_beaten.ensures.kept ∙ ap (filter q) c.in_ok-reserve.ensures.items)))
 
+-- after the reserve there is room for the entry
 pub returns-in_err-insert-clause-err : goal.returns-in_err-insert-clause-err
-returns-in_err-insert-clause-err g c = search rules
+returns-in_err-insert-clause-err g c = absurd (false≢true (c.in_err-insert.ensures.succeeds (room c.in_ok-reserve.ensures.ok c.drop_beaten.ensures.fewer c.drop_beaten.ensures.capacity)))
+
+pub returns-clause-buckets : goal.returns-clause-buckets
+returns-clause-buckets g c = subst (λ v. Admitted g.R.Resource.below v c.args.buckets.now c.admit.new.self) c.in_ok-twin.ensures c.in_ok-any.ensures.ok
+
+pub returns-in_err-reserve-clause-err : goal.returns-in_err-reserve-clause-err
+returns-in_err-reserve-clause-err g c =
+    on_err c.from_residual.result ((c.reserve.new.self.items ≡ c.args.entries.now.items) × (c.args.buckets.now ≡ c.args.buckets.now)) (c.in_err-reserve.ensures.items, refl)
+
+pub returns-in_err-twin-clause-err : goal.returns-in_err-twin-clause-err
+returns-in_err-twin-clause-err g c =
+    on_err c.from_residual-in_err-twin.result ((c.reserve.new.self.items ≡ c.args.entries.now.items) × (c.args.buckets.now ≡ c.args.buckets.now)) (c.in_ok-reserve.ensures.items, refl)
+
+pub returns-in_err-any-clause-err : goal.returns-in_err-any-clause-err
+returns-in_err-any-clause-err g c =
+    on_err c.from_residual-in_err-any.result ((c.reserve.new.self.items ≡ c.args.entries.now.items) × (c.admit.new.self ≡ c.args.buckets.now)) (c.in_ok-reserve.ensures.items, c.in_err-any.ensures.err)

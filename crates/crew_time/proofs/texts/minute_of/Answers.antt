@@ -17,3 +17,6 @@ unreachable-requires c =
       from = omega (arith, signed_arith, below, above, known-days, c.to_unix_epoch_day.ensures.value, c.minutes_at.ensures);
       to = omega (arith, signed_arith, below, above, known-days, c.to_unix_epoch_day.ensures.value, c.minutes_at.ensures);
     })))
+
+pub returns : goal.returns
+returns c = search rules

@@ -1,4 +1,5 @@
-use Rattle.std.proofs.Common.{arith}
+use Rattle.std.proofs.Common.{◌≡◌, ◌∙◌, ap, arith, length}
+use Rattle.crew_words.specs.Words.{run_up_to}
 use Rattle.crew_words.proofs.CommandFacts.{command-more, globals-none}
 use Rattle.crew_words.proofs.words.with_options.Goals as goal
 
@@ -8,3 +9,8 @@ loop-i-preserved c = (
       c.in_ok-command.ensures c.loop-i.invariant.0 (omega arith) c.requires.named,
   globals-none c.loop-i.command c.in_ok-command.command c.arg_of.result c.loop-i.invariant.1 c.arg_of.ensures.local c.in_ok-command.ensures,
 )
+
+pub returns-clause-shape : goal.returns-clause-shape
+returns-clause-shape c =
+    let all : c.loop-i.i ≡ length c.args.options.now = omega arith in
+    c.loop-i.invariant.0 ∙ ap run_up_to all

@@ -1,12 +1,13 @@
 use Rattle.std.proofs.Common.{◌≡◌, ◌∙◌, sym, ap, subst, ltb, map, not, length, arith, false, List}
 use Rattle.std.specs.List.{filter}
-use Rattle.std.proofs.lemmas.Bool.{ltb-false, not-true}
+use Rattle.std.proofs.lemmas.Bool.{false≢true, ltb-false, not-true}
 use Rattle.crew_resource.specs.Members.{Member}
 use Rattle.crew_front.specs.Machinery.Grades.{AreRising, AreGraded, Admitted}
 use Rattle.crew_resource.specs.Entries.{placed}
 use Rattle.crew_front.specs.declared.buckets.Graded.{Graded}
 use Rattle.crew_resource.proofs.Members.{Member-map_out}
 use Rattle.crew_front.proofs.GradeLemmas.{AreRising-filter, AreRising-placed, AreGraded-filter, AreGraded-placed, admitted, none_gone}
+use Rattle.crew_front.proofs.EntryLemmas.{on_err, room}
 use Rattle.crew_front.proofs.buckets.Buckets.admit.Goals as goal
 
 pub file-requires : goal.file-requires
@@ -59,3 +60,32 @@ returns-clause-none g c f w m =
     let before : c.len-before.result ≡ length xs = c.len-before.ensures ∙ (c.reserve.new.self.ok.0 ∙ ap length c.in_ok-reserve.ensures.items) in
     subst (λ z. below c.args.value z ≡ false) k.2
     (not-true (below c.args.value k.0.value) (none_gone test xs (omega (arith, few, after, before)) k.0 k.1))
+
+pub drop_beaten-requires : goal.drop_beaten-requires
+drop_beaten-requires g c =
+    let Slot = Graded g.row.R-Value.Denot in
+    record {
+      own = c.grade-grade.ensures;
+      graded = subst (λ (xs : List Slot). AreGraded (λ x. x.grade) (λ x. x.value) g.R.Resource.grade_of xs) (sym c.in_ok-reserve.ensures.items) c.self.invariant.1;
+    }
+
+pub invariant_of-self : goal.invariant_of-self
+invariant_of-self g c =
+    let Slot = Graded g.row.R-Value.Denot in
+    subst (λ (xs : List Slot). AreRising (λ x. x.grade) xs × AreGraded (λ x. x.grade) (λ x. x.value) g.R.Resource.grade_of xs) (sym c.in_err-reserve.ensures.items) c.self.invariant
+
+pub returns-in_err-reserve-clause-err : goal.returns-in_err-reserve-clause-err
+returns-in_err-reserve-clause-err g c =
+    let Slot = Graded g.row.R-Value.Denot in
+    let same : map (λ (x : Slot). x.value) c.reserve.new.self.items ≡ c.args.self.now = ap (map (λ (x : Slot). x.value)) c.in_err-reserve.ensures.items ∙ c.self.view_is in
+    on_err c.from_residual.result (map (λ (x : Slot). x.value) c.reserve.new.self.items ≡ c.args.self.now) same
+
+-- after the reserve there is room for the value
+pub invariant_of-self-in_err-file : goal.invariant_of-self-in_err-file
+invariant_of-self-in_err-file g c = absurd (false≢true (c.in_err-file.ensures.succeeds (room c.in_ok-reserve.ensures.ok c.drop_beaten.ensures.fewer c.drop_beaten.ensures.capacity)))
+
+pub returns-in_err-file-clause-none : goal.returns-in_err-file-clause-none
+returns-in_err-file-clause-none g c = absurd (false≢true (c.in_err-file.ensures.succeeds (room c.in_ok-reserve.ensures.ok c.drop_beaten.ensures.fewer c.drop_beaten.ensures.capacity)))
+
+pub returns-in_err-file-clause-err : goal.returns-in_err-file-clause-err
+returns-in_err-file-clause-err g c = absurd (false≢true (c.in_err-file.ensures.succeeds (room c.in_ok-reserve.ensures.ok c.drop_beaten.ensures.fewer c.drop_beaten.ensures.capacity)))

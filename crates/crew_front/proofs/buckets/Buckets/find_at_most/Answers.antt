@@ -1,6 +1,7 @@
-use Rattle.std.proofs.Common.{◌≡◌, ◌∙◌, sym, ap, subst, take, ltb, None, Some}
+use Rattle.std.proofs.Common.{◌≡◌, ◌∙◌, sym, ap, subst, take, ltb, List, None, Some}
 use Rattle.std.specs.List.{position, position_or_len}
 use Rattle.crew_resource.specs.Members.{Member}
+use Rattle.crew_front.specs.Machinery.Grades.{AreRising}
 use Rattle.crew_front.specs.declared.buckets.Graded.{Graded}
 use Rattle.crew_front.proofs.GradeLemmas.{none_found, found}
 use Rattle.crew_front.proofs.buckets.Buckets.find_at_most.Goals as goal
@@ -32,3 +33,8 @@ returns g c =
     ∙ (sym c.first_at_most.ensures ∙ c.in-Some.is) in
     let k = found (λ (x : Slot). x.value) below v c.end_of-end.result xs c.in-Some.place c.index.result.now some c.index.ensures in
     (subst (λ ws. Member ws c.index.result.now.value) c.self.view_is k.0, k.1)
+
+pub end_of-end-requires : goal.end_of-end-requires
+end_of-end-requires g c =
+    let Slot = Graded g.row.R-Value.Denot in
+    subst (λ (xs : List Slot). AreRising (λ x. x.grade) xs) (sym c.deref.ensures.value) c.self.invariant.0
