@@ -3,7 +3,7 @@ use Rattle.std.specs.Prelude.{unwrap_or}
 use Rattle.std.specs.Prelude.{slice_get, is_some}
 use Rattle.std.proofs.lemmas.Option.{slice_get-get_or}
 use Rattle.crew_slots.proofs.Gets.{empty-read, none-here, within}
-use Rattle.crew_slots.proofs.Seats.{AreSettled, free-left, settled-all, settled-keep, settled-take}
+use Rattle.crew_slots.proofs.Seats.{AreSettled, free-left, settled-all, settled-keep, settled-none, settled-take}
 use Rattle.crew_slots.proofs.places.settle.Goals as goal
 use Rattle.crew_slots.proofs.places.settle.Goals.{then-is_none, else-is_none}
 
@@ -83,6 +83,17 @@ loop-item-preserved c =
           (subst (λ (v : Vec (Option ℕ) Global). AreSettled kept count (i + 1) (of ++ place ∷ []) v.items free) (sym w.at-is) step)
           )
     ])
+
+pub loop-item-init : goal.loop-item-init
+loop-item-init c =
+    let kept = c.args.kept.now in
+    let count = c.args.count in
+    let at = c.in_ok-at.at.items in
+    subst (λ (l : List ℕ). AreSettled kept count 0 l at 0) (sym c.in_ok-of.ensures.items)
+    (settled-none kept count at c.in_ok-at.ensures.long c.in_ok-at.ensures.exact c.in_ok-at.ensures.free)
+
+pub returns-clause-count : goal.returns-clause-count
+returns-clause-count c = c.loop-item.invariant.size
 
 pub returns-clause-places : goal.returns-clause-places
 returns-clause-places c = (settled-all c.args.kept.now c.args.count c.loop-item.item c.loop-item.of.items c.loop-item.at.items c.loop-item.free (omega arith) c.loop-item.invariant).0
