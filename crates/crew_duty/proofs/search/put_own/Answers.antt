@@ -1,4 +1,5 @@
 use Rattle.std.proofs.Common.{rules, ◌≤◌, ◌*◌, ℕ, Fits, arith, w64}
+use Rattle.std.proofs.lemmas.Grind.{common_steps}
 use Rattle.crew_duty.proofs.search.put_own.Goals as goal
 
 -- the place of a duty in memory
@@ -10,3 +11,6 @@ offset_bounds-found-so_far c = offset-duty c.args.so_far c.requires.so_far
 
 pub duty_from-requires-clause-path : goal.duty_from-requires-clause-path
 duty_from-requires-clause-path c = search rules
+
+pub returns : goal.returns
+returns c = grind (arith, common_steps)
