@@ -361,6 +361,5 @@ list_legs-list_own-requires bound t c =
 
 pub list_own-returns-clause-ok : goal.list_own-returns-clause-ok
 list_own-returns-clause-ok bound t c =
-    let s = c.args.scope.now.settings.now in
     rw c.if-deadhead.false
     (on_ok_weaker c.list_after.result (λ more. took-join bound.F.Sink.count bound.F.Sink.holds c.args.found.now c.list_one.new.found c.list_after.new.found (_ ∷ []) _ c.in_ok-list_one.ensures.ok more) c.list_after.ensures.ok)
