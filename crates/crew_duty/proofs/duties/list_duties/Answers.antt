@@ -76,3 +76,17 @@ returns-clause-few g c =
     let few : sum counts ≤ 200_000 = omega (arith, seen, c.total_of-total.ensures, c.if-total-gt-DUTIES.false) in
     let all = counts-few c.args.settings.now c.deref-4.result.now counts c.in_ok-counts.ensures few in
     omega (arith, ap length c.of.ensures, ap length c.in_ok-list.ensures, all, few)
+
+pub next_flights-requires-clause-index : goal.next_flights-requires-clause-index
+next_flights-requires-clause-index g c =
+    let index = rw c.deref.ensures.value at c.in_ok-slots.ensures in
+    rw (c.deref-2.ensures.value, c.deref-3.ensures.value) index
+
+pub list_all-requires-clause-counts : goal.list_all-requires-clause-counts
+list_all-requires-clause-counts g c = λ κs q. rw c.deref-8.ensures.value c.in_ok-counts.ensures
+
+pub list_all-requires-clause-total : goal.list_all-requires-clause-total
+list_all-requires-clause-total g c = λ κs q. omega (arith, c.total_of-total.ensures, c.if-total-gt-DUTIES.false, ap sum c.deref-7.ensures.value, ap sum c.deref-8.ensures.value)
+
+pub list_all-requires-clause-few : goal.list_all-requires-clause-few
+list_all-requires-clause-few g c = λ κs q. omega (arith, c.if-total-gt-DUTIES.false)

@@ -1,4 +1,4 @@
-use Rattle.std.proofs.Common.{◌≡◌, ◌<◌, ◌∙◌, List, length, refl, subst}
+use Rattle.std.proofs.Common.{◌≡◌, ◌<◌, ◌∙◌, List, length, ap, arith, refl, rules, subst}
 use Rattle.crew_flights.specs.declared.flight.Flight.{Flight}
 use Rattle.crew_pairing.specs.Duties.{flights_of}
 use Rattle.crew_pairing.specs.Machinery.Listing.{all_duties}
@@ -61,3 +61,29 @@ returns-then-can_reprice-clause-listed g c =
     let asked : c.deref-then-can_reprice.result.now ≡ flights_of now = c.deref-then-can_reprice.ensures.value ∙ c.in_ok-flights.ensures.held in
     let listed = rw (asked, c.as_slice-then-can_reprice.ensures) at c.in_ok-list.ensures.listed in
     rw c.of.ensures (listed s (flights_of before) (same refl) c.requires.earlier)
+
+pub returns-then-can_reprice-clause-few : goal.returns-then-can_reprice-clause-few
+returns-then-can_reprice-clause-few g c =
+    let few = c.if-can_reprice.ensures.few refl in
+    omega (arith, ap length c.of.ensures, c.in_ok-list.ensures.count, ap length c.as_slice-then-can_reprice.ensures, ap length c.as_slice.ensures, few)
+
+pub list_beside-requires-clause-minutes : goal.list_beside-requires-clause-minutes
+list_beside-requires-clause-minutes g c = search rules
+
+pub list_beside-requires-clause-kept : goal.list_beside-requires-clause-kept
+list_beside-requires-clause-kept g c = search rules
+
+pub list_duties-requires-after_bounds : goal.list_duties-requires-after_bounds
+list_duties-requires-after_bounds g c = search rules
+
+pub returns-then-count_kept-len-clause-listed : goal.returns-then-count_kept-len-clause-listed
+returns-then-count_kept-len-clause-listed g c = search rules
+
+pub returns-then-count_kept-len-clause-too_many : goal.returns-then-count_kept-len-clause-too_many
+returns-then-count_kept-len-clause-too_many g c = search rules
+
+pub returns-clause-few : goal.returns-clause-few
+returns-clause-few g c = search rules
+
+pub returns-clause-listed : goal.returns-clause-listed
+returns-clause-listed g c = search rules

@@ -15,3 +15,36 @@ returns g t c =
     let back : AreCounts F (from + length c.args.counts.now / 2) n c.back-1.given.0 = search rules in
     let whole : m + n ≡ length c.args.counts.now = search rules in
     subst (λ (k : ℕ). AreCounts F from k (c.front-1.given.0 ++ c.back-1.given.0)) whole (counts-append F from m n c.front-1.given.0 c.back-1.given.0 front (rw middle back))
+
+pub join_mut-these-requires-after_bounds : goal.join_mut-these-requires-after_bounds
+join_mut-these-requires-after_bounds g t c = search rules
+
+pub split_at_mut-front-requires : goal.split_at_mut-front-requires
+split_at_mut-front-requires g t c = search rules
+
+pub overflow_sub-others : goal.overflow_sub-others
+overflow_sub-others g t c = search rules
+
+pub returns-then-pieces-lt2 : goal.returns-then-pieces-lt2
+returns-then-pieces-lt2 g t c = search rules
+
+pub count_piece-requires-clause-plan : goal.count_piece-requires-clause-plan
+count_piece-requires-clause-plan g t c = search rules
+
+pub count_piece-requires-clause-within : goal.count_piece-requires-clause-within
+count_piece-requires-clause-within g t c = search rules
+
+pub join_mut+arg2-count_in-requires-clause-within : goal.join_mut+arg2-count_in-requires-clause-within
+join_mut+arg2-count_in-requires-clause-within g t c = search rules
+
+pub join_mut+arg3-count_in-requires-clause-within : goal.join_mut+arg3-count_in-requires-clause-within
+join_mut+arg3-count_in-requires-clause-within g t c = search rules
+
+pub join_mut+arg3-overflow_add-from : goal.join_mut+arg3-overflow_add-from
+join_mut+arg3-overflow_add-from g t c = search rules
+
+pub join_mut+arg2-returns : goal.join_mut+arg2-returns
+join_mut+arg2-returns g t c = search rules
+
+pub join_mut+arg3-returns : goal.join_mut+arg3-returns
+join_mut+arg3-returns g t c = search rules

@@ -47,3 +47,45 @@ returns g t c =
     let back : c.back-1.given.0 ≡ flat_map F (range_with_len (from + c.cut_at-middle.result.0) n) = search rules in
     let whole : m + n ≡ length c.args.counts.now = search rules in
     ap₂ ◌++◌ front (rw middle at back) ∙ sym (flat_map-append F (range_with_len from m) (range_with_len (from + m) n)) ∙ ap (flat_map F) (sym (range-append from m n)) ∙ ap (λ (k : ℕ). flat_map F (range_with_len from k)) whole
+
+pub cut_at-middle-requires-clause-few : goal.cut_at-middle-requires-clause-few
+cut_at-middle-requires-clause-few g t c = search rules
+
+pub split_at-requires : goal.split_at-requires
+split_at-requires g t c = search rules
+
+pub overflow_sub-others : goal.overflow_sub-others
+overflow_sub-others g t c = search rules
+
+pub returns-then-pieces-lt2 : goal.returns-then-pieces-lt2
+returns-then-pieces-lt2 g t c = search rules
+
+pub fill_piece-requires-clause-plan : goal.fill_piece-requires-clause-plan
+fill_piece-requires-clause-plan g t c = search rules
+
+pub fill_piece-requires-clause-room : goal.fill_piece-requires-clause-room
+fill_piece-requires-clause-room g t c = search rules
+
+pub fill_piece-requires-clause-within : goal.fill_piece-requires-clause-within
+fill_piece-requires-clause-within g t c = search rules
+
+pub join_mut+arg2-fill_in-requires-clause-counts : goal.join_mut+arg2-fill_in-requires-clause-counts
+join_mut+arg2-fill_in-requires-clause-counts g t c = search rules
+
+pub join_mut+arg2-fill_in-requires-clause-room : goal.join_mut+arg2-fill_in-requires-clause-room
+join_mut+arg2-fill_in-requires-clause-room g t c = search rules
+
+pub join_mut+arg3-fill_in-requires-clause-counts : goal.join_mut+arg3-fill_in-requires-clause-counts
+join_mut+arg3-fill_in-requires-clause-counts g t c = search rules
+
+pub join_mut+arg3-fill_in-requires-clause-within : goal.join_mut+arg3-fill_in-requires-clause-within
+join_mut+arg3-fill_in-requires-clause-within g t c = search rules
+
+pub join_mut+arg3-overflow_add-from : goal.join_mut+arg3-overflow_add-from
+join_mut+arg3-overflow_add-from g t c = search rules
+
+pub join_mut+arg2-returns : goal.join_mut+arg2-returns
+join_mut+arg2-returns g t c = search rules
+
+pub join_mut+arg3-returns : goal.join_mut+arg3-returns
+join_mut+arg3-returns g t c = search rules
