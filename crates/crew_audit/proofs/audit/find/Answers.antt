@@ -1,3 +1,4 @@
+use Rattle.std.proofs.Common.{rules}
 use Rattle.std.proofs.Common.{◌≡◌, ◌∙◌, ap, arith, length, List, ℕ, ℤ, subst}
 use Rattle.std.specs.List.{flat_map}
 use Rattle.std.specs.FinMap as fin
@@ -53,3 +54,90 @@ returns-clause-few bound c =
     let room = c.in_ok-find_all.ensures.room in
     let same = ap length all in
     omega (arith, more, room, same)
+
+pub held_flights-requires : goal.held_flights-requires
+held_flights-requires g c = search rules
+
+pub branch-flights-requires : goal.branch-flights-requires
+branch-flights-requires g c κs = search rules
+
+pub from_residual-requires : goal.from_residual-requires
+from_residual-requires g c κs = search rules
+
+pub returns-in_err-flights-clause-ok : goal.returns-in_err-flights-clause-ok
+returns-in_err-flights-clause-ok g c = search rules
+
+pub returns-in_err-flights-clause-all : goal.returns-in_err-flights-clause-all
+returns-in_err-flights-clause-all g c = search rules
+
+pub returns-in_err-flights-clause-few : goal.returns-in_err-flights-clause-few
+returns-in_err-flights-clause-few g c = search rules
+
+pub returns-in_err-flights-clause-over : goal.returns-in_err-flights-clause-over
+returns-in_err-flights-clause-over g c = search rules
+
+pub held_bases-requires : goal.held_bases-requires
+held_bases-requires g c = search rules
+
+pub branch-bases-requires : goal.branch-bases-requires
+branch-bases-requires g c κs = search rules
+
+pub from_residual-requires-in_err-bases : goal.from_residual-requires-in_err-bases
+from_residual-requires-in_err-bases g c κs = search rules
+
+pub drop-flights-requires : goal.drop-flights-requires
+drop-flights-requires g c κs = search rules
+
+pub returns-in_err-bases-clause-ok : goal.returns-in_err-bases-clause-ok
+returns-in_err-bases-clause-ok g c = search rules
+
+pub returns-in_err-bases-clause-all : goal.returns-in_err-bases-clause-all
+returns-in_err-bases-clause-all g c = search rules
+
+pub returns-in_err-bases-clause-few : goal.returns-in_err-bases-clause-few
+returns-in_err-bases-clause-few g c = search rules
+
+pub returns-in_err-bases-clause-over : goal.returns-in_err-bases-clause-over
+returns-in_err-bases-clause-over g c = search rules
+
+pub deref-requires : goal.deref-requires
+deref-requires g c κs = search rules
+
+pub deref-requires-2 : goal.deref-requires-2
+deref-requires-2 g c κs = search rules
+
+pub find_all-requires-clause-checked : goal.find_all-requires-clause-checked
+find_all-requires-clause-checked g c = search rules
+
+pub find_all-requires-clause-room : goal.find_all-requires-clause-room
+find_all-requires-clause-room g c = search rules
+
+pub branch-find_all-requires : goal.branch-find_all-requires
+branch-find_all-requires g c κs = search rules
+
+pub from_residual-requires-in_err-find_all : goal.from_residual-requires-in_err-find_all
+from_residual-requires-in_err-find_all g c κs = search rules
+
+pub drop-bases-requires : goal.drop-bases-requires
+drop-bases-requires g c κs = search rules
+
+pub drop-flights-requires-in_err-find_all : goal.drop-flights-requires-in_err-find_all
+drop-flights-requires-in_err-find_all g c κs = search rules
+
+pub returns-in_err-find_all-clause-ok : goal.returns-in_err-find_all-clause-ok
+returns-in_err-find_all-clause-ok g c = search rules
+
+pub returns-in_err-find_all-clause-all : goal.returns-in_err-find_all-clause-all
+returns-in_err-find_all-clause-all g c = search rules
+
+pub returns-in_err-find_all-clause-few : goal.returns-in_err-find_all-clause-few
+returns-in_err-find_all-clause-few g c = search rules
+
+pub drop-bases-requires-2 : goal.drop-bases-requires-2
+drop-bases-requires-2 g c κs = search rules
+
+pub drop-flights-requires-2 : goal.drop-flights-requires-2
+drop-flights-requires-2 g c κs = search rules
+
+pub returns-clause-over : goal.returns-clause-over
+returns-clause-over g c = search rules
