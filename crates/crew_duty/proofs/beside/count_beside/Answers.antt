@@ -1,4 +1,3 @@
-use Rattle.std.proofs.Common.{rules}
 use Rattle.std.proofs.Common.{◌≡◌, ◌+◌, ◌∙◌, ap, arith, length, min, ℕ}
 use Rattle.crew_pairing.specs.Machinery.Listing.{from_place}
 use Rattle.crew_duty.proofs.Counts.{counts-more, sum-more, total-more}
@@ -23,63 +22,3 @@ loop-place-preserved c =
       total = rw pushed (sum-more F 0 i counts total longer inv.total inv.all one);
       all = total-more F 0 i total longer inv.all one;
     }
-
-pub with_capacity-requires : goal.with_capacity-requires
-with_capacity-requires c κs = search rules
-
-pub branch-counts-requires : goal.branch-counts-requires
-branch-counts-requires c κs = search rules
-
-pub from_residual-requires : goal.from_residual-requires
-from_residual-requires c κs = search rules
-
-pub returns-in_err-counts : goal.returns-in_err-counts
-returns-in_err-counts c = search rules
-
-pub loop-place-init : goal.loop-place-init
-loop-place-init c = search rules
-
-pub count_from-requires-clause-plan : goal.count_from-requires-clause-plan
-count_from-requires-clause-plan c = search rules
-
-pub count_from-requires-clause-kept : goal.count_from-requires-clause-kept
-count_from-requires-clause-kept c = search rules
-
-pub count_from-requires-clause-place : goal.count_from-requires-clause-place
-count_from-requires-clause-place c = search rules
-
-pub branch-longer-requires : goal.branch-longer-requires
-branch-longer-requires c κs = search rules
-
-pub from_residual-requires-in_err-longer : goal.from_residual-requires-in_err-longer
-from_residual-requires-in_err-longer c κs = search rules
-
-pub drop-counts-requires : goal.drop-counts-requires
-drop-counts-requires c κs = search rules
-
-pub returns-in_err-longer : goal.returns-in_err-longer
-returns-in_err-longer c = search rules
-
-pub overflow_sub-longer : goal.overflow_sub-longer
-overflow_sub-longer c = search rules
-
-pub push-requires : goal.push-requires
-push-requires c κs = search rules
-
-pub branch-push-requires : goal.branch-push-requires
-branch-push-requires c κs = search rules
-
-pub from_residual-requires-in_err-push : goal.from_residual-requires-in_err-push
-from_residual-requires-in_err-push c κs = search rules
-
-pub drop-counts-requires-in_err-push : goal.drop-counts-requires-in_err-push
-drop-counts-requires-in_err-push c κs = search rules
-
-pub returns-in_err-push : goal.returns-in_err-push
-returns-in_err-push c = search rules
-
-pub loop-place-smaller : goal.loop-place-smaller
-loop-place-smaller c = search rules
-
-pub returns : goal.returns
-returns c = search rules

@@ -1,4 +1,3 @@
-use Rattle.std.proofs.Common.{rules}
 use Rattle.std.proofs.Common.{◌≡◌, ◌<◌, ◌∙◌, arith, ap, get_or, length, of_z, set, subst, sym, to_z, w64}
 use Rattle.std.proofs.lemmas.Int.{ints}
 use Rattle.std.proofs.lemmas.List.{get_or_default, length-set}
@@ -28,42 +27,3 @@ loop-flight-preserved c =
       held = rw whole (held-set flights old place f c.requires.rising here at room c.loop-flight.invariant.held);
       limits = rw whole (limits-set old f.id f.price c.loop-flight.invariant.limits room (least, most));
     }
-
-pub numbers_of-requires : goal.numbers_of-requires
-numbers_of-requires c = search rules
-
-pub vec-requires : goal.vec-requires
-vec-requires c κs = search rules
-
-pub branch-prices-requires : goal.branch-prices-requires
-branch-prices-requires c κs = search rules
-
-pub from_residual-requires : goal.from_residual-requires
-from_residual-requires c κs = search rules
-
-pub returns-in_err-prices-clause-held : goal.returns-in_err-prices-clause-held
-returns-in_err-prices-clause-held c = search rules
-
-pub returns-in_err-prices-clause-limits : goal.returns-in_err-prices-clause-limits
-returns-in_err-prices-clause-limits c = search rules
-
-pub offset_bounds-flights-flight-index : goal.offset_bounds-flights-flight-index
-offset_bounds-flights-flight-index c = search rules
-
-pub bounds-flights-flight-index : goal.bounds-flights-flight-index
-bounds-flights-flight-index c = search rules
-
-pub get-requires : goal.get-requires
-get-requires c = search rules
-
-pub overflow_cast-get : goal.overflow_cast-get
-overflow_cast-get c = search rules
-
-pub index_mut-requires : goal.index_mut-requires
-index_mut-requires c = search rules
-
-pub loop-flight-smaller : goal.loop-flight-smaller
-loop-flight-smaller c = search rules
-
-pub returns-clause-limits : goal.returns-clause-limits
-returns-clause-limits c = search rules

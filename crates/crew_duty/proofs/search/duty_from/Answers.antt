@@ -1,4 +1,3 @@
-use Rattle.std.proofs.Common.{rules}
 use Rattle.std.proofs.Common.{◌≡◌, ◌∷◌, ◌≤◌, ◌<◌, ◌*◌, ℕ, ℤ, Fits, pos, ◌-ℤ◌, ◌+ℤ◌, ◌≤ℤ◌, ◌∙◌, ap, arith, get_or, length, map, of_z, refl, subst, to_z, w32, w64}
 use Rattle.std.proofs.lemmas.Option.{get_or_from_slice_get}
 use Rattle.crew_flights.specs.declared.flight.Flight.{Flight}
@@ -127,33 +126,3 @@ returns c = λ others path ends.
     let priced = priced-total (first ∷ others) sound in
     let price-is = read-price c.args.totals.price (total price_of (first ∷ others)) (length others) path.are_totals.price priced.0 priced.1 path.few in
     λ i. record { key = key-is i; from = first.flight.from; to = to-is i; report = report-is i; release = release-32 i; fdp = fdp-is i; fly = fly.value_is i; pay = pay.value_is i; price = price-is i }
-
-pub get-arrival-requires : goal.get-arrival-requires
-get-arrival-requires c = search rules
-
-pub from-requires : goal.from-requires
-from-requires c = search rules
-
-pub overflow_add-release : goal.overflow_add-release
-overflow_add-release c = search rules
-
-pub copy-requires : goal.copy-requires
-copy-requires c = search rules
-
-pub overflow_cast-result : goal.overflow_cast-result
-overflow_cast-result c = search rules
-
-pub overflow_cast-result-2 : goal.overflow_cast-result-2
-overflow_cast-result-2 c = search rules
-
-pub overflow_sub-result : goal.overflow_sub-result
-overflow_sub-result c = search rules
-
-pub overflow_cast-result-3 : goal.overflow_cast-result-3
-overflow_cast-result-3 c = search rules
-
-pub overflow_sub-release : goal.overflow_sub-release
-overflow_sub-release c = search rules
-
-pub duty_pay-requires-clause-checked : goal.duty_pay-requires-clause-checked
-duty_pay-requires-clause-checked c = search rules

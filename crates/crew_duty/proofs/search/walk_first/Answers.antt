@@ -1,4 +1,3 @@
-use Rattle.std.proofs.Common.{rules}
 use Rattle.std.proofs.Common.{◌≡◌, true, [], ◌∷◌, ◌∙◌, ap, sym, get_or, refl}
 use Rattle.std.proofs.lemmas.Option.{get_or_from_slice_get, slice_get-get_or}
 use Rattle.rayon.proofs.ListFacts.{IfOk-then}
@@ -57,36 +56,3 @@ returns c =
     (λ n e flight h.
     let same : g ≡ flight = get_or_from_slice_get flights c.args.place flight c.index-plan-place.result h in
     rw same at (rw leg at e [] path (record { flight = at; is_ridden = refl })))
-
-pub offset_bounds-plan-place : goal.offset_bounds-plan-place
-offset_bounds-plan-place c = search rules
-
-pub bounds-plan-place : goal.bounds-plan-place
-bounds-plan-place c = search rules
-
-pub timed_leg-first-requires : goal.timed_leg-first-requires
-timed_leg-first-requires c = search rules
-
-pub of-limits-requires : goal.of-limits-requires
-of-limits-requires c = search rules
-
-pub forbid-requires : goal.forbid-requires
-forbid-requires c = search rules
-
-pub leg-requires : goal.leg-requires
-leg-requires c = search rules
-
-pub of-key-requires : goal.of-key-requires
-of-key-requires c = search rules
-
-pub enter-requires-clause-plan : goal.enter-requires-clause-plan
-enter-requires-clause-plan c = search rules
-
-pub enter-requires-clause-limits : goal.enter-requires-clause-limits
-enter-requires-clause-limits c = search rules
-
-pub enter-requires-clause-so_far : goal.enter-requires-clause-so_far
-enter-requires-clause-so_far c = search rules
-
-pub enter-requires-clause-room : goal.enter-requires-clause-room
-enter-requires-clause-room c = search rules
