@@ -1,4 +1,3 @@
-use Rattle.std.proofs.Common.{rules}
 use Rattle.std.proofs.Common.{◌≡◌, ◌<◌, ◌+◌, ◌-◌, [], List, ℕ, ℤ, arith, length, of_z, subst, to_z, w64}
 use Rattle.std.proofs.lemmas.Int.{ints}
 use Rattle.std.proofs.lemmas.Result.{err_from_is_err_and}
@@ -25,51 +24,3 @@ returns-in_err-list_after-clause-over bound c =
     λ e. took-over bound.F.Sink.count bound.F.Sink.holds (of_base s flights) bases i b c.args.found.now c.loop-base.found c.args.limit at c.loop-base.invariant.found
     (subst (λ (z : ℤ). c.args.limit < before + length (after s.max_duties s flights b.0 z [])) same
     (subst (λ (n : ℕ). c.args.limit < before + length (after n s flights b.0 (to_z w64 (of_z w64 b.1)) [])) room (c.in_err-list_after.ensures.over (cc))))
-
-pub loop-base-init : goal.loop-base-init
-loop-base-init g c = search rules
-
-pub offset_bounds-bases-base-index : goal.offset_bounds-bases-base-index
-offset_bounds-bases-base-index g c = search rules
-
-pub bounds-bases-base-index : goal.bounds-bases-base-index
-bounds-bases-base-index g c = search rules
-
-pub slice_bounds-list_after-end : goal.slice_bounds-list_after-end
-slice_bounds-list_after-end g c = search rules
-
-pub list_after-requires-clause-checked : goal.list_after-requires-clause-checked
-list_after-requires-clause-checked g c = search rules
-
-pub list_after-requires-clause-flights : goal.list_after-requires-clause-flights
-list_after-requires-clause-flights g c = search rules
-
-pub list_after-requires-clause-few : goal.list_after-requires-clause-few
-list_after-requires-clause-few g c = search rules
-
-pub list_after-requires-clause-ranges : goal.list_after-requires-clause-ranges
-list_after-requires-clause-ranges g c = search rules
-
-pub list_after-requires-clause-room : goal.list_after-requires-clause-room
-list_after-requires-clause-room g c = search rules
-
-pub branch-list_after-requires : goal.branch-list_after-requires
-branch-list_after-requires g c κs = search rules
-
-pub from_residual-requires : goal.from_residual-requires
-from_residual-requires g c κs = search rules
-
-pub returns-in_err-list_after-clause-ok : goal.returns-in_err-list_after-clause-ok
-returns-in_err-list_after-clause-ok g c = search rules
-
-pub returns-in_err-list_after-clause-room : goal.returns-in_err-list_after-clause-room
-returns-in_err-list_after-clause-room g c = search rules
-
-pub loop-base-smaller : goal.loop-base-smaller
-loop-base-smaller g c = search rules
-
-pub returns-clause-room : goal.returns-clause-room
-returns-clause-room g c = search rules
-
-pub returns-clause-over : goal.returns-clause-over
-returns-clause-over g c = search rules

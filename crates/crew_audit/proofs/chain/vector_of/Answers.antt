@@ -1,4 +1,3 @@
-use Rattle.std.proofs.Common.{rules}
 use Rattle.std.proofs.Common.{◌≡◌, ℤ, ◌+ℤ◌, ◌-ℤ◌, ◌*ℤ◌, ◌∙◌, ap, arith, length, of_z, pos, to_z, w64}
 use Rattle.std.proofs.lemmas.Int.{ints}
 use Rattle.crew_pairing.specs.Pairings.{minutes_away}
@@ -34,30 +33,3 @@ returns c =
     let guarantee = fits-less c.guaranteed.result c.add_up-sums.result.price b (omega (arith, ints, points.bound)) (omega (arith, ints, points.value, few, duties)) sums.bound_price.0 sums.bound_price.1 least most
     ∙ ap_two (λ (x y : ℤ). x -ℤ y) points.value price in
     λ i. record { duty_pay = pay i; trip_rig = trip i; guarantee = guarantee i; fdp = fdp i; fly = fly i; duties = duties i; away = away i }
-
-pub add_up-sums-requires-clause-few : goal.add_up-sums-requires-clause-few
-add_up-sums-requires-clause-few c = search rules
-
-pub add_up-sums-requires-clause-ranges : goal.add_up-sums-requires-clause-ranges
-add_up-sums-requires-clause-ranges c = search rules
-
-pub minutes_away-away-requires : goal.minutes_away-away-requires
-minutes_away-away-requires c = search rules
-
-pub overflow_add-prices : goal.overflow_add-prices
-overflow_add-prices c = search rules
-
-pub rated-requires-clause-rate : goal.rated-requires-clause-rate
-rated-requires-clause-rate c = search rules
-
-pub rated-requires-clause-minutes : goal.rated-requires-clause-minutes
-rated-requires-clause-minutes c = search rules
-
-pub overflow_cast-duties : goal.overflow_cast-duties
-overflow_cast-duties c = search rules
-
-pub guaranteed-requires : goal.guaranteed-requires
-guaranteed-requires c = search rules
-
-pub overflow_cast-result : goal.overflow_cast-result
-overflow_cast-result c = search rules

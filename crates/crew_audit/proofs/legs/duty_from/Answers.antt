@@ -1,4 +1,3 @@
-use Rattle.std.proofs.Common.{rules}
 use Rattle.std.proofs.Common.{◌≡◌, ◌∷◌, ℤ, pos, ◌-ℤ◌, ◌≤ℤ◌, ◌∙◌, ap, arith, length, map, of_z, subst, sym, to_z, w32, w64}
 use Rattle.std.proofs.lemmas.Grind.{common_steps}
 use Rattle.crew_rules.specs.Pay.{duty_pay}
@@ -109,57 +108,3 @@ returns-clause-range c =
     let release = rw c.release-release.ensures.value at c.release-release.ensures.bound in
     let price = rw c.price.ensures.value at c.price.ensures.bound in
     subst IsInRange (sym (returns-clause-value c)) (made-in-range s first others c.requires.checked c.requires.sound c.requires.connected c.requires.few report.0 report.1 release.0 release.1 price.0 price.1)
-
-pub leg-requires : goal.leg-requires
-leg-requires c = search rules
-
-pub of-key-requires : goal.of-key-requires
-of-key-requires c = search rules
-
-pub loop-leg-init : goal.loop-leg-init
-loop-leg-init c = search rules
-
-pub offset_bounds-others-leg-index : goal.offset_bounds-others-leg-index
-offset_bounds-others-leg-index c = search rules
-
-pub bounds-others-leg-index : goal.bounds-others-leg-index
-bounds-others-leg-index c = search rules
-
-pub leg-requires-in-loop-leg : goal.leg-requires-in-loop-leg
-leg-requires-in-loop-leg c = search rules
-
-pub loop-leg-smaller : goal.loop-leg-smaller
-loop-leg-smaller c = search rules
-
-pub report-report-requires : goal.report-report-requires
-report-report-requires c = search rules
-
-pub release-release-requires : goal.release-release-requires
-release-release-requires c = search rules
-
-pub flight_time-fly-requires : goal.flight_time-fly-requires
-flight_time-fly-requires c = search rules
-
-pub last_leg-requires : goal.last_leg-requires
-last_leg-requires c = search rules
-
-pub overflow_cast-result : goal.overflow_cast-result
-overflow_cast-result c = search rules
-
-pub overflow_cast-result-2 : goal.overflow_cast-result-2
-overflow_cast-result-2 c = search rules
-
-pub flight_duty_period-requires : goal.flight_duty_period-requires
-flight_duty_period-requires c = search rules
-
-pub overflow_sub-release : goal.overflow_sub-release
-overflow_sub-release c = search rules
-
-pub duty_pay-requires-clause-checked : goal.duty_pay-requires-clause-checked
-duty_pay-requires-clause-checked c = search rules
-
-pub price-requires-clause-few : goal.price-requires-clause-few
-price-requires-clause-few c = search rules
-
-pub price-requires-clause-sound : goal.price-requires-clause-sound
-price-requires-clause-sound c = search rules
