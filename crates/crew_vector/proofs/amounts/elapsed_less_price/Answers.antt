@@ -1,4 +1,3 @@
-use Rattle.std.proofs.Common.{rules}
 use Rattle.std.proofs.Common.{◌≡◌, ◌-ℤ◌, ◌*ℤ◌, ◌∙◌, ℤ, pos, ap, arith, of_z, to_z, w64}
 use Rattle.std.proofs.lemmas.Int.{ints}
 use Rattle.crew_vector.proofs.amounts.elapsed_less_price.Goals as goal
@@ -15,18 +14,3 @@ returns-clause-least c = omega (arith, ints)
 
 pub returns-clause-most : goal.returns-clause-most
 returns-clause-most c = omega (arith, ints)
-
-pub from-requires : goal.from-requires
-from-requires c = search rules
-
-pub from-requires-2 : goal.from-requires-2
-from-requires-2 c = search rules
-
-pub rated-points-requires-clause-least : goal.rated-points-requires-clause-least
-rated-points-requires-clause-least c = search rules
-
-pub rated-points-requires-clause-most : goal.rated-points-requires-clause-most
-rated-points-requires-clause-most c = search rules
-
-pub overflow_sub-result : goal.overflow_sub-result
-overflow_sub-result c = search rules

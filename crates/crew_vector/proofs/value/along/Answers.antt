@@ -1,4 +1,3 @@
-use Rattle.std.proofs.Common.{rules}
 use Rattle.std.proofs.Common.{◌≡◌, suc, ◌+◌, [], ◌∷◌, drop, sym, ◌∙◌, ap, subst, arith, add-one}
 use Rattle.std.specs.Option.{option_and_then}
 use Rattle.std.proofs.Math.Seq.{drop-cons}
@@ -62,30 +61,3 @@ loop-next-preserved g c =
       goes_on = (subst (GoesOn g.P.Placed.is_sound g.P.Placed.may_follow g.P.Placed.arrives g.P.Placed.leaves last) split c.loop-next.invariant.goes_on).2;
       room = (room.0, suc room.1, room.2, omega (arith, ints, one, none, so_far), omega (arith, ints, one, none, so_far, end), room.5, c.extend_staged.ensures.bound room.1 z room.6 c.in-Some-extend_staged.is);
     }
-
-pub start_staged-requires-clause-sound : goal.start_staged-requires-clause-sound
-start_staged-requires-clause-sound g c = search rules
-
-pub start_staged-requires-clause-begins : goal.start_staged-requires-clause-begins
-start_staged-requires-clause-begins g c = search rules
-
-pub start_staged-requires-clause-fits : goal.start_staged-requires-clause-fits
-start_staged-requires-clause-fits g c = search rules
-
-pub offset_bounds-others-next-index : goal.offset_bounds-others-next-index
-offset_bounds-others-next-index g c = search rules
-
-pub bounds-others-next-index : goal.bounds-others-next-index
-bounds-others-next-index g c = search rules
-
-pub extend_staged-requires-clause-room : goal.extend_staged-requires-clause-room
-extend_staged-requires-clause-room g c = search rules
-
-pub drop-value-requires : goal.drop-value-requires
-drop-value-requires g c κs within = search rules
-
-pub drop-value-requires-in-loop-next : goal.drop-value-requires-in-loop-next
-drop-value-requires-in-loop-next g c κs within = search rules
-
-pub loop-next-smaller : goal.loop-next-smaller
-loop-next-smaller g c = search rules

@@ -1,4 +1,3 @@
-use Rattle.std.proofs.Common.{rules}
 use Rattle.std.proofs.Common.{◌∙◌, ap, arith, of_z, to_z, w32, w64}
 use Rattle.std.specs.Prelude.{FitsSigned}
 use Rattle.std.proofs.lemmas.Int.{ints, to_z-of_z}
@@ -15,12 +14,3 @@ returns-clause-values c =
     let fits : FitsSigned w32 b = grind (arith, ints) in
     value-of-made s b (vector_resource s (to_z w32 (of_z w32 (to_z w64 (of_z w64 b)))))
     (ap (λ z. vector_resource s (to_z w32 (of_z w32 z))) (to_z-of_z w64 b c.ranges.base_price) ∙ ap (vector_resource s) (to_z-of_z w32 b fits))
-
-pub overflow_cast-result : goal.overflow_cast-result
-overflow_cast-result c = search rules
-
-pub returns-clause-made : goal.returns-clause-made
-returns-clause-made c = search rules
-
-pub returns-clause-most : goal.returns-clause-most
-returns-clause-most c = search rules
