@@ -1,5 +1,7 @@
 //! Tests of legal duties, of their network, of slots and of what an edit leaves standing, and of the
 //! audit: what no clause of theirs says.
+//!
+//! Helpers have no clause: what they give is what the tests look at, and nothing else calls them.
 #![tactic(auto)]
 
 #[cfg(test)]

@@ -1,5 +1,7 @@
 //! Tests of instants, rules, timetables and resources, of vectors, fronts and pools, and of the work
 //! on single nodes: what no clause of theirs says.
+//!
+//! Helpers have no clause: what they give is what the tests look at, and nothing else calls them.
 #![tactic(auto)]
 
 #[cfg(test)]
