@@ -1,41 +1,20 @@
-//! The engine without workers.
+//! What an engine without workers shows.
 
-use crew_flights::{Code, Edit, Flight, FlightId, Verdict};
+use crate::runs::Case;
+use crew_flights::{Code, Edit, Verdict};
 use crew_rules::Settings;
-use crew_session::{Engine, EngineFault, Plain};
-use crew_time::{ClockMinute, Minute, read_minute};
+use crew_session::{Engine, EngineFault, Plain, SessionFault, run};
 use crew_version::Version;
 use std::alloc::{AllocError, Global};
-use std::test::Fail;
+use std::io::{self, ErrorKind, Print};
 use std::thread::Threads;
 
-fn instant(text: &[u8]) -> Result<Minute, Fail> {
-    Ok(read_minute(text)?)
-}
-
-// A flight between two instants.
-fn flight(id: u32, from: Code, to: Code, dep: &[u8], arr: &[u8]) -> Result<Flight, Fail> {
-    Ok(Flight {
-        id: FlightId::new(id).ok_or("a number")?,
-        from,
-        to,
-        dep: instant(dep)?,
-        arr: instant(arr)?,
-        report_clock: ClockMinute::new(420).ok_or("a clock")?,
-        price: 0,
-    })
-}
-
-// Hands an edit to the engine.
-fn submit(engine: &mut Plain, edit: Edit) -> Result<(), EngineFault> {
-    match engine.submit(edit) {
+// Hands the engine a base.
+fn submit_base(engine: &mut Plain, code: Code) -> Result<(), EngineFault> {
+    match engine.submit(Edit::AddBase { code, price: 0 }) {
         Ok(()) => Ok(()),
         Err((_, fault)) => Err(fault),
     }
-}
-
-fn submit_base(engine: &mut Plain, code: Code) -> Result<(), EngineFault> {
-    submit(engine, Edit::AddBase { code, price: 0 })
 }
 
 fn submit_1_000_000(engine: &mut Plain, code: Code) -> Result<(), EngineFault> {
@@ -47,9 +26,9 @@ fn submit_1_000_000(engine: &mut Plain, code: Code) -> Result<(), EngineFault> {
 
 // What a version shows: its number, how many entries and flights, the verdicts at a place and on
 // the first entry, and whether an entry stands at that place.
-type Shown = (u64, usize, usize, Option<Verdict>, Option<Verdict>, bool);
+type Told = (u64, usize, usize, Option<Verdict>, Option<Verdict>, bool);
 
-fn shown(version: &Version, place: usize) -> Shown {
+fn told(version: &Version, place: usize) -> Told {
     (
         version.number(),
         version.count(),
@@ -60,51 +39,26 @@ fn shown(version: &Version, place: usize) -> Shown {
     )
 }
 
-#[test]
-fn the_edit_after_1_000_000(rt: HostRuntime) -> Result<(), Fail> {
-    let code = Code::new(*b"JFK").ok_or("a code")?;
-    let mut engine = Plain::new(rt.alloc(), &Settings::standard());
-    assert_eq!(rt; submit_1_000_000(&mut engine, code), Ok(()));
-    assert_eq!(rt; submit_base(&mut engine, code), Err(EngineFault::SeatFull));
-    assert_eq!(rt; engine.settle(&rt), Ok(()));
-    assert_eq!(rt;
-        shown(engine.version(), 1_000_000),
-        (1, 1_000_000, 0, None, Some(Verdict::Accepted), false)
-    );
-    assert!(rt; engine.version().best().is_none());
-    assert_eq!(rt; engine.version().settings().lead, 60);
-    assert_eq!(rt; EngineFault::SeatFull.number(), Some(61));
-    Ok(())
+// Hands the engine 1,000,000 edits and one more, and shows what it says and the version of them.
+fn tell_edits<R: Print + Threads + Sync>(rt: &R, engine: &mut Plain, code: Code) -> io::Result<()> {
+    let first = submit_1_000_000(engine, code);
+    let next = submit_base(engine, code);
+    let settled = engine.settle(rt);
+    println!(rt; "edits {first:?}, the next {next:?}, settled {settled:?}")?;
+    let version = engine.version();
+    println!(rt; "version {:?}", told(version, 1_000_000))?;
+    println!(rt; "has a best {}", version.best().is_some())?;
+    println!(rt; "lead {}", version.settings().lead)?;
+    println!(rt; "a full seat is {:?}", EngineFault::SeatFull.number())
 }
 
-// A base and two flights that are a duty.
-fn three_edits() -> Result<[Edit; 3], Fail> {
-    let jfk = Code::new(*b"JFK").ok_or("a code")?;
-    let bos = Code::new(*b"BOS").ok_or("a code")?;
-    let out = flight(101, jfk, bos, b"2025-07-01T12:00", b"2025-07-01T13:10")?;
-    let back = flight(102, bos, jfk, b"2025-07-01T14:00", b"2025-07-01T15:15")?;
-    Ok([
-        Edit::AddBase {
-            code: jfk,
-            price: 0,
-        },
-        Edit::AddFlight(out),
-        Edit::AddFlight(back),
-    ])
-}
-
-// Settles the first two, and then all three.
-fn settle_twice<R: Threads + Sync>(
-    rt: &R,
-    engine: &mut Plain,
-    edits: [Edit; 3],
-) -> Result<(), EngineFault> {
-    let [base, out, back] = edits;
-    submit(engine, base)?;
-    submit(engine, out)?;
-    engine.settle(rt)?;
-    submit(engine, back)?;
-    engine.settle(rt)
+/// An engine takes 1,000,000 edits, and not one more.
+pub fn play_edits<R: Print + Threads + Sync>(rt: &R, alloc: Global) -> io::Result<()> {
+    let Some(code) = Code::new(*b"JFK") else {
+        return Err(io::Error::from(ErrorKind::InvalidInput));
+    };
+    let mut engine = Plain::new(alloc, &Settings::standard());
+    tell_edits(rt, &mut engine, code)
 }
 
 // How many flights a version has with no entry more.
@@ -123,22 +77,43 @@ fn best_copied(alloc: Global, version: &Version) -> Result<Option<(i64, i64, usi
     }
 }
 
-// A version and its copy show the same, and the best pairing is copied with it.
-#[test]
-fn copies(rt: HostRuntime) -> Result<(), Fail> {
-    let edits = three_edits()?;
-    let mut engine = Plain::new(rt.alloc(), &Settings::standard());
-    assert_eq!(rt; settle_twice(&rt, &mut engine, edits), Ok(()));
-    let version = engine.version().copy(rt.alloc()).expect(&rt, "memory");
-    assert_eq!(rt; shown(&version, 2), shown(engine.version(), 2));
-    assert_eq!(rt; version.number(), 2);
-    assert_eq!(rt; version.verdict(2), Some(Verdict::Accepted));
-    assert_eq!(rt; version.entry(2), engine.version().entry(2));
-    assert_eq!(rt; version.timetable().flight_count(), 2);
-    assert_eq!(rt; flights_with_none(rt.alloc(), &version), Ok(2));
-    assert_eq!(rt;
-        best_copied(rt.alloc(), &version),
-        Ok(Some((4_200, 285, 1)))
-    );
-    Ok(())
+// Shows what a version and its copy show.
+fn tell_copy<R: Print>(rt: &R, alloc: Global, version: &Version, copy: &Version) -> io::Result<()> {
+    println!(rt; "version {:?}", told(version, 2))?;
+    println!(rt; "its copy {:?}", told(copy, 2))?;
+    println!(rt; "the same entry {}", copy.entry(2) == version.entry(2))?;
+    println!(rt; "flights {}", copy.timetable().flight_count())?;
+    println!(rt; "with none {:?}", flights_with_none(alloc, copy))?;
+    println!(rt; "best {:?}", best_copied(alloc, copy))
+}
+
+// Shows what a version and a copy of it show.
+fn copy_and_tell<R: Print>(rt: &R, alloc: Global, version: &Version) -> io::Result<()> {
+    let copy = version.copy(alloc)?;
+    tell_copy(rt, alloc, version, &copy)
+}
+
+// Shows how a session ended, and the last version beside a copy.
+fn tell_end<R: Print>(
+    rt: &R,
+    alloc: Global,
+    ended: Result<(), SessionFault>,
+    version: &Version,
+) -> io::Result<()> {
+    println!(rt; "ended {ended:?}")?;
+    copy_and_tell(rt, alloc, version)
+}
+
+/// Plays the case's session over an engine, and shows its last version beside a copy.
+pub fn play_copies<R: Print + Threads + Sync>(
+    rt: &R,
+    alloc: Global,
+    case: &Case<'_>,
+) -> io::Result<()> {
+    let settings = Settings::standard();
+    let mut engine = Plain::new(alloc, &settings);
+    let mut source = case.source(rt);
+    let mut answers = case.answers(rt, "");
+    let ended = run(rt, alloc, &mut source, &mut answers, &settings, &mut engine);
+    tell_end(rt, alloc, ended, engine.version())
 }

@@ -1,108 +1,135 @@
-//! Readers and writers that fail.
+//! Readers and writers in memory, which may be slow or fail.
 
-use crate::sessions::play;
-use crew_rules::Settings;
-use crew_session::SessionFault;
-use std::io;
-use std::io::{Read, Write};
+use crate::ways::Ways;
+use std::io::{self, ErrorKind, Print, Read, Write};
 
-// A reader that gives a byte at a time, and fails at a place.
+/// A writer whose text goes into the transcript.
 #[derive(Drop)]
-struct Slow<'a> {
-    bytes: &'a [u8],
-    fails_at: usize,
-    at: usize,
+pub struct Shown<'a, R: Print> {
+    rt: &'a R,
+    // What stands before each line; `None` where nothing is shown.
+    mark: Option<&'static str>,
+    // Whether the next byte is the first of a line.
+    begins: bool,
+    // How many writes and flushes are still taken.
+    writes: usize,
+    flushes: usize,
+    // How many bytes were taken.
+    taken: usize,
 }
 
-impl Read for Slow<'_> {
-    fn read(&mut self, buf: &mut [u8]) -> io::Result<usize> {
-        if self.at == self.fails_at {
-            return Err(io::Error::from(io::ErrorKind::Other));
+impl<'a, R: Print> Shown<'a, R> {
+    /// A writer that takes so many writes and flushes.
+    pub fn new(
+        rt: &'a R,
+        mark: Option<&'static str>,
+        writes: usize,
+        flushes: usize,
+    ) -> Shown<'a, R> {
+        Shown {
+            rt,
+            mark,
+            begins: true,
+            writes,
+            flushes,
+            taken: 0,
         }
-        if buf.is_empty() || self.at >= self.bytes.len() {
-            return Ok(0);
+    }
+
+    /// Shows how many bytes were taken, where they weren't shown themselves.
+    pub fn show_count(&self) -> io::Result<()> {
+        match self.mark {
+            Some(_) => Ok(()),
+            None => println!(self.rt; "{} bytes", self.taken),
         }
-        buf[0] = self.bytes[self.at];
-        self.at += 1;
-        Ok(1)
+    }
+
+    // Shows a line or a part of one, with the mark where it begins.
+    fn show_line(&self, mark: &str, line: &[u8]) -> io::Result<()> {
+        if self.begins {
+            io::writer(self.rt).write_all(mark.as_bytes())?;
+        }
+        io::writer(self.rt).write_all(line)
+    }
+
+    // Shows a text, with the mark before each line.
+    fn show(&mut self, mark: &str, text: &[u8]) -> io::Result<()> {
+        for line in text.split_inclusive(|byte| *byte == b'\n') {
+            self.show_line(mark, line)?;
+            self.begins = line.ends_with(b"\n");
+        }
+        Ok(())
     }
 }
 
-// A writer that takes so many writes and no flush, and keeps what it took.
-#[derive(Drop)]
-struct Short {
-    taken: Vec<u8>,
-    writes: usize,
-    most: usize,
-    flushes: bool,
-}
-
-impl Write for Short {
-    fn write(&mut self, buf: &[u8]) -> io::Result<usize> {
-        if self.writes >= self.most {
-            return Err(io::Error::from(io::ErrorKind::Other));
+impl<R: Print> Write for Shown<'_, R> {
+    fn write(&mut self, text: &[u8]) -> io::Result<usize> {
+        if self.writes == 0 {
+            return Err(io::Error::from(ErrorKind::StorageFull));
         }
-        self.writes += 1;
-        self.taken.extend_from_slice(buf)?;
-        Ok(buf.len())
+        self.writes -= 1;
+        self.taken = self.taken.saturating_add(text.len());
+        if let Some(mark) = self.mark {
+            self.show(mark, text)?;
+        }
+        Ok(text.len())
     }
 
     fn flush(&mut self) -> io::Result<()> {
-        if self.flushes {
-            Ok(())
-        } else {
-            Err(io::Error::from(io::ErrorKind::Other))
+        if self.flushes == 0 {
+            return Err(io::Error::from(ErrorKind::StorageFull));
+        }
+        self.flushes -= 1;
+        Ok(())
+    }
+}
+
+/// A reader of a case's input.
+#[derive(Drop)]
+pub struct Source<'a, R: Print> {
+    input: &'a [u8],
+    rest: &'a [u8],
+    // How often the input is given again.
+    again: usize,
+    // How many bytes a read gives at most, and how many are given before one fails.
+    chunk: usize,
+    left: usize,
+    // What is given.
+    echo: Shown<'a, R>,
+}
+
+impl<'a, R: Print> Source<'a, R> {
+    /// A reader that gives this input, in these ways, and what it gives to `echo`.
+    pub fn new(ways: &Ways, input: &'a [u8], echo: Shown<'a, R>) -> Source<'a, R> {
+        Source {
+            input,
+            rest: input,
+            again: ways.times.saturating_sub(1),
+            chunk: ways.chunk,
+            left: ways.reads,
+            echo,
+        }
+    }
+
+    // Begins again at the end of the input, where it is to be given again.
+    fn turn(&mut self) {
+        if self.rest.is_empty() && self.again > 0 {
+            self.again -= 1;
+            self.rest = self.input;
         }
     }
 }
 
-// Three lines.
-const INPUT: &[u8] = b"x\nbase,JFK,0\nbase,JFK,0\nsettle\n";
-
-const LINES: &[u8] = b"record 1 refused 70\nrecord 3 refused 21\nversion 1 entries 2 flights 0\n";
-
-#[test]
-fn reads_that_fail(rt: HostRuntime) {
-    let settings = Settings::standard();
-    for fails_at in 0..INPUT.len() + 2 {
-        let mut reader = Slow {
-            bytes: INPUT,
-            fails_at,
-            at: 0,
-        };
-        let mut written = Vec::new(rt.alloc());
-        let ended = play(&rt, rt.alloc(), &settings, &mut reader, &mut written);
-        if fails_at <= INPUT.len() {
-            assert_eq!(rt; ended, Some(Err(SessionFault::Read)), "{fails_at}");
-            assert!(rt; LINES.starts_with(&written), "{fails_at}");
-        } else {
-            assert_eq!(rt; ended, Some(Ok(())));
-            assert_eq!(rt; written.as_slice(), LINES);
+impl<R: Print> Read for Source<'_, R> {
+    fn read(&mut self, buffer: &mut [u8]) -> io::Result<usize> {
+        if self.left == 0 {
+            return Err(io::Error::from(ErrorKind::PermissionDenied));
         }
-    }
-}
-
-// Each line is one write.
-#[test]
-fn writes_that_fail(rt: HostRuntime) {
-    let settings = Settings::standard();
-    for most in 0..4usize {
-        for flushes in [false, true] {
-            let mut reader = INPUT;
-            let mut writer = Short {
-                taken: Vec::new(rt.alloc()),
-                writes: 0,
-                most,
-                flushes,
-            };
-            let ended = play(&rt, rt.alloc(), &settings, &mut reader, &mut writer);
-            if most == 3 && flushes {
-                assert_eq!(rt; ended, Some(Ok(())));
-                assert_eq!(rt; writer.taken.as_slice(), LINES);
-            } else {
-                assert_eq!(rt; ended, Some(Err(SessionFault::Write)), "{most}");
-                assert!(rt; LINES.starts_with(&writer.taken), "{most}");
-            }
-        }
+        self.turn();
+        let most = self.chunk.min(self.left).min(buffer.len());
+        let given = self.rest.read(&mut buffer[..most])?;
+        self.left = self.left.saturating_sub(given);
+        self.echo.write(&buffer[..given])?;
+        Ok(given)
     }
 }
