@@ -1,0 +1,92 @@
+//! Worked examples of legal duties, of audits, of the network, of slots and of what an edit leaves
+//! standing: what no clause of theirs says.
+//!
+//! Each line of standard input is a record of a timetable, or a call. It is written again, and under
+//! it, behind `=`, what the call answered; a line that begins with `#` says what follows is about.
+//! So the stored run is the test: `stdin` has the examples, and `stdout` what they have to come to,
+//! which was worked out without the program. A line that can't be read, a record that is refused and
+//! want of memory end the run with an error.
+//!
+//! Helpers have no clause: what they give is what the run shows, and nothing else calls them.
+#![tactic(auto)]
+
+mod audits;
+mod carries;
+mod desk;
+mod duties;
+mod edits;
+mod nets;
+mod slots;
+mod texts;
+mod words;
+
+use crew_flights::Timetable;
+use crew_rules::Settings;
+use desk::Desk;
+use std::fmt::Write;
+use std::io::{self, BufRead, BufReader};
+use std::thread::Threads;
+
+// Takes in a line by its first word; other lines are records.
+fn answer<R: Threads + Sync + AllocGlobal>(
+    rt: &R,
+    desk: &mut Desk,
+    words: &[&str],
+    text: &mut String,
+) -> Option<()> {
+    let (first, others) = words.split_first()?;
+    match *first {
+        "settings" => desk.set(others),
+        "timetable" => desk.turn(rt.alloc(), others),
+        "duties" => duties::answer(rt, desk, others, text),
+        "audit" => audits::answer(rt.alloc(), desk, others, text),
+        "net" => nets::answer(rt, desk, others, text),
+        "carry" => carries::answer(rt, desk, others, text),
+        "slots" => slots::answer(rt, desk, others, text),
+        _ => edits::take(desk, words),
+    }
+}
+
+// Writes a line, and under it what it comes to; `None` where that can't be told.
+fn take_line<R: Threads + Sync + AllocGlobal>(
+    rt: &R,
+    desk: &mut Desk,
+    line: &str,
+    text: &mut String,
+) -> Option<()> {
+    writeln!(text, "{line}").ok()?;
+    if line.is_empty() || line.starts_with('#') {
+        return Some(());
+    }
+    let words: Vec<&str> = line.split([' ', ',']).collect(rt.alloc()).ok()?;
+    answer(rt, desk, &words, text)
+}
+
+// Takes all lines in; it ends at the first that can't be answered.
+fn take_all<R: Threads + Sync + AllocGlobal + Input>(
+    rt: &R,
+    desk: &mut Desk,
+    text: &mut String,
+) -> io::Result<()> {
+    let alloc = rt.alloc();
+    for line in BufReader::new(alloc, rt.reader())?.lines(alloc) {
+        if take_line(rt, desk, line?.as_str(), text).is_none() {
+            return Err(io::Error::from(io::ErrorKind::InvalidData));
+        }
+    }
+    Ok(())
+}
+
+fn main(rt: HostRuntime) -> io::Result<()> {
+    let alloc = rt.alloc();
+    let mut desk = Desk {
+        settings: Settings::standard(),
+        earlier: Timetable::new(alloc),
+        timetable: Timetable::new(alloc),
+        slots: Vec::new(alloc),
+    };
+    let mut text = String::new(alloc);
+    let taken = take_all(&rt, &mut desk, &mut text);
+    print!(rt; "{text}")?;
+    taken
+}
