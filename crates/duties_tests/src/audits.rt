@@ -4,16 +4,33 @@ ghost use Rattle.crew_rules.specs.Settings.{IsChecked};
 
 use crate::desk::Desk;
 use crate::texts::{write_code, write_key};
+use crate::words::count_of;
 use crew_audit::{AuditFault, Partial, Tally, enumerate, tally_all};
 use crew_flights::Timetable;
+use crew_pairing::PairingVector;
 use crew_rules::Settings;
 use std::alloc::{AllocError, Global};
 use std::fmt::Write;
 
-// Writes a partial as a line: its base, its duties, whether it is a pairing, what it costs, and its
-// vector.
+// Writes the parts of a vector, and begins another line.
+fn write_vector(text: &mut String, part: &PairingVector) -> Result<(), AllocError> {
+    let PairingVector {
+        duty_pay,
+        trip_rig,
+        guarantee,
+        fdp,
+        fly,
+        duties,
+        away,
+    } = *part;
+    for number in [duty_pay, trip_rig, guarantee, fdp, fly, duties, away] {
+        write!(text, " {number}")?;
+    }
+    text.push_str("\n=")
+}
+
+// Writes a partial: its base, its duties, whether it is a pairing, and what it costs.
 fn write_partial(text: &mut String, partial: &Partial) -> Result<(), AllocError> {
-    text.push('=')?;
     write_code(text, partial.base)?;
     for key in partial.walk.keys() {
         write_key(text, ' ', key)?;
@@ -23,22 +40,15 @@ fn write_partial(text: &mut String, partial: &Partial) -> Result<(), AllocError>
     } else {
         "partial"
     };
-    write!(text, " {kind} cost {} vector", partial.cost())?;
-    let part = &partial.vector;
-    let pays = [part.duty_pay, part.trip_rig, part.guarantee];
-    let caps = [part.fdp, part.fly, part.duties, part.away];
-    for number in pays.iter().chain(&caps) {
-        write!(text, " {number}")?;
-    }
-    text.push('\n')
+    write!(text, " {kind} cost {} vector", partial.cost())
 }
 
 fn write_tally(text: &mut String, tally: &Tally) -> Result<(), AllocError> {
     let count = tally.partials;
     let pairings = tally.pairings;
     match tally.cost {
-        Some(cost) => writeln!(text, "= {count} partials {pairings} pairings cost {cost}"),
-        None => writeln!(text, "= {count} partials {pairings} pairings"),
+        Some(cost) => write!(text, " {count} partials {pairings} pairings cost {cost}"),
+        None => write!(text, " {count} partials {pairings} pairings"),
     }
 }
 
@@ -55,6 +65,7 @@ fn list(
     let partials = enumerate(alloc, settings, timetable, limit)?;
     for partial in &partials {
         write_partial(text, partial)?;
+        write_vector(text, &partial.vector)?;
     }
     write_tally(text, &Tally::of(&partials))?;
     Ok(())
@@ -79,7 +90,7 @@ pub fn answer(alloc: Global, desk: &Desk, words: &[&str], text: &mut String) -> 
     let [call, limit] = *words else {
         return None;
     };
-    let limit = limit.parse::<usize>().ok()?;
+    let limit = count_of(limit)?;
     desk.settings.check().ok()?;
     let written = match call {
         "listed" => list(alloc, &desk.settings, &desk.timetable, limit, text),
@@ -88,7 +99,7 @@ pub fn answer(alloc: Global, desk: &Desk, words: &[&str], text: &mut String) -> 
     };
     match written {
         Ok(()) => Some(()),
-        Err(AuditFault::OverLimit) => text.push_str("= over the limit\n").ok(),
+        Err(AuditFault::OverLimit) => text.push_str(" over the limit").ok(),
         Err(AuditFault::Memory) => None,
     }
 }

@@ -1,12 +1,16 @@
 //! Calls of what the edits leave standing since the timetable was kept.
 
+ghost use Rattle.std.specs.Prelude.{◌≡◌};
+ghost use Rattle.crew_dirty.specs.Dirty.{IsNetOver};
+
 use crate::desk::Desk;
 use crate::nets::net_over;
 use crate::texts::{write_node, write_place};
-use crate::words::node_of;
+use crate::words::{count_of, node_of};
 use crew_dirty::{Carried, Standing, Standings, carry};
 use crew_flights::Code;
 use crew_net::{Net, Node};
+use std::alloc::Global;
 use std::fmt::Write;
 use std::thread::Threads;
 
@@ -24,69 +28,85 @@ impl Standings for Everywhere {
     }
 }
 
-fn standing_of(word: &str) -> Option<Standing> {
-    match word {
-        "same" => Some(Standing::Same),
-        "other" => Some(Standing::Other),
-        "undone" => Some(Standing::Undone),
+// The standing at every node at which a call asks whether one is unchanged; none where it asks
+// whether one is kept.
+fn standing_of(call: &str) -> Option<Option<Standing>> {
+    match call {
+        "kept" => Some(None),
+        "unchanged-if-same" => Some(Some(Standing::Same)),
+        "unchanged-if-other" => Some(Some(Standing::Other)),
+        "unchanged-if-undone" => Some(Some(Standing::Undone)),
         _ => None,
     }
 }
 
-// Writes how many nodes there are, and those that aren't kept, in order; `None` where one is kept
-// and dirty, or neither.
+// Writes the node at a place where it isn't kept; `None` also where it is kept and dirty, or
+// neither.
+fn write_if_dirty(text: &mut String, carried: &Carried, net: &Net, place: usize) -> Option<()> {
+    let node = net.node(place)?;
+    let is_dirty = carried.next_dirty(net, place) == Some(place);
+    match (is_dirty, carried.is_kept(net, &node)) {
+        (true, false) => write_node(text, Some(&node)).ok(),
+        (false, true) => Some(()),
+        (true, true) | (false, false) => None,
+    }
+}
+
+// Writes how many nodes there are, and those that aren't kept, in order.
 fn write_dirty(text: &mut String, carried: &Carried, net: &Net) -> Option<()> {
     write!(text, " of {} nodes", net.len()).ok()?;
     for place in 0..net.len() {
-        let node = net.node(place)?;
-        let is_dirty = carried.next_dirty(net, place) == Some(place);
-        if is_dirty == carried.is_kept(net, &node) {
-            return None;
-        }
-        if is_dirty {
-            write_node(text, Some(&node)).ok()?;
-        }
+        write_if_dirty(text, carried, net, place)?;
     }
     Some(())
 }
 
-// Writes whether a node is unchanged under a standing at every node.
-fn write_unchanged(
+// Writes whether a node is kept, or under a standing at every node unchanged.
+fn write_of(
     text: &mut String,
     carried: &Carried,
     net: &Net,
     node: &Node,
-    standing: &str,
+    standing: Option<Standing>,
 ) -> Option<()> {
-    let everywhere = Everywhere {
-        standing: standing_of(standing)?,
+    let holds = match standing {
+        None => carried.is_kept(net, node),
+        Some(standing) => carried.unchanged(net, node, &Everywhere { standing }),
     };
-    write!(text, " {}", carried.unchanged(net, node, &everywhere)).ok()
+    write!(text, " {holds}").ok()
 }
 
 // Writes what a call asks for.
 fn write_as(text: &mut String, carried: &Carried, net: &Net, words: &[&str]) -> Option<()> {
     match *words {
         ["dirty"] => write_dirty(text, carried, net),
-        ["next", from] => {
-            write_place(text, carried.next_dirty(net, from.parse::<usize>().ok()?)).ok()
-        }
-        ["kept", base, flight] => {
-            write!(text, " {}", carried.is_kept(net, &node_of(base, flight)?)).ok()
-        }
-        ["unchanged", base, flight, standing] => {
-            write_unchanged(text, carried, net, &node_of(base, flight)?, standing)
+        ["next", from] => { write_place(text, carried.next_dirty(net, count_of(from)?)).ok() }
+        [call, base, flight] => {
+            let standing = standing_of(call)?;
+            let node = node_of(base, flight)?;
+            write_of(text, carried, net, &node, standing)
         }
         _ => None,
     }
 }
 
-// What the edits leave standing, beside the network after them.
-fn carried_over<R: Threads + Sync + AllocGlobal>(rt: &R, desk: &Desk) -> Option<(Carried, Net)> {
-    let old = net_over(rt, &desk.settings, &desk.earlier)?;
-    let new = net_over(rt, &desk.settings, &desk.timetable)?;
-    let carried = carry(rt.alloc(), &old, &desk.earlier, &new, &desk.timetable).ok()?;
-    Some((carried, new))
+// Answers a call of what stays between two networks.
+fn between(
+    alloc: Global,
+    desk: &Desk,
+    old: &Net,
+    new: &Net,
+    words: &[&str],
+    text: &mut String,
+) -> Option<()>
+    requires settings { old.now.settings ≡ new.now.settings }
+    requires old { IsNetOver desk.now.earlier old.now }
+    requires new { IsNetOver desk.now.timetable new.now }
+{
+    match carry(alloc, old, &desk.earlier, new, &desk.timetable) {
+        Ok(carried) => write_as(text, &carried, new, words),
+        Err(_) => None,
+    }
 }
 
 /// Answers a call of what the edits leave standing.
@@ -96,8 +116,7 @@ pub fn answer<R: Threads + Sync + AllocGlobal>(
     words: &[&str],
     text: &mut String,
 ) -> Option<()> {
-    let (carried, net) = carried_over(rt, desk)?;
-    text.push('=').ok()?;
-    write_as(text, &carried, &net, words)?;
-    text.push('\n').ok()
+    let old = net_over(rt, &desk.settings, &desk.earlier)?;
+    let new = net_over(rt, &desk.settings, &desk.timetable)?;
+    between(rt.alloc(), desk, &old, &new, words, text)
 }

@@ -3,7 +3,7 @@
 use crew_flights::Timetable;
 use crew_rules::Settings;
 use crew_slots::Slots;
-use std::alloc::Global;
+use std::alloc::{AllocError, Global};
 
 /// The settings, a timetable with the one that was kept before, and slots, each after those before.
 #[derive(Drop)]
@@ -14,20 +14,31 @@ pub struct Desk {
     pub slots: Vec<Slots>,
 }
 
-// The setting of a name.
-fn setting<'a>(settings: &'a mut Settings, name: &str) -> Option<&'a mut u32> {
+// Sets what the first word of two names to the value of the second.
+fn set_one(settings: &mut Settings, words: &[&str]) -> Option<()> {
+    let [name, value] = *words else {
+        return None;
+    };
+    let value = value.parse::<u32>().ok()?;
     match name {
-        "lead" => Some(&mut settings.lead),
-        "debrief" => Some(&mut settings.debrief),
-        "connect" => Some(&mut settings.connect),
-        "sit" => Some(&mut settings.sit),
-        "max-duties" => Some(&mut settings.max_duties),
-        "fdp-cap" => Some(&mut settings.fdp_cap),
-        "fly-cap" => Some(&mut settings.fly_cap),
-        "away-cap" => Some(&mut settings.away_cap),
-        "deadheads" => Some(&mut settings.deadheads),
-        _ => None,
+        "lead" => settings.lead = value,
+        "debrief" => settings.debrief = value,
+        "connect" => settings.connect = value,
+        "sit" => settings.sit = value,
+        "max-duties" => settings.max_duties = value,
+        "fdp-cap" => settings.fdp_cap = value,
+        "fly-cap" => settings.fly_cap = value,
+        "away-cap" => settings.away_cap = value,
+        "deadheads" => settings.deadheads = value,
+        _ => return None,
     }
+    Some(())
+}
+
+// Puts a copy in the place of a timetable; `None` where there is no memory.
+fn put(place: &mut Timetable, copied: Result<Timetable, AllocError>) -> Option<()> {
+    *place = copied.ok()?;
+    Some(())
 }
 
 impl Desk {
@@ -35,12 +46,8 @@ impl Desk {
     pub fn set(&mut self, words: &[&str]) -> Option<()> {
         let mut settings = Settings::standard();
         for pair in words.chunks(2) {
-            let [name, value] = *pair else {
-                return None;
-            };
-            *setting(&mut settings, name)? = value.parse::<u32>().ok()?;
+            set_one(&mut settings, pair)?;
         }
-        settings.check().ok()?;
         self.settings = settings;
         Some(())
     }
@@ -48,11 +55,10 @@ impl Desk {
     /// Another timetable: one with nothing in it, or the kept one again; or this one is kept.
     pub fn turn(&mut self, alloc: Global, words: &[&str]) -> Option<()> {
         match *words {
-            ["new"] => self.timetable = Timetable::new(alloc),
-            ["again"] => self.timetable = self.earlier.copy(alloc).ok()?,
-            ["kept"] => self.earlier = self.timetable.copy(alloc).ok()?,
-            _ => return None,
+            ["new"] => put(&mut self.timetable, Ok(Timetable::new(alloc))),
+            ["again"] => put(&mut self.timetable, self.earlier.copy(alloc)),
+            ["kept"] => put(&mut self.earlier, self.timetable.copy(alloc)),
+            _ => None,
         }
-        Some(())
     }
 }

@@ -1,86 +1,136 @@
 //! Calls of legal duties.
 
+ghost use Rattle.crew_pairing.specs.Duties.{AreDuties};
+ghost use Rattle.crew_rules.specs.Settings.{IsChecked};
+
 use crate::desk::Desk;
 use crate::texts::{write_code, write_key};
+use crate::words::count_of;
 use crew_duty::{DutyFault, list_duties, list_next};
+use crew_flights::Timetable;
 use crew_pairing::{Duties, Duty};
-use std::alloc::{AllocError, Global};
+use crew_rules::Settings;
+use std::alloc::AllocError;
 use std::fmt::Write;
 use std::thread::Threads;
 
-// Writes a duty with all its facts.
+// Writes a duty with all its facts, and begins another line.
 fn write_duty(text: &mut String, duty: &Duty) -> Result<(), AllocError> {
-    text.push('=')?;
     write_key(text, ' ', &duty.key)?;
     write_code(text, duty.from)?;
     write_code(text, duty.to)?;
     for number in [duty.report, duty.release, duty.fdp, duty.fly, duty.pay] {
         write!(text, " {number}")?;
     }
-    writeln!(text, " {}", duty.price)
-}
-
-// Writes so many of the first duties.
-fn write_first(text: &mut String, duties: &Duties, most: usize) -> Result<(), AllocError> {
-    for duty in duties.as_slice().iter().take(most) {
-        write_duty(text, duty)?;
-    }
-    Ok(())
+    write!(text, " {}\n=", duty.price)
 }
 
 // Writes so many of the first duties, and how many there are.
 fn write_duties(text: &mut String, duties: &Duties, most: usize) -> Result<(), AllocError> {
-    if duties.is_empty() {
-        return text.push_str("= no duties\n");
+    for duty in duties.as_slice().iter().take(most) {
+        write_duty(text, duty)?;
     }
-    write_first(text, duties, most)?;
-    writeln!(text, "= {} duties", duties.len())
+    if duties.is_empty() {
+        return text.push_str(" no duties");
+    }
+    write!(text, " {} duties", duties.len())
 }
 
-// The legal duties, listed anew.
-fn listed<R: Threads + Sync + AllocGlobal>(
+// Writes that there are too many duties; `None` where there is no memory.
+fn write_fault(text: &mut String, fault: DutyFault) -> Option<()> {
+    match fault {
+        DutyFault::TooManyDuties => text.push_str(" too many duties").ok(),
+        DutyFault::Memory => None,
+    }
+}
+
+// Whether a duty has all the facts of another.
+fn is_same(duty: &Duty, other: &Duty) -> bool {
+    let ends = (duty.from == other.from) & (duty.to == other.to) & (duty.key == other.key);
+    let times = (duty.report == other.report) & (duty.release == other.release);
+    let minutes = (duty.fdp == other.fdp) & (duty.fly == other.fly);
+    ends & times & minutes & (duty.pay == other.pay) & (duty.price == other.price)
+}
+
+// How duties are beside others.
+fn likeness(duties: &Duties, others: &Duties) -> &'static str {
+    let pairs = duties.as_slice().iter().zip(others.as_slice());
+    if duties.len() == others.len()
+        && pairs.filter(|(duty, other)| !is_same(duty, other)).count() == 0
+    {
+        "\n= as listed anew"
+    } else {
+        "\n= not as listed anew"
+    }
+}
+
+// Writes so many of some duties, how many there are, and whether they are just those listed anew.
+fn compare<R: Threads + Sync + AllocGlobal>(
     rt: &R,
-    desk: &Desk,
-) -> Option<Result<Duties, DutyFault>> {
-    desk.settings.check().ok()?;
-    Some(list_duties(rt, rt.alloc(), &desk.settings, &desk.timetable))
+    settings: &Settings,
+    timetable: &Timetable,
+    duties: &Duties,
+    most: usize,
+    text: &mut String,
+) -> Option<()>
+    requires { IsChecked settings.now }
+{
+    write_duties(text, duties, most).ok()?;
+    match list_duties(rt, rt.alloc(), settings, timetable) {
+        Ok(anew) => text.push_str(likeness(duties, &anew)).ok(),
+        Err(_) => None,
+    }
 }
 
-// The same, beside those of the kept timetable; `None` where those can't be listed.
-fn listed_next<R: Threads + Sync + AllocGlobal>(
+// The legal duties beside those of an earlier timetable.
+fn list_beside<R: Threads + Sync + AllocGlobal>(
     rt: &R,
-    desk: &Desk,
-) -> Option<Result<Duties, DutyFault>> {
-    desk.settings.check().ok()?;
-    let alloc = rt.alloc();
-    let settings = &desk.settings;
-    let before = list_duties(rt, alloc, settings, &desk.earlier).ok()?;
-    Some(list_next(rt, alloc, settings, &desk.earlier, &before, &desk.timetable))
+    settings: &Settings,
+    earlier: &Timetable,
+    before: &Duties,
+    timetable: &Timetable,
+    most: usize,
+    text: &mut String,
+) -> Option<()>
+    requires checked { IsChecked settings.now }
+    requires earlier { AreDuties settings.now earlier.now before.now }
+{
+    match list_next(rt, rt.alloc(), settings, earlier, before, timetable) {
+        Ok(duties) => compare(rt, settings, timetable, &duties, most, text),
+        Err(fault) => write_fault(text, fault),
+    }
 }
 
-// Duties with all their facts, as a text.
-fn text_of(alloc: Global, duties: &Duties) -> Result<String, AllocError> {
-    let mut text = String::new(alloc);
-    write_first(&mut text, duties, duties.len())?;
-    Ok(text)
+// The same, where those of the earlier timetable can be listed.
+fn beside<R: Threads + Sync + AllocGlobal>(
+    rt: &R,
+    settings: &Settings,
+    earlier: &Timetable,
+    timetable: &Timetable,
+    most: usize,
+    text: &mut String,
+) -> Option<()>
+    requires { IsChecked settings.now }
+{
+    match list_duties(rt, rt.alloc(), settings, earlier) {
+        Ok(before) => list_beside(rt, settings, earlier, &before, timetable, most, text),
+        Err(_) => None,
+    }
 }
 
-// Whether the duties beside those of the kept timetable are just those listed anew.
-fn are_alike<R: Threads + Sync + AllocGlobal>(rt: &R, desk: &Desk) -> Option<bool> {
-    let (Some(Ok(next)), Some(Ok(anew))) = (listed_next(rt, desk), listed(rt, desk)) else {
-        return None;
-    };
-    let next = text_of(rt.alloc(), &next).ok()?;
-    let anew = text_of(rt.alloc(), &anew).ok()?;
-    Some(next.as_str() == anew.as_str())
-}
-
-// Writes so many of the first duties, and how many there are, or that there are too many.
-fn write_found(text: &mut String, found: &Result<Duties, DutyFault>, most: &str) -> Option<()> {
-    match found {
-        Ok(duties) => write_duties(text, duties, most.parse::<usize>().ok()?).ok(),
-        Err(DutyFault::TooManyDuties) => text.push_str("= too many duties\n").ok(),
-        Err(DutyFault::Memory) => None,
+// The legal duties.
+fn list<R: Threads + Sync + AllocGlobal>(
+    rt: &R,
+    settings: &Settings,
+    timetable: &Timetable,
+    most: usize,
+    text: &mut String,
+) -> Option<()>
+    requires { IsChecked settings.now }
+{
+    match list_duties(rt, rt.alloc(), settings, timetable) {
+        Ok(duties) => write_duties(text, &duties, most).ok(),
+        Err(fault) => write_fault(text, fault),
     }
 }
 
@@ -91,11 +141,21 @@ pub fn answer<R: Threads + Sync + AllocGlobal>(
     words: &[&str],
     text: &mut String,
 ) -> Option<()> {
-    match *words {
-        ["listed", most] => write_found(text, &listed(rt, desk)?, most),
-        ["beside", most] => write_found(text, &listed_next(rt, desk)?, most),
-        ["compared"] if are_alike(rt, desk)? => text.push_str("= as listed anew\n").ok(),
-        ["compared"] => text.push_str("= not as listed anew\n").ok(),
+    let [call, most] = *words else {
+        return None;
+    };
+    let most = count_of(most)?;
+    desk.settings.check().ok()?;
+    match call {
+        "listed" => list(rt, &desk.settings, &desk.timetable, most, text),
+        "beside" => beside(
+            rt,
+            &desk.settings,
+            &desk.earlier,
+            &desk.timetable,
+            most,
+            text,
+        ),
         _ => None,
     }
 }

@@ -27,7 +27,25 @@ use std::fmt::Write;
 use std::io::{self, BufRead, BufReader};
 use std::thread::Threads;
 
-// Takes in a line by its first word; other lines are records.
+// Answers a call, behind an equals sign.
+fn ask<R: Threads + Sync + AllocGlobal>(
+    rt: &R,
+    desk: &Desk,
+    words: &[&str],
+    text: &mut String,
+) -> Option<()> {
+    let (first, others) = words.split_first()?;
+    match *first {
+        "duties" => duties::answer(rt, desk, others, text),
+        "audit" => audits::answer(rt.alloc(), desk, others, text),
+        "net" => nets::answer(rt, desk, others, text),
+        "carry" => carries::answer(rt, desk, others, text),
+        "slot" => slots::answer(desk, others, text),
+        _ => None,
+    }
+}
+
+// Takes in a line: a record, or what else changes the desk, or else a call.
 fn answer<R: Threads + Sync + AllocGlobal>(
     rt: &R,
     desk: &mut Desk,
@@ -38,11 +56,12 @@ fn answer<R: Threads + Sync + AllocGlobal>(
     match *first {
         "settings" => desk.set(others),
         "timetable" => desk.turn(rt.alloc(), others),
-        "duties" => duties::answer(rt, desk, others, text),
-        "audit" => audits::answer(rt.alloc(), desk, others, text),
-        "net" => nets::answer(rt, desk, others, text),
-        "carry" => carries::answer(rt, desk, others, text),
-        "slots" => slots::answer(rt, desk, others, text),
+        "slots" => slots::make(rt, desk, others),
+        "duties" | "audit" | "net" | "carry" | "slot" => {
+            text.push('=').ok()?;
+            ask(rt, desk, words, text)?;
+            text.push('\n').ok()
+        }
         _ => edits::take(desk, words),
     }
 }

@@ -5,7 +5,7 @@ ghost use Rattle.crew_dirty.specs.Dirty.{IsNetOver};
 
 use crate::desk::Desk;
 use crate::texts::{write_node, write_place, write_ranks};
-use crate::words::node_of;
+use crate::words::{count_of, node_of};
 use crew_duty::list_duties;
 use crew_flights::Timetable;
 use crew_net::{Net, Node, Window, arrival_places};
@@ -41,21 +41,27 @@ fn write_sizes(text: &mut String, net: &Net) -> Result<(), AllocError> {
     write!(text, " {departures} departures {arrivals} arrivals")
 }
 
+// Writes the node at a place.
+fn write_node_at(text: &mut String, net: &Net, place: usize) -> Option<()> {
+    let node = net.node(place);
+    write_node(text, node.as_ref()).ok()
+}
+
 // Writes the nodes at these places.
 fn write_nodes(text: &mut String, net: &Net, places: &[&str]) -> Option<()> {
     for place in places {
-        let node = net.node(place.parse::<usize>().ok()?);
-        write_node(text, node.as_ref()).ok()?;
+        write_node_at(text, net, count_of(*place)?)?;
     }
     Some(())
 }
 
 // Writes the ranks of the duties just before a node, and `no node` where it isn't one of the
 // network.
-fn write_before(alloc: Global, text: &mut String, net: &Net, node: &Node) -> Option<()> {
-    match net.preds(alloc, node).ok()? {
-        Some(ranks) => write_ranks(text, &ranks).ok(),
-        None => text.push_str(" no node").ok(),
+fn write_before(text: &mut String, before: Result<Option<Vec<u32>>, AllocError>) -> Option<()> {
+    match before {
+        Ok(Some(ranks)) => write_ranks(text, &ranks).ok(),
+        Ok(None) => text.push_str(" no node").ok(),
+        Err(_) => None,
     }
 }
 
@@ -66,22 +72,6 @@ fn write_event(text: &mut String, ranks: &[u32], window: Window) -> Option<()> {
         return text.push_str(" window empty").ok();
     }
     write!(text, " window {} to {}", window.from, window.end).ok()
-}
-
-// Writes what a call asks for.
-fn write_as(alloc: Global, text: &mut String, net: &Net, words: &[&str]) -> Option<()> {
-    match *words {
-        ["sizes"] => write_sizes(text, net).ok(),
-        ["by-report"] => write_ranks(text, net.by_report()).ok(),
-        ["places"] => write_ranks(text, &arrival_places(alloc, net).ok()?).ok(),
-        ["layers"] => write_ranks(text, &net.layers(alloc).ok()?).ok(),
-        ["nodes", ref places @ ..] => write_nodes(text, net, places),
-        ["before", base, flight] => write_before(alloc, text, net, &node_of(base, flight)?),
-        ["rank", base, flight] => write_place(text, net.rank(&node_of(base, flight)?)).ok(),
-        ["departure", place] => write_departure(text, net, place.parse::<usize>().ok()?),
-        ["arrival", place] => write_arrival(text, net, place.parse::<usize>().ok()?),
-        _ => None,
-    }
 }
 
 // Writes the duties that leave at a departure, and the arrivals that they may follow.
@@ -100,6 +90,46 @@ fn write_arrival(text: &mut String, net: &Net, arrival: usize) -> Option<()> {
     write_event(text, net.arriving(arrival), net.followers(arrival))
 }
 
+// Writes numbers that were worked out; `None` where there is no memory.
+fn write_worked(text: &mut String, worked: Result<Vec<u32>, AllocError>) -> Option<()> {
+    write_ranks(text, &worked.ok()?).ok()
+}
+
+// Writes what is asked of a network.
+fn write_whole(alloc: Global, text: &mut String, net: &Net, call: &str) -> Option<()> {
+    match call {
+        "sizes" => write_sizes(text, net).ok(),
+        "by-report" => write_ranks(text, net.by_report()).ok(),
+        "places" => write_worked(text, arrival_places(alloc, net)),
+        "layers" => write_worked(text, net.layers(alloc)),
+        _ => None,
+    }
+}
+
+// Writes what is asked of a node.
+fn write_of(alloc: Global, text: &mut String, net: &Net, call: &str, node: &Node) -> Option<()> {
+    match call {
+        "before" => write_before(text, net.preds(alloc, node)),
+        "rank" => write_place(text, net.rank(node)).ok(),
+        _ => None,
+    }
+}
+
+// Writes what a call asks for.
+fn write_as(alloc: Global, text: &mut String, net: &Net, words: &[&str]) -> Option<()> {
+    match *words {
+        [call] => write_whole(alloc, text, net, call),
+        ["nodes", ref places @ ..] => write_nodes(text, net, places),
+        ["departure", place] => write_departure(text, net, count_of(place)?),
+        ["arrival", place] => write_arrival(text, net, count_of(place)?),
+        [call, base, flight] => {
+            let node = node_of(base, flight)?;
+            write_of(alloc, text, net, call, &node)
+        }
+        _ => None,
+    }
+}
+
 /// Answers a call of the network.
 pub fn answer<R: Threads + Sync + AllocGlobal>(
     rt: &R,
@@ -108,7 +138,5 @@ pub fn answer<R: Threads + Sync + AllocGlobal>(
     text: &mut String,
 ) -> Option<()> {
     let net = net_over(rt, &desk.settings, &desk.timetable)?;
-    text.push('=').ok()?;
-    write_as(rt.alloc(), text, &net, words)?;
-    text.push('\n').ok()
+    write_as(rt.alloc(), text, &net, words)
 }

@@ -12,6 +12,16 @@ pub fn code_of(word: &str) -> Option<Code> {
     Code::new([*first, *second, *third])
 }
 
+/// A count or a place.
+pub fn count_of(word: &str) -> Option<usize> {
+    word.parse::<usize>().ok()
+}
+
+/// A number of points.
+pub fn points_of(word: &str) -> Option<i64> {
+    word.parse::<i64>().ok()
+}
+
 /// The number of a flight.
 pub fn flight_id(word: &str) -> Option<FlightId> {
     FlightId::new(word.parse::<u32>().ok()?)
