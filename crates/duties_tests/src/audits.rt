@@ -3,7 +3,7 @@
 ghost use Rattle.crew_rules.specs.Settings.{IsChecked};
 
 use crate::desk::Desk;
-use crate::texts::{write_code, write_key};
+use crate::texts::{write_code, write_counts, write_key, write_number};
 use crate::words::count_of;
 use crew_audit::{AuditFault, Partial, Tally, enumerate, tally_all};
 use crew_flights::Timetable;
@@ -12,8 +12,21 @@ use crew_rules::Settings;
 use std::alloc::{AllocError, Global};
 use std::fmt::Write;
 
-// Writes the parts of a vector, and begins another line.
-fn write_vector(text: &mut String, part: &PairingVector) -> Result<(), AllocError> {
+// Writes the base of a partial, its duties, and whether it is a pairing.
+fn write_walk(text: &mut String, partial: &Partial) -> Result<(), AllocError> {
+    write_code(text, partial.base)?;
+    for key in partial.walk.keys() {
+        write_key(text, ' ', key)?;
+    }
+    if partial.pairing {
+        return text.push_str(" pairing");
+    }
+    text.push_str(" partial")
+}
+
+// Writes the cost of a partial, and the parts of its vector.
+fn write_vector(text: &mut String, partial: &Partial) -> Result<(), AllocError> {
+    write_number(text, partial.cost())?;
     let PairingVector {
         duty_pay,
         trip_rig,
@@ -22,67 +35,70 @@ fn write_vector(text: &mut String, part: &PairingVector) -> Result<(), AllocErro
         fly,
         duties,
         away,
-    } = *part;
+    } = partial.vector;
     for number in [duty_pay, trip_rig, guarantee, fdp, fly, duties, away] {
-        write!(text, " {number}")?;
+        write_number(text, number)?;
     }
-    text.push_str("\n=")
-}
-
-// Writes a partial: its base, its duties, whether it is a pairing, and what it costs.
-fn write_partial(text: &mut String, partial: &Partial) -> Result<(), AllocError> {
-    write_code(text, partial.base)?;
-    for key in partial.walk.keys() {
-        write_key(text, ' ', key)?;
-    }
-    let kind = if partial.pairing {
-        "pairing"
-    } else {
-        "partial"
-    };
-    write!(text, " {kind} cost {} vector", partial.cost())
+    Ok(())
 }
 
 fn write_tally(text: &mut String, tally: &Tally) -> Result<(), AllocError> {
-    let count = tally.partials;
-    let pairings = tally.pairings;
+    let counts = [(tally.partials, "partials"), (tally.pairings, "pairings")];
+    write_counts(text, &counts)?;
     match tally.cost {
-        Some(cost) => write!(text, " {count} partials {pairings} pairings cost {cost}"),
-        None => write!(text, " {count} partials {pairings} pairings"),
+        Some(cost) => write!(text, " cost {cost}"),
+        None => Ok(()),
     }
 }
 
-// Writes the partials, and their tally.
+// Writes partials, a line each, and their tally.
+fn write_partials(text: &mut String, partials: &[Partial]) -> Result<(), AllocError> {
+    for partial in partials {
+        write_walk(text, partial)?;
+        write_vector(text, partial)?;
+        text.push_str("\n=")?;
+    }
+    write_tally(text, &Tally::of(partials))
+}
+
+// Writes that there are more than the limit; `None` where there is no memory.
+fn write_fault(text: &mut String, fault: AuditFault) -> Option<()> {
+    match fault {
+        AuditFault::OverLimit => text.push_str(" over the limit").ok(),
+        AuditFault::Memory => None,
+    }
+}
+
+// The partials, and their tally.
 fn list(
     alloc: Global,
     settings: &Settings,
     timetable: &Timetable,
     limit: usize,
     text: &mut String,
-) -> Result<(), AuditFault>
+) -> Option<()>
     requires { IsChecked settings.now }
 {
-    let partials = enumerate(alloc, settings, timetable, limit)?;
-    for partial in &partials {
-        write_partial(text, partial)?;
-        write_vector(text, &partial.vector)?;
+    match enumerate(alloc, settings, timetable, limit) {
+        Ok(partials) => write_partials(text, &partials).ok(),
+        Err(fault) => write_fault(text, fault),
     }
-    write_tally(text, &Tally::of(&partials))?;
-    Ok(())
 }
 
-// Writes the tally of the partials, without a list of them.
+// The tally of the partials, without a list of them.
 fn tally(
     alloc: Global,
     settings: &Settings,
     timetable: &Timetable,
     limit: usize,
     text: &mut String,
-) -> Result<(), AuditFault>
+) -> Option<()>
     requires { IsChecked settings.now }
 {
-    write_tally(text, &tally_all(alloc, settings, timetable, limit)?)?;
-    Ok(())
+    match tally_all(alloc, settings, timetable, limit) {
+        Ok(tally) => write_tally(text, &tally).ok(),
+        Err(fault) => write_fault(text, fault),
+    }
 }
 
 /// Answers a call of the audit.
@@ -92,14 +108,9 @@ pub fn answer(alloc: Global, desk: &Desk, words: &[&str], text: &mut String) -> 
     };
     let limit = count_of(limit)?;
     desk.settings.check().ok()?;
-    let written = match call {
+    match call {
         "listed" => list(alloc, &desk.settings, &desk.timetable, limit, text),
         "tallied" => tally(alloc, &desk.settings, &desk.timetable, limit, text),
-        _ => return None,
-    };
-    match written {
-        Ok(()) => Some(()),
-        Err(AuditFault::OverLimit) => text.push_str(" over the limit").ok(),
-        Err(AuditFault::Memory) => None,
+        _ => None,
     }
 }

@@ -5,13 +5,12 @@ ghost use Rattle.crew_dirty.specs.Dirty.{IsNetOver};
 
 use crate::desk::Desk;
 use crate::nets::net_over;
-use crate::texts::{write_node, write_place};
+use crate::texts::{write_counts, write_node, write_place};
 use crate::words::{count_of, node_of};
 use crew_dirty::{Carried, Standing, Standings, carry};
 use crew_flights::Code;
 use crew_net::{Net, Node};
 use std::alloc::Global;
-use std::fmt::Write;
 use std::thread::Threads;
 
 // The same standing at every node.
@@ -54,7 +53,7 @@ fn write_if_dirty(text: &mut String, carried: &Carried, net: &Net, place: usize)
 
 // Writes how many nodes there are, and those that aren't kept, in order.
 fn write_dirty(text: &mut String, carried: &Carried, net: &Net) -> Option<()> {
-    write!(text, " of {} nodes", net.len()).ok()?;
+    write_counts(text, &[(net.len(), "nodes, dirty:")]).ok()?;
     for place in 0..net.len() {
         write_if_dirty(text, carried, net, place)?;
     }
@@ -73,19 +72,23 @@ fn write_of(
         None => carried.is_kept(net, node),
         Some(standing) => carried.unchanged(net, node, &Everywhere { standing }),
     };
-    write!(text, " {holds}").ok()
+    text.push_str(if holds { " yes" } else { " no" }).ok()
+}
+
+// The same of a node by its base and its duty of one leg.
+fn write_named(text: &mut String, carried: &Carried, net: &Net, words: [&str; 3]) -> Option<()> {
+    let [call, base, flight] = words;
+    let standing = standing_of(call)?;
+    let node = node_of(base, flight)?;
+    write_of(text, carried, net, &node, standing)
 }
 
 // Writes what a call asks for.
 fn write_as(text: &mut String, carried: &Carried, net: &Net, words: &[&str]) -> Option<()> {
     match *words {
         ["dirty"] => write_dirty(text, carried, net),
-        ["next", from] => { write_place(text, carried.next_dirty(net, count_of(from)?)).ok() }
-        [call, base, flight] => {
-            let standing = standing_of(call)?;
-            let node = node_of(base, flight)?;
-            write_of(text, carried, net, &node, standing)
-        }
+        ["next", from] => write_place(text, carried.next_dirty(net, count_of(from)?)).ok(),
+        [call, base, flight] => write_named(text, carried, net, [call, base, flight]),
         _ => None,
     }
 }

@@ -4,14 +4,13 @@ ghost use Rattle.crew_pairing.specs.Duties.{AreDuties};
 ghost use Rattle.crew_rules.specs.Settings.{IsChecked};
 
 use crate::desk::Desk;
-use crate::texts::{write_code, write_key};
+use crate::texts::{write_code, write_counts, write_key, write_number};
 use crate::words::count_of;
 use crew_duty::{DutyFault, list_duties, list_next};
 use crew_flights::Timetable;
 use crew_pairing::{Duties, Duty};
 use crew_rules::Settings;
 use std::alloc::AllocError;
-use std::fmt::Write;
 use std::thread::Threads;
 
 // Writes a duty with all its facts, and begins another line.
@@ -20,9 +19,10 @@ fn write_duty(text: &mut String, duty: &Duty) -> Result<(), AllocError> {
     write_code(text, duty.from)?;
     write_code(text, duty.to)?;
     for number in [duty.report, duty.release, duty.fdp, duty.fly, duty.pay] {
-        write!(text, " {number}")?;
+        write_number(text, i64::from(number))?;
     }
-    write!(text, " {}\n=", duty.price)
+    write_number(text, duty.price)?;
+    text.push_str("\n=")
 }
 
 // Writes so many of the first duties, and how many there are.
@@ -33,7 +33,7 @@ fn write_duties(text: &mut String, duties: &Duties, most: usize) -> Result<(), A
     if duties.is_empty() {
         return text.push_str(" no duties");
     }
-    write!(text, " {} duties", duties.len())
+    write_counts(text, &[(duties.len(), "duties")])
 }
 
 // Writes that there are too many duties; `None` where there is no memory.
@@ -52,16 +52,22 @@ fn is_same(duty: &Duty, other: &Duty) -> bool {
     ends & times & minutes & (duty.pay == other.pay) & (duty.price == other.price)
 }
 
-// How duties are beside others.
-fn likeness(duties: &Duties, others: &Duties) -> &'static str {
-    let pairs = duties.as_slice().iter().zip(others.as_slice());
-    if duties.len() == others.len()
-        && pairs.filter(|(duty, other)| !is_same(duty, other)).count() == 0
-    {
-        "\n= as listed anew"
-    } else {
-        "\n= not as listed anew"
+// Whether there are the same duties in both lists.
+fn are_same(duties: &Duties, others: &Duties) -> bool {
+    for (duty, other) in duties.as_slice().iter().zip(others.as_slice()) {
+        if !is_same(duty, other) {
+            return false;
+        }
     }
+    duties.len() == others.len()
+}
+
+// Writes whether duties are just those listed anew.
+fn write_likeness(text: &mut String, duties: &Duties, anew: &Duties) -> Option<()> {
+    if are_same(duties, anew) {
+        return text.push_str("\n= as listed anew").ok();
+    }
+    text.push_str("\n= not as listed anew").ok()
 }
 
 // Writes so many of some duties, how many there are, and whether they are just those listed anew.
@@ -77,7 +83,7 @@ fn compare<R: Threads + Sync + AllocGlobal>(
 {
     write_duties(text, duties, most).ok()?;
     match list_duties(rt, rt.alloc(), settings, timetable) {
-        Ok(anew) => text.push_str(likeness(duties, &anew)).ok(),
+        Ok(anew) => write_likeness(text, duties, &anew),
         Err(_) => None,
     }
 }

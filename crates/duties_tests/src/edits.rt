@@ -23,30 +23,55 @@ fn retime_of(settings: &Settings, words: &[&str]) -> Option<Edit> {
     let [id, from, dep, arr] = *words else {
         return None;
     };
-    let dep = instant_of(dep)?;
+    let read = (
+        flight_id(id),
+        code_of(from),
+        instant_of(dep),
+        instant_of(arr),
+    );
+    let (Some(id), Some(from), Some(dep), Some(arr)) = read else {
+        return None;
+    };
+    let report_clock = report_clock(settings, dep)?;
     Some(Edit::Retime {
-        id: flight_id(id)?,
-        from: code_of(from)?,
+        id,
+        from,
         dep,
-        arr: instant_of(arr)?,
-        report_clock: report_clock(settings, dep)?,
+        arr,
+        report_clock,
     })
 }
 
-fn flight_of(settings: &Settings, words: &[&str]) -> Option<Flight> {
-    let [id, from, to, dep, arr, price] = *words else {
+// The airports and the times of a flight.
+fn trip_of(words: &[&str]) -> Option<(Code, Code, Minute, Minute)> {
+    let [from, to, dep, arr] = *words else {
         return None;
     };
-    let dep = instant_of(dep)?;
-    Some(Flight {
-        id: flight_id(id)?,
-        from: code_of(from)?,
-        to: code_of(to)?,
+    let read = (code_of(from), code_of(to), instant_of(dep), instant_of(arr));
+    let (Some(from), Some(to), Some(dep), Some(arr)) = read else {
+        return None;
+    };
+    Some((from, to, dep, arr))
+}
+
+fn flight_of(settings: &Settings, words: &[&str]) -> Option<Edit> {
+    let [id, ref trip @ .., price] = *words else {
+        return None;
+    };
+    let (Some(id), Some(price)) = (flight_id(id), points_of(price)) else {
+        return None;
+    };
+    let (from, to, dep, arr) = trip_of(trip)?;
+    let report_clock = report_clock(settings, dep)?;
+    Some(Edit::AddFlight(Flight {
+        id,
+        from,
+        to,
         dep,
-        arr: instant_of(arr)?,
-        report_clock: report_clock(settings, dep)?,
-        price: points_of(price)?,
-    })
+        arr,
+        report_clock,
+        price,
+    }))
 }
 
 // A base, or another price for one.
@@ -59,21 +84,32 @@ fn base_of(record: &str, code: Code, price: i64) -> Option<Edit> {
 }
 
 // What a record of a price says.
-fn priced(record: &str, whose: &str, price: i64) -> Option<Edit> {
+fn price_of(record: &str, words: &[&str]) -> Option<Edit> {
+    let [whose, price] = *words else {
+        return None;
+    };
+    let price = points_of(price)?;
     match flight_id(whose) {
         Some(id) if record == "price" => Some(Edit::Price { id, price }),
         _ => base_of(record, code_of(whose)?, price),
     }
 }
 
+fn cancel_of(words: &[&str]) -> Option<Edit> {
+    let [id] = *words else {
+        return None;
+    };
+    Some(Edit::Cancel(flight_id(id)?))
+}
+
 // What a record says.
 fn edit_of(settings: &Settings, words: &[&str]) -> Option<Edit> {
-    match *words {
-        ["flight", ref flight @ ..] => flight_of(settings, flight).map(Edit::AddFlight),
-        ["retime", ref times @ ..] => retime_of(settings, times),
-        ["cancel", id] => flight_id(id).map(Edit::Cancel),
-        [record, whose, price] => priced(record, whose, points_of(price)?),
-        _ => None,
+    let (record, others) = words.split_first()?;
+    match *record {
+        "flight" => flight_of(settings, others),
+        "retime" => retime_of(settings, others),
+        "cancel" => cancel_of(others),
+        record => price_of(record, others),
     }
 }
 

@@ -45,7 +45,7 @@ fn ask<R: Threads + Sync + AllocGlobal>(
     }
 }
 
-// Takes in a line: a record, or what else changes the desk, or else a call.
+// Takes in a line that is no record: what else changes the desk, or else a call.
 fn answer<R: Threads + Sync + AllocGlobal>(
     rt: &R,
     desk: &mut Desk,
@@ -57,16 +57,16 @@ fn answer<R: Threads + Sync + AllocGlobal>(
         "settings" => desk.set(others),
         "timetable" => desk.turn(rt.alloc(), others),
         "slots" => slots::make(rt, desk, others),
-        "duties" | "audit" | "net" | "carry" | "slot" => {
+        _ => {
             text.push('=').ok()?;
             ask(rt, desk, words, text)?;
             text.push('\n').ok()
         }
-        _ => edits::take(desk, words),
     }
 }
 
-// Writes a line, and under it what it comes to; `None` where that can't be told.
+// Writes a line, and under it what it comes to; `None` where that can't be told. A record has a
+// comma, and nothing else has.
 fn take_line<R: Threads + Sync + AllocGlobal>(
     rt: &R,
     desk: &mut Desk,
@@ -78,6 +78,9 @@ fn take_line<R: Threads + Sync + AllocGlobal>(
         return Some(());
     }
     let words: Vec<&str> = line.split([' ', ',']).collect(rt.alloc()).ok()?;
+    if line.contains(',') {
+        return edits::take(desk, &words);
+    }
     answer(rt, desk, &words, text)
 }
 

@@ -4,7 +4,7 @@ ghost use Rattle.std.specs.Prelude.{◌≡◌, IfSome};
 ghost use Rattle.crew_dirty.specs.Dirty.{IsNetOver};
 
 use crate::desk::Desk;
-use crate::texts::{write_node, write_place, write_ranks};
+use crate::texts::{write_counts, write_node, write_place, write_ranks};
 use crate::words::{count_of, node_of};
 use crew_duty::list_duties;
 use crew_flights::Timetable;
@@ -33,12 +33,14 @@ pub fn net_over<R: Threads + Sync + AllocGlobal>(
 }
 
 fn write_sizes(text: &mut String, net: &Net) -> Result<(), AllocError> {
-    let bases = net.bases().len();
-    let duties = net.duties().len();
-    let departures = net.departures().len();
-    let arrivals = net.arrivals().len();
-    write!(text, " {bases} bases {duties} duties {} nodes", net.len())?;
-    write!(text, " {departures} departures {arrivals} arrivals")
+    let sizes = [
+        (net.bases().len(), "bases"),
+        (net.duties().len(), "duties"),
+        (net.len(), "nodes"),
+        (net.departures().len(), "departures"),
+        (net.arrivals().len(), "arrivals"),
+    ];
+    write_counts(text, &sizes)
 }
 
 // Writes the node at a place.
@@ -47,10 +49,10 @@ fn write_node_at(text: &mut String, net: &Net, place: usize) -> Option<()> {
     write_node(text, node.as_ref()).ok()
 }
 
-// Writes the nodes at these places.
-fn write_nodes(text: &mut String, net: &Net, places: &[&str]) -> Option<()> {
-    for place in places {
-        write_node_at(text, net, count_of(*place)?)?;
+// Writes all nodes.
+fn write_nodes(text: &mut String, net: &Net) -> Option<()> {
+    for place in 0..net.len() {
+        write_node_at(text, net, place)?;
     }
     Some(())
 }
@@ -99,9 +101,20 @@ fn write_worked(text: &mut String, worked: Result<Vec<u32>, AllocError>) -> Opti
 fn write_whole(alloc: Global, text: &mut String, net: &Net, call: &str) -> Option<()> {
     match call {
         "sizes" => write_sizes(text, net).ok(),
+        "nodes" => write_nodes(text, net),
         "by-report" => write_ranks(text, net.by_report()).ok(),
         "places" => write_worked(text, arrival_places(alloc, net)),
         "layers" => write_worked(text, net.layers(alloc)),
+        _ => None,
+    }
+}
+
+// Writes what is at a place.
+fn write_at(text: &mut String, net: &Net, call: &str, place: usize) -> Option<()> {
+    match call {
+        "node" => write_node_at(text, net, place),
+        "departure" => write_departure(text, net, place),
+        "arrival" => write_arrival(text, net, place),
         _ => None,
     }
 }
@@ -115,17 +128,19 @@ fn write_of(alloc: Global, text: &mut String, net: &Net, call: &str, node: &Node
     }
 }
 
+// The same of a node by its base and its duty of one leg.
+fn write_named(alloc: Global, text: &mut String, net: &Net, words: [&str; 3]) -> Option<()> {
+    let [call, base, flight] = words;
+    let node = node_of(base, flight)?;
+    write_of(alloc, text, net, call, &node)
+}
+
 // Writes what a call asks for.
 fn write_as(alloc: Global, text: &mut String, net: &Net, words: &[&str]) -> Option<()> {
     match *words {
         [call] => write_whole(alloc, text, net, call),
-        ["nodes", ref places @ ..] => write_nodes(text, net, places),
-        ["departure", place] => write_departure(text, net, count_of(place)?),
-        ["arrival", place] => write_arrival(text, net, count_of(place)?),
-        [call, base, flight] => {
-            let node = node_of(base, flight)?;
-            write_of(alloc, text, net, call, &node)
-        }
+        [call, place] => write_at(text, net, call, count_of(place)?),
+        [call, base, flight] => write_named(alloc, text, net, [call, base, flight]),
         _ => None,
     }
 }

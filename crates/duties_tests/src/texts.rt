@@ -23,6 +23,19 @@ pub fn write_place(text: &mut String, place: Option<usize>) -> Result<(), AllocE
     }
 }
 
+/// Writes counts, each before its name.
+pub fn write_counts(text: &mut String, counts: &[(usize, &str)]) -> Result<(), AllocError> {
+    for (count, name) in counts {
+        write!(text, " {count} {name}")?;
+    }
+    Ok(())
+}
+
+/// Writes a number of points or minutes.
+pub fn write_number(text: &mut String, number: i64) -> Result<(), AllocError> {
+    write!(text, " {number}")
+}
+
 /// Writes numbers, or `none`.
 pub fn write_ranks(text: &mut String, ranks: &[u32]) -> Result<(), AllocError> {
     if ranks.is_empty() {
