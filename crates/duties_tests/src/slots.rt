@@ -2,7 +2,7 @@
 
 use crate::desk::Desk;
 use crate::nets::net_over;
-use crate::texts::{write_node, write_place};
+use crate::texts::{write_counts, write_node, write_place};
 use crate::words::{count_of, node_of};
 use crew_net::Net;
 use crew_slots::Slots;
@@ -17,17 +17,33 @@ fn write_one(text: &mut String, slots: &Slots, base: &str, flight: &str) -> Opti
 }
 
 // Writes the slots at a base of duties of one leg each.
-fn write_slots(text: &mut String, slots: &Slots, base: &str, flights: &[&str]) -> Option<()> {
+fn write_slots(text: &mut String, slots: &Slots, words: &[&str]) -> Option<()> {
+    let (base, flights) = words.split_first()?;
     for flight in flights {
-        write_one(text, slots, base, *flight)?;
+        write_one(text, slots, *base, *flight)?;
     }
     Some(())
 }
 
 // Writes the node of a slot.
-fn write_slot(text: &mut String, slots: &Slots, slot: usize) -> Option<()> {
-    let node = slots.node_at(slot);
+fn write_node_at(text: &mut String, slots: &Slots, words: &[&str]) -> Option<()> {
+    let [slot] = *words else {
+        return None;
+    };
+    let node = slots.node_at(count_of(slot)?);
     write_node(text, node.as_ref()).ok()
+}
+
+// Writes what a call asks for.
+fn write_as(text: &mut String, slots: &Slots, words: &[&str]) -> Option<()> {
+    let (call, others) = words.split_first()?;
+    match *call {
+        "bound" => write_counts(text, &[(slots.bound(), "slots")]).ok(),
+        "bases" => write_counts(text, &[(slots.net().bases().len(), "bases")]).ok(),
+        "at" => write_node_at(text, slots, others),
+        "of" => write_slots(text, slots, others),
+        _ => None,
+    }
 }
 
 // Slots of a network after the last ones, or with none before them.
@@ -59,11 +75,5 @@ pub fn make<R: Threads + Sync + AllocGlobal>(
 pub fn answer(desk: &Desk, words: &[&str], text: &mut String) -> Option<()> {
     let (number, others) = words.split_first()?;
     let slots = desk.slots.get(count_of(*number)?)?;
-    match *others {
-        ["bound"] => write_place(text, Some(slots.bound())).ok(),
-        ["bases"] => write_place(text, Some(slots.net().bases().len())).ok(),
-        ["at", slot] => write_slot(text, slots, count_of(slot)?),
-        ["of", base, ref flights @ ..] => write_slots(text, slots, base, flights),
-        _ => None,
-    }
+    write_as(text, slots, others)
 }
