@@ -1,11 +1,12 @@
 //! Worked examples of legal duties, of audits, of the network, of slots and of what an edit leaves
 //! standing: what no clause of theirs says.
 //!
-//! Each line of standard input is a record of a timetable, or a call. It is written again, and under
-//! it, behind `=`, what the call answered; a line that begins with `#` says what follows is about.
-//! So the stored run is the test: `stdin` has the examples, and `stdout` what they have to come to,
-//! which was worked out without the program. A line that can't be read, a record that is refused and
-//! want of memory end the run with an error.
+//! Each line of standard input is a record of a timetable, or a call. It is written again, and
+//! behind `=` what the call answered; a line that begins with `#` says what follows is about. So
+//! the stored run is the test: `stdin` has the examples, and `stdout` what they have to come to,
+//! which was worked out without the program. The gate compares what is written with it, and
+//! `rt try < stdin` in this crate's folder shows it. A line that can't be read, a record that is
+//! refused and want of memory end the run with an error.
 //!
 //! Helpers have no clause: what they give is what the run shows, and nothing else calls them.
 #![tactic(auto)]
