@@ -1,326 +1,167 @@
-use crate::rows::{Row, apply, clock_at, ends, instant, timetable_of, with_a_deadhead, write_key};
-use crew_duty::{DutyFault, list_duties};
-use crew_flights::{Edit, Flight, FlightId, Timetable};
+//! Calls of legal duties.
+
+ghost use Rattle.crew_pairing.specs.Duties.{AreDuties};
+ghost use Rattle.crew_rules.specs.Settings.{IsChecked};
+
+use crate::desk::Desk;
+use crate::texts::{write_code, write_counts, write_key, write_number};
+use crate::words::count_of;
+use crew_duty::{DutyFault, list_duties, list_next};
+use crew_flights::Timetable;
 use crew_pairing::{Duties, Duty};
 use crew_rules::Settings;
-use crew_time::Minute;
-use std::process::Abort;
+use std::alloc::AllocError;
 use std::thread::Threads;
 
-/// The legal duties; `None` where the settings are out of range.
-pub fn listed<R: Threads + Sync + AllocGlobal>(
-    rt: &R,
-    settings: &Settings,
-    timetable: &Timetable,
-) -> Option<Result<Duties, DutyFault>> {
-    settings.check().ok()?;
-    Some(list_duties(rt, rt.alloc(), settings, timetable))
-}
-
-/// The legal duties, of which there are not too many.
-pub fn duties_of<R: Abort + Threads + Sync + AllocGlobal>(
-    rt: &R,
-    settings: &Settings,
-    timetable: &Timetable,
-) -> Duties {
-    let Some(Ok(duties)) = listed(rt, settings, timetable) else {
-        panic!(rt; "no duties");
-    };
-    duties
-}
-
-// Writes the keys of duties, one a line.
-fn write_keys(text: &mut String, duties: &Duties) -> Option<()> {
-    for duty in duties.as_slice() {
-        write_key(text, &duty.key)?;
-        text.push('\n').ok()?;
+// Writes a duty with all its facts, and begins another line.
+fn write_duty(text: &mut String, duty: &Duty) -> Result<(), AllocError> {
+    write_key(text, ' ', &duty.key)?;
+    write_code(text, duty.from)?;
+    write_code(text, duty.to)?;
+    for number in [duty.report, duty.release, duty.fdp, duty.fly, duty.pay] {
+        write_number(text, i64::from(number))?;
     }
-    Some(())
+    write_number(text, duty.price)?;
+    text.push_str("\n=")
 }
 
-// The settings of a case: the standard ones, or these with another sit or number of deadheads.
-#[derive(Clone, Copy)]
-enum Rules {
-    Standard,
-    LongSit,
-    Deadhead,
+// Writes so many of the first duties, and how many there are.
+fn write_duties(text: &mut String, duties: &Duties, most: usize) -> Result<(), AllocError> {
+    for duty in duties.as_slice().iter().take(most) {
+        write_duty(text, duty)?;
+    }
+    if duties.is_empty() {
+        return text.push_str(" no duties");
+    }
+    write_counts(text, &[(duties.len(), "duties")])
 }
 
-fn with_a_long_sit() -> Settings {
-    let mut settings = Settings::standard();
-    settings.sit = 300;
-    settings
-}
-
-fn settings_of(rules: &Rules) -> Settings {
-    match rules {
-        Rules::Standard => Settings::standard(),
-        Rules::LongSit => with_a_long_sit(),
-        Rules::Deadhead => with_a_deadhead(),
+// Writes that there are too many duties; `None` where there is no memory.
+fn write_fault(text: &mut String, fault: DutyFault) -> Option<()> {
+    match fault {
+        DutyFault::TooManyDuties => text.push_str(" too many duties").ok(),
+        DutyFault::Memory => None,
     }
 }
 
-const FIRST: Row = (
-    101,
-    b"JFK",
-    b"BOS",
-    "2025-07-01T12:00",
-    "2025-07-01T13:10",
-    3000,
-);
-
-const SECOND: Row = (
-    102,
-    b"BOS",
-    b"JFK",
-    "2025-07-01T14:00",
-    "2025-07-01T15:15",
-    2000,
-);
-
-// Flights, and the keys of their legal duties, one a line.
-struct Case {
-    rules: Rules,
-    rows: &'static [Row],
-    keys: &'static str,
+// Whether a duty has all the facts of another.
+fn is_same(duty: &Duty, other: &Duty) -> bool {
+    let ends = (duty.from == other.from) & (duty.to == other.to) & (duty.key == other.key);
+    let times = (duty.report == other.report) & (duty.release == other.release);
+    let minutes = (duty.fdp == other.fdp) & (duty.fly == other.fly);
+    ends & times & minutes & (duty.pay == other.pay) & (duty.price == other.price)
 }
 
-static CASES: [Case; 6] = [
-    Case {
-        rules: Rules::Standard,
-        rows: &[FIRST, SECOND],
-        keys: "101\n101-102\n102\n",
-    },
-    // Report at 04:59 and at 05:00, both with 500 flight minutes.
-    Case {
-        rules: Rules::Standard,
-        rows: &[
-            (
-                201,
-                b"JFK",
-                b"BOS",
-                "2025-07-01T09:59",
-                "2025-07-01T18:19",
-                0,
-            ),
-            (
-                202,
-                b"JFK",
-                b"BOS",
-                "2025-07-01T10:00",
-                "2025-07-01T18:20",
-                0,
-            ),
-        ],
-        keys: "202\n",
-    },
-    // Two legs from 07:00, 14 hours and a minute more.
-    Case {
-        rules: Rules::LongSit,
-        rows: &[
-            (
-                301,
-                b"JFK",
-                b"BOS",
-                "2025-07-01T12:00",
-                "2025-07-01T16:00",
-                0,
-            ),
-            (
-                302,
-                b"BOS",
-                b"JFK",
-                "2025-07-01T21:00",
-                "2025-07-02T01:00",
-                0,
-            ),
-            (
-                303,
-                b"BOS",
-                b"JFK",
-                "2025-07-01T21:00",
-                "2025-07-02T01:01",
-                0,
-            ),
-        ],
-        keys: "301\n301-302\n302\n303\n",
-    },
-    Case {
-        rules: Rules::Deadhead,
-        rows: &[FIRST, SECOND],
-        keys: "101\n101-102\n101d-102\n102\n",
-    },
-    Case {
-        rules: Rules::Deadhead,
-        rows: &[
-            (
-                911,
-                b"JFK",
-                b"BOS",
-                "2025-07-01T12:00",
-                "2025-07-01T17:00",
-                0,
-            ),
-            (
-                912,
-                b"BOS",
-                b"JFK",
-                "2025-07-01T17:40",
-                "2025-07-01T22:40",
-                0,
-            ),
-        ],
-        keys: "911\n911d-912\n912\n",
-    },
-    // Numbers are compared, not their texts.
-    Case {
-        rules: Rules::Standard,
-        rows: &[
-            (
-                1000,
-                b"JFK",
-                b"BOS",
-                "2025-07-01T12:00",
-                "2025-07-01T13:00",
-                0,
-            ),
-            (
-                999,
-                b"JFK",
-                b"BOS",
-                "2025-07-01T12:00",
-                "2025-07-01T13:00",
-                0,
-            ),
-        ],
-        keys: "999\n1000\n",
-    },
-];
-
-fn check_keys<R: Abort + Threads + Sync + AllocGlobal>(rt: &R, case: &Case) {
-    let settings = settings_of(&case.rules);
-    let timetable = timetable_of(rt, &settings, &[], case.rows);
-    let duties = duties_of(rt, &settings, &timetable);
-    let mut text = String::new(rt.alloc());
-    let written = write_keys(&mut text, &duties);
-    assert!(rt; written.is_some());
-    assert_eq!(rt; text.as_str(), case.keys);
-}
-
-#[test]
-fn lists_legal_duties(rt: HostRuntime) {
-    for case in &CASES {
-        check_keys(&rt, case);
-    }
-}
-
-// Flight duty minutes, flight minutes, pay and price.
-type Facts = (i32, i32, i32, i64);
-
-static FACTS: [Facts; 3] = [
-    (130, 70, 2520, 3000),
-    (255, 145, 2520, 5000),
-    (255, 75, 2520, 2000),
-];
-
-fn has_facts(duty: &Duty, report: i64, facts: &Facts) -> bool {
-    let (fdp, fly, pay, price) = *facts;
-    let minutes = (i64::from(duty.report) == report) & (duty.fdp == fdp) & (duty.fly == fly);
-    minutes & (duty.pay == pay) & (duty.price == price)
-}
-
-// Whether the duty at a place has a report and facts.
-fn is_at(duties: &Duties, place: usize, report: i64, facts: &Facts) -> bool {
-    match duties.as_slice().get(place) {
-        Some(duty) => has_facts(duty, report, facts),
-        None => false,
-    }
-}
-
-// Whether the first duties have these facts, and a report at 11:00 UTC.
-fn begin_with(duties: &Duties, wants: &[Facts]) -> bool {
-    let Some(report) = instant("2025-07-01T11:00") else {
-        return false;
-    };
-    let mut place: usize = 0;
-    for want in wants {
-        if !is_at(duties, place, report.get(), want) {
+// Whether there are the same duties in both lists.
+fn are_same(duties: &Duties, others: &Duties) -> bool {
+    for (duty, other) in duties.as_slice().iter().zip(others.as_slice()) {
+        if !is_same(duty, other) {
             return false;
         }
-        place = place.saturating_add(1);
     }
-    true
+    duties.len() == others.len()
 }
 
-// By key.
-#[test]
-fn facts_of_a_duty(rt: HostRuntime) {
-    let settings = with_a_deadhead();
-    let timetable = timetable_of(&rt, &settings, &[], &[FIRST, SECOND]);
-    let duties = duties_of(&rt, &settings, &timetable);
-    assert!(rt; duties.len() == 4);
-    assert!(rt; begin_with(&duties, &FACTS));
-    assert!(rt; !duties.is_empty());
-}
-
-// A flight of a half hour from the k-th half hour after the first report, out and back by turns.
-fn wave_flight(k: u8, copy: u8) -> Option<Flight> {
-    let start = instant("2025-07-01T11:00")?.get() + 30 * i64::from(k);
-    let dep = Minute::new(start)?;
-    let (from, to) = ends(k % 2 == 0)?;
-    Some(Flight {
-        id: FlightId::new(1 + 6 * u32::from(k) + u32::from(copy))?,
-        from,
-        to,
-        dep,
-        arr: Minute::new(start + 30)?,
-        report_clock: clock_at(dep)?,
-        price: 0,
-    })
-}
-
-// Six flights every half hour.
-fn add_waves(timetable: &mut Timetable) -> Option<()> {
-    for k in 0..8u8 {
-        for copy in 0..6u8 {
-            apply(timetable, &Edit::AddFlight(wave_flight(k, copy)?))?;
-        }
+// Writes whether duties are just those listed anew.
+fn write_likeness(text: &mut String, duties: &Duties, anew: &Duties) -> Option<()> {
+    if are_same(duties, anew) {
+        return text.push_str("\n= as listed anew").ok();
     }
-    Some(())
+    text.push_str("\n= not as listed anew").ok()
 }
 
-fn cancel_half(timetable: &mut Timetable) -> Option<()> {
-    for id in 1..=24u32 {
-        apply(timetable, &Edit::Cancel(FlightId::new(id)?))?;
-    }
-    Some(())
-}
-
-// Whether there are too many legal duties.
-fn are_too_many<R: Threads + Sync + AllocGlobal>(
+// Writes so many of some duties, how many there are, and whether they are just those listed anew.
+fn compare<R: Threads + Sync + AllocGlobal>(
     rt: &R,
     settings: &Settings,
     timetable: &Timetable,
-) -> bool {
-    matches!(
-        listed(rt, settings, timetable),
-        Some(Err(DutyFault::TooManyDuties))
-    )
+    duties: &Duties,
+    most: usize,
+    text: &mut String,
+) -> Option<()>
+    requires { IsChecked settings.now }
+{
+    write_duties(text, duties, most).ok()?;
+    match list_duties(rt, rt.alloc(), settings, timetable) {
+        Ok(anew) => write_likeness(text, duties, &anew),
+        Err(_) => None,
+    }
 }
 
-#[test]
-fn too_many_duties(rt: HostRuntime) {
-    let settings = Settings {
-        lead: 0,
-        connect: 0,
-        sit: 0,
-        ..Settings::standard()
+// The legal duties beside those of an earlier timetable.
+fn list_beside<R: Threads + Sync + AllocGlobal>(
+    rt: &R,
+    settings: &Settings,
+    earlier: &Timetable,
+    before: &Duties,
+    timetable: &Timetable,
+    most: usize,
+    text: &mut String,
+) -> Option<()>
+    requires checked { IsChecked settings.now }
+    requires earlier { AreDuties settings.now earlier.now before.now }
+{
+    match list_next(rt, rt.alloc(), settings, earlier, before, timetable) {
+        Ok(duties) => compare(rt, settings, timetable, &duties, most, text),
+        Err(fault) => write_fault(text, fault),
+    }
+}
+
+// The same, where those of the earlier timetable can be listed.
+fn beside<R: Threads + Sync + AllocGlobal>(
+    rt: &R,
+    settings: &Settings,
+    earlier: &Timetable,
+    timetable: &Timetable,
+    most: usize,
+    text: &mut String,
+) -> Option<()>
+    requires { IsChecked settings.now }
+{
+    match list_duties(rt, rt.alloc(), settings, earlier) {
+        Ok(before) => list_beside(rt, settings, earlier, &before, timetable, most, text),
+        Err(_) => None,
+    }
+}
+
+// The legal duties.
+fn list<R: Threads + Sync + AllocGlobal>(
+    rt: &R,
+    settings: &Settings,
+    timetable: &Timetable,
+    most: usize,
+    text: &mut String,
+) -> Option<()>
+    requires { IsChecked settings.now }
+{
+    match list_duties(rt, rt.alloc(), settings, timetable) {
+        Ok(duties) => write_duties(text, &duties, most).ok(),
+        Err(fault) => write_fault(text, fault),
+    }
+}
+
+/// Answers a call of duties.
+pub fn answer<R: Threads + Sync + AllocGlobal>(
+    rt: &R,
+    desk: &Desk,
+    words: &[&str],
+    text: &mut String,
+) -> Option<()> {
+    let [call, most] = *words else {
+        return None;
     };
-    let mut timetable = Timetable::new(rt.alloc());
-    let added = add_waves(&mut timetable);
-    assert!(rt; added.is_some());
-    assert!(rt; are_too_many(&rt, &settings, &timetable));
-    let cancelled = cancel_half(&mut timetable);
-    assert!(rt; cancelled.is_some());
-    assert!(rt; duties_of(&rt, &settings, &timetable).len() == 1_860);
+    let most = count_of(most)?;
+    desk.settings.check().ok()?;
+    match call {
+        "listed" => list(rt, &desk.settings, &desk.timetable, most, text),
+        "beside" => beside(
+            rt,
+            &desk.settings,
+            &desk.earlier,
+            &desk.timetable,
+            most,
+            text,
+        ),
+        _ => None,
+    }
 }
