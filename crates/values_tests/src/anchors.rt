@@ -1,12 +1,16 @@
+//! Vectors as of a common instant, shown at releases.
 ghost use Rattle.crew_pairing.specs.Events.{IsSound, MayFollow, arrival_of, departure_of};
 ghost use Rattle.crew_rules.specs.Settings.{IsChecked};
 
-use crate::trips::{airport, flown, vector};
+use crate::call::{Call, small};
+use crate::duties::flown;
+use crate::show::put_vector;
 use crew_anchor::AnchoredResource;
+use crew_flights::Code;
 use crew_pairing::{Duty, PairingVector};
 use crew_resource::{extend_staged, start_staged};
 use crew_rules::Settings;
-use std::test::Fail;
+use std::alloc::AllocError;
 
 // The vectors after each of two duties, shown at their releases.
 fn shown_after_each(
@@ -28,9 +32,14 @@ fn shown_after_each(
 }
 
 // Out at 2025-07-01T14:00 and on at 2025-07-02T12:00, at prices of 3,000 and 500.
-fn two_duties(settings: &Settings) -> Result<Option<(PairingVector, PairingVector)>, Fail> {
-    settings.check()?;
-    let (home, away, on) = (airport(*b"JFK")?, airport(*b"BOS")?, airport(*b"ORD")?);
+fn two_duties(settings: &Settings) -> Option<(PairingVector, PairingVector)>
+    requires { IsChecked settings.now }
+{
+    let (home, away, on) = (
+        Code::new(*b"JFK")?,
+        Code::new(*b"BOS")?,
+        Code::new(*b"ORD")?,
+    );
     let first = Duty {
         price: 3_000,
         ..flown(1, (home, away), (29_189_580, 29_189_740), (130, 70))?
@@ -39,29 +48,25 @@ fn two_duties(settings: &Settings) -> Result<Option<(PairingVector, PairingVecto
         price: 500,
         ..flown(1, (away, on), (29_190_900, 29_191_050), (120, 60))?
     };
-    Ok(shown_after_each(settings, &first, &second))
+    shown_after_each(settings, &first, &second)
 }
 
-#[test]
-fn shown_vectors_of_two_duties(rt: HostRuntime) -> Result<(), Fail> {
-    let (one, two) = two_duties(&Settings::standard())?.ok_or("no value")?;
-    assert!(rt; one == vector([-500, -2_380, 1_180, 130, 70, 1, 160]));
-    assert!(rt; two == vector([1_520, 2_360, 4_880, 250, 130, 2, 1_470]));
-    Ok(())
-}
-
-#[test]
-fn minutes_away_are_capped_at_the_release(rt: HostRuntime) -> Result<(), Fail> {
-    let standard = Settings::standard();
-    let reached = Settings {
-        away_cap: 1_470,
-        ..standard
+/// The vectors after each of two duties, of a base whose price is 20, where so many minutes away are
+/// the most.
+pub fn anchored(call: &Call<'_>, out: &mut String) -> Result<(), AllocError> {
+    let settings = Settings {
+        away_cap: small(call.numbers[1]),
+        ..Settings::standard()
     };
-    assert!(rt; two_duties(&reached)?.is_some());
-    let passed = Settings {
-        away_cap: 1_469,
-        ..standard
-    };
-    assert!(rt; two_duties(&passed)?.is_none());
-    Ok(())
+    if settings.check().is_err() {
+        return write!(out, "out of range");
+    }
+    match two_duties(&settings) {
+        Some((one, two)) => {
+            put_vector(out, Some(one))?;
+            out.push_str("; ")?;
+            put_vector(out, Some(two))
+        }
+        None => write!(out, "none"),
+    }
 }

@@ -1,478 +1,224 @@
-use crew_flights::{
-    Code, Edit, Entry, Flight, FlightId, Folding, Refusal, Timetable, Verdict, fold,
-};
-use crew_time::{ClockMinute, Minute};
-use std::alloc::Global;
+//! Timetables, edits, and logs of them.
+use crate::call::{Call, call_of, code_of, small};
+use crew_flights::{Edit, Entry, Flight, FlightId, Folding, Timetable, Verdict, fold};
+use crew_time::{ClockMinute, Minute, read_minute};
+use std::alloc::{AllocError, Global};
 
-// An edit in plain data: codes as letters, and flights as their numbers.
-#[derive(Drop)]
-enum Asked {
-    AddBase { code: &'static [u8; 3], price: i64 },
-    BasePrice { code: &'static [u8; 3], price: i64 },
-    AddFlight(u32),
-    // Of flight 101, with the clock of its report at midnight.
-    Retime { from: &'static [u8; 3], arr: i64 },
-    Price { number: u32, price: i64 },
-    Cancel(u32),
-}
-
-// An edit, and what it is answered.
-#[derive(Drop)]
-struct Row {
-    name: &'static str,
-    asked: Asked,
-    verdict: Verdict,
-}
-
-// An entry, and what it is answered.
-#[derive(Drop)]
-struct Turn {
-    seat: u8,
-    number: u32,
-    row: Row,
-}
-
-// A flight of 90 minutes.
-fn flight(number: u32) -> Option<Flight> {
-    Some(Flight {
-        id: FlightId::new(number)?,
-        from: Code::new(*b"JFK")?,
-        to: Code::new(*b"BOS")?,
-        dep: Minute::new(29_200_000)?,
-        arr: Minute::new(29_200_090)?,
-        report_clock: ClockMinute::new(420)?,
-        price: 3_000,
-    })
-}
-
-fn retimed(from: [u8; 3], arr: i64) -> Option<Edit> {
-    Some(Edit::Retime {
-        id: FlightId::new(101)?,
-        from: Code::new(from)?,
-        dep: Minute::new(29_200_000)?,
-        arr: Minute::new(arr)?,
-        report_clock: ClockMinute::new(0)?,
-    })
-}
-
-fn base_added(code: [u8; 3], price: i64) -> Option<Edit> {
-    Some(Edit::AddBase {
-        code: Code::new(code)?,
-        price,
-    })
-}
-
-fn base_priced(code: [u8; 3], price: i64) -> Option<Edit> {
-    Some(Edit::BasePrice {
-        code: Code::new(code)?,
-        price,
-    })
-}
-
-fn priced(number: u32, price: i64) -> Option<Edit> {
-    Some(Edit::Price {
-        id: FlightId::new(number)?,
-        price,
-    })
-}
-
-fn edit_of(asked: &Asked) -> Option<Edit> {
-    match asked {
-        Asked::AddBase { code, price } => base_added(**code, *price),
-        Asked::BasePrice { code, price } => base_priced(**code, *price),
-        Asked::AddFlight(number) => Some(Edit::AddFlight(flight(*number)?)),
-        Asked::Retime { from, arr } => retimed(**from, *arr),
-        Asked::Price { number, price } => priced(*number, *price),
-        Asked::Cancel(number) => Some(Edit::Cancel(FlightId::new(*number)?)),
+/// The number of a flight, where it is one.
+pub fn number(call: &Call<'_>, out: &mut String) -> Result<(), AllocError> {
+    match FlightId::new(small(call.numbers[1])) {
+        Some(id) => write!(out, "{}", id.get()),
+        None => write!(out, "no number of a flight"),
     }
 }
 
-// What the timetable answers an edit.
-fn answer(timetable: &mut Timetable, edit: Option<Edit>) -> Option<Verdict> {
-    timetable.apply(&edit?).ok()
+/// The code of an airport, where it is one.
+pub fn code(call: &Call<'_>, out: &mut String) -> Result<(), AllocError> {
+    match code_of(call.text) {
+        Some(code) => write!(out, "{}", str::from_utf8(&code.get()).unwrap_or("no text")),
+        None => write!(out, "no code"),
+    }
 }
 
-// The name of the first row that the timetable answers otherwise.
-fn wrong(timetable: &mut Timetable, rows: &'static [Row]) -> Option<&'static str> {
-    for row in rows {
-        if answer(timetable, edit_of(&row.asked)) != Some(row.verdict) {
-            return Some(row.name);
+/// Whether one code comes before another.
+pub fn codes(call: &Call<'_>, out: &mut String) -> Result<(), AllocError> {
+    let rises = match (code_of(call.words[1]), code_of(call.words[2])) {
+        (Some(one), Some(other)) => one < other,
+        _ => false,
+    };
+    write!(out, "{rises}")
+}
+
+// The departure, the arrival and the clock at report of three words.
+fn times_of(dep: &str, arr: &str, clock: &str) -> Option<(Minute, Minute, ClockMinute)> {
+    let dep = read_minute(dep.as_bytes()).ok()?;
+    let arr = read_minute(arr.as_bytes()).ok()?;
+    Some((dep, arr, ClockMinute::new(clock.parse::<u16>().ok()?)?))
+}
+
+// The flight of a call: its number, airports, departure, arrival, clock at report and price.
+fn flight_of(call: &Call<'_>) -> Option<Flight> {
+    let [_, _, from, to, dep, arr, clock, ..] = call.words;
+    let (dep, arr, report_clock) = times_of(dep, arr, clock)?;
+    Some(Flight {
+        id: FlightId::new(small(call.numbers[1]))?,
+        from: code_of(from)?,
+        to: code_of(to)?,
+        dep,
+        arr,
+        report_clock,
+        price: call.numbers[7],
+    })
+}
+
+// Other times of a flight: its number, its airport, departure, arrival and clock at report.
+fn retimed(call: &Call<'_>) -> Option<Edit> {
+    let [_, _, from, dep, arr, clock, ..] = call.words;
+    let (dep, arr, report_clock) = times_of(dep, arr, clock)?;
+    Some(Edit::Retime {
+        id: FlightId::new(small(call.numbers[1]))?,
+        from: code_of(from)?,
+        dep,
+        arr,
+        report_clock,
+    })
+}
+
+// The edit of a call.
+fn edit_of(call: &Call<'_>) -> Option<Edit> {
+    let price = call.numbers[2];
+    let code = code_of(call.words[1]);
+    let id = FlightId::new(small(call.numbers[1]));
+    match (call.words[0], code, id) {
+        ("base", Some(code), _) => Some(Edit::AddBase { code, price }),
+        ("baseprice", Some(code), _) => Some(Edit::BasePrice { code, price }),
+        ("price", _, Some(id)) => Some(Edit::Price { id, price }),
+        ("cancel", _, Some(id)) => Some(Edit::Cancel(id)),
+        ("flight", _, _) => Some(Edit::AddFlight(flight_of(call)?)),
+        ("retime", _, _) => retimed(call),
+        _ => None,
+    }
+}
+
+fn put_verdict(out: &mut String, verdict: Verdict) -> Result<(), AllocError> {
+    match verdict {
+        Verdict::Accepted => write!(out, "accepted"),
+        Verdict::Refused(why) => write!(out, "refused {}: {why:?}", why.number()),
+    }
+}
+
+/// What a timetable answers an edit.
+pub fn apply(
+    timetable: &mut Timetable,
+    call: &Call<'_>,
+    out: &mut String,
+) -> Result<(), AllocError> {
+    match edit_of(call) {
+        Some(edit) => put_verdict(out, timetable.apply(&edit)?),
+        None => write!(out, "no edit"),
+    }
+}
+
+/// How many of the flights from number 1 to the call's are accepted, which are alike.
+pub fn apply_many(
+    timetable: &mut Timetable,
+    call: &Call<'_>,
+    out: &mut String,
+) -> Result<(), AllocError> {
+    let Some(flight) = flight_of(call) else {
+        return write!(out, "no flight");
+    };
+    let mut accepted = 0u32;
+    for number in 1..=flight.id.get() {
+        let id = FlightId::new(number).unwrap_or(flight.id);
+        if timetable.apply(&Edit::AddFlight(Flight { id, ..flight }))? == Verdict::Accepted {
+            accepted = accepted.saturating_add(1);
         }
     }
-    None
+    write!(out, "{accepted} accepted")
 }
 
-// Whether a flight arrives then and has that price.
-fn has_flight(timetable: &Timetable, number: u32, arr: i64, price: i64) -> Option<bool> {
-    let flight = timetable.flight(FlightId::new(number)?)?;
-    Some(flight.arr.get() == arr && flight.price == price)
-}
-
-fn has_base(timetable: &Timetable, code: [u8; 3], price: i64) -> Option<bool> {
-    Some(timetable.base_price(Code::new(code)?)? == price)
-}
-
-// How many flights it shows, and how many bases and their number.
-fn counts(timetable: &Timetable) -> (usize, usize, usize) {
-    (
+// How many flights and bases a timetable shows, and how many it says that there are.
+fn put_counts(out: &mut String, timetable: &Timetable) -> Result<(), AllocError> {
+    write!(
+        out,
+        "flights {} of {}, bases {} of {}",
         timetable.flights().count(),
+        timetable.flight_count(),
         timetable.bases().count(),
-        timetable.base_count(),
+        timetable.base_count()
     )
 }
 
-// Whether a copy shows a flight and its base still, once the timetable itself has cancelled it.
-fn copy_keeps(alloc: Global, timetable: &mut Timetable) -> Option<bool> {
-    let copied = timetable.copy(alloc).ok()?;
-    let cancelled = wrong(timetable, &CANCEL).is_none();
-    let (flights, bases, base_count) = counts(&copied);
-    Some(cancelled && flights == 1 && bases == base_count)
-}
-
-fn keeps_number(number: u32) -> Option<bool> {
-    Some(FlightId::new(number)?.get() == number)
-}
-
-fn keeps_letters(letters: [u8; 3]) -> Option<bool> {
-    Some(Code::new(letters)?.get() == letters)
-}
-
-fn comes_before(one: [u8; 3], other: [u8; 3]) -> Option<bool> {
-    Some(Code::new(one)? < Code::new(other)?)
-}
-
-fn holds(answer: Option<bool>) -> bool {
-    match answer {
-        Some(holds) => holds,
-        None => false,
+/// What a timetable has of a flight or a base, or how much of both.
+pub fn show(timetable: &Timetable, call: &Call<'_>, out: &mut String) -> Result<(), AllocError> {
+    let id = FlightId::new(small(call.numbers[1]));
+    let flight = id.and_then(|id| timetable.flight(id));
+    let base = code_of(call.words[1]).and_then(|code| timetable.base_price(code));
+    match (flight, base) {
+        (Some(flight), _) => write!(out, "arrives {}, price {}", flight.arr.get(), flight.price),
+        (None, Some(price)) => write!(out, "price {price}"),
+        (None, None) => put_counts(out, timetable),
     }
 }
 
-#[test]
-fn ranges(rt: HostRuntime) {
-    assert!(rt; keeps_number(0).is_none());
-    assert!(rt; keeps_number(1_000_000).is_none());
-    assert!(rt; holds(keeps_number(999_999)));
-    assert!(rt; Refusal::OutOfTurn.number() == 31);
+/// What a timetable answers an edit, and what a copy shows that was made before it.
+pub fn apply_beside_a_copy(
+    alloc: Global,
+    timetable: &mut Timetable,
+    call: &Call<'_>,
+    out: &mut String,
+) -> Result<(), AllocError> {
+    let copied = timetable.copy(alloc)?;
+    apply(timetable, &call_of(call.text), out)?;
+    out.push_str("; the copy: ")?;
+    put_counts(out, &copied)
 }
 
-#[test]
-fn letters(rt: HostRuntime) {
-    assert!(rt; keeps_letters(*b"JfK").is_none());
-    assert!(rt; keeps_letters(*b"J K").is_none());
-    assert!(rt; holds(keeps_letters(*b"JFK")));
-    assert!(rt; holds(comes_before(*b"AZZ", *b"BAA")));
-}
-
-static EDITS: [Row; 12] = [
-    Row {
-        name: "a base",
-        asked: Asked::AddBase {
-            code: b"JFK",
-            price: 5,
-        },
-        verdict: Verdict::Accepted,
-    },
-    Row {
-        name: "a base that is there",
-        asked: Asked::AddBase {
-            code: b"JFK",
-            price: 5,
-        },
-        verdict: Verdict::Refused(Refusal::BaseExists),
-    },
-    Row {
-        name: "a base's price",
-        asked: Asked::BasePrice {
-            code: b"JFK",
-            price: -7,
-        },
-        verdict: Verdict::Accepted,
-    },
-    Row {
-        name: "a price of no base",
-        asked: Asked::BasePrice {
-            code: b"BOS",
-            price: 1,
-        },
-        verdict: Verdict::Refused(Refusal::NoBase),
-    },
-    Row {
-        name: "a flight",
-        asked: Asked::AddFlight(101),
-        verdict: Verdict::Accepted,
-    },
-    Row {
-        name: "a flight that is there",
-        asked: Asked::AddFlight(101),
-        verdict: Verdict::Refused(Refusal::FlightExists),
-    },
-    Row {
-        name: "a minute more than a day",
-        asked: Asked::Retime {
-            from: b"JFK",
-            arr: 29_201_441,
-        },
-        verdict: Verdict::Refused(Refusal::BadTimes),
-    },
-    Row {
-        name: "from another airport",
-        asked: Asked::Retime {
-            from: b"BOS",
-            arr: 29_201_440,
-        },
-        verdict: Verdict::Refused(Refusal::WrongOrigin),
-    },
-    Row {
-        name: "a whole day",
-        asked: Asked::Retime {
-            from: b"JFK",
-            arr: 29_201_440,
-        },
-        verdict: Verdict::Accepted,
-    },
-    Row {
-        name: "a price past the greatest",
-        asked: Asked::Price {
-            number: 101,
-            price: 1_000_000_001,
-        },
-        verdict: Verdict::Refused(Refusal::PriceRange),
-    },
-    Row {
-        name: "the least price",
-        asked: Asked::Price {
-            number: 101,
-            price: -1_000_000_000,
-        },
-        verdict: Verdict::Accepted,
-    },
-    Row {
-        name: "a price of no flight",
-        asked: Asked::Price {
-            number: 102,
-            price: 0,
-        },
-        verdict: Verdict::Refused(Refusal::NoFlight),
-    },
-];
-
-static CANCEL: [Row; 1] = [Row {
-    name: "a cancelled flight",
-    asked: Asked::Cancel(101),
-    verdict: Verdict::Accepted,
-}];
-
-#[test]
-fn edits(rt: HostRuntime) {
-    let mut timetable = Timetable::new(rt.alloc());
-    assert_eq!(rt; wrong(&mut timetable, &EDITS), None);
-    assert!(rt; holds(has_flight(&timetable, 101, 29_201_440, -1_000_000_000)));
-    assert!(rt; holds(has_base(&timetable, *b"JFK", -7)));
-    assert!(rt; holds(copy_keeps(rt.alloc(), &mut timetable)));
-    assert!(rt; timetable.flight_count() == 0);
-}
-
-// Whether each of the first 5,000 flights is accepted.
-fn takes_5_000_flights(timetable: &mut Timetable) -> bool {
-    for number in 1..5_001u32 {
-        if answer(timetable, edit_of(&Asked::AddFlight(number))) != Some(Verdict::Accepted) {
-            return false;
+/// Adds an entry: its seat, its number and its edit.
+pub fn enter(
+    entries: &mut Vec<Entry>,
+    call: &Call<'_>,
+    out: &mut String,
+) -> Result<(), AllocError> {
+    let text = call.text.splitn(3, ' ').last().unwrap_or("");
+    let seat = u8::try_from(call.numbers[1]);
+    match (seat, edit_of(&call_of(text))) {
+        (Ok(seat), Some(edit)) => {
+            let number = small(call.numbers[2]);
+            entries.push(Entry { seat, number, edit })?;
+            write!(out, "entry {}", entries.len())
         }
+        _ => write!(out, "no entry"),
     }
-    true
 }
 
-// Whether each of sixteen bases is accepted.
-fn takes_sixteen_bases(timetable: &mut Timetable) -> bool {
-    for letter in b'A'..b'Q' {
-        let edit = base_added([letter, b'X', b'X'], 0);
-        if answer(timetable, edit) != Some(Verdict::Accepted) {
-            return false;
-        }
+/// What the entries are answered, one after another, and what their timetable has of a flight or a
+/// base.
+pub fn fold_all(
+    alloc: Global,
+    entries: &[Entry],
+    call: &Call<'_>,
+    out: &mut String,
+) -> Result<(), AllocError> {
+    let (timetable, verdicts) = fold(alloc, entries)?;
+    for verdict in verdicts.iter() {
+        put_verdict(out, *verdict)?;
+        out.push_str("; ")?;
     }
-    true
+    show(&timetable, call, out)
 }
 
-static FLIGHTS_PAST_THE_LIMIT: [Row; 2] = [
-    Row {
-        name: "a flight more",
-        asked: Asked::AddFlight(5_001),
-        verdict: Verdict::Refused(Refusal::TooManyFlights),
-    },
-    Row {
-        name: "a flight that is there",
-        asked: Asked::AddFlight(17),
-        verdict: Verdict::Refused(Refusal::FlightExists),
-    },
-];
-
-static BASE_PAST_THE_LIMIT: [Row; 1] = [Row {
-    name: "a base more",
-    asked: Asked::AddBase {
-        code: b"QXX",
-        price: 0,
-    },
-    verdict: Verdict::Refused(Refusal::TooManyBases),
-}];
-
-#[test]
-fn limits(rt: HostRuntime) {
-    let mut timetable = Timetable::new(rt.alloc());
-    assert!(rt; takes_5_000_flights(&mut timetable));
-    assert_eq!(rt; wrong(&mut timetable, &FLIGHTS_PAST_THE_LIMIT), None);
-    assert!(rt; takes_sixteen_bases(&mut timetable));
-    assert_eq!(rt; wrong(&mut timetable, &BASE_PAST_THE_LIMIT), None);
+// A copy of a folding takes an entry: what it is answered, and what its timetable has then.
+fn take_beside(
+    alloc: Global,
+    folding: &Folding,
+    entry: &Entry,
+    call: &Call<'_>,
+    out: &mut String,
+) -> Result<(), AllocError> {
+    let mut copied = folding.copy(alloc)?;
+    put_verdict(out, copied.take(entry)?)?;
+    out.push_str(", ")?;
+    show(&copied.into_timetable(), call, out)
 }
 
-static TURNS: [Turn; 6] = [
-    Turn {
-        seat: 0,
-        number: 1,
-        row: Row {
-            name: "out of turn",
-            asked: Asked::AddBase {
-                code: b"JFK",
-                price: 1,
-            },
-            verdict: Verdict::Refused(Refusal::OutOfTurn),
-        },
-    },
-    Turn {
-        seat: 0,
-        number: 0,
-        row: Row {
-            name: "the first of a seat",
-            asked: Asked::AddBase {
-                code: b"JFK",
-                price: 2,
-            },
-            verdict: Verdict::Accepted,
-        },
-    },
-    Turn {
-        seat: 255,
-        number: 0,
-        row: Row {
-            name: "the first of another seat",
-            asked: Asked::AddBase {
-                code: b"JFK",
-                price: 3,
-            },
-            verdict: Verdict::Refused(Refusal::BaseExists),
-        },
-    },
-    Turn {
-        seat: 255,
-        number: 1,
-        row: Row {
-            name: "the second of another seat",
-            asked: Asked::BasePrice {
-                code: b"JFK",
-                price: 4,
-            },
-            verdict: Verdict::Accepted,
-        },
-    },
-    Turn {
-        seat: 0,
-        number: 0,
-        row: Row {
-            name: "the first again",
-            asked: Asked::BasePrice {
-                code: b"JFK",
-                price: 5,
-            },
-            verdict: Verdict::Refused(Refusal::OutOfTurn),
-        },
-    },
-    Turn {
-        seat: 0,
-        number: 1,
-        row: Row {
-            name: "the second of a seat",
-            asked: Asked::BasePrice {
-                code: b"JFK",
-                price: 6,
-            },
-            verdict: Verdict::Accepted,
-        },
-    },
-];
-
-// Adds the entries of the turns; whether that went well.
-fn add_entries(entries: &mut Vec<Entry>, turns: &[Turn]) -> bool {
-    for turn in turns {
-        let Some(edit) = edit_of(&turn.row.asked) else {
-            return false;
-        };
-        let entry = Entry {
-            seat: turn.seat,
-            number: turn.number,
-            edit,
-        };
-        if entries.push(entry).is_err() {
-            return false;
-        }
-    }
-    true
-}
-
-fn are_verdicts(verdicts: &[Verdict], turns: &[Turn]) -> bool {
-    for (verdict, turn) in verdicts.iter().zip(turns) {
-        if *verdict != turn.row.verdict {
-            return false;
-        }
-    }
-    verdicts.len() == turns.len()
-}
-
-// Whether a fold answers as the turns say, and leaves JFK its last price.
-fn folds(alloc: Global, entries: &[Entry]) -> Option<bool> {
-    let (timetable, verdicts) = fold(alloc, entries).ok()?;
-    let priced = holds(has_base(&timetable, *b"JFK", 6));
-    Some(priced && are_verdicts(verdicts.as_slice(), &TURNS))
-}
-
-#[test]
-fn turns(rt: HostRuntime) {
-    let mut entries = Vec::new(rt.alloc());
-    assert!(rt; add_entries(&mut entries, &TURNS));
-    assert!(rt; holds(folds(rt.alloc(), entries.as_slice())));
-}
-
-fn take(folding: &mut Folding, turn: &Turn) -> Option<Verdict> {
-    let edit = edit_of(&turn.row.asked)?;
-    let entry = Entry {
-        seat: turn.seat,
-        number: turn.number,
-        edit,
+/// Takes the first entries, as many as the third word says, into a folding, and the last one into a
+/// copy of it: what the copy has then of a flight or a base, and what the folding.
+pub fn fold_beside_a_copy(
+    alloc: Global,
+    entries: &[Entry],
+    call: &Call<'_>,
+    out: &mut String,
+) -> Result<(), AllocError> {
+    let Some(last) = entries.last() else {
+        return write!(out, "no entries");
     };
-    folding.take(&entry).ok()
-}
-
-// Whether each turn is taken.
-fn takes(folding: &mut Folding, turns: &[Turn]) -> bool {
-    for turn in turns {
-        if take(folding, turn).is_none() {
-            return false;
-        }
+    let mut folding = Folding::new(alloc);
+    for entry in entries.iter().take(small(call.numbers[2]) as usize) {
+        folding.take(entry)?;
     }
-    true
-}
-
-// Whether a copy accepts a turn, and JFK has that price after it.
-fn copy_takes(alloc: Global, folding: &Folding, turn: &Turn, price: i64) -> Option<bool> {
-    let mut copied = folding.copy(alloc).ok()?;
-    let taken = take(&mut copied, turn) == Some(Verdict::Accepted);
-    let timetable = copied.into_timetable();
-    Some(taken && holds(has_base(&timetable, *b"JFK", price)))
-}
-
-#[test]
-fn a_copied_folding_goes_on(rt: HostRuntime) {
-    let mut folding = Folding::new(rt.alloc());
-    assert!(rt; takes(&mut folding, &TURNS[..4]));
-    assert!(rt; holds(copy_takes(rt.alloc(), &folding, &TURNS[5], 6)));
-    assert!(rt; holds(has_base(folding.timetable(), *b"JFK", 4)));
+    take_beside(alloc, &folding, last, call, out)?;
+    out.push_str("; left: ")?;
+    show(folding.timetable(), call, out)
 }

@@ -1,3 +1,4 @@
+//! The work on single nodes, under the standard settings, at no base price.
 ghost use Rattle.std.specs.Prelude.{◌≡◌, ◌∷◌, [], List, IfOk, pos, true};
 ghost use Rattle.std.specs.declared.cmp.Ordering.TheVariants.{Less};
 ghost use Rattle.crew_pairing.specs.Events.{IsSound};
@@ -9,83 +10,51 @@ ghost use Rattle.crew_resource.specs.Members.{Member};
 ghost use Rattle.crew_rules.specs.Settings.{standard};
 ghost use Rattle.crew_step.specs.Jobs.{IsValueAt};
 
-use crate::trips::{airport, flown, vector};
+use crate::call::{Call, code_of};
+use crate::duties::flown;
+use crate::show::put_entries;
 use crew_flights::Code;
 use crew_front::Front;
-use crew_pairing::{Duty, Key, PairingVector, Walk};
+use crew_pairing::Duty;
 use crew_rules::Settings;
 use crew_step::{Done, Feed, Job, Predecessor, work};
 use crew_vector::VectorResource;
-use std::alloc::Global;
+use std::alloc::{AllocError, Global};
 use std::sync::Arc;
-use std::test::Fail;
 
-// Whether the key is that of one flight, flown.
-fn is_flight(key: &Key, number: u32) -> bool {
-    match key.legs() {
-        [leg] => leg.flight().get() == number && !leg.is_deadhead(),
-        _ => false,
-    }
-}
-
-// Whether the walk is over duties of one flight each, of these numbers.
-fn flies(walk: &Walk, numbers: &[u32]) -> bool {
-    let keys = walk.keys();
-    if keys.len() != numbers.len() {
-        return false;
-    }
-    for (key, number) in keys.iter().zip(numbers) {
-        if !is_flight(key, *number) {
-            return false;
-        }
-    }
-    true
-}
-
-// The parts of a vector, and the flights of a walk.
-type Wanted<'a> = ([i64; 7], &'a [u32]);
-
-// Whether these are the entries.
-fn are_entries(entries: &[(PairingVector, Walk)], wanted: &[Wanted<'_>]) -> bool {
-    if entries.len() != wanted.len() {
-        return false;
-    }
-    for ((value, walk), (parts, numbers)) in entries.iter().zip(wanted) {
-        if *value != vector(*parts) || !flies(walk, numbers) {
-            return false;
-        }
-    }
-    true
-}
-
-// What is done of a duty with nothing before it, under the standard settings, at no base price.
-fn alone(alloc: Global, base: Code, duty: Duty) -> Result<Done, Fail>
+// What is done of a duty with nothing before it.
+fn alone(alloc: Global, base: Code, duty: Duty) -> Result<Done, AllocError>
     requires { IsSound duty }
     ensures { IfOk result (λ done. (v : PairingVector) (w : List (List Leg))
         → Member done.front (v, w) → IsValueAt standard (pos 0) duty v w) }
 {
     let Ok(feed) = Arc::new(alloc, Feed::new(Vec::new(alloc))) else {
-        return Err(Fail::new("memory"));
+        return Err(AllocError);
     };
     let job = Job::new(Settings::standard(), base, 0, duty, feed);
-    Ok(work(alloc, &job)?)
+    let done = work(alloc, &job)?;
+    Ok(done)
 }
 
 // The front of a duty with nothing before it.
-fn front_alone(alloc: Global, base: Code, duty: &Duty) -> Result<Arc<Front<VectorResource>>, Fail>
+fn front_alone(
+    alloc: Global,
+    base: Code,
+    duty: &Duty,
+) -> Result<Arc<Front<VectorResource>>, AllocError>
     requires { IsSound duty.now }
     ensures { IfOk result (λ front. (v : PairingVector) (w : List (List Leg))
         → Member front.value (v, w) → IsValueAt standard (pos 0) duty.now v w) }
 {
     let (_, front) = alone(alloc, base, duty.copy())?.into_parts();
     let Ok(front) = Arc::new(alloc, front) else {
-        return Err(Fail::new("memory"));
+        return Err(AllocError);
     };
     Ok(front)
 }
 
 // Two duties just before.
-fn feed_of_two(alloc: Global, one: Predecessor, other: Predecessor) -> Result<Arc<Feed>, Fail>
+fn feed_of_two(alloc: Global, one: Predecessor, other: Predecessor) -> Result<Arc<Feed>, AllocError>
     ensures { IfOk result (λ feed. feed.value
         ≡ (one.duty, one.front.value) ∷ (other.duty, other.front.value) ∷ []) }
 {
@@ -93,13 +62,19 @@ fn feed_of_two(alloc: Global, one: Predecessor, other: Predecessor) -> Result<Ar
     list.push(one)?;
     list.push(other)?;
     let Ok(feed) = Arc::new(alloc, Feed::new(list)) else {
-        return Err(Fail::new("memory"));
+        return Err(AllocError);
     };
     Ok(feed)
 }
 
 // The job of a duty after two others, each of which is done with nothing before it.
-fn after_two(alloc: Global, base: Code, one: Duty, other: Duty, next: Duty) -> Result<Job, Fail>
+fn after_two(
+    alloc: Global,
+    base: Code,
+    one: Duty,
+    other: Duty,
+    next: Duty,
+) -> Result<Job, AllocError>
     requires sound { IsSound one × IsSound other × IsSound next }
     requires rises { key_cmp one.key other.key ≡ Less }
     requires rested { (may_stand_after standard one next ≡ true)
@@ -119,66 +94,74 @@ fn after_two(alloc: Global, base: Code, one: Duty, other: Duty, next: Duty) -> R
     Ok(Job::new(Settings::standard(), base, 0, next, feed))
 }
 
-// Whether a duty out of JFK, with nothing before it, is an opening at a base, and has these entries.
-fn opens_at(alloc: Global, base: Code, wanted: &[Wanted<'_>]) -> Result<(bool, bool), Fail> {
-    let (home, away) = (airport(*b"JFK")?, airport(*b"BOS")?);
+// A duty out of JFK, with nothing before it.
+fn opening_at(alloc: Global, base: Code) -> Option<Done> {
+    let (home, away) = (Code::new(*b"JFK")?, Code::new(*b"BOS")?);
     let out = flown(402, (home, away), (29_189_580, 29_189_740), (130, 70))?;
-    let done = alone(alloc, base, out)?;
-    let shown = are_entries(done.front().as_slice(), wanted);
-    Ok((done.job().is_opening(), shown))
-}
-
-#[test]
-fn openings_leave_the_base(rt: HostRuntime) -> Result<(), Fail> {
-    let alloc = rt.alloc();
-    let (home, away) = (airport(*b"JFK")?, airport(*b"BOS")?);
-    let own: Wanted<'_> = ([2_520, 640, 4_200, 130, 70, 1, 160], &[402]);
-    assert!(rt; opens_at(alloc, home, &[own])? == (true, true));
-    assert!(rt; opens_at(alloc, away, &[])? == (false, true));
-    Ok(())
-}
-
-// Whether the work on a job gives these entries, and keeps the job.
-fn gives(alloc: Global, job: &Job, wanted: &[Wanted<'_>]) -> Result<bool, Fail> {
-    let done = work(alloc, job)?;
-    Ok(are_entries(done.front().as_slice(), wanted) && done.job().is_same(job))
+    alone(alloc, base, out).ok()
 }
 
 // Two ways to the second duty: the first pays less trip rig and is away for less, the second has
 // fewer minutes of flight duty and of flight.
-fn two_ways(alloc: Global) -> Result<Job, Fail> {
-    let (home, away, on) = (airport(*b"JFK")?, airport(*b"BOS")?, airport(*b"PHL")?);
+fn two_ways(alloc: Global) -> Option<Job> {
+    let (home, away, on) = (
+        Code::new(*b"JFK")?,
+        Code::new(*b"BOS")?,
+        Code::new(*b"PHL")?,
+    );
     let one = flown(401, (home, away), (29_189_460, 29_189_610), (120, 60))?;
     let other = flown(402, (home, away), (29_189_580, 29_189_740), (130, 70))?;
     let next = flown(403, (away, on), (29_190_900, 29_191_050), (120, 60))?;
-    after_two(alloc, home, one, other, next)
-}
-
-#[test]
-fn keeps_both_of_two_ways(rt: HostRuntime) -> Result<(), Fail> {
-    let alloc = rt.alloc();
-    let job = two_ways(alloc)?;
-    let one: Wanted<'_> = ([5_040, 5_880, 8_400, 250, 130, 2, 1_470], &[402, 403]);
-    let other: Wanted<'_> = ([5_040, 6_360, 8_400, 240, 120, 2, 1_590], &[401, 403]);
-    assert!(rt; gives(alloc, &job, &[one, other])?);
-    Ok(())
+    after_two(alloc, home, one, other, next).ok()
 }
 
 // Two ways that are alike.
-fn two_alike(alloc: Global) -> Result<Job, Fail> {
-    let (home, away, on) = (airport(*b"JFK")?, airport(*b"BOS")?, airport(*b"PHL")?);
+fn two_alike(alloc: Global) -> Option<Job> {
+    let (home, away, on) = (
+        Code::new(*b"JFK")?,
+        Code::new(*b"BOS")?,
+        Code::new(*b"PHL")?,
+    );
     let one = flown(999, (home, away), (29_189_580, 29_189_740), (130, 70))?;
     let other = flown(1_000, (home, away), (29_189_580, 29_189_740), (130, 70))?;
     let next = flown(603, (away, on), (29_190_900, 29_191_050), (120, 60))?;
-    after_two(alloc, home, one, other, next)
+    after_two(alloc, home, one, other, next).ok()
 }
 
-// The lesser walk stays, by number and not by text.
-#[test]
-fn keeps_the_lesser_of_two_walks(rt: HostRuntime) -> Result<(), Fail> {
-    let alloc = rt.alloc();
-    let job = two_alike(alloc)?;
-    let least: Wanted<'_> = ([5_040, 5_880, 8_400, 250, 130, 2, 1_470], &[999, 603]);
-    assert!(rt; gives(alloc, &job, &[least])?);
-    Ok(())
+// Whether something holds, and the entries of a front.
+fn put_front(
+    out: &mut String,
+    what: &str,
+    holds: bool,
+    front: &Front<VectorResource>,
+) -> Result<(), AllocError> {
+    write!(out, "{what} {holds}, ")?;
+    put_entries(out, front.as_slice())
+}
+
+/// The front of a duty out of JFK at a base, with nothing before it, and whether it is an opening
+/// there.
+pub fn opening(alloc: Global, call: &Call<'_>, out: &mut String) -> Result<(), AllocError> {
+    match code_of(call.words[1]).and_then(|base| opening_at(alloc, base)) {
+        Some(done) => put_front(out, "opening", done.job().is_opening(), done.front()),
+        None => write!(out, "no job"),
+    }
+}
+
+// What the work on a job gives, and whether the job stays.
+fn put_work(alloc: Global, job: &Job, out: &mut String) -> Result<(), AllocError> {
+    let done = work(alloc, job)?;
+    put_front(out, "the same job", done.job().is_same(job), done.front())
+}
+
+/// What the work on the job of a duty after two ways gives.
+pub fn ways(alloc: Global, call: &Call<'_>, out: &mut String) -> Result<(), AllocError> {
+    let job = match call.words[1] {
+        "alike" => two_alike(alloc),
+        _ => two_ways(alloc),
+    };
+    match job {
+        Some(job) => put_work(alloc, &job, out),
+        None => write!(out, "no job"),
+    }
 }

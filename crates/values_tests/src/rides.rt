@@ -1,18 +1,15 @@
-//! Three parts over bus rides: fares, the number of rides, and the minutes away.
+//! Bus rides, their fares and the minutes away: parts that are no crew's.
 ghost use Rattle.std.specs.Prelude.{ℕ, ℤ, pos, ◌+ℤ◌, ◌-ℤ◌, ◌≡◌, Option, Some, None, refl};
 ghost use Rattle.crew_resource.specs.Machinery.Sum.{LiesWithin};
 ghost use Rattle.crew_resource.specs.Machinery.SumStages.{still};
 
-use crew_resource::{
-    Amount, Both, Cost, Count, Placed, Resource, Staged, StagedAmount, Sum, extend_ordered,
-    extend_staged, is_same, start_staged,
-};
+use crew_resource::{Amount, Cost, Placed, StagedAmount, Sum};
 
 #[derive(Clone, Copy, Drop)]
-struct Ride {
-    leaves: i64,
-    arrives: i64,
-    fare: i64,
+pub struct Ride {
+    pub leaves: i64,
+    pub arrives: i64,
+    pub fare: i64,
 }
 
 impl Placed for Ride {
@@ -39,8 +36,11 @@ impl Placed for Ride {
     }
 }
 
+/// Fares, with a most that they may come to, if there is any.
 #[derive(Clone, Copy, Drop)]
-struct Fare;
+pub struct Fare {
+    pub most: Option<i64>,
+}
 
 impl Amount for Fare {
     type Item = Ride;
@@ -49,7 +49,7 @@ impl Amount for Fare {
 
     ghost next_of = { λ _ _ ride. pos 0 +ℤ ride.fare };
 
-    ghost cap_of = { λ _. None };
+    ghost cap_of = { λ f. f.most };
 
     fn first(&self, item: &Ride) -> i64 {
         item.fare
@@ -60,7 +60,7 @@ impl Amount for Fare {
     }
 
     fn cap(&self) -> Option<i64> {
-        None
+        self.most
     }
 }
 
@@ -98,9 +98,10 @@ impl StagedAmount<Ride> for Fare {
     }
 }
 
+/// The minutes away, with the most that they may come to.
 #[derive(Clone, Copy, Drop)]
-struct Away {
-    most: i64,
+pub struct Away {
+    pub most: i64,
 }
 
 impl Amount for Away {
@@ -166,7 +167,7 @@ impl StagedAmount<Ride> for Away {
 
 /// The fare is what a trip costs.
 #[derive(Clone, Copy, Drop)]
-struct FareCost;
+pub struct FareCost;
 
 impl Cost<Sum<Fare>> for FareCost {
     ghost use Rattle.crew_resource.specs.Machinery.SumLaws.{int_respects};
@@ -178,117 +179,4 @@ impl Cost<Sum<Fare>> for FareCost {
     fn cost(&self, value: &i64) -> i64 {
         *value
     }
-}
-
-type Trip = Both<Sum<Fare>, Both<Count<Ride>, Sum<Away>>>;
-
-/// Fares, the number of rides, and the minutes away.
-type Value = (i64, (i64, i64));
-
-/// Trips of at most two rides and 130 minutes.
-fn trips() -> Trip
-    ensures { result.second.second.amount.most ≡ pos 130 }
-{
-    Both {
-        first: Sum { amount: Fare },
-        second: Both {
-            first: Count::new(2),
-            second: Sum {
-                amount: Away { most: 130 },
-            },
-        },
-    }
-}
-
-const OUT: Ride = Ride {
-    leaves: 100,
-    arrives: 160,
-    fare: 5,
-};
-
-const BACK: Ride = Ride {
-    leaves: 200,
-    arrives: 230,
-    fare: 7,
-};
-
-const LATE: Ride = Ride {
-    leaves: 201,
-    arrives: 231,
-    fare: -7,
-};
-
-const ON: Ride = Ride {
-    leaves: 230,
-    arrives: 230,
-    fare: 0,
-};
-
-#[test]
-fn steps(rt: HostRuntime) {
-    let trip = trips();
-    let first = trip.start(&OUT);
-    assert!(rt; first == Ok(Some((5, (1, 60)))));
-    let both = trip.extend(&(5, (1, 60)), &OUT, &BACK);
-    assert!(rt; both == Ok(Some((12, (2, 130)))));
-    let late = trip.extend(&(5, (1, 60)), &OUT, &LATE);
-    assert!(rt; late == Ok(None));
-    let third = trip.extend(&(12, (2, 130)), &BACK, &ON);
-    assert!(rt; third == Ok(None));
-}
-
-#[test]
-fn stages(rt: HostRuntime) {
-    let trip = trips();
-    assert!(rt; trip.idle(&100) == (0, (0, 0)));
-    assert!(rt; trip.wait(&(5, (1, 60)), &160, &200) == (5, (1, 100)));
-    assert!(rt; trip.board(&(5, (1, 100)), &BACK) == Some((12, (2, 130))));
-    assert!(rt; trip.board(&(5, (1, 101)), &BACK) == None);
-    assert!(rt; trip.board(&(5, (2, 100)), &BACK) == None);
-    assert!(rt; start_staged(&trip, &OUT) == Some((5, (1, 60))));
-}
-
-#[test]
-fn values(rt: HostRuntime) {
-    let trip = trips();
-    let cheap = (5, (1, 60));
-    let dear = (6, (1, 60));
-    assert!(rt; trip.at_most(&cheap, &dear));
-    assert!(rt; !trip.at_most(&dear, &cheap));
-    assert!(rt; !trip.at_most(&cheap, &(6, (1, 59))));
-    assert!(rt; trip.copy(&dear) == Ok(dear));
-    assert!(rt; is_same(&trip, &cheap, &cheap));
-    assert!(rt; !is_same(&trip, &cheap, &dear));
-    assert!(rt; FareCost.cost(&5) == 5);
-}
-
-#[test]
-fn grades(rt: HostRuntime) {
-    let trip = trips();
-    assert!(rt; trip.grade(&(12, (2, 130))) == 2);
-    assert!(rt; trip.second.first.grade(&-1) == 0);
-    assert!(rt; trip.second.first.grade(&0x1_0000_0000) == 0xffff_ffff);
-}
-
-#[test]
-fn steps_of_two_values(rt: HostRuntime) {
-    let ordered = extend_ordered(&trips(), &(5, (1, 60)), &(6, (1, 60)), &OUT, &BACK);
-    assert!(rt; ordered == Ok((Some((12, (2, 130))), Some((13, (2, 130))))));
-}
-
-// A ride after the one out, by its stages: the inner option is the value, if it has one.
-fn by_stages(next: &Ride) -> Option<Option<Value>>
-    requires sound { LiesWithin 1000 next.now.fare
-        × LiesWithin 1000 (next.now.arrives -ℤ next.now.leaves) }
-    requires follows { LiesWithin 1000 (next.now.leaves -ℤ pos 160) }
-{
-    let trip = trips();
-    let first = start_staged(&trip, &OUT)?;
-    Some(extend_staged(&trip, &first, &OUT, next))
-}
-
-#[test]
-fn steps_by_stages(rt: HostRuntime) {
-    assert!(rt; by_stages(&BACK) == Some(Some((12, (2, 130)))));
-    assert!(rt; by_stages(&LATE) == Some(None));
 }
