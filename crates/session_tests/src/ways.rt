@@ -17,7 +17,7 @@ pub struct Ways {
     pub times: usize,
     /// How many bytes are left out at the end of the input.
     pub cut: usize,
-    /// Above 0 if how many bytes are written is shown, and not the bytes.
+    /// Above 0 if how many bytes are written is shown, at the end, and not the bytes.
     pub count: usize,
     /// Above 0 if an outlet answers while the input is open; what is read is shown too.
     pub open: usize,
