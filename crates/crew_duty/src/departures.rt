@@ -20,7 +20,7 @@ const FEW: usize = 32;
 pub(crate) const NEVER: i64 = 100_000_000;
 
 /// A departure: where and when as one number, and the place of its flight among all.
-#[derive(Clone, Copy, Debug, PartialEq, Eq, PartialOrd, Ord)]
+#[derive(Clone, Copy, PartialEq, Eq, PartialOrd, Ord)]
 pub(crate) struct Slot {
     pub(crate) at: i64,
     pub(crate) place: u32,

@@ -15,7 +15,7 @@ use crew_pairing::facts::report;
 use crew_rules::{Settings, limits_from, table_a};
 
 /// What no beginning of a duty may pass, by its first leg: so it is looked up once for all of them.
-#[derive(Debug, Drop)]
+#[derive(Drop)]
 pub(crate) struct Limits {
     /// When the crew reports.
     pub(crate) report: i64,

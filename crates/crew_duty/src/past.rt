@@ -17,7 +17,7 @@ use std::alloc::{AllocError, Global};
 const NEAR: usize = 64;
 
 /// Where the duties of a flight stand among others.
-#[derive(Clone, Copy, Debug)]
+#[derive(Clone, Copy)]
 pub(crate) struct Block {
     /// The place of the first.
     pub(crate) from: usize,

@@ -9,7 +9,7 @@ ghost use Rattle.crew_duty.specs.Machinery.Running.{AreTotals, StayBounded};
 use crew_flights::Flight;
 
 /// What the legs so far come to, kept along a path so that no leg is looked at twice.
-#[derive(Clone, Copy, Debug)]
+#[derive(Clone, Copy)]
 pub(crate) struct Totals {
     /// How many of the legs the crew rides as passengers.
     pub(crate) deadheads: usize,

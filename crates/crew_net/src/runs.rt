@@ -9,7 +9,7 @@ ghost use Rattle.crew_resource.specs.Members.{Each};
 use std::alloc::{AllocError, Global};
 
 /// Keys that stand side by side, from a place up to another, and the first of them.
-#[derive(Clone, Copy, Debug, PartialEq, Eq, PartialOrd, Ord)]
+#[derive(Clone, Copy, PartialEq, Eq, PartialOrd, Ord)]
 pub(crate) struct Run {
     pub(crate) first: u64,
     pub(crate) from: u32,

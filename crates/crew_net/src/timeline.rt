@@ -12,7 +12,7 @@ use std::alloc::{AllocError, Global};
 
 /// The moments at which something happens, each once and in order, and the places of what happens
 /// then.
-#[derive(Debug, Drop)]
+#[derive(Drop)]
 pub(crate) struct Timeline {
     /// Rising.
     pub(crate) moments: Vec<i64>,

@@ -15,7 +15,7 @@ use std::marker::Model;
 const MOST: usize = 0xffff_ffff;
 
 /// A walk's last duty, and the place of the walk before it.
-#[derive(Clone, Copy, Debug)]
+#[derive(Clone, Copy)]
 struct Link {
     before: u32,
     duty: u32,

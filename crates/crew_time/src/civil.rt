@@ -1,7 +1,7 @@
 //! The numbers that a text of a time writes.
 
 /// The numbers of a text `YYYY-MM-DDTHH:MM`, before it is known that there is such a time.
-#[derive(Clone, Copy, Debug)]
+#[derive(Clone, Copy)]
 pub struct Parts {
     /// From 0 to 9999.
     pub year: u16,

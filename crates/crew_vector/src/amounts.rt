@@ -64,7 +64,7 @@ fn rest(rate: u32, last: &Duty, duty: &Duty) -> i64
 }
 
 /// The duties' pays, less prices.
-#[derive(Clone, Copy, Debug)]
+#[derive(Clone, Copy)]
 pub struct DutyPay {
     pub base_price: i32,
 }
@@ -126,7 +126,7 @@ impl StagedAmount<Duty> for DutyPay {
 }
 
 /// The trip rig for each minute away, less prices.
-#[derive(Clone, Copy, Debug)]
+#[derive(Clone, Copy)]
 pub struct TripRig {
     pub rate: u32,
     pub base_price: i32,
@@ -189,7 +189,7 @@ impl StagedAmount<Duty> for TripRig {
 }
 
 /// The guarantee for each duty, less prices.
-#[derive(Clone, Copy, Debug)]
+#[derive(Clone, Copy)]
 pub struct Guarantee {
     pub points: u32,
     pub base_price: i32,
@@ -252,7 +252,7 @@ impl StagedAmount<Duty> for Guarantee {
 }
 
 /// Flight duty minutes.
-#[derive(Clone, Copy, Debug)]
+#[derive(Clone, Copy)]
 pub struct DutyMinutes {
     pub cap: u32,
 }
@@ -310,7 +310,7 @@ impl StagedAmount<Duty> for DutyMinutes {
 }
 
 /// Flight minutes.
-#[derive(Clone, Copy, Debug)]
+#[derive(Clone, Copy)]
 pub struct FlightMinutes {
     pub cap: u32,
 }
@@ -368,7 +368,7 @@ impl StagedAmount<Duty> for FlightMinutes {
 }
 
 /// Minutes away, from the first report to the last release.
-#[derive(Clone, Copy, Debug)]
+#[derive(Clone, Copy)]
 pub struct MinutesAway {
     pub cap: u32,
 }

@@ -119,7 +119,7 @@ fn is_as_picked<R: Threads + Sync>(
 fn fronts_and_best_of_all_partials(rt: HostRuntime) -> Result<(), Fail> {
     for sample in &SAMPLES {
         let timetable = timetable_of(rt.alloc(), sample)?;
-        assert_eq!(rt; timetable.flight_count(), sample.flights.len());
+        assert!(rt; timetable.flight_count() == sample.flights.len());
         for limits in &LIMITS {
             let settings = settings_of(limits);
             for workers in [0, 1, 8] {

@@ -61,18 +61,18 @@ fn seats_run_out(rt: HostRuntime) -> Result<(), Fail> {
     let mut log = Log::new(rt.alloc())?;
     for number in 0..64 {
         let seat = log.seat()?;
-        assert_eq!(rt; seat.number(), number);
+        assert!(rt; seat.number() == number);
     }
     let fault = log.seat().err();
-    assert_eq!(rt; fault, Some(LogFault::TooManySeats));
+    assert!(rt; fault == Some(LogFault::TooManySeats));
     Ok(())
 }
 
 #[test]
 fn faults_have_numbers(rt: HostRuntime) -> Result<(), Fail> {
-    assert_eq!(rt; LogFault::TooManySeats.number(), Some(60));
-    assert_eq!(rt; LogFault::SeatFull.number(), Some(61));
-    assert_eq!(rt; LogFault::Memory.number(), None);
+    assert!(rt; LogFault::TooManySeats.number() == Some(60));
+    assert!(rt; LogFault::SeatFull.number() == Some(61));
+    assert!(rt; LogFault::Memory.number() == None);
     Ok(())
 }
 
@@ -87,7 +87,7 @@ fn two_seats_in_turn(rt: HostRuntime) -> Result<(), Fail> {
         push(&rt, &mut first, &log, 2),
         push(&rt, &mut second, &log, 1),
     ];
-    assert_eq!(rt; places, [Some(0), Some(1), Some(3), Some(4)]);
+    assert!(rt; places == [Some(0), Some(1), Some(3), Some(4)]);
     let sent = [(0, 0), (1, 0), (0, 1), (0, 2), (1, 1)];
     let has_all = has_sent(rt.alloc(), &log, &sent)?;
     assert!(rt; has_all);
@@ -100,10 +100,10 @@ fn many_entries(rt: HostRuntime) -> Result<(), Fail> {
     let mut log = Log::new(rt.alloc())?;
     let mut seat = log.seat()?;
     let last = push(&rt, &mut seat, &log, 5_000);
-    assert_eq!(rt; last, Some(4_999));
+    assert!(rt; last == Some(4_999));
     for (from, count) in [(4_990, 10), (5_000, 0), (5_001, 0), (usize::MAX, 0)] {
         let receipts = log.read_from(rt.alloc(), from)?;
-        assert_eq!(rt; receipts.len(), count);
+        assert!(rt; receipts.len() == count);
     }
     Ok(())
 }
@@ -114,10 +114,10 @@ fn a_full_seat(rt: HostRuntime) -> Result<(), Fail> {
     let mut full = log.seat()?;
     let mut other = log.seat()?;
     let last = push(&rt, &mut full, &log, 1_000_000);
-    assert_eq!(rt; last, Some(999_999));
-    assert_eq!(rt; push(&rt, &mut full, &log, 1), None);
-    assert_eq!(rt; full.made(), 1_000_000);
-    assert_eq!(rt; push(&rt, &mut other, &log, 1), Some(1_000_000));
+    assert!(rt; last == Some(999_999));
+    assert!(rt; push(&rt, &mut full, &log, 1) == None);
+    assert!(rt; full.made() == 1_000_000);
+    assert!(rt; push(&rt, &mut other, &log, 1) == Some(1_000_000));
     Ok(())
 }
 
@@ -136,6 +136,6 @@ fn two_threads(rt: HostRuntime) -> Result<(), Fail> {
     assert!(rt; one && other);
     let firsts = sent_by(rt.alloc(), &log, 0)?;
     let seconds = sent_by(rt.alloc(), &log, 1)?;
-    assert_eq!(rt; (firsts, seconds), (Some(1_000), Some(1_000)));
+    assert!(rt; (firsts, seconds) == (Some(1_000), Some(1_000)));
     Ok(())
 }

@@ -8,9 +8,9 @@ use std::test::Fail;
 
 #[test]
 fn faults_have_numbers(rt: HostRuntime) -> Result<(), Fail> {
-    assert_eq!(rt; PublishFault::NotNext.number(), Some(56));
-    assert_eq!(rt; PairFault::NoViewer.number(), Some(64));
-    assert_eq!(rt; ViewFault::NoView.number(), Some(65));
+    assert!(rt; PublishFault::NotNext.number() == Some(56));
+    assert!(rt; PairFault::NoViewer.number() == Some(64));
+    assert!(rt; ViewFault::NoView.number() == Some(65));
     Ok(())
 }
 
@@ -23,16 +23,16 @@ fn none_of_these_follows(rt: HostRuntime) -> Result<(), Fail> {
     assert!(rt; all.len() == 2);
     let strange = after(&rt, alloc, &all[0], 7).expect(&rt, "a version");
     let stranger = after(&rt, alloc, &strange, 0).expect(&rt, "a version");
-    assert_eq!(rt; stranger.number(), 2);
+    assert!(rt; stranger.number() == 2);
     let first = Arc::try_clone(&all[1]).expect(&rt, "memory");
     let Ok((mut publisher, _viewers)) = pair(&rt, alloc, first, 1) else {
         panic!(rt; "no pair");
     };
     for version in [&all[0], &all[1], &stranger] {
         let refused = publish(&mut publisher, version);
-        assert_eq!(rt; refused, Err(PublishFault::NotNext));
+        assert!(rt; refused == Err(PublishFault::NotNext));
     }
-    assert_eq!(rt; publisher.last().number(), 1);
+    assert!(rt; publisher.last().number() == 1);
     Ok(())
 }
 
@@ -48,17 +48,17 @@ fn one_of_two_learns(rt: HostRuntime) -> Result<(), Fail> {
         panic!(rt; "no pair");
     };
     let mut other = viewers.pop().expect(&rt, "a viewer");
-    assert_eq!(rt; viewers.len(), 1);
+    assert!(rt; viewers.len() == 1);
     assert!(rt; all_see(&mut viewers, 0, 0));
     let told = teach(&mut publisher, &all[1], &mut viewers);
-    assert_eq!(rt; told, Some((1, 1)));
+    assert!(rt; told == Some((1, 1)));
     assert!(rt; all_see(&mut viewers, 1, 1));
     let seen = see(&mut other);
     assert!(rt; seen == Ok((0, 0)) || seen == Ok((1, 1)));
     for version in &all {
         let refused = publish(&mut publisher, version);
-        assert_eq!(rt; refused, Err(PublishFault::NotNext));
+        assert!(rt; refused == Err(PublishFault::NotNext));
     }
-    assert_eq!(rt; publisher.last().number(), 1);
+    assert!(rt; publisher.last().number() == 1);
     Ok(())
 }

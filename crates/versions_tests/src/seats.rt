@@ -35,7 +35,7 @@ fn no_pair_of_0_or_65_viewers(rt: HostRuntime) -> Result<(), Fail> {
     assert!(rt; all.len() == 1);
     for viewers in [0, 65] {
         let fault = refused(&rt, alloc, &all[0], viewers);
-        assert_eq!(rt; fault, Some(PairFault::NoViewer));
+        assert!(rt; fault == Some(PairFault::NoViewer));
     }
     Ok(())
 }
@@ -94,15 +94,15 @@ fn as_many_fresh_viewers(rt: HostRuntime) -> Result<(), Fail> {
     let Ok((mut publisher, mut viewers)) = pair(&rt, alloc, first, 64) else {
         panic!(rt; "no pair");
     };
-    assert_eq!(rt; viewers.len(), 64);
+    assert!(rt; viewers.len() == 64);
     for _ in 0..64u32 {
-        assert_eq!(rt; add_viewer(&mut publisher, &mut viewers), None);
+        assert!(rt; add_viewer(&mut publisher, &mut viewers) == None);
     }
-    assert_eq!(rt; viewers.len(), 128);
+    assert!(rt; viewers.len() == 128);
     assert!(rt; all_see(&mut viewers, 0, 0));
     let fault = add_viewer(&mut publisher, &mut viewers);
-    assert_eq!(rt; fault, Some(PairFault::NoViewer));
+    assert!(rt; fault == Some(PairFault::NoViewer));
     assert!(rt; let_go(&mut viewers));
-    assert_eq!(rt; add_viewer(&mut publisher, &mut viewers), None);
+    assert!(rt; add_viewer(&mut publisher, &mut viewers) == None);
     Ok(())
 }
