@@ -1,14 +1,14 @@
-//! Plays the cases that stand on standard input, and writes a transcript of what came of them: whole
-//! runs of the program, from their words to their status, over readers and writers in memory that may
-//! be slow or fail, and what an engine without workers shows. The stored run has the cases (`stdin`)
-//! and what has to come of them (`stdout`), both as plain data, which costs no proof. It promises
-//! nothing to others, so its functions have no clause.
+//! Plays the cases that stand on standard input, and writes a transcript of what came of them:
+//! whole runs of the program, from their words to their status, over readers and writers in memory
+//! that may be slow or fail, and what an engine without workers shows. The stored run has the
+//! cases (`stdin`) and what has to come of them (`stdout`), both as plain data, which costs no
+//! proof. It promises nothing to others, so its functions have no clause.
 //!
-//! A case begins with `#` and its name. Lines that begin with `%` say how its streams behave (`Ways`),
-//! other lines are remarks, and the line that begins with `$` has its words; what follows up to the
-//! next case is its input, byte for byte. Nothing else has a `#` or a `$`. The transcript has all of
-//! the case but its input, then what was written, the fault's text with `! ` before each of its lines,
-//! and the status where it isn't 0.
+//! A case begins with `#` and its name. Lines that begin with `%` say how its streams behave
+//! (`Ways`), other lines are remarks, and the line that begins with `$` has its words; what
+//! follows up to the next case is its input, byte for byte. Nothing else has a `#` or a `$`. The
+//! transcript has all of the case but its input, then what was written, the fault's text with `! `
+//! before each of its lines, and the status where it isn't 0.
 #![tactic(auto)]
 
 mod engines;

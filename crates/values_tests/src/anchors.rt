@@ -51,8 +51,8 @@ fn two_duties(settings: &Settings) -> Option<(PairingVector, PairingVector)>
     shown_after_each(settings, &first, &second)
 }
 
-/// The vectors after each of two duties, of a base whose price is 20, where so many minutes away are
-/// the most.
+/// The vectors after each of two duties, of a base whose price is 20, where so many minutes away
+/// are the most.
 pub fn anchored(call: &Call<'_>, out: &mut String) -> Result<(), AllocError> {
     let settings = Settings {
         away_cap: small(call.numbers[1]),

@@ -1,6 +1,6 @@
-//! Tests of solving, of the log and of the published pair: what no clause of theirs says. The fronts
-//! and the best pairing of a timetable are those that a few plain lines pick from all partial
-//! pairings.
+//! Tests of solving, of the log and of the published pair: what no clause of theirs says. The
+//! fronts and the best pairing of a timetable are those that a few plain lines pick from all
+//! partial pairings.
 //!
 //! Helpers have no clause: what they give is what the tests look at, and nothing else calls them.
 #![tactic(auto)]
