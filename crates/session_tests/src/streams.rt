@@ -44,6 +44,13 @@ impl<'a, R: Print> Shown<'a, R> {
         }
     }
 
+    // Shows that the input has ended, and nothing from then on.
+    fn close(&mut self) -> io::Result<()> {
+        self.write(b"end of input\n")?;
+        self.mark = None;
+        Ok(())
+    }
+
     // Shows a line or a part of one, with the mark where it begins.
     fn show_line(&self, mark: &str, line: &[u8]) -> io::Result<()> {
         if self.begins {
@@ -129,7 +136,11 @@ impl<R: Print> Read for Source<'_, R> {
         let most = self.chunk.min(self.left).min(buffer.len());
         let given = self.rest.read(&mut buffer[..most])?;
         self.left = self.left.saturating_sub(given);
-        self.echo.write(&buffer[..given])?;
+        if given > 0 {
+            self.echo.write(&buffer[..given])?;
+        } else {
+            self.echo.close()?;
+        }
         Ok(given)
     }
 }
