@@ -1,6 +1,6 @@
 -- The numbers by which records are refused.
 use Rattle.std.specs.Prelude.{ℕ}
-use Rattle.crew_time.specs.Faults.{fault_number}
+use Rattle.crew_clocks.specs.Faults.{fault_number}
 use Rattle.crew_records.specs.declared.fault.RecordFault.{RecordFault}
 use Rattle.crew_records.specs.declared.fault.RecordFault.TheVariants.{Text, UnknownRecord, FieldCount, BadField, NoZone, ZoneExists, TooManyZones}
 

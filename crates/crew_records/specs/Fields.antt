@@ -6,8 +6,8 @@ use Rattle.std.specs.List.{list_all, slice_split}
 use Rattle.std.specs.Str.{bytes_eq}
 use Rattle.csv.specs.Records.{field_at}
 use Rattle.jiff_tz.specs.PosixText.{TzText}
-use Rattle.crew_time.specs.Civil.{text_minute}
-use Rattle.crew_time.specs.Zone.{text_zone}
+use Rattle.crew_clocks.specs.Civil.{text_minute}
+use Rattle.crew_clocks.specs.Zone.{text_zone}
 use Rattle.crew_flights.specs.Codes.{is_code}
 use Rattle.crew_pairing.specs.Legs.{Leg}
 use Rattle.crew_records.specs.declared.fault.RecordFault.{RecordFault}

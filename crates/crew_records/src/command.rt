@@ -9,9 +9,10 @@ use crate::fault::RecordFault;
 use crate::fields::{
     count_fields, field, read_code, read_id, read_key, read_limit, read_price, read_time, read_zone,
 };
+use crew_clocks::Zone;
 use crew_flights::{Code, Edit, FlightId};
 use crew_pairing::Key;
-use crew_time::{Minute, Zone};
+use crew_time::Minute;
 use csv::ByteRecord;
 
 /// What a record asks for.

@@ -3,7 +3,7 @@
 ghost use Rattle.std.specs.Prelude.{◌≡◌};
 ghost use Rattle.crew_records.specs.Faults.{record_number};
 
-use crew_time::TimeFault;
+use crew_clocks::TimeFault;
 use thiserror::Error;
 
 /// Why a record is refused before it reaches the timetable.

@@ -10,9 +10,10 @@ ghost use Rattle.crew_time.specs.Instant.{IsInYears};
 ghost use Rattle.crew_records.specs.Fields as Spec;
 
 use crate::fault::RecordFault;
+use crew_clocks::Zone;
 use crew_flights::{Code, FlightId};
 use crew_pairing::{Key, Leg};
-use crew_time::{Minute, Zone};
+use crew_time::Minute;
 use csv::ByteRecord;
 
 // A field, where a missing one is empty.
@@ -174,7 +175,7 @@ pub(crate) fn read_time(field: &[u8]) -> Result<Minute, RecordFault>
     ensures value { result ≡ Spec.time_field field.now }
     ensures years { IfOk result IsInYears }
 {
-    Ok(crew_time::read_minute(field)?)
+    Ok(crew_clocks::read_minute(field)?)
 }
 
 // A zone.

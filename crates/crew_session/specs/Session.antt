@@ -2,7 +2,7 @@
 use Rattle.std.specs.Prelude.{◌≡◌, ◌⊎◌, ◌+◌, ◌-ℤ◌, ℕ, ℤ, pos, nat_le, nat_lt, List, [], ◌∷◌, ◌++◌, length, drop, Option, Some, None, option_map, if◌then◌else◌}
 use Rattle.std.specs.FinMap as map
 use Rattle.jiff_tz.specs.PosixText.{TzText}
-use Rattle.crew_time.specs.Zone.{clock_of}
+use Rattle.crew_clocks.specs.Zone.{clock_of}
 use Rattle.crew_rules.specs.declared.settings.Settings.{Settings}
 use Rattle.crew_flights.specs.Codes.{code_cmp}
 use Rattle.crew_flights.specs.declared.edit.Edit.{Edit}

@@ -6,9 +6,9 @@ ghost use Rattle.std.proofs.Props.{props};
 ghost use Rattle.std.specs.BTreeMap.{IsOrdered};
 ghost use Rattle.crew_flights.specs.Codes.{code_cmp};
 
+use crew_clocks::Zone;
 use crew_flights::Code;
 use crew_records::RecordFault;
-use crew_time::Zone;
 use std::alloc::{AllocError, Global};
 use std::collections::BTreeMap;
 

@@ -1,4 +1,1 @@
-pub mod Civil
-pub mod Faults
 pub mod Instant
-pub mod Zone

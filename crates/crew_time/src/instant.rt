@@ -12,7 +12,7 @@ use std::marker::Model;
 #[derive(Clone, Copy, Debug, PartialEq, Eq, PartialOrd, Ord, Hash)]
 pub struct Minute {
     // All of the range fits; half the bytes of the number that callers see.
-    pub(crate) value: i32,
+    value: i32,
 }
 
 impl Model for Minute {
@@ -59,7 +59,7 @@ impl Minute {
 /// A contract sees the number.
 #[derive(Clone, Copy, Debug, PartialEq, Eq, PartialOrd, Ord, Hash)]
 pub struct ClockMinute {
-    pub(crate) of_day: u16,
+    of_day: u16,
 }
 
 impl Model for ClockMinute {

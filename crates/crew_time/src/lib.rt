@@ -1,17 +1,8 @@
-//! Instants in whole minutes of UTC, the texts `YYYY-MM-DDTHH:MM` that name them, and the local
-//! clocks of zones whose rules are POSIX texts. The crate promises that a text names one instant
-//! or gets the first refusal that applies, that reading and writing agree both ways on the years
-//! 2000 to 2099, and that a clock shows the minute of the local day under the offset that the
-//! zone's rule gives at the instant, with its seconds cut off.
+//! Instants in whole minutes of UTC, and what clocks show. The crate promises that each is the
+//! number of minutes that it stands for, within its range. Their texts, and the clocks of zones,
+//! are `crew_clocks`': so what speaks of times alone stands on no calendar.
 #![tactic(auto)]
 
-mod civil;
-mod fault;
 mod instant;
-mod texts;
-mod zone;
 
-pub use fault::TimeFault;
 pub use instant::{ClockMinute, Minute};
-pub use texts::{read_minute, write_minute};
-pub use zone::Zone;

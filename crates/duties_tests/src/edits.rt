@@ -2,9 +2,10 @@
 
 use crate::desk::Desk;
 use crate::words::{code_of, flight_id, points_of};
+use crew_clocks::{Zone, read_minute};
 use crew_flights::{Code, Edit, Flight, Verdict};
 use crew_rules::Settings;
-use crew_time::{ClockMinute, Minute, Zone, read_minute};
+use crew_time::{ClockMinute, Minute};
 
 // What the clock of New York says when the crew of a departure reports.
 fn report_clock(settings: &Settings, dep: Minute) -> Option<ClockMinute> {

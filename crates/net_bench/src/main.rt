@@ -19,13 +19,14 @@ ghost use Rattle.std.specs.Prelude.{◌≤◌, length};
 ghost use Rattle.crew_pairing.specs.Duties.{AreDuties};
 ghost use Rattle.crew_rules.specs.Settings.{IsChecked};
 
+use crew_clocks::{Zone, read_minute};
 use crew_duty::list_duties;
 use crew_flights::{Code, Edit, Flight, FlightId, Timetable};
 use crew_net::Net;
 use crew_pairing::Duties;
 use crew_rules::Settings;
 use crew_solve::solve_with;
-use crew_time::{Minute, Zone, read_minute};
+use crew_time::Minute;
 use std::alloc::Global;
 use std::env;
 use std::io::{self, BufRead, BufReader, Eprint, Print};

@@ -1,7 +1,8 @@
 //! Timetables, edits, and logs of them.
 use crate::call::{Call, call_of, code_of, small};
+use crew_clocks::read_minute;
 use crew_flights::{Edit, Entry, Flight, FlightId, Folding, Timetable, Verdict, fold};
-use crew_time::{ClockMinute, Minute, read_minute};
+use crew_time::{ClockMinute, Minute};
 use std::alloc::{AllocError, Global};
 
 /// The number of a flight, where it is one.

@@ -1,6 +1,7 @@
 //! Instants, their texts, and clocks of zones.
 use crate::call::{Call, bytes_of};
-use crew_time::{Minute, TimeFault, Zone, read_minute, write_minute};
+use crew_clocks::{TimeFault, Zone, read_minute, write_minute};
+use crew_time::Minute;
 use std::alloc::{AllocError, Global};
 
 fn put_fault(out: &mut String, fault: TimeFault) -> Result<(), AllocError> {

@@ -1,7 +1,8 @@
 //! Timetables of at most seven flights, and settings.
+use crew_clocks::{Zone, read_minute};
 use crew_flights::{Code, Edit, Flight, FlightId, Timetable};
 use crew_rules::Settings;
-use crew_time::{ClockMinute, Minute, Zone, read_minute};
+use crew_time::{ClockMinute, Minute};
 use std::alloc::Global;
 use std::test::Fail;
 

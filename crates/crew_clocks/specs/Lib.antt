@@ -1,0 +1,3 @@
+pub mod Civil
+pub mod Faults
+pub mod Zone
