@@ -11,7 +11,7 @@ use crate::options::{OPTIONS, SettingOption, help_texts, settings_from};
 use clap::error::ErrorKind;
 use clap::{Arg, ArgAction, ArgMatches, Command, Error};
 use crew_rules::Settings;
-use std::alloc::Global;
+use std::alloc::{AllocError, Global};
 use std::convert::AsStr;
 
 // The version of the program.
@@ -72,22 +72,20 @@ fn run_command<'a>(alloc: Global, texts: &'a [String]) -> Result<Command<'a>, Er
     with_options(alloc, run, &OPTIONS, texts)
 }
 
-// The whole command line.
-fn program<'a>(alloc: Global, texts: &'a [String]) -> Result<Command<'a>, Error>
-    requires { length texts.now ≡ 14 }
-    ensures shape { IfOk result (λ r. app_of r ≡ Spec.program) }
-    ensures memory { IfErr result (λ e. kind_of e ≡ ErrorKind.OutOfMemory) }
+// The whole command line, of which `run` is the subcommand.
+fn program<'a>(alloc: Global, run: Command<'a>) -> Result<Command<'a>, AllocError>
+    requires shape { app_of run ≡ Spec.run_up_to 14 }
+    requires local { (fields_of run).has_globals ≡ false }
+    ensures { IfOk result (λ r. app_of r ≡ Spec.program) }
 {
-    Ok(
-        Command::new(alloc, "crewprice")
-            .about(
-                "Finds the legal crew pairing of least reduced cost, again after each change of flights and prices",
-            )
-            .version(VERSION)
-            .subcommand_required(true)
-            .disable_help_subcommand(true)
-            .subcommand(run_command(alloc, texts)?)?,
-    )
+    Command::new(alloc, "crewprice")
+        .about(
+            "Finds the legal crew pairing of least reduced cost, again after each change of flights and prices",
+        )
+        .version(VERSION)
+        .subcommand_required(true)
+        .disable_help_subcommand(true)
+        .subcommand(run)
 }
 
 // The settings of the subcommand that was found.
@@ -100,6 +98,17 @@ fn settings_found(matches: &ArgMatches<'_>) -> Settings
     }
 }
 
+// The settings that these words ask for, by a command line with these texts.
+fn read_with<S: AsStr>(alloc: Global, words: &[S], texts: &[String]) -> Result<Settings, Error>
+    requires { length texts.now ≡ 14 }
+    ensures settings { IfOk result (λ s. s ≡ Spec.settings_of (map S.text words.now)) }
+    ensures fails { FailsBy (Spec.faults_in (map S.text words.now)) result }
+{
+    let run = run_command(alloc, texts)?;
+    let matches = program(alloc, run)?.try_get_matches_from(words)?;
+    Ok(settings_found(&matches))
+}
+
 /// The settings that these words ask for, of which the first is the program's own name; or the
 /// parser's error, which is a fault in the words, their request for help or the version, or want of
 /// memory.
@@ -108,6 +117,5 @@ pub fn read_words<S: AsStr>(alloc: Global, words: &[S]) -> Result<Settings, Erro
     ensures fails { FailsBy (Spec.faults_in (map S.text words.now)) result }
 {
     let texts = help_texts(alloc)?;
-    let matches = program(alloc, texts.as_slice())?.try_get_matches_from(words)?;
-    Ok(settings_found(&matches))
+    read_with(alloc, words, &texts)
 }

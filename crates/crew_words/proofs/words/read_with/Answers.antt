@@ -9,7 +9,7 @@ use Rattle.clap.proofs.OnLiterals.{clap_on_literals}
 use Rattle.crew_rules.specs.declared.settings.Settings.{Settings}
 use Rattle.crew_words.specs.Options.{settings_in}
 use Rattle.crew_words.specs.Words.{faults_in, option_rule, options_in, program, run_up_to}
-use Rattle.crew_words.proofs.words.read_words.Goals as goal
+use Rattle.crew_words.proofs.words.read_with.Goals as goal
 
 simple : is_simple program ≡ true
 unfolding program run_up_to option_rule clap_on_literals
@@ -37,20 +37,16 @@ options-at : (a : App) (words : List Text) → a ≡ program → option_map_or (
 unfolding options_in
 options-at a words is = ap (λ (b : App). option_map_or (λ (p : Text × List Row). p.1) (subcommand_of b words) []) is
 
-pub returns-in_err-program-clause-fails : goal.returns-in_err-program-clause-fails
-returns-in_err-program-clause-fails g c = handed _ c.from_residual-in_err-program.result c.in_err-program.field-0.0 c.from_residual-in_err-program.ensures.1
-    (inl c.in_err-program.ensures.memory)
-
 pub returns-in_err-matches-clause-fails : goal.returns-in_err-matches-clause-fails
 returns-in_err-matches-clause-fails g c = handed _ c.from_residual-in_err-matches.result c.in_err-matches.field-0.0 c.from_residual-in_err-matches.ensures.1
-    (kinds-at _ (map g.S.AsStr.text c.args.words.now) c.in_err-matches.field-0.0 c.in_ok-program.ensures.shape c.in_err-matches.ensures.kinds)
+    (kinds-at _ (map g.S.AsStr.text c.args.words.now) c.in_err-matches.field-0.0 c.in_ok-program.ensures c.in_err-matches.ensures.kinds)
 
 pub returns-clause-settings : goal.returns-clause-settings
 returns-clause-settings g c =
     let words = map g.S.AsStr.text c.args.words.now in
-    let is = c.in_ok-program.ensures.shape in
+    let is = c.in_ok-program.ensures in
     let rows = (c.in_ok-matches.ensures.matches (ap is_simple is ∙ simple)).1 in
     c.settings_found.ensures ∙ ap settings_in (ap (λ o. option_map_or (λ (p : Text × List Row). p.1) o []) rows ∙ options-at _ words is)
 
 pub returns-clause-fails : goal.returns-clause-fails
-returns-clause-fails g c = none-at _ (map g.S.AsStr.text c.args.words.now) c.in_ok-program.ensures.shape c.in_ok-matches.ensures.kinds
+returns-clause-fails g c = none-at _ (map g.S.AsStr.text c.args.words.now) c.in_ok-program.ensures c.in_ok-matches.ensures.kinds
