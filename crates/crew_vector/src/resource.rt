@@ -186,7 +186,8 @@ impl Resource for VectorResource {
 
     #[inline]
     fn grade(&self, value: &PairingVector) -> u32 {
-        self.sides().grade(&numbers_from(value))
+        let (money, limits) = numbers_from(value);
+        self.money().grade(&money).max(self.limits().grade(&limits))
     }
 }
 
@@ -227,7 +228,7 @@ impl Staged<Duty> for VectorResource {
 
     #[inline]
     fn idle(&self, departure: &Departure) -> PairingVector {
-        vector_from(self.sides().idle(departure))
+        vector_from((self.money().idle(departure), self.limits().idle(departure)))
     }
 
     #[inline]
@@ -237,7 +238,9 @@ impl Staged<Duty> for VectorResource {
         arrival: &Arrival,
         departure: &Departure,
     ) -> PairingVector {
-        vector_from(self.sides().wait(&numbers_from(value), arrival, departure))
+        let (money, limits) = numbers_from(value);
+        let money = self.money().wait(&money, arrival, departure);
+        vector_from((money, self.limits().wait(&limits, arrival, departure)))
     }
 
     #[inline]
