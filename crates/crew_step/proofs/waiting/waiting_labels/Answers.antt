@@ -76,3 +76,14 @@ returns-clause-counts g c =
 
 pub returns-clause-grown : goal.returns-clause-grown
 returns-clause-grown g c = c.loop-label.invariant.0
+
+pub returns-in_err-labels-clause-grown : goal.returns-in_err-labels-clause-grown
+returns-in_err-labels-clause-grown g c = grown-itself c.args.walks.now
+
+pub returns-in_err-whole-clause-grown : goal.returns-in_err-whole-clause-grown
+returns-in_err-whole-clause-grown g c =
+    grown-through c.args.walks.now c.loop-label.walks c.whole_label.new.walks c.loop-label.invariant.0 c.in_err-whole.ensures.grown
+
+pub returns-in_err-push-clause-grown : goal.returns-in_err-push-clause-grown
+returns-in_err-push-clause-grown g c =
+    grown-through c.args.walks.now c.loop-label.walks c.whole_label.new.walks c.loop-label.invariant.0 c.in_ok-whole.ensures.grown
