@@ -1,5 +1,5 @@
 // The front of `crates/crew_front` and the pool of `crates/crew_pool` in plain Rust, for `bench/fronts`: `rustc -O`, words
-// and output as `crates/fronts_bench`.
+// and output as `crates/engine_bench`.
 //
 // With the word `draw` it gives in place of that the lines of the input whose vectors no other line beats, each vector once.
 use std::cmp::Ordering;

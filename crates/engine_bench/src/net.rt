@@ -1,20 +1,19 @@
-//! Builds the network of a timetable, and solves it by so many workers, for `bench/workers`.
+//! Lists the duties of a timetable, builds their network, and solves it by so many workers, for
+//! `bench/duties` and `bench/workers`.
 //!
-//! The input is the records `zone`, `base` and `flight` of a session; others are passed over. The
-//! settings are the standard ones, with 80 minutes at most between two legs and at most four duties
-//! in a pairing. It prints how many duties, nodes, departures and arrivals there are, and on
-//! standard error the microseconds that it took to list the duties and to build their network: the
-//! least of ten times each, and then those of the first time, when the memory is fresh.
+//! The input is the records `zone`, `base` and `flight` of a session. The settings are the standard
+//! ones, with at most four duties in a pairing, and with the most minutes between two legs that the
+//! first number says.
 //!
-//! Of the words after the program's name the first number is the most minutes between two legs, in
-//! place of 80. For each number after it the timetable is solved by so many workers: the cost of the
-//! best pairing goes to standard output, and the microseconds that it took to standard error.
+//! `net` prints how many duties, nodes, departures and arrivals there are, and on standard error
+//! the microseconds that it took to list the duties and to build their network: the least of ten
+//! times each, and then those of the first time, when the memory is fresh. For each number after
+//! the first the timetable is solved by so many workers: the cost of the best pairing goes to
+//! standard output, and the microseconds that it took to standard error.
 //!
-//! With the word `list` among them it lists the duties once, or finds that they are too many, and
-//! does nothing else, for `bench/duties`: the microseconds that it took go to standard error. The
-//! second number is then the least minutes between two legs.
-#![tactic(auto)]
-
+//! `list` lists the duties once, or finds that they are too many, and does nothing else: the
+//! microseconds that it took go to standard error. The second number is then the least minutes
+//! between two legs.
 ghost use Rattle.std.specs.Prelude.{◌≤◌, length};
 ghost use Rattle.crew_pairing.specs.Duties.{AreDuties};
 ghost use Rattle.crew_rules.specs.Settings.{IsChecked};
@@ -27,10 +26,8 @@ use crew_pairing::Duties;
 use crew_rules::Settings;
 use crew_solve::solve_with;
 use crew_time::Minute;
-use std::alloc::Global;
-use std::env;
-use std::io::{self, BufRead, BufReader, Eprint, Print};
-use std::rt::Env;
+use std::alloc::{AllocError, Global};
+use std::io::{self, Eprint, Print};
 use std::sync::Arc;
 use std::thread::Threads;
 use std::time::{Clock, Instant};
@@ -65,36 +62,68 @@ fn read_zone(line: &str) -> Option<(Code, Zone)> {
     Some((code_of(code)?, Zone::read(rule.as_bytes()).ok()?))
 }
 
-// The base of a record.
-fn read_base(line: &str) -> Option<Edit> {
-    let (_, rest) = line.split_once("base,")?;
-    let (code, price) = rest.split_once(',')?;
-    Some(Edit::AddBase {
-        code: code_of(code)?,
-        price: price.parse::<i64>().ok()?,
-    })
+// The fields of a record; those that it lacks are empty.
+fn fields_of(line: &str) -> [&str; 7] {
+    let mut fields = [""; 7];
+    for (place, field) in line.split(',').enumerate() {
+        if let Some(slot) = fields.get_mut(place) {
+            *slot = field;
+        }
+    }
+    fields
 }
 
-// The flight of a record.
-fn read_flight(settings: &Settings, zones: &[(Code, Zone)], line: &str) -> Option<Edit> {
-    let (_, rest) = line.split_once("flight,")?;
-    let (id, rest) = rest.split_once(',')?;
-    let (from, rest) = rest.split_once(',')?;
-    let (to, rest) = rest.split_once(',')?;
-    let (dep, rest) = rest.split_once(',')?;
-    let (arr, price) = rest.split_once(',')?;
-    let from = code_of(from)?;
+// The instants of a departure and an arrival, and that of the report.
+fn times_of(dep: &str, arr: &str) -> Option<(Minute, Minute, Minute)> {
     let dep = read_minute(dep.as_bytes()).ok()?;
-    let report = Minute::new(dep.get() - i64::from(settings.lead))?;
+    let arr = read_minute(arr.as_bytes()).ok()?;
+    let report = Minute::new(dep.get() - i64::from(Settings::standard().lead))?;
+    Some((dep, arr, report))
+}
+
+// The base or the flight of a record.
+fn read_edit(zones: &[(Code, Zone)], line: &str) -> Option<Edit> {
+    let [kind, id, from, to, dep, arr, price] = fields_of(line);
+    if kind == "base" {
+        let (code, price) = (code_of(id)?, from.parse::<i64>().ok()?);
+        return Some(Edit::AddBase { code, price });
+    }
+    let (dep, arr, report) = times_of(dep, arr)?;
+    let from = code_of(from)?;
     Some(Edit::AddFlight(Flight {
         id: FlightId::new(id.parse::<u32>().ok()?)?,
         from,
         to: code_of(to)?,
         dep,
-        arr: read_minute(arr.as_bytes()).ok()?,
+        arr,
         report_clock: zone_of(zones, from)?.clock(report),
         price: price.parse::<i64>().ok()?,
     }))
+}
+
+/// What the records say: the clocks of airports, and the timetable.
+#[derive(Drop)]
+pub struct Records {
+    zones: Vec<(Code, Zone)>,
+    pub timetable: Timetable,
+}
+
+/// No records.
+pub fn empty(alloc: Global) -> Records {
+    Records {
+        zones: Vec::new(alloc),
+        timetable: Timetable::new(alloc),
+    }
+}
+
+/// Takes a record in.
+pub fn take(records: &mut Records, line: &str) -> Result<(), AllocError> {
+    if let Some(zone) = read_zone(line) {
+        records.zones.push(zone)?;
+    } else if let Some(edit) = read_edit(&records.zones, line) {
+        records.timetable.apply(&edit)?;
+    }
+    Ok(())
 }
 
 // Lists the duties, and prints how many there are and what it took.
@@ -122,14 +151,8 @@ fn measure_list<R: Threads + Sync + Clock + Eprint + Print>(
     Ok(())
 }
 
-// How large a network is.
-#[derive(Clone, Copy)]
-struct Sizes {
-    duties: usize,
-    nodes: usize,
-    departures: usize,
-    arrivals: usize,
-}
+// How many duties, nodes, departures and arrivals a network has.
+type Sizes = (usize, usize, usize, usize);
 
 // Builds the network of some duties: the microseconds that it took, and how large it is.
 fn build_once<R: Clock>(
@@ -146,13 +169,8 @@ fn build_once<R: Clock>(
     let start = Instant::now(rt)?;
     let net = Net::build(alloc, settings, timetable, duties)?;
     let built = start.elapsed(rt)?.as_micros();
-    let sizes = Sizes {
-        duties: net.duties().len(),
-        nodes: net.len(),
-        departures: net.departures().len(),
-        arrivals: net.arrivals().len(),
-    };
-    Ok((built, sizes))
+    let (departures, arrivals) = (net.departures().len(), net.arrivals().len());
+    Ok((built, (net.duties().len(), net.len(), departures, arrivals)))
 }
 
 // Lists the duties and builds their network: the microseconds that each took, and how large it is.
@@ -195,23 +213,10 @@ fn measure<R: Threads + Sync + Clock + Eprint + Print>(
             build = build.min(built);
         }
     }
-    println!(rt;
-        "duties {} nodes {} departures {} arrivals {}",
-        sizes.duties, sizes.nodes, sizes.departures, sizes.arrivals
-    )?;
+    let (duties, nodes, departures, arrivals) = sizes;
+    println!(rt; "duties {duties} nodes {nodes} departures {departures} arrivals {arrivals}")?;
     eprintln!(rt; "list {list} build {build} first {first_list} {first_build}")?;
     Ok(())
-}
-
-// The numbers among the words of the command line.
-fn numbers_of<R: Env + AllocGlobal>(rt: &R) -> io::Result<Vec<u32>> {
-    let mut numbers = Vec::new(rt.alloc());
-    for word in env::args(rt)? {
-        if let Ok(number) = word.parse::<u32>() {
-            numbers.push(number)?;
-        }
-    }
-    Ok(numbers)
 }
 
 // Solves a timetable by so many workers, and prints what its best pairing costs.
@@ -239,82 +244,51 @@ fn solve_by<R: Threads + Sync + Clock + Eprint + Print>(
     Ok(())
 }
 
-// Whether a word is among those of the command line.
-fn has_word<R: Env + AllocGlobal>(rt: &R, wanted: &str) -> io::Result<bool> {
-    let mut found = false;
-    for word in env::args(rt)? {
-        found = found || word.as_str() == wanted;
-    }
-    Ok(found)
-}
-
-// Takes a record in: an airport's clock into the zones, a base or a flight into the timetable.
-fn take_line(
-    settings: &Settings,
-    zones: &mut Vec<(Code, Zone)>,
-    timetable: &mut Timetable,
-    line: io::Result<String>,
-) -> io::Result<()> {
-    let line = line?;
-    if let Some(zone) = read_zone(line.as_str()) {
-        zones.push(zone)?;
-    } else if let Some(base) = read_base(line.as_str()) {
-        timetable.apply(&base)?;
-    } else if let Some(flight) = read_flight(settings, zones, line.as_str()) {
-        timetable.apply(&flight)?;
-    }
-    Ok(())
-}
-
-// Measures what the words ask for: listing alone, or listing, building and solving.
-fn measure_all<R: Threads + Sync + Clock + Eprint + Print>(
-    rt: &R,
-    alloc: Global,
-    settings: &Settings,
-    timetable: &Timetable,
-    lists: bool,
-    numbers: &[u32],
-) -> io::Result<()>
-    requires { IsChecked settings.now }
-{
-    if lists {
-        return measure_list(rt, alloc, settings, timetable);
-    }
-    measure(rt, alloc, settings, timetable)?;
-    for workers in numbers.iter().skip(1) {
-        solve_by(rt, alloc, settings, timetable, *workers)?;
-    }
-    Ok(())
-}
-
-// The settings that the numbers among the words ask for.
-fn settings_by(numbers: &[u32], lists: bool) -> Settings {
-    let standard = Settings::standard();
-    let connect = if lists {
-        numbers.get(1).copied().unwrap_or(standard.connect)
-    } else {
-        standard.connect
-    };
+// The standard settings with these minutes between two legs, and with at most four duties.
+fn settings_of(sit: u32, connect: u32) -> Settings {
     Settings {
-        sit: numbers.first().copied().unwrap_or(80),
+        sit,
         connect,
         max_duties: 4,
-        ..standard
+        ..Settings::standard()
     }
 }
 
-fn main(rt: HostRuntime) -> io::Result<()> {
-    let alloc = rt.alloc();
-    let numbers = numbers_of(&rt)?;
-    let lists = has_word(&rt, "list")?;
-    let settings = settings_by(&numbers, lists);
+/// Lists the duties under the settings of two numbers.
+pub fn list<R: Threads + Sync + Clock + Eprint + Print>(
+    rt: &R,
+    alloc: Global,
+    timetable: &Timetable,
+    numbers: &[u32],
+) -> io::Result<()> {
+    let [sit, connect] = numbers else {
+        return Ok(());
+    };
+    let settings = settings_of(*sit, *connect);
     if settings.check().is_err() {
         return Ok(());
     }
-    let mut zones = Vec::new(alloc);
-    let mut timetable = Timetable::new(alloc);
-    for line in BufReader::new(alloc, rt.reader())?.lines(alloc) {
-        take_line(&settings, &mut zones, &mut timetable, line)?;
+    measure_list(rt, alloc, &settings, timetable)
+}
+
+/// Lists and builds under the settings of the first number, and solves by as many workers as each
+/// further one says.
+pub fn solve<R: Threads + Sync + Clock + Eprint + Print>(
+    rt: &R,
+    alloc: Global,
+    timetable: &Timetable,
+    numbers: &[u32],
+) -> io::Result<()> {
+    let [sit, rest @ ..] = numbers else {
+        return Ok(());
+    };
+    let settings = settings_of(*sit, Settings::standard().connect);
+    if settings.check().is_err() {
+        return Ok(());
     }
-    measure_all(&rt, alloc, &settings, &timetable, lists, &numbers)
+    measure(rt, alloc, &settings, timetable)?;
+    for workers in rest {
+        solve_by(rt, alloc, &settings, timetable, *workers)?;
+    }
+    Ok(())
 }

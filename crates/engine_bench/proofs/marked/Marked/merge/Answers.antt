@@ -3,7 +3,7 @@ use Rattle.crew_pool.specs.LabelWalks.{IsPoolOf, shown}
 use Rattle.crew_pool.specs.declared.label_walk.LabelWalk.{LabelWalk}
 use Rattle.crew_vector.specs.Dominance.{is_at_most}
 use Rattle.crew_pairing.specs.declared.vector.PairingVector.{PairingVector}
-use Rattle.fronts_bench.proofs.marked.Marked.merge.Goals as goal
+use Rattle.engine_bench.proofs.marked.Marked.merge.Goals as goal
 
 pub returns : goal.returns
 returns c =

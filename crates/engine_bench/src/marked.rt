@@ -4,7 +4,7 @@ ghost use Rattle.crew_pool.specs.LabelWalks.{IsPoolOf, shown};
 ghost use Rattle.crew_pool.specs.declared.label_walk.LabelWalk.{LabelWalk};
 ghost use Rattle.crew_vector.specs.Dominance.{is_at_most};
 ghost use Rattle.crew_pairing.specs.declared.vector.PairingVector.{PairingVector};
-ghost use Rattle.fronts_bench.specs.Marked.{AreMarked, IsMarked};
+ghost use Rattle.engine_bench.specs.Marked.{AreMarked, IsMarked};
 
 use crew_pairing::PairingVector;
 use crew_pool::{LabelWalk, NO_DUTY, Pool, Walks, Workspace};
