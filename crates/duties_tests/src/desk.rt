@@ -25,10 +25,12 @@ fn set_one(settings: &mut Settings, words: &[&str]) -> Option<()> {
         "debrief" => settings.debrief = value,
         "connect" => settings.connect = value,
         "sit" => settings.sit = value,
+        "max-rest" => settings.max_rest = value,
         "max-duties" => settings.max_duties = value,
         "fdp-cap" => settings.fdp_cap = value,
         "fly-cap" => settings.fly_cap = value,
         "away-cap" => settings.away_cap = value,
+        "duty-rig" => settings.duty_rig = value,
         "deadheads" => settings.deadheads = value,
         _ => return None,
     }

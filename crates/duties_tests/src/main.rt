@@ -1,5 +1,6 @@
 //! Worked examples of legal duties, of audits, of the network, of slots and of what an edit leaves
-//! standing: what no clause of theirs says.
+//! standing, and fronts and best pairings beside those picked from all partial pairings: what no
+//! clause of theirs says.
 //!
 //! Each line of standard input is a record of a timetable, or a call. It is written again, and
 //! behind `=` what the call answered; a line that begins with `#` says what follows is about. So
@@ -17,6 +18,7 @@ mod desk;
 mod duties;
 mod edits;
 mod nets;
+mod picked;
 mod slots;
 mod texts;
 mod words;
@@ -41,6 +43,7 @@ fn ask<R: Threads + Sync + AllocGlobal>(
         "audit" => audits::answer(rt.alloc(), desk, others, text),
         "net" => nets::answer(rt, desk, others, text),
         "carry" => carries::answer(rt, desk, others, text),
+        "picked" => picked::answer(rt, desk, others, text),
         "slot" => slots::answer(desk, others, text),
         _ => None,
     }

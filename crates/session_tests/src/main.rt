@@ -1,8 +1,9 @@
 //! Plays the cases that stand on standard input, and writes a transcript of what came of them:
 //! whole runs of the program, from their words to their status, over readers and writers in memory
-//! that may be slow or fail, and what an engine without workers shows. The stored run has the
-//! cases (`stdin`) and what has to come of them (`stdout`), both as plain data, which costs no
-//! proof. It promises nothing to others, so its functions have no clause.
+//! that may be slow or fail, what an engine without workers shows, and what a log and a published
+//! pair answer to commands (`log`, `pair`), each a line of the input that is written again with its
+//! answer. The stored run has the cases (`stdin`) and what has to come of them (`stdout`), both as
+//! plain data, which costs no proof. It promises nothing to others, so its functions have no clause.
 //!
 //! A case begins with `#` and its name. Lines that begin with `%` say how its streams behave
 //! (`Ways`), other lines are remarks, and the line that begins with `$` has its words; what
@@ -11,16 +12,21 @@
 //! before each of its lines, and the status where it isn't 0.
 #![tactic(auto)]
 
+mod commands;
 mod engines;
+mod logs;
+mod pairs;
 mod runs;
 mod strange;
 mod streams;
+mod versions;
 mod ways;
 
 use runs::Case;
 use std::alloc::Global;
 use std::io::{self, Print, Read};
 use std::str::from_utf8;
+use std::sync::Wait;
 use std::thread::Threads;
 use ways::Ways;
 
@@ -39,7 +45,7 @@ fn cut(text: &[u8], at: u8) -> (&[u8], &[u8]) {
 }
 
 // Plays what the words ask for, the first of which is the program's name, or names another thing.
-fn play_words<R: Print + Threads + Sync>(
+fn play_words<R: Print + Threads + Wait + Sync>(
     rt: &R,
     alloc: Global,
     words: &[&str],
@@ -49,12 +55,18 @@ fn play_words<R: Print + Threads + Sync>(
         ["edits"] => engines::play_edits(rt, alloc),
         ["copies"] => engines::play_copies(rt, alloc, case),
         ["strange"] => strange::play_strange(rt, alloc),
+        ["faults"] => commands::play_faults(rt),
+        ["log"] => logs::play_log(rt, alloc, text_of(case.input())),
+        ["pair", more, place, viewers] => {
+            let words = [*more, *place, *viewers];
+            pairs::play_pair(rt, alloc, words, text_of(case.input()))
+        }
         _ => runs::play_run(rt, alloc, words, case),
     }
 }
 
 // Plays a case.
-fn play<R: Print + Threads + Sync>(rt: &R, alloc: Global, text: &[u8]) -> io::Result<()> {
+fn play<R: Print + Threads + Wait + Sync>(rt: &R, alloc: Global, text: &[u8]) -> io::Result<()> {
     let (head, rest) = cut(text, b'$');
     let (line, input) = cut(rest, b'\n');
     let head = text_of(head);
@@ -66,7 +78,11 @@ fn play<R: Print + Threads + Sync>(rt: &R, alloc: Global, text: &[u8]) -> io::Re
 }
 
 // Plays each case of a text.
-fn play_all<R: Print + Threads + Sync>(rt: &R, alloc: Global, text: &[u8]) -> io::Result<()> {
+fn play_all<R: Print + Threads + Wait + Sync>(
+    rt: &R,
+    alloc: Global,
+    text: &[u8],
+) -> io::Result<()> {
     for case in text.split(|byte| *byte == b'#').skip(1) {
         play(rt, alloc, case)?;
     }

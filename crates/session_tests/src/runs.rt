@@ -24,6 +24,11 @@ impl<'a> Case<'a> {
         }
     }
 
+    /// The input.
+    pub fn input(&self) -> &'a [u8] {
+        self.input
+    }
+
     /// A reader of the input, which shows nothing.
     pub fn source<R: Print>(&self, rt: &'a R) -> Source<'a, R> {
         Source::new(&self.ways, self.input, Shown::new(rt, None, usize::MAX, 0))
