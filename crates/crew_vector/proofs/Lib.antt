@@ -1,3 +1,4 @@
+mod Capped
 pub mod Cheapest
 pub mod Composed
 pub mod Cuts

@@ -13,7 +13,6 @@
 mod amounts;
 mod cost;
 pub mod laws;
-mod numbers;
 mod priced;
 mod resource;
 mod value;

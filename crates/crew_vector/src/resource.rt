@@ -6,15 +6,14 @@ ghost use Rattle.crew_rules.specs.Settings.{IsChecked};
 ghost use Rattle.crew_vector.specs.Dominance.{is_at_most};
 ghost use Rattle.crew_vector.specs.Machinery.Named.{named_order};
 ghost use Rattle.crew_vector.specs.Machinery.Numbers.{named, numbers_of};
-ghost use Rattle.crew_vector.specs.Machinery.VectorResources.{vector_resource, sides_of};
+ghost use Rattle.crew_vector.specs.Machinery.VectorResources.{vector_resource, sides_of, within_caps};
 ghost use Rattle.crew_vector.specs.Values.{value_of};
 ghost use Rattle.crew_flights.specs.Timetable.{IsBasePrice};
 ghost use Rattle.crew_vector.specs.Machinery.VectorLaws.{vector_bounds, vector_counting, vector_grading, vector_shifts, vector_staged, vector_steps};
 
 use crate::amounts::{DutyMinutes, DutyPay, FlightMinutes, Guarantee, MinutesAway, TripRig};
-use crate::numbers::{numbers_from, vector_from};
 use crew_pairing::{Arrival, Departure, Duty, PairingVector};
-use crew_resource::{Both, Count, Resource, Staged, Sum};
+use crew_resource::{Amount, Both, Count, Resource, Staged, StagedAmount, Sum};
 use crew_rules::Settings;
 use std::alloc::AllocError;
 
@@ -65,63 +64,54 @@ impl VectorResource {
         }
     }
 
+    /// The vector, where it passes no cap.
     #[inline]
-    fn money(&self) -> Money
-        ensures { result ≡ (sides_of self.now).first }
+    fn within(&self, vector: PairingVector) -> Option<PairingVector>
+        ensures { result ≡ within_caps self.now vector }
     {
-        let base_price = self.base_price;
-        Both {
-            first: Sum {
-                amount: DutyPay { base_price },
-            },
-            second: Both {
-                first: Sum {
-                    amount: TripRig {
-                        rate: self.trip_rig,
-                        base_price,
-                    },
-                },
-                second: Sum {
-                    amount: Guarantee {
-                        points: self.guarantee,
-                        base_price,
-                    },
-                },
-            },
+        let minutes = (vector.fdp <= i64::from(self.fdp_cap))
+            & (vector.fly <= i64::from(self.fly_cap));
+        let span = (vector.duties <= i64::from(self.max_duties))
+            & (vector.away <= i64::from(self.away_cap));
+        if minutes & span { Some(vector) } else { None }
+    }
+
+    #[inline]
+    fn duty_pay(&self) -> DutyPay
+        ensures { result.base_price ≡ self.now.base_price }
+    {
+        DutyPay {
+            base_price: self.base_price,
         }
     }
 
     #[inline]
-    fn limits(&self) -> Limits
-        ensures { result ≡ (sides_of self.now).second }
+    fn rig(&self) -> TripRig
+        ensures rate { result.rate ≡ self.now.trip_rig }
+        ensures price { result.base_price ≡ self.now.base_price }
     {
-        Both {
-            first: Both {
-                first: Sum {
-                    amount: DutyMinutes { cap: self.fdp_cap },
-                },
-                second: Sum {
-                    amount: FlightMinutes { cap: self.fly_cap },
-                },
-            },
-            second: Both {
-                first: Count::new(self.max_duties),
-                second: Sum {
-                    amount: MinutesAway { cap: self.away_cap },
-                },
-            },
+        TripRig {
+            rate: self.trip_rig,
+            base_price: self.base_price,
         }
     }
 
-    /// The parts side by side.
     #[inline]
-    fn sides(&self) -> Sides
-        ensures { result ≡ sides_of self.now }
+    fn guaranteed(&self) -> Guarantee
+        ensures points { result.points ≡ self.now.guarantee }
+        ensures price { result.base_price ≡ self.now.base_price }
     {
-        Both {
-            first: self.money(),
-            second: self.limits(),
+        Guarantee {
+            points: self.guarantee,
+            base_price: self.base_price,
         }
+    }
+
+    #[inline]
+    fn minutes_away(&self) -> MinutesAway
+        ensures { result.cap ≡ self.now.away_cap }
+    {
+        MinutesAway { cap: self.away_cap }
     }
 }
 
@@ -154,7 +144,16 @@ impl Resource for VectorResource {
 
     #[inline]
     fn start(&self, duty: &Duty) -> Result<Option<PairingVector>, AllocError> {
-        Ok(self.sides().start(duty)?.map(vector_from))
+        let first = PairingVector {
+            duty_pay: self.duty_pay().first(duty),
+            trip_rig: self.rig().first(duty),
+            guarantee: self.guaranteed().first(duty),
+            fdp: i64::from(duty.fdp),
+            fly: i64::from(duty.fly),
+            duties: 1,
+            away: self.minutes_away().first(duty),
+        };
+        Ok(self.within(first))
     }
 
     #[inline]
@@ -164,11 +163,16 @@ impl Resource for VectorResource {
         last: &Duty,
         next: &Duty,
     ) -> Result<Option<PairingVector>, AllocError> {
-        Ok(
-            self.sides()
-                .extend(&numbers_from(value), last, next)?
-                .map(vector_from),
-        )
+        let longer = PairingVector {
+            duty_pay: value.duty_pay + self.duty_pay().next(last, next),
+            trip_rig: value.trip_rig + self.rig().next(last, next),
+            guarantee: value.guarantee + self.guaranteed().next(last, next),
+            fdp: value.fdp + i64::from(next.fdp),
+            fly: value.fly + i64::from(next.fly),
+            duties: value.duties + 1,
+            away: value.away + self.minutes_away().next(last, next),
+        };
+        Ok(self.within(longer))
     }
 
     #[inline]
@@ -186,8 +190,7 @@ impl Resource for VectorResource {
 
     #[inline]
     fn grade(&self, value: &PairingVector) -> u32 {
-        let (money, limits) = numbers_from(value);
-        self.money().grade(&money).max(self.limits().grade(&limits))
+        Count::<Duty>::new(self.max_duties).grade(&value.duties)
     }
 }
 
@@ -227,8 +230,17 @@ impl Staged<Duty> for VectorResource {
     ghost bounds = { vector_bounds };
 
     #[inline]
-    fn idle(&self, departure: &Departure) -> PairingVector {
-        vector_from((self.money().idle(departure), self.limits().idle(departure)))
+    fn idle(&self, _departure: &Departure) -> PairingVector {
+        let unpaid = -i64::from(self.base_price);
+        PairingVector {
+            duty_pay: unpaid,
+            trip_rig: unpaid,
+            guarantee: unpaid,
+            fdp: 0,
+            fly: 0,
+            duties: 0,
+            away: 0,
+        }
     }
 
     #[inline]
@@ -238,15 +250,24 @@ impl Staged<Duty> for VectorResource {
         arrival: &Arrival,
         departure: &Departure,
     ) -> PairingVector {
-        let (money, limits) = numbers_from(value);
-        let money = self.money().wait(&money, arrival, departure);
-        vector_from((money, self.limits().wait(&limits, arrival, departure)))
+        PairingVector {
+            trip_rig: value.trip_rig + self.rig().wait(arrival, departure),
+            away: value.away + self.minutes_away().wait(arrival, departure),
+            ..*value
+        }
     }
 
     #[inline]
     fn board(&self, value: &PairingVector, duty: &Duty) -> Option<PairingVector> {
-        self.sides()
-            .board(&numbers_from(value), duty)
-            .map(vector_from)
+        let aboard = PairingVector {
+            duty_pay: value.duty_pay + self.duty_pay().own(duty),
+            trip_rig: value.trip_rig + self.rig().own(duty),
+            guarantee: value.guarantee + self.guaranteed().own(duty),
+            fdp: value.fdp + i64::from(duty.fdp),
+            fly: value.fly + i64::from(duty.fly),
+            duties: value.duties + 1,
+            away: value.away + self.minutes_away().own(duty),
+        };
+        self.within(aboard)
     }
 }

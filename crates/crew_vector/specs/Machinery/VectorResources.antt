@@ -1,6 +1,7 @@
 -- The resource of a base's pairings under some settings, and its parts side by side.
-use Rattle.std.specs.Prelude.{ℤ}
+use Rattle.std.specs.Prelude.{◌&&◌, cond, int_le, ℤ, pos, Option, Some, None}
 use Rattle.crew_pairing.specs.declared.duty.Duty.{Duty}
+use Rattle.crew_pairing.specs.declared.vector.PairingVector.{PairingVector}
 use Rattle.crew_resource.specs.declared.both.Both.{Both}
 use Rattle.crew_resource.specs.declared.count.Count.{Count}
 use Rattle.crew_resource.specs.declared.sum.Sum.{Sum}
@@ -48,3 +49,10 @@ sides_of r = record {
     };
   };
 }
+
+-- a vector, where it passes no cap
+abbrev pub within_caps : VectorResource → PairingVector → Option PairingVector
+within_caps r v = cond
+    ((int_le v.fdp (pos r.fdp_cap) && int_le v.fly (pos r.fly_cap))
+    && (int_le v.duties (pos r.max_duties) && int_le v.away (pos r.away_cap)))
+    (Some v) None
