@@ -1,14 +1,10 @@
 //! All partial pairings of a timetable.
 
-ghost use Rattle.std.specs.Prelude.{◌≡◌, ◌+◌, ◌<◌, ◌≤◌, ℕ, ℤ, List, IfOk, OnOk, Err, length};
-ghost use Rattle.std.specs.FinMap as fin;
-ghost use Rattle.std.specs.List.{flat_map};
-ghost use Rattle.crew_flights.specs.Timetable.{IsBasePrice, IsSound};
+ghost use Rattle.std.specs.Prelude.{◌≡◌, ◌≤◌, IfOk, OnOk, Err, length};
+ghost use Rattle.crew_flights.specs.Timetable.{IsSound};
 ghost use Rattle.crew_rules.specs.Settings.{IsChecked};
 ghost use Rattle.crew_pairing.specs.Duties.{flights_of};
-ghost use Rattle.crew_resource.specs.Members.{Each};
-ghost use Rattle.crew_pairing.specs.Machinery.Beginnings.{AreFlights};
-ghost use Rattle.crew_audit.specs.Machinery.Listing.{all_partials, of_base};
+ghost use Rattle.crew_audit.specs.Machinery.Listing.{all_partials};
 ghost use Rattle.crew_audit.specs.Machinery.Taking.{Took};
 ghost use Rattle.crew_audit.specs.Partials.{ArePartials, HasMoreThan};
 ghost use Rattle.crew_audit.specs.Tallies.{IsTallyOf};
@@ -17,7 +13,7 @@ use crate::partial::{AuditFault, Partial};
 use crate::search::{Scope, list_after};
 use crate::sink::{Running, Sink};
 use crate::tally::Tally;
-use crew_flights::{Code, Flight, Timetable};
+use crew_flights::{Flight, Timetable};
 use crew_rules::Settings;
 use std::alloc::{AllocError, Global};
 
@@ -27,50 +23,6 @@ fn held_flights(alloc: Global, timetable: &Timetable) -> Result<Vec<Flight>, All
     ensures sound { IsSound timetable.now }
 {
     timetable.flights().copied().collect(alloc)
-}
-
-// The bases of a timetable with their prices, by code.
-fn held_bases(alloc: Global, timetable: &Timetable) -> Result<Vec<(Code, i64)>, AllocError>
-    ensures held { IfOk result (λ bases. bases.items ≡ fin.entries timetable.now.bases) }
-    ensures sound { IsSound timetable.now }
-{
-    timetable
-        .bases()
-        .map(|(code, price)| (*code, *price))
-        .collect(alloc)
-}
-
-// Finds all partials of these bases over these flights.
-fn find_all<F: Sink>(
-    alloc: Global,
-    found: &mut F,
-    settings: &Settings,
-    flights: &[Flight],
-    bases: &[(Code, i64)],
-    limit: usize,
-) -> Result<(), AuditFault>
-    requires checked { IsChecked settings.now }
-    requires flights { AreFlights flights.now }
-    requires prices { Each (λ (b : List ℕ × ℤ). IsBasePrice b.1) bases.now }
-    requires room { F.count found.old ≤ limit }
-    ensures ok { OnOk result (Took F.count F.holds found.old found.new
-        (flat_map (of_base settings.now flights.now) bases.now)) }
-    ensures room { OnOk result (F.count found.new ≤ limit) }
-    ensures over { result ≡ Err AuditFault.OverLimit
-        → limit < F.count found.old + length
-        (flat_map (of_base settings.now flights.now) bases.now) }
-{
-    for &(base, base_price) in bases {
-        let scope = Scope {
-            settings,
-            flights,
-            base,
-            base_price,
-            limit,
-        };
-        list_after(alloc, found, &scope, &[])?;
-    }
-    Ok(())
 }
 
 // Finds all partials of a timetable.
@@ -92,8 +44,16 @@ fn find<F: Sink>(
         → HasMoreThan settings.now timetable.now limit }
 {
     let flights = held_flights(alloc, timetable)?;
-    let bases = held_bases(alloc, timetable)?;
-    find_all(alloc, found, settings, &flights, &bases, limit)?;
+    for (base, base_price) in timetable.bases() {
+        let scope = Scope {
+            settings,
+            flights: &flights,
+            base: *base,
+            base_price: *base_price,
+            limit,
+        };
+        list_after(alloc, found, &scope, &[])?;
+    }
     Ok(())
 }
 

@@ -33,3 +33,20 @@ returns c =
     let guarantee = fits-less c.guaranteed.result c.add_up-sums.result.price b (omega (arith, ints, points.bound)) (omega (arith, ints, points.value, few, duties)) sums.bound_price.0 sums.bound_price.1 least most
     ∙ ap_two (λ (x y : ℤ). x -ℤ y) points.value price in
     λ i. record { duty_pay = pay i; trip_rig = trip i; guarantee = guarantee i; fdp = fdp i; fly = fly i; duties = duties i; away = away i }
+
+pub overflow_sub-result : goal.overflow_sub-result
+overflow_sub-result c =
+    let sums = c.add_up-sums.ensures in
+    let price = c.requires.price in
+    let least = price.least in
+    let most = price.most in
+    omega (arith, ints, sums.bound_pay, sums.bound_price, least, most)
+
+pub overflow_sub-result-2 : goal.overflow_sub-result-2
+overflow_sub-result-2 c =
+    let sums = c.add_up-sums.ensures in
+    let rig = c.rated.ensures in
+    let price = c.requires.price in
+    let least = price.least in
+    let most = price.most in
+    omega (arith, ints, rig.bound, sums.bound_price, least, most)

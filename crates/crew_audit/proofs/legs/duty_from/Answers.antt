@@ -1,5 +1,6 @@
 use Rattle.std.proofs.Common.{◌≡◌, ◌∷◌, ℤ, pos, ◌-ℤ◌, ◌≤ℤ◌, ◌∙◌, ap, arith, length, map, of_z, subst, sym, to_z, w32, w64}
 use Rattle.std.proofs.lemmas.Grind.{common_steps}
+use Rattle.std.proofs.lemmas.Int.{ints}
 use Rattle.crew_rules.specs.Pay.{duty_pay}
 use Rattle.crew_pairing.specs.declared.leg.TimedLeg.{TimedLeg}
 use Rattle.crew_pairing.specs.Legality.{flight_duty_period, flight_time, last_of, leg_of, price_of, release, report, total}
@@ -108,3 +109,12 @@ returns-clause-range c =
     let release = rw c.release-release.ensures.value at c.release-release.ensures.bound in
     let price = rw c.price.ensures.value at c.price.ensures.bound in
     subst IsInRange (sym (returns-clause-value c)) (made-in-range s first others c.requires.checked c.requires.sound c.requires.connected c.requires.few report.0 report.1 release.0 release.1 price.0 price.1)
+
+pub loop-leg-preserved : goal.loop-leg-preserved
+loop-leg-preserved c = grind (arith, common_steps)
+
+pub overflow_sub-release : goal.overflow_sub-release
+overflow_sub-release c =
+    let report = c.report-report.ensures.bound in
+    let release = c.release-release.ensures.bound in
+    omega (arith, ints, report, release)
