@@ -1,7 +1,7 @@
 //! Answers calls of the crates below the network: instants, rules, timetables, vectors, fronts,
-//! pools, resources and the work on single nodes. Its stored run (`stdin` and `stdout` beside
-//! `src/`) holds what no clause of theirs says: printed texts, values from outside, and one happy
-//! path of each public function.
+//! resources and the work on single nodes. Its stored run (`stdin` and `stdout` beside `src/`) holds
+//! what no clause of theirs says: printed texts, values from outside, and one happy path of each
+//! public function that no settle calls.
 //!
 //! Each line of the input is a call in words (`clock EST5EDT,M3.2.0,M11.1.0 2025-03-09T07:00`). It
 //! is written with its answer below it (`= 180, by a copy 180`); a line that begins with `#` says
@@ -18,7 +18,6 @@ mod duties;
 mod flights;
 mod fronts;
 mod jobs;
-mod pools;
 mod rides;
 mod rules;
 mod show;
@@ -40,7 +39,7 @@ struct State {
     fronts: Fronts,
 }
 
-// Answers a call about times, rules, resources, pools or jobs.
+// Answers a call about times, rules, resources or jobs.
 fn answer_alone(alloc: Global, call: &Call<'_>, out: &mut String) -> Result<(), AllocError> {
     match call.words[0] {
         "minute" => times::minute(alloc, call, out),
@@ -70,13 +69,6 @@ fn answer_alone(alloc: Global, call: &Call<'_>, out: &mut String) -> Result<(), 
         "trip-grades" => trips::grades(out),
         "trip-ordered" => trips::ordered(out),
         "trip-staged" => trips::staged(out),
-        "walks" => pools::walks(alloc, out),
-        "many-walks" => pools::many_walks(alloc, call, out),
-        "merged" => pools::merged(alloc, out),
-        "pool" => pools::pool(alloc, out),
-        "absorbed" => pools::absorbed(alloc, out),
-        "view" => pools::view(alloc, call, out),
-        "pool-laws" => pools::pool_laws(out),
         _ => write!(out, "no such call"),
     }
 }
