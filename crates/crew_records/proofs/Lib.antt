@@ -1,3 +1,4 @@
 pub mod DashFacts
+pub mod DropFacts
 pub mod DutyFacts
 pub mod NumberFacts

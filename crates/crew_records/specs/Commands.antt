@@ -1,5 +1,5 @@
 -- What a record asks for.
-use Rattle.std.specs.Prelude.{ℕ, List, Result, Ok, Err, codes, if◌then◌else◌}
+use Rattle.std.specs.Prelude.{ℕ, List, Option, Some, None, Result, Ok, Err, codes, if◌then◌else◌}
 use Rattle.std.specs.Str.{bytes_eq}
 use Rattle.crew_time.specs.Instant.{IsInYears}
 use Rattle.crew_flights.specs.declared.edit.Edit.TheVariants as edit
@@ -102,24 +102,37 @@ plain_command fields command = do
 
 -- ---- a record, by its name
 
+-- the edit that a record of this name asks for; none where no edit has the name
+abbrev pub edit_named : List ℕ → Fields → Option (Result Command RecordFault)
+edit_named name fields =
+    if bytes_eq name (codes "base") then Some (base_command fields)
+    else (if bytes_eq name (codes "baseprice") then Some (base_price_command fields)
+    else (if bytes_eq name (codes "flight") then Some (flight_command fields)
+    else (if bytes_eq name (codes "cancel") then Some (cancel_command fields)
+    else (if bytes_eq name (codes "retime") then Some (retime_command fields)
+    else (if bytes_eq name (codes "price") then Some (price_command fields)
+    else None)))))
+
+abbrev pub edit_command : Fields → Option (Result Command RecordFault)
+edit_command fields = edit_named (field_of fields 0) fields
+
 abbrev pub kind_of : List ℕ → Fields → Result Command RecordFault
 kind_of name fields =
     if bytes_eq name (codes "zone") then zone_command fields
-    else (if bytes_eq name (codes "base") then base_command fields
-    else (if bytes_eq name (codes "baseprice") then base_price_command fields
-    else (if bytes_eq name (codes "flight") then flight_command fields
-    else (if bytes_eq name (codes "cancel") then cancel_command fields
-    else (if bytes_eq name (codes "retime") then retime_command fields
-    else (if bytes_eq name (codes "price") then price_command fields
     else (if bytes_eq name (codes "settle") then plain_command fields Settle
     else (if bytes_eq name (codes "best") then plain_command fields Best
     else (if bytes_eq name (codes "front") then front_command fields
     else (if bytes_eq name (codes "pairings") then cheapest_command fields
     else (if bytes_eq name (codes "audit") then audit_command fields
-    else Err UnknownRecord)))))))))))
+    else Err UnknownRecord)))))
+
+abbrev pub edit_or : Option (Result Command RecordFault) → Result Command RecordFault
+    → Result Command RecordFault
+edit_or (Some edit) other = edit
+edit_or None other = other
 
 abbrev pub named_command : Fields → Result Command RecordFault
-named_command fields = kind_of (field_of fields 0) fields
+named_command fields = edit_or (edit_command fields) (kind_of (field_of fields 0) fields)
 
 abbrev pub command_or_refuse : Result Command RecordFault → Command
 command_or_refuse (Ok command) = command

@@ -60,6 +60,11 @@ id_field f = number_field 6 f
 abbrev pub limit_field : ℕ → List ℕ → Result ℕ RecordFault
 limit_field most f = number_field 8 f >>= (λ n. if nat_le n most then Ok n else Err BadField)
 
+-- SEAT, NUMBER, JOB, READER: `0`, or so many digits at most without a leading zero; at most so much
+abbrev pub count_up_to : ℕ → ℕ → List ℕ → Result ℕ RecordFault
+count_up_to digits most f = if bytes_eq f (codes "0") then Ok 0
+    else (number_field digits f >>= (λ n. if nat_le n most then Ok n else Err BadField))
+
 -- PRICE: `0`, or an optional `-` and 1 to 18 digits without a leading zero
 abbrev pub signed_field : List ℕ → Result ℤ RecordFault
 signed_field [] = Err BadField

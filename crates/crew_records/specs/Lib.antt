@@ -1,4 +1,5 @@
 pub mod Commands
 pub mod Faults
+pub mod Schedules
 pub mod Fields
 pub mod Machinery

@@ -1,13 +1,14 @@
 //! What a record asks for.
 
-ghost use Rattle.std.specs.Prelude.{◌≡◌, IfOk};
+ghost use Rattle.std.specs.Prelude.{◌≡◌, ◌≤◌, IfOk, IfSome, drop};
 ghost use Rattle.csv.specs.Records.{fields_of};
 ghost use Rattle.crew_records.specs.Commands.{IsDated, command_of};
 ghost use Rattle.crew_records.specs.Commands as Spec;
 
 use crate::fault::RecordFault;
 use crate::fields::{
-    count_fields, field, read_code, read_id, read_key, read_limit, read_price, read_time, read_zone,
+    count_fields, count_fields_at, field, field_at, read_code, read_id, read_key, read_limit,
+    read_price, read_time, read_zone,
 };
 use crew_clocks::Zone;
 use crew_flights::{Code, Edit, FlightId};
@@ -63,7 +64,7 @@ pub enum Command {
 }
 
 #[tactic(auto, unfolding(crate::specs::Commands::zone_command))]
-fn zone_command(row: &ByteRecord) -> Result<Command, RecordFault>
+pub(crate) fn zone_command(row: &ByteRecord) -> Result<Command, RecordFault>
     ensures value { result ≡ Spec.zone_command (fields_of row.now) }
     ensures dated { IfOk result IsDated }
 {
@@ -74,39 +75,42 @@ fn zone_command(row: &ByteRecord) -> Result<Command, RecordFault>
 }
 
 #[tactic(auto, unfolding(crate::specs::Commands::base_command))]
-fn base_command(row: &ByteRecord) -> Result<Command, RecordFault>
-    ensures value { result ≡ Spec.base_command (fields_of row.now) }
+fn base_command(row: &ByteRecord, at: usize) -> Result<Command, RecordFault>
+    requires { at ≤ 3 }
+    ensures value { result ≡ Spec.base_command (drop at (fields_of row.now)) }
     ensures dated { IfOk result IsDated }
 {
-    count_fields(row, 3)?;
-    let code = read_code(field(row, 1))?;
-    let price = read_price(field(row, 2))?;
+    count_fields_at(row, at, 3)?;
+    let code = read_code(field_at(row, at, 1))?;
+    let price = read_price(field_at(row, at, 2))?;
     Ok(Command::Submit(Edit::AddBase { code, price }))
 }
 
 #[tactic(auto, unfolding(crate::specs::Commands::base_price_command))]
-fn base_price_command(row: &ByteRecord) -> Result<Command, RecordFault>
-    ensures value { result ≡ Spec.base_price_command (fields_of row.now) }
+fn base_price_command(row: &ByteRecord, at: usize) -> Result<Command, RecordFault>
+    requires { at ≤ 3 }
+    ensures value { result ≡ Spec.base_price_command (drop at (fields_of row.now)) }
     ensures dated { IfOk result IsDated }
 {
-    count_fields(row, 3)?;
-    let code = read_code(field(row, 1))?;
-    let price = read_price(field(row, 2))?;
+    count_fields_at(row, at, 3)?;
+    let code = read_code(field_at(row, at, 1))?;
+    let price = read_price(field_at(row, at, 2))?;
     Ok(Command::Submit(Edit::BasePrice { code, price }))
 }
 
 #[tactic(auto, unfolding(crate::specs::Commands::flight_command))]
-fn flight_command(row: &ByteRecord) -> Result<Command, RecordFault>
-    ensures value { result ≡ Spec.flight_command (fields_of row.now) }
+fn flight_command(row: &ByteRecord, at: usize) -> Result<Command, RecordFault>
+    requires { at ≤ 3 }
+    ensures value { result ≡ Spec.flight_command (drop at (fields_of row.now)) }
     ensures dated { IfOk result IsDated }
 {
-    count_fields(row, 7)?;
-    let id = read_id(field(row, 1))?;
-    let from = read_code(field(row, 2))?;
-    let to = read_code(field(row, 3))?;
-    let dep = read_time(field(row, 4))?;
-    let arr = read_time(field(row, 5))?;
-    let price = read_price(field(row, 6))?;
+    count_fields_at(row, at, 7)?;
+    let id = read_id(field_at(row, at, 1))?;
+    let from = read_code(field_at(row, at, 2))?;
+    let to = read_code(field_at(row, at, 3))?;
+    let dep = read_time(field_at(row, at, 4))?;
+    let arr = read_time(field_at(row, at, 5))?;
+    let price = read_price(field_at(row, at, 6))?;
     Ok(Command::AddFlight {
         id,
         from,
@@ -118,36 +122,39 @@ fn flight_command(row: &ByteRecord) -> Result<Command, RecordFault>
 }
 
 #[tactic(auto, unfolding(crate::specs::Commands::cancel_command))]
-fn cancel_command(row: &ByteRecord) -> Result<Command, RecordFault>
-    ensures value { result ≡ Spec.cancel_command (fields_of row.now) }
+fn cancel_command(row: &ByteRecord, at: usize) -> Result<Command, RecordFault>
+    requires { at ≤ 3 }
+    ensures value { result ≡ Spec.cancel_command (drop at (fields_of row.now)) }
     ensures dated { IfOk result IsDated }
 {
-    count_fields(row, 2)?;
-    let id = read_id(field(row, 1))?;
+    count_fields_at(row, at, 2)?;
+    let id = read_id(field_at(row, at, 1))?;
     Ok(Command::Submit(Edit::Cancel(id)))
 }
 
 #[tactic(auto, unfolding(crate::specs::Commands::retime_command))]
-fn retime_command(row: &ByteRecord) -> Result<Command, RecordFault>
-    ensures value { result ≡ Spec.retime_command (fields_of row.now) }
+fn retime_command(row: &ByteRecord, at: usize) -> Result<Command, RecordFault>
+    requires { at ≤ 3 }
+    ensures value { result ≡ Spec.retime_command (drop at (fields_of row.now)) }
     ensures dated { IfOk result IsDated }
 {
-    count_fields(row, 5)?;
-    let id = read_id(field(row, 1))?;
-    let from = read_code(field(row, 2))?;
-    let dep = read_time(field(row, 3))?;
-    let arr = read_time(field(row, 4))?;
+    count_fields_at(row, at, 5)?;
+    let id = read_id(field_at(row, at, 1))?;
+    let from = read_code(field_at(row, at, 2))?;
+    let dep = read_time(field_at(row, at, 3))?;
+    let arr = read_time(field_at(row, at, 4))?;
     Ok(Command::Retime { id, from, dep, arr })
 }
 
 #[tactic(auto, unfolding(crate::specs::Commands::price_command))]
-fn price_command(row: &ByteRecord) -> Result<Command, RecordFault>
-    ensures value { result ≡ Spec.price_command (fields_of row.now) }
+fn price_command(row: &ByteRecord, at: usize) -> Result<Command, RecordFault>
+    requires { at ≤ 3 }
+    ensures value { result ≡ Spec.price_command (drop at (fields_of row.now)) }
     ensures dated { IfOk result IsDated }
 {
-    count_fields(row, 3)?;
-    let id = read_id(field(row, 1))?;
-    let price = read_price(field(row, 2))?;
+    count_fields_at(row, at, 3)?;
+    let id = read_id(field_at(row, at, 1))?;
+    let price = read_price(field_at(row, at, 2))?;
     Ok(Command::Submit(Edit::Price { id, price }))
 }
 
@@ -192,32 +199,45 @@ fn plain_command(row: &ByteRecord, command: Command) -> Result<Command, RecordFa
     Ok(command)
 }
 
+// The edit that a record of this name asks for from a place on, if it is one of an edit.
+pub(crate) fn edit_command(row: &ByteRecord, at: usize) -> Option<Result<Command, RecordFault>>
+    requires { at ≤ 3 }
+    ensures value { result ≡ Spec.edit_command (drop at (fields_of row.now)) }
+    ensures dated { IfSome result (λ r. IfOk r IsDated) }
+{
+    let name = field_at(row, at, 0);
+    if name == b"base".as_slice() {
+        return Some(base_command(row, at));
+    }
+    if name == b"baseprice".as_slice() {
+        return Some(base_price_command(row, at));
+    }
+    if name == b"flight".as_slice() {
+        return Some(flight_command(row, at));
+    }
+    if name == b"cancel".as_slice() {
+        return Some(cancel_command(row, at));
+    }
+    if name == b"retime".as_slice() {
+        return Some(retime_command(row, at));
+    }
+    if name == b"price".as_slice() {
+        return Some(price_command(row, at));
+    }
+    None
+}
+
 // What a record of this name asks for, or why it is refused.
 fn named_command(row: &ByteRecord) -> Result<Command, RecordFault>
     ensures value { result ≡ Spec.named_command (fields_of row.now) }
     ensures dated { IfOk result IsDated }
 {
+    if let Some(edit) = edit_command(row, 0) {
+        return edit;
+    }
     let name = field(row, 0);
     if name == b"zone".as_slice() {
         return zone_command(row);
-    }
-    if name == b"base".as_slice() {
-        return base_command(row);
-    }
-    if name == b"baseprice".as_slice() {
-        return base_price_command(row);
-    }
-    if name == b"flight".as_slice() {
-        return flight_command(row);
-    }
-    if name == b"cancel".as_slice() {
-        return cancel_command(row);
-    }
-    if name == b"retime".as_slice() {
-        return retime_command(row);
-    }
-    if name == b"price".as_slice() {
-        return price_command(row);
     }
     if name == b"settle".as_slice() {
         return plain_command(row, Command::Settle);

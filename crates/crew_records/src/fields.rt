@@ -1,6 +1,6 @@
 //! Readers of the fields of records.
 
-ghost use Rattle.std.specs.Prelude.{◌≡◌, ◌<◌, ◌≤◌, ◌^◌, ◌+◌, ◌-◌, ◌*◌, ◌∷◌, IfOk, length, slice_index, true};
+ghost use Rattle.std.specs.Prelude.{◌≡◌, ◌<◌, ◌≤◌, ◌^◌, ◌+◌, ◌-◌, ◌*◌, ◌∷◌, IfOk, drop, length, slice_index, true};
 ghost use Rattle.std.specs.Char.{is_ascii_digit};
 ghost use Rattle.std.specs.List.{list_all, position, slice_split};
 ghost use Rattle.crew_records.specs.Machinery.Cuts.{texts_of};
@@ -31,6 +31,28 @@ pub(crate) fn count_fields(row: &ByteRecord, n: usize) -> Result<(), RecordFault
     ensures { result ≡ Spec.count_field (fields_of row.now) n }
 {
     if row.len() == n {
+        Ok(())
+    } else {
+        Err(RecordFault::FieldCount)
+    }
+}
+
+// A field of what a record has from a place on, where a missing one is empty.
+
+pub(crate) fn field_at(row: &ByteRecord, at: usize, i: usize) -> &[u8]
+    requires at { at ≤ 3 }
+    requires few { i ≤ 8 }
+    ensures { result.now ≡ Spec.field_of (drop at (fields_of row.now)) i }
+{
+    field(row, at + i)
+}
+
+// That a record has so many fields from a place on.
+#[tactic(auto, using(crate::proofs::DropFacts::count_of_drop))]
+pub(crate) fn count_fields_at(row: &ByteRecord, at: usize, n: usize) -> Result<(), RecordFault>
+    ensures { result ≡ Spec.count_field (drop at (fields_of row.now)) n }
+{
+    if row.len().saturating_sub(at) == n {
         Ok(())
     } else {
         Err(RecordFault::FieldCount)
@@ -150,6 +172,21 @@ pub(crate) fn read_limit(field: &[u8], most: u32) -> Result<u32, RecordFault>
     ensures { result ≡ Spec.limit_field most field.now }
 {
     let number = read_number(field, 8)?;
+    if number > u64::from(most) {
+        return Err(RecordFault::BadField);
+    }
+    Ok(number as u32)
+}
+
+// A number of at most so much: `0`, or so many digits at most without a leading zero.
+pub(crate) fn read_count(field: &[u8], digits: usize, most: u32) -> Result<u32, RecordFault>
+    requires { digits ≤ 9 }
+    ensures { result ≡ Spec.count_up_to digits most field.now }
+{
+    if field == b"0".as_slice() {
+        return Ok(0);
+    }
+    let number = read_number(field, digits)?;
     if number > u64::from(most) {
         return Err(RecordFault::BadField);
     }
