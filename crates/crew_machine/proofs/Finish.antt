@@ -124,7 +124,7 @@ module _ (s : Settings) (checked : IsChecked s) where
       pub front : Entries
       pub at : slice_get cells place ≡ Some (job.node, Waiting)
       pub right : IsFrontOf s data-of job.node front
-      pub run : Run (crew s) (over cells jobs) (Claim ∷ Bring (length jobs) ∷ []) (Claimed job ∷ Was_brought Stored ∷ []) (over (slice_set cells place (job.node, Done front)) (jobs ++ job ∷ []))
+      pub run : Run (crew s) (over cells jobs) (Claim ∷ Bring (length jobs) ∷ []) (Claimed (length jobs) job ∷ Was_brought (length jobs) Stored ∷ []) (over (slice_set cells place (job.node, Done front)) (jobs ++ job ∷ []))
 
     -- a node is claimed, and its result brought
     turned : (cells : Cells) (jobs : List DutyWork) → Going cells → (n : DutyNode) (c : Cell Entries) → Member cells (n, c) → IsUndone c → Turned cells jobs
@@ -148,7 +148,7 @@ module _ (s : Settings) (checked : IsChecked s) where
         let now : slice_get out place ≡ Some (job.node, Out) = slice_get-set_here cells place (job.node, Waiting) (job.node, Out) at in
         let stores : Stores (crew s) (over out jobs).board job f.0 (over done jobs).board = record { round = record { entries = entries; cells = out }; is_open = refl; place = place; cell = Out; own = (now, later); undone = tt; local = local; reused = []; cells = done; reuses = written; after = refl } in
         let second : TakesBack (crew s) (over out (jobs ++ job ∷ [])) (length jobs) Stored (over done (jobs ++ job ∷ [])) = record { job = job; handed_out = slice_get_push_new jobs job; front = f.0; local = local; board = (over done jobs).board; brings = stores; after = refl } in
-        record { place = place; job = job; front = f.0; at = at; right = f.1; run = (over out (jobs ++ job ∷ []), first, (over done (jobs ++ job ∷ []), second, refl)) }
+        record { place = place; job = job; front = f.0; at = at; right = f.1; run = (over out (jobs ++ job ∷ []), (refl, first), (over done (jobs ++ job ∷ []), (refl, second), refl)) }
       where
         own-node : (cells : Cells) (place : ℕ) (n : DutyNode) → slice_get cells place ≡ Some (n, Waiting) → Member (map (λ c. c.0) cells) n
         own-node [] place n at = absurd (let q : ⊥ = (cc) in q)
@@ -173,11 +173,11 @@ module _ (s : Settings) (checked : IsChecked s) where
         let rest = filled k next (jobs ++ t.job ∷ []) (omega (arith, e, less)) (going-on cells t.place t.job.node t.front g t.at t.right) in
         record {
           acts = Claim ∷ Bring (length jobs) ∷ rest.acts;
-          replies = Claimed t.job ∷ Was_brought Stored ∷ rest.replies;
+          replies = Claimed (length jobs) t.job ∷ Was_brought (length jobs) Stored ∷ rest.replies;
           cells' = rest.cells';
           jobs' = rest.jobs';
           none_left = rest.none_left;
-          run = runs-on (over cells jobs) (over next (jobs ++ t.job ∷ [])) (over rest.cells' rest.jobs') (Claim ∷ Bring (length jobs) ∷ []) rest.acts (Claimed t.job ∷ Was_brought Stored ∷ []) rest.replies t.run rest.run;
+          run = runs-on (over cells jobs) (over next (jobs ++ t.job ∷ [])) (over rest.cells' rest.jobs') (Claim ∷ Bring (length jobs) ∷ []) rest.acts (Claimed (length jobs) t.job ∷ Was_brought (length jobs) Stored ∷ []) rest.replies t.run rest.run;
         }
 
     -- then the round is sealed
@@ -191,7 +191,7 @@ module _ (s : Settings) (checked : IsChecked s) where
         let next : CrewState = record { log = log; board = board; jobs = all.jobs'; published = published; seen = seen } in
         let seals : Seals (crew s) (over all.cells' all.jobs').board version board = record { round = record { entries = entries; cells = all.cells' }; is_open = refl; number = refl; entries = refl; fronts = f.1; least = best.1; after = refl } in
         let last : Closes (crew s) (over all.cells' all.jobs') version next = record { board = board; seals = seals; after = refl } in
-        (all.acts ++ Seal ∷ [], all.replies ++ Sealed version ∷ [], next, runs-on (over cells jobs) (over all.cells' all.jobs') next all.acts (Seal ∷ []) all.replies (Sealed version ∷ []) all.run (next, last, refl), refl, refl, refl, refl)
+        (all.acts ++ Seal ∷ [], all.replies ++ Sealed (length sealed.entries) version ∷ [], next, runs-on (over cells jobs) (over all.cells' all.jobs') next all.acts (Seal ∷ []) all.replies (Sealed (length sealed.entries) version ∷ []) all.run (next, (refl, last), refl), refl, refl, refl, refl)
 
   abbrev pub Ends : CrewRound → CrewState → Type 0
   Ends round state = (more : List CrewAct) × (others : List CrewReply) × (next : CrewState) × Run (crew s) state more others next × (next.board.round ≡ None) × (next.board.sealed.entries ≡ round.entries) × (next.board.sealed.number ≡ state.board.sealed.number + 1) × (next.published ≡ state.published)

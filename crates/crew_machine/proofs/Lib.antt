@@ -1,13 +1,16 @@
-mod Alike
-mod Boards
+pub mod Alike
+pub mod Boards
 mod Cells
+pub mod Chosen
 mod Claimed
-mod CrewLaws
+mod Counts
+pub mod CrewLaws
 mod Finish
 mod Least
+mod Logged
 mod NodeList
 mod Progress
 mod Published
-mod Reuse
-mod Runs
+pub mod Reuse
+pub mod Runs
 mod Sorted
