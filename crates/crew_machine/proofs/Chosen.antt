@@ -1,7 +1,7 @@
 -- A run with the product's choices is a run.
-use Rattle.std.proofs.Common.{◌≡◌, ℕ, List, [], ◌∷◌}
+use Rattle.std.proofs.Common.{List, [], ◌∷◌}
 use Rattle.crew_machine.specs.Choices.{ChosenRun, ChosenStep}
-use Rattle.crew_machine.specs.Steps.{Abandon, Act, Answered, Ask, Begin, Begun, Bring, Claim, Claimed, Give_back, Publish, Push, Reply, Run, Seal, State, Step, Too_large, Was_brought}
+use Rattle.crew_machine.specs.Steps.{Act, Answered, Ask, Begin, Begun, Bring, Claim, Claimed, Reply, Run, State, Step, Too_large, Was_brought}
 use Rattle.crew_machine.specs.Worlds.{World}
 
 module _ {E D N I F B : Type 0} (w : World E D N I F B) where

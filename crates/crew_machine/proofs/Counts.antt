@@ -1,6 +1,6 @@
 -- What the counts of a round tell.
-use Rattle.std.proofs.Common.{◌≡◌, ℕ, ◌+◌, ◌<◌, ◌≤◌, List, [], ◌∷◌, filter, length, inl, inr, refl, sym, ◌∙◌, ap, subst, ⊎_elim, arith}
-use Rattle.crew_machine.specs.Rounds.{is_done, is_out, progress_of}
+use Rattle.std.proofs.Common.{◌≡◌, ◌+◌, ◌≤◌, List, [], ◌∷◌, inl, inr, refl, sym, ◌∙◌, ap, ⊎_elim, arith}
+use Rattle.crew_machine.specs.Rounds.{progress_of}
 use Rattle.crew_machine.specs.declared.rounds.Cell.{Cell}
 use Rattle.crew_machine.specs.declared.rounds.Cell.TheVariants.{Waiting, Out, Done}
 use Rattle.crew_resource.specs.Members.{Member}

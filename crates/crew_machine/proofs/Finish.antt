@@ -23,7 +23,7 @@ use Rattle.crew_rules.specs.Settings.{IsChecked}
 use Rattle.crew_rules.specs.declared.settings.Settings.{Settings}
 use Rattle.crew_vector.specs.declared.priced.PricedPairing.{PricedPairing}
 
-abbrev Cells : Type 0
+abbrev pub Cells : Type 0
 Cells = List (DutyNode × Cell Entries)
 
 abbrev Seen : Type 0
@@ -42,16 +42,16 @@ set-keeps [] i was v x at other m = m
 set-keeps (y ∷ ys) zero was v x at other m = ⊎_elim (λ e. absurd (other (sym (Some-same y was at) ∙ e))) (λ k. inr k) m
 set-keeps (y ∷ ys) (suc i) was v x at other m = ⊎_elim inl (λ k. inr (set-keeps ys i was v x at other k)) m
 
-abbrev undone : Cell Entries → ℕ
+abbrev pub undone : Cell Entries → ℕ
 undone Waiting = 1
 undone Out = 1
 undone (Done f) = 0
 
-abbrev left : Cells → ℕ
+abbrev pub left : Cells → ℕ
 left [] = 0
 left (c ∷ cells) = undone c.1 + left cells
 
-left-less : (cells : Cells) (i : ℕ) (n : DutyNode) (m : DutyNode) (f : Entries) → slice_get cells i ≡ Some (n, Waiting) → left cells ≡ suc (left (slice_set cells i (m, Done f)))
+pub left-less : (cells : Cells) (i : ℕ) (n : DutyNode) (m : DutyNode) (f : Entries) → slice_get cells i ≡ Some (n, Waiting) → left cells ≡ suc (left (slice_set cells i (m, Done f)))
 left-less [] i n m f at = absurd (let q : ⊥ = (cc) in q)
 left-less (c ∷ cells) zero n m f at =
     let w : DutyNode × Cell Entries = (n, Waiting) in
@@ -60,14 +60,14 @@ left-less (c ∷ cells) zero n m f at =
     omega (arith, one)
 left-less (c ∷ cells) (suc i) n m f at = let rest = left-less cells i n m f at in omega (arith, rest)
 
-some-left : (cells : Cells) (k : ℕ) → left cells ≡ suc k → (n : DutyNode) × (c : Cell Entries) × Member cells (n, c) × IsUndone c
+pub some-left : (cells : Cells) (k : ℕ) → left cells ≡ suc k → (n : DutyNode) × (c : Cell Entries) × Member cells (n, c) × IsUndone c
 some-left [] k e = absurd (omega (arith, e))
 some-left ((n, Waiting) ∷ cells) k e = (n, Waiting, inl refl, tt)
 some-left ((n, Out) ∷ cells) k e = (n, Out, inl refl, tt)
 some-left ((n, Done f) ∷ cells) k e = let r = some-left cells k (omega (arith, e)) in (r.0, r.1, inr r.2, r.3)
 
 -- where all are done, their fronts
-fronts-of : (cells : Cells) → left cells ≡ 0 → (fronts : List (DutyNode × Entries)) × (map (λ e. (e.0, Done e.1)) fronts ≡ cells)
+pub fronts-of : (cells : Cells) → left cells ≡ 0 → (fronts : List (DutyNode × Entries)) × (map (λ e. (e.0, Done e.1)) fronts ≡ cells)
 fronts-of [] e = ([], refl)
 fronts-of ((n, Waiting) ∷ cells) e = absurd (omega (arith, e))
 fronts-of ((n, Out) ∷ cells) e = absurd (omega (arith, e))

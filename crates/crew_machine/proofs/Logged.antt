@@ -1,15 +1,11 @@
 -- The log is what was pushed, and what is settled or open is a beginning of it.
-use Rattle.std.proofs.Common.{◌≡◌, ℕ, zero, suc, ◌+◌, ◌<◌, ◌≤◌, ◌==◌, cond, Bool, true, false, List, [], ◌∷◌, ◌++◌, length, Some, None, ◌⊎◌, inl, inr, refl, sym, ◌∙◌, ap, subst, ⊎_elim, arith, append_assoc, append-nil}
-use Rattle.std.specs.List.{slice_get}
-use Rattle.std.proofs.lemmas.Bool.{cases_Bool}
+use Rattle.std.proofs.Common.{◌≡◌, ℕ, Bool, true, false, List, [], ◌∷◌, ◌++◌, Some, None, refl, sym, ◌∙◌, ap, subst, ⊎_elim, append_assoc, append-nil}
 use mathlib.Core.List.{IsPrefix}
-use Rattle.crew_machine.proofs.Boards.{IsWorkOf-weaker}
 use Rattle.crew_machine.proofs.Cells.{Some-same}
-use Rattle.crew_machine.proofs.Runs.{length_push_lem, prefix_trans, slice_get_push_cases, slice_get_push_old, step_sound}
-use Rattle.crew_machine.specs.Machinery.Sound.{IsLogged, IsServed, IsSound}
-use Rattle.crew_machine.specs.Machinery.Worked.{Laws}
-use Rattle.crew_machine.specs.Rounds.{Abandons, Board, Brings, Claims, GivesBack, IsDone, Round, Seals, Version}
-use Rattle.crew_machine.specs.Steps.{Abandon, Abandoned, Act, Answered, Ask, Begin, Begun, Bring, Busy, Claim, Claimed, Give_back, Given_back, Last_version, No_round, None_ready, Not_brought, Not_done, Not_given_back, Nothing_new, Publish, Push, Pushed, Reply, Run, Seal, Sealed, State, Step, Too_large, Was_brought, Was_published, on_board, opening, pushed_by, pushed_in, seen_by, start}
+use Rattle.crew_machine.proofs.Runs.{prefix_trans, slice_get_push_cases}
+use Rattle.crew_machine.specs.Machinery.Sound.{IsLogged}
+use Rattle.crew_machine.specs.Rounds.{Abandons, Board, Brings, Claims, GivesBack, Round}
+use Rattle.crew_machine.specs.Steps.{Abandon, Abandoned, Act, Answered, Ask, Begin, Begun, Bring, Busy, Claim, Claimed, Give_back, Given_back, Last_version, No_round, None_ready, Not_brought, Not_done, Not_given_back, Nothing_new, Publish, Push, Pushed, Reply, Run, Seal, Sealed, State, Step, Too_large, Was_brought, Was_published, opening, pushed_by, pushed_in, start}
 use Rattle.crew_machine.specs.Worlds.{Work, World}
 use Rattle.crew_machine.specs.declared.rounds.Brought.{Brought}
 use Rattle.crew_machine.specs.declared.rounds.Brought.TheVariants.{Stale, Again, Stored}
@@ -105,7 +101,7 @@ module _ {E D N I F B : Type 0} (w : World E D N I F B) where
   run_logged old (act ∷ acts) [] new l h = absurd h
   run_logged old (act ∷ acts) (reply ∷ replies) new l h = run_logged h.0 acts replies new (step_logged old act reply h.0 l h.1) h.2
 
-  start_logged : IsLogged w (start w)
+  pub start_logged : IsLogged w (start w)
   start_logged = record {
     sealed = ([], refl);
     round = λ r e. absurd (let b : ⊥ = (cc) in b);

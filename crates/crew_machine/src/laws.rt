@@ -5,10 +5,11 @@ ghost use Rattle.std.specs.List.{slice_get};
 ghost use mathlib.Core.List.{IsPrefix};
 ghost use Rattle.crew_flights.specs.declared.entries.Entry.{Entry};
 ghost use Rattle.crew_machine.specs.Chains.{IsChain, NeverFalls, answers_to};
-ghost use Rattle.crew_machine.specs.Choices.{ChosenRun};
-ghost use Rattle.crew_machine.specs.Crew.{CrewAct, CrewBoard, CrewReply, CrewRound, CrewState, CrewVersion, DutyNode, DutyWork, Entries, IsFromScratch, IsFrontOf, crew, timetable_of};
+ghost use Rattle.crew_machine.specs.Choices.{ChosenRun, ChosenStep};
+ghost use Rattle.crew_machine.specs.Crew.{CrewAct, CrewBoard, CrewReply, CrewRound, CrewState, CrewVersion, DutyNode, DutyWork, Entries, IsFromScratch, IsFrontOf, IsNodeOf, crew, timetable_of};
 ghost use Rattle.crew_machine.specs.Rounds.{Abandons, Brings, Claims, GivesBack, IsCarried, IsUndone, NoneReusable, Opens, Restores, Reuses, Seals, last_number, progress_of};
 ghost use Rattle.crew_machine.specs.Steps.{Answered, Claim, Claimed, Run, Step, pushed_in, start};
+ghost use Rattle.crew_machine.specs.Worlds.{IsWorkOf};
 ghost use Rattle.crew_machine.specs.Machinery.Sound.{IsStanding, IsVersion};
 ghost use Rattle.crew_machine.specs.declared.rounds.Brought.{Brought};
 ghost use Rattle.crew_machine.specs.declared.rounds.Cell.{Cell};
@@ -133,6 +134,36 @@ pub fn chosen_runs_are_runs()
     ensures { (s : Settings) (acts : List CrewAct) (replies : List CrewReply)
         (state : CrewState) → ChosenRun (crew s) (start (crew s)) acts replies state
         → Run (crew s) (start (crew s)) acts replies state }
+{}
+
+/// No act is without a reply: at the end of every run, and so at each moment of one, each act has a
+/// reply and a next state that are a step with the product's choices, and so a step.
+pub fn each_act_has_a_reply()
+    ensures chosen { (s : Settings) (acts : List CrewAct) (replies : List CrewReply)
+        (state : CrewState) (act : CrewAct) → IsChecked s
+        → Run (crew s) (start (crew s)) acts replies state
+        → (reply : CrewReply) × (next : CrewState) × ChosenStep (crew s) state act reply next }
+    ensures free { (s : Settings) (acts : List CrewAct) (replies : List CrewReply)
+        (state : CrewState) (act : CrewAct) → IsChecked s
+        → Run (crew s) (start (crew s)) acts replies state
+        → (reply : CrewReply) × (next : CrewState) × Step (crew s) state act reply next }
+{}
+
+/// The product's machine never gets stuck: each list of acts has a run with its choices.
+pub fn each_list_of_acts_has_a_run()
+    ensures { (s : Settings) (acts : List CrewAct) → IsChecked s
+        → (replies : List CrewReply) × (state : CrewState)
+        × ChosenRun (crew s) (start (crew s)) acts replies state }
+{}
+
+/// Each job that is handed out is its node's own job in the timetable of some entries: it holds the
+/// node's own inputs, and each node just before it with the node's front.
+pub fn jobs_are_right()
+    ensures { (s : Settings) (acts : List CrewAct) (replies : List CrewReply) (state : CrewState)
+        → IsChecked s → Run (crew s) (start (crew s)) acts replies state
+        → (number : ℕ) (job : DutyWork) → slice_get state.jobs number ≡ Some job
+        → (entries : List Entry) × IsNodeOf s (timetable_of entries) job.node
+        × IsWorkOf (crew s) (timetable_of entries) (IsFrontOf s (timetable_of entries)) job }
 {}
 
 /// Each call leaves a board right that was: its sealed version is from scratch, and what is done in

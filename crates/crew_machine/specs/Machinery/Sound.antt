@@ -1,13 +1,13 @@
 -- What every run keeps: done fronts are right, versions are from scratch, the published list is a
 -- chain, and what is settled is a beginning of the log.
-use Rattle.std.specs.Prelude.{◌≡◌, ◌⊎◌, ℕ, ◌<◌, ◌≤◌, Some, length, map}
+use Rattle.std.specs.Prelude.{◌≡◌, ◌⊎◌, ℕ, ◌<◌, ◌≤◌, List, Some, length, map}
 use mathlib.Core.List.{IsPrefix}
 use Rattle.std.specs.List.{slice_get}
 use Rattle.crew_resource.specs.Members.{Member}
 use Rattle.crew_machine.specs.Chains.{Follows, IsChain}
 use Rattle.crew_machine.specs.Rounds.{Board, Round, Version, last_number}
 use Rattle.crew_machine.specs.Steps.{State, last_of, seen_by}
-use Rattle.crew_machine.specs.Worlds.{AreNodes, IsScratch, Work, World}
+use Rattle.crew_machine.specs.Worlds.{AreNodes, IsScratch, IsWorkOf, Work, World}
 use Rattle.crew_machine.specs.declared.rounds.Cell.TheVariants.{Done}
 
 module _ {E D N I F B : Type 0} (w : World E D N I F B) where
@@ -41,8 +41,10 @@ module _ {E D N I F B : Type 0} (w : World E D N I F B) where
     pub published : (k : ℕ) (v : Version E N F B) → slice_get s.published k ≡ Some v
         → IsPrefix v.entries s.log
 
-  -- each job that was handed out has a front, and each reader has seen a published version
+  -- each job that was handed out is its node's own job in the data of some entries, and each reader
+  -- has seen a published version
   pub record IsServed (s : State E N I F B) : Type 0 where
     pub jobs : (j : ℕ) (job : Work N I F) → slice_get s.jobs j ≡ Some job
-        → (f : F) × w.IsLocal job f
+        → (es : List E) × w.IsNode (w.fold es) job.node
+        × IsWorkOf w (w.fold es) (w.IsFront (w.fold es)) job
     pub seen : (reader : ℕ) → seen_by reader s.seen < length s.published
