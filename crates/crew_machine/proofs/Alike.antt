@@ -16,10 +16,10 @@ use Rattle.crew_vector.proofs.OneBest.{one-best}
 use Rattle.crew_vector.proofs.Unique.{same-listed}
 use Rattle.crew_vector.specs.Fronts.{IsFrontAt}
 
-node-total : IsTotalOrder node_cmp
+pub node-total : IsTotalOrder node_cmp
 node-total = then_total (on_total (λ (n : DutyNode). n.base) code_cmp_total) (on_total (λ (n : DutyNode). n.duty.key) key_total)
 
-rising : (ns : List DutyNode) → RiseByNode ns → Rising node_cmp ns
+pub rising : (ns : List DutyNode) → RiseByNode ns → Rising node_cmp ns
 rising [] h = tt
 rising (n ∷ ns) h = (h.0, rising ns h.1)
 
@@ -33,7 +33,7 @@ module _ (s : Settings) (checked : IsChecked s) where
       let price = one-price s checked t n.base n.base k.price h.price refl k.based h.based in
       same-listed s t n.base h.price n.duty f g h.front (subst (λ (p : ℤ). IsFrontAt s t n.base p n.duty g) price k.front) h.rises k.rises
 
-  same-fronts : (t : Timetable) (fs gs : List (DutyNode × Entries)) → map (λ e. e.0) fs ≡ map (λ e. e.0) gs → ((n : DutyNode) (f : Entries) → Member fs (n, f) → IsFrontOf s t n f) → ((n : DutyNode) (f : Entries) → Member gs (n, f) → IsFrontOf s t n f) → fs ≡ gs
+  pub same-fronts : (t : Timetable) (fs gs : List (DutyNode × Entries)) → map (λ e. e.0) fs ≡ map (λ e. e.0) gs → ((n : DutyNode) (f : Entries) → Member fs (n, f) → IsFrontOf s t n f) → ((n : DutyNode) (f : Entries) → Member gs (n, f) → IsFrontOf s t n f) → fs ≡ gs
   same-fronts t [] [] e h k = refl
   same-fronts t [] (y ∷ ys) e h k = absurd (let q : ⊥ = (cc) in q)
   same-fronts t (x ∷ xs) [] e h k = absurd (let q : ⊥ = (cc) in q)

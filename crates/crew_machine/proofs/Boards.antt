@@ -1,9 +1,9 @@
 -- Each call of the board keeps that what is done is right.
-use Rattle.std.proofs.Common.{◌≡◌, ℕ, Bool, true, false, List, [], ◌∷◌, map, slice_set, Some, None, refl, sym, ◌∙◌, ap, subst, ⊎_elim}
+use Rattle.std.proofs.Common.{◌≡◌, ℕ, Bool, true, false, List, [], ◌∷◌, map, slice_set, Some, None, ◌≤◌, refl, sym, ◌∙◌, ap, subst, ⊎_elim, arith}
 use Rattle.std.specs.List.{slice_get}
 use Rattle.crew_resource.specs.Members.{Member}
 use Rattle.crew_machine.specs.Worlds.{AreNodes, IsWorkOf, Work, World}
-use Rattle.crew_machine.specs.Rounds.{Abandons, Board, Brings, Claims, Frees, GivesBack, IsDone, IsOwn, IsReusable, Opens, Reuses, Round, Seals, Stores, Version}
+use Rattle.crew_machine.specs.Rounds.{Abandons, Board, Brings, Claims, Frees, GivesBack, IsDone, IsOwn, IsReusable, Opens, Restores, Reuses, Round, Seals, Stores, Version, last_number}
 use Rattle.crew_machine.specs.declared.rounds.Cell.{Cell}
 use Rattle.crew_machine.specs.declared.rounds.Cell.TheVariants.{Waiting, Out, Done}
 use Rattle.crew_machine.specs.declared.rounds.Brought.{Brought}
@@ -19,7 +19,7 @@ front_in Out f = f
 front_in (Done g) f = g
 
 -- a job over fewer facts is one over weaker facts
-IsWorkOf-weaker : {E D N I F B : Type 0} (w : World E D N I F B) (d : D) (P Q : N → F → Type 0) (job : Work N I F) → ((n : N) (f : F) → P n f → Q n f) → IsWorkOf w d P job → IsWorkOf w d Q job
+pub IsWorkOf-weaker : {E D N I F B : Type 0} (w : World E D N I F B) (d : D) (P Q : N → F → Type 0) (job : Work N I F) → ((n : N) (f : F) → P n f → Q n f) → IsWorkOf w d P job → IsWorkOf w d Q job
 IsWorkOf-weaker w d P Q job g k = record { input = k.input; before = k.before; fronts = λ p f m. g p f (k.fronts p f m) }
 
 abbrev cells_of : {E N F : Type 0} → Round E N F → List (N × Cell F) → Round E N F
@@ -45,6 +45,7 @@ module _ {E D N I F B : Type 0} (w : World E D N I F B) (laws : Laws w) where
         (Member-slice_set r.cells i (n, now) (m, Done f) there);
     begins = sound.begins;
     small = sound.small;
+    number_left = sound.number_left;
   }
 
   Done-same : (f g : F) → Done f ≡ Done g → f ≡ g
@@ -74,10 +75,10 @@ module _ {E D N I F B : Type 0} (w : World E D N I F B) (laws : Laws w) where
 
   -- a board over a round that is right
   pub standing_over : (sealed : Version E N F B) (r : Round E N F) → IsVersion w sealed → IsRound w sealed r → IsStanding w (record { sealed = sealed; round = Some r })
-  standing_over sealed r scratch sound = record { sealed = scratch; round = λ q e. subst (IsRound w sealed) (Some-same r q e) sound }
+  standing_over sealed r scratch sound = record { sealed = scratch; number = (let left = sound.number_left in omega (arith, left)); round = λ q e. subst (IsRound w sealed) (Some-same r q e) sound }
 
-  pub standing_idle : (sealed : Version E N F B) → IsVersion w sealed → IsStanding w (record { sealed = sealed; round = None })
-  standing_idle sealed scratch = record { sealed = scratch; round = λ q e. absurd (let b : ⊥ = (cc) in b) }
+  pub standing_idle : (sealed : Version E N F B) → IsVersion w sealed → sealed.number ≤ last_number → IsStanding w (record { sealed = sealed; round = None })
+  standing_idle sealed scratch number = record { sealed = scratch; number = number; round = λ q e. absurd (let b : ⊥ = (cc) in b) }
 
   pub opens_sound : (old : Board E N F B) (entries : List E) (new : Board E N F B) → IsStanding w old → Opens w old entries new → IsStanding w new
   opens_sound old entries new s o = subst (IsStanding w) (sym o.after) (standing_over old.sealed (record { entries = entries; cells = o.cells }) s.sealed (record {
@@ -88,6 +89,7 @@ module _ {E D N I F B : Type 0} (w : World E D N I F B) (laws : Laws w) where
         laws.carried old.sealed.entries entries n f there d.0 (s.sealed.right n f d.1);
     begins = o.begins;
     small = o.small;
+    number_left = o.number_left;
   }))
 
   pub claims_sound : (old : Board E N F B) (job : Work N I F) (new : Board E N F B) → IsStanding w old → Claims w old job new → IsStanding w new
@@ -116,7 +118,7 @@ module _ {E D N I F B : Type 0} (w : World E D N I F B) (laws : Laws w) where
   gives_back_sound old job false new s b = subst (IsStanding w) (sym b.1) s
 
   pub abandons_sound : (old : Board E N F B) (was_open : Bool) (new : Board E N F B) → IsStanding w old → Abandons w old was_open new → IsStanding w new
-  abandons_sound old true new s b = subst (IsStanding w) (sym b.1) (standing_idle old.sealed s.sealed)
+  abandons_sound old true new s b = subst (IsStanding w) (sym b.1) (standing_idle old.sealed s.sealed s.number)
   abandons_sound old false new s b = subst (IsStanding w) (sym b.1) s
 
   pub seals_version : (old : Board E N F B) (version : Version E N F B) (new : Board E N F B) → IsStanding w old → Seals w old version new → IsVersion w version
@@ -132,4 +134,8 @@ module _ {E D N I F B : Type 0} (w : World E D N I F B) (laws : Laws w) where
       record { nodes = nodes; right = right; best_is = laws.least version.entries version.fronts version.best nodes right c.least; small = subst w.IsSmall d sound.small }
 
   pub seals_sound : (old : Board E N F B) (version : Version E N F B) (new : Board E N F B) → IsStanding w old → Seals w old version new → IsStanding w new
-  seals_sound old version new s c = subst (IsStanding w) (sym c.after) (standing_idle version (seals_version old version new s c))
+  seals_sound old version new s c = subst (IsStanding w) (sym c.after) (standing_idle version (seals_version old version new s c) (let left = (s.round c.round c.is_open).number_left in let next = c.number in omega (arith, left, next)))
+
+  -- a board that a right version is restored to is right
+  pub restores_sound : (old : Board E N F B) (version : Version E N F B) (new : Board E N F B) → IsVersion w version → version.number ≤ last_number → Restores w old version new → IsStanding w new
+  restores_sound old version new scratch number r = subst (IsStanding w) (sym r) (standing_idle version scratch number)

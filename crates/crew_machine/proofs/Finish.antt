@@ -23,7 +23,7 @@ use Rattle.crew_rules.specs.Settings.{IsChecked}
 use Rattle.crew_rules.specs.declared.settings.Settings.{Settings}
 use Rattle.crew_vector.specs.declared.priced.PricedPairing.{PricedPairing}
 
-abbrev Cells : Type 0
+abbrev pub Cells : Type 0
 Cells = List (DutyNode × Cell Entries)
 
 abbrev Seen : Type 0
@@ -42,16 +42,16 @@ set-keeps [] i was v x at other m = m
 set-keeps (y ∷ ys) zero was v x at other m = ⊎_elim (λ e. absurd (other (sym (Some-same y was at) ∙ e))) (λ k. inr k) m
 set-keeps (y ∷ ys) (suc i) was v x at other m = ⊎_elim inl (λ k. inr (set-keeps ys i was v x at other k)) m
 
-abbrev undone : Cell Entries → ℕ
+abbrev pub undone : Cell Entries → ℕ
 undone Waiting = 1
 undone Out = 1
 undone (Done f) = 0
 
-abbrev left : Cells → ℕ
+abbrev pub left : Cells → ℕ
 left [] = 0
 left (c ∷ cells) = undone c.1 + left cells
 
-left-less : (cells : Cells) (i : ℕ) (n : DutyNode) (m : DutyNode) (f : Entries) → slice_get cells i ≡ Some (n, Waiting) → left cells ≡ suc (left (slice_set cells i (m, Done f)))
+pub left-less : (cells : Cells) (i : ℕ) (n : DutyNode) (m : DutyNode) (f : Entries) → slice_get cells i ≡ Some (n, Waiting) → left cells ≡ suc (left (slice_set cells i (m, Done f)))
 left-less [] i n m f at = absurd (let q : ⊥ = (cc) in q)
 left-less (c ∷ cells) zero n m f at =
     let w : DutyNode × Cell Entries = (n, Waiting) in
@@ -60,14 +60,14 @@ left-less (c ∷ cells) zero n m f at =
     omega (arith, one)
 left-less (c ∷ cells) (suc i) n m f at = let rest = left-less cells i n m f at in omega (arith, rest)
 
-some-left : (cells : Cells) (k : ℕ) → left cells ≡ suc k → (n : DutyNode) × (c : Cell Entries) × Member cells (n, c) × IsUndone c
+pub some-left : (cells : Cells) (k : ℕ) → left cells ≡ suc k → (n : DutyNode) × (c : Cell Entries) × Member cells (n, c) × IsUndone c
 some-left [] k e = absurd (omega (arith, e))
 some-left ((n, Waiting) ∷ cells) k e = (n, Waiting, inl refl, tt)
 some-left ((n, Out) ∷ cells) k e = (n, Out, inl refl, tt)
 some-left ((n, Done f) ∷ cells) k e = let r = some-left cells k (omega (arith, e)) in (r.0, r.1, inr r.2, r.3)
 
 -- where all are done, their fronts
-fronts-of : (cells : Cells) → left cells ≡ 0 → (fronts : List (DutyNode × Entries)) × (map (λ e. (e.0, Done e.1)) fronts ≡ cells)
+pub fronts-of : (cells : Cells) → left cells ≡ 0 → (fronts : List (DutyNode × Entries)) × (map (λ e. (e.0, Done e.1)) fronts ≡ cells)
 fronts-of [] e = ([], refl)
 fronts-of ((n, Waiting) ∷ cells) e = absurd (omega (arith, e))
 fronts-of ((n, Out) ∷ cells) e = absurd (omega (arith, e))
@@ -124,7 +124,7 @@ module _ (s : Settings) (checked : IsChecked s) where
       pub front : Entries
       pub at : slice_get cells place ≡ Some (job.node, Waiting)
       pub right : IsFrontOf s data-of job.node front
-      pub run : Run (crew s) (over cells jobs) (Claim ∷ Bring (length jobs) ∷ []) (Claimed job ∷ Was_brought Stored ∷ []) (over (slice_set cells place (job.node, Done front)) (jobs ++ job ∷ []))
+      pub run : Run (crew s) (over cells jobs) (Claim ∷ Bring (length jobs) ∷ []) (Claimed (length jobs) job ∷ Was_brought (length jobs) Stored ∷ []) (over (slice_set cells place (job.node, Done front)) (jobs ++ job ∷ []))
 
     -- a node is claimed, and its result brought
     turned : (cells : Cells) (jobs : List DutyWork) → Going cells → (n : DutyNode) (c : Cell Entries) → Member cells (n, c) → IsUndone c → Turned cells jobs
@@ -148,7 +148,7 @@ module _ (s : Settings) (checked : IsChecked s) where
         let now : slice_get out place ≡ Some (job.node, Out) = slice_get-set_here cells place (job.node, Waiting) (job.node, Out) at in
         let stores : Stores (crew s) (over out jobs).board job f.0 (over done jobs).board = record { round = record { entries = entries; cells = out }; is_open = refl; place = place; cell = Out; own = (now, later); undone = tt; local = local; reused = []; cells = done; reuses = written; after = refl } in
         let second : TakesBack (crew s) (over out (jobs ++ job ∷ [])) (length jobs) Stored (over done (jobs ++ job ∷ [])) = record { job = job; handed_out = slice_get_push_new jobs job; front = f.0; local = local; board = (over done jobs).board; brings = stores; after = refl } in
-        record { place = place; job = job; front = f.0; at = at; right = f.1; run = (over out (jobs ++ job ∷ []), first, (over done (jobs ++ job ∷ []), second, refl)) }
+        record { place = place; job = job; front = f.0; at = at; right = f.1; run = (over out (jobs ++ job ∷ []), (refl, first), (over done (jobs ++ job ∷ []), (refl, second), refl)) }
       where
         own-node : (cells : Cells) (place : ℕ) (n : DutyNode) → slice_get cells place ≡ Some (n, Waiting) → Member (map (λ c. c.0) cells) n
         own-node [] place n at = absurd (let q : ⊥ = (cc) in q)
@@ -173,11 +173,11 @@ module _ (s : Settings) (checked : IsChecked s) where
         let rest = filled k next (jobs ++ t.job ∷ []) (omega (arith, e, less)) (going-on cells t.place t.job.node t.front g t.at t.right) in
         record {
           acts = Claim ∷ Bring (length jobs) ∷ rest.acts;
-          replies = Claimed t.job ∷ Was_brought Stored ∷ rest.replies;
+          replies = Claimed (length jobs) t.job ∷ Was_brought (length jobs) Stored ∷ rest.replies;
           cells' = rest.cells';
           jobs' = rest.jobs';
           none_left = rest.none_left;
-          run = runs-on (over cells jobs) (over next (jobs ++ t.job ∷ [])) (over rest.cells' rest.jobs') (Claim ∷ Bring (length jobs) ∷ []) rest.acts (Claimed t.job ∷ Was_brought Stored ∷ []) rest.replies t.run rest.run;
+          run = runs-on (over cells jobs) (over next (jobs ++ t.job ∷ [])) (over rest.cells' rest.jobs') (Claim ∷ Bring (length jobs) ∷ []) rest.acts (Claimed (length jobs) t.job ∷ Was_brought (length jobs) Stored ∷ []) rest.replies t.run rest.run;
         }
 
     -- then the round is sealed
@@ -191,7 +191,7 @@ module _ (s : Settings) (checked : IsChecked s) where
         let next : CrewState = record { log = log; board = board; jobs = all.jobs'; published = published; seen = seen } in
         let seals : Seals (crew s) (over all.cells' all.jobs').board version board = record { round = record { entries = entries; cells = all.cells' }; is_open = refl; number = refl; entries = refl; fronts = f.1; least = best.1; after = refl } in
         let last : Closes (crew s) (over all.cells' all.jobs') version next = record { board = board; seals = seals; after = refl } in
-        (all.acts ++ Seal ∷ [], all.replies ++ Sealed version ∷ [], next, runs-on (over cells jobs) (over all.cells' all.jobs') next all.acts (Seal ∷ []) all.replies (Sealed version ∷ []) all.run (next, last, refl), refl, refl, refl, refl)
+        (all.acts ++ Seal ∷ [], all.replies ++ Sealed (length sealed.entries) version ∷ [], next, runs-on (over cells jobs) (over all.cells' all.jobs') next all.acts (Seal ∷ []) all.replies (Sealed (length sealed.entries) version ∷ []) all.run (next, (refl, last), refl), refl, refl, refl, refl)
 
   abbrev pub Ends : CrewRound → CrewState → Type 0
   Ends round state = (more : List CrewAct) × (others : List CrewReply) × (next : CrewState) × Run (crew s) state more others next × (next.board.round ≡ None) × (next.board.sealed.entries ≡ round.entries) × (next.board.sealed.number ≡ state.board.sealed.number + 1) × (next.published ≡ state.published)

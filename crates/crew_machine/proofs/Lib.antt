@@ -1,13 +1,22 @@
-mod Alike
-mod Boards
+pub mod Alike
+pub mod Boards
 mod Cells
+pub mod Chosen
 mod Claimed
-mod CrewLaws
+mod Counts
+pub mod CrewLaws
+mod Decided
 mod Finish
 mod Least
+mod Logged
+mod Marked
 mod NodeList
+mod OwnJobs
 mod Progress
 mod Published
-mod Reuse
-mod Runs
+mod Reached
+mod Replies
+pub mod Reuse
+pub mod Runs
+mod Served
 mod Sorted

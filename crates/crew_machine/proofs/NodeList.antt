@@ -81,7 +81,7 @@ is-base t base p e =
 
 -- ---- nodes, in order
 
-each-member : {X : Type 0} (P : X → Type 0) (xs : List X) (x : X) → Each P xs → Member xs x → P x
+pub each-member : {X : Type 0} (P : X → Type 0) (xs : List X) (x : X) → Each P xs → Member xs x → P x
 each-member P [] x h m = absurd m
 each-member P (y ∷ ys) x h (inl e) = subst P e h.0
 each-member P (y ∷ ys) x h (inr m) = each-member P ys x h.1 m

@@ -32,7 +32,7 @@ never-both : {A : Type 0} (b : _) → b ≡ true → b ≡ false → A
 never-both b t f = absurd (let e : true ≡ false = sym t ∙ f in let q : ⊥ = (cc) in q)
 
 module _ (s : Settings) where
-  arc-or-not : (p n : DutyNode) → MayPrecede s p n ⊎ (MayPrecede s p n → ⊥)
+  pub arc-or-not : (p n : DutyNode) → MayPrecede s p n ⊎ (MayPrecede s p n → ⊥)
   arc-or-not p n =
       ⊎_elim
       (λ b.
@@ -43,10 +43,10 @@ module _ (s : Settings) where
       (λ b. inr (λ a. never-both (eq_by_cmp code_cmp p.base n.base) (code-itself p.base n.base a.base) b))
       (cases_Bool (eq_by_cmp code_cmp p.base n.base))
 
-  abbrev AllDone : DutyNode → List (DutyNode × Cell Entries) → Type 0
+  abbrev pub AllDone : DutyNode → List (DutyNode × Cell Entries) → Type 0
   AllDone n cells = (p : DutyNode) (c : Cell Entries) → Member cells (p, c) → MayPrecede s p n → (f : Entries) × (c ≡ Done f)
 
-  record Undone (n : DutyNode) (cells : List (DutyNode × Cell Entries)) : Type 0 where
+  pub record Undone (n : DutyNode) (cells : List (DutyNode × Cell Entries)) : Type 0 where
     pub before : DutyNode
     pub cell : Cell Entries
     pub there : Member cells (before, cell)
@@ -60,7 +60,7 @@ module _ (s : Settings) where
       (λ k. rest p c k a)
       m
 
-  look : (n : DutyNode) (cells : List (DutyNode × Cell Entries)) → AllDone n cells ⊎ Undone n cells
+  pub look : (n : DutyNode) (cells : List (DutyNode × Cell Entries)) → AllDone n cells ⊎ Undone n cells
   look n [] = inl (λ p c m a. absurd m)
   look n (x ∷ cells) =
       ⊎_elim
@@ -118,50 +118,32 @@ module _ (s : Settings) where
       (λ none. (rest.0, befores-same n x cells rest.0 none rest.1))
       (arc-or-not x.0 n)
 
-  module _ (checked : IsChecked s) (t : Timetable) (sound : IsSound t) (cells : List (DutyNode × Cell Entries)) (nodes : AreNodes (crew s) t (map (λ c. c.0) cells)) (none_out : (n : DutyNode) → Member cells (n, Out) → ⊥) where
-    time-of : DutyNode → ℕ
+  module _ (checked : IsChecked s) (t : Timetable) (sound : IsSound t) where
+    pub time-of : DutyNode → ℕ
     time-of n = rank s t [] (pos 0) checked sound n.duty
 
-    node-in : (n : DutyNode) (c : Cell Entries) → Member cells (n, c) → IsNodeOf s t n
-    node-in n c m = (nodes.exact n).0 (Member-map_in (λ (x : DutyNode × Cell Entries). x.0) cells (n, c) m)
-
-    earlier : (p n : DutyNode) → IsNodeOf s t p → MayPrecede s p n → time-of p < time-of n
+    pub earlier : (p n : DutyNode) → IsNodeOf s t p → MayPrecede s p n → time-of p < time-of n
     unfolding time-of
     earlier p n is a =
         arcs-rise s t [] (pos 0) checked sound p.duty n.duty (Member-filter_in (λ (x : Duty). may_stand_after s x n.duty) (Known s t [] (pos 0) checked sound) p.duty (legal-known s t [] (pos 0) checked sound p.duty is.legal) a.rested)
 
-    -- a node that waits, where all that may stand just before it is done
-    record Found : Type 0 where
-      pub node : DutyNode
-      pub waits : Member cells (node, Waiting)
-      pub all : AllDone node cells
+  module _ (t : Timetable) (cells : List (DutyNode × Cell Entries)) (nodes : AreNodes (crew s) t (map (λ c. c.0) cells)) where
+    pub node-in : (n : DutyNode) (c : Cell Entries) → Member cells (n, c) → IsNodeOf s t n
+    node-in n c m = (nodes.exact n).0 (Member-map_in (λ (x : DutyNode × Cell Entries). x.0) cells (n, c) m)
 
-    found-at : (n : DutyNode) (c : Cell Entries) → Member cells (n, c) → IsUndone c → AllDone n cells → Found
-    found-at n (Done f) m u all = absurd u
-    found-at n Out m u all = absurd (none_out n m)
-    found-at n Waiting m u all = record { node = n; waits = m; all = all }
-
-    found-below : (k : ℕ) (n : DutyNode) (c : Cell Entries) → time-of n < k → Member cells (n, c) → IsUndone c → Found
-    found-below zero n c low m u = absurd (omega (arith, low))
-    found-below (suc k) n c low m u =
-        ⊎_elim
-        (λ all. found-at n c m u all)
-        (λ r. let less = earlier r.before n (node-in r.before r.cell r.there) r.arc in found-below k r.before r.cell (omega (arith, low, less)) r.there r.undone)
-        (look n cells)
-
-    is-ready : (f : Found) (p : DutyNode) → IsBefore (crew s) t p f.node → (e : Entries) × IsDone (crew s) cells p e
-    is-ready f p b =
+    pub befores-done : (n p : DutyNode) → AllDone n cells → IsBefore (crew s) t p n → (e : Entries) × IsDone (crew s) cells p e
+    befores-done n p all b =
         let from = Member-map_out (λ (x : DutyNode × Cell Entries). x.0) cells p ((nodes.exact p).1 b.0) in
-        let arc : MayPrecede s from.0.0 f.node = subst (λ (z : DutyNode). MayPrecede s z f.node) (sym from.2) b.1 in
-        let done = f.all from.0.0 from.0.1 from.1 arc in
+        let arc : MayPrecede s from.0.0 n = subst (λ (z : DutyNode). MayPrecede s z n) (sym from.2) b.1 in
+        let done = all from.0.0 from.0.1 from.1 arc in
         let there : Member cells (p, from.0.1) = subst (λ (z : DutyNode). Member cells (z, from.0.1)) from.2 from.1 in
         (done.0, subst (λ (c : Cell Entries). Member cells (p, c)) done.1 there)
 
-    -- the own job of such a node
-    own-job : (f : Found) → (job : DutyWork) × (job.node ≡ f.node) × IsWorkOf (crew s) t (IsDone (crew s) cells) job
-    own-job f =
-        let b = befores f.node cells f.all in
-        let job : DutyWork = record { node = f.node; input = (crew s).input t f.node; before = b.0 } in (
+    -- the own job of a node, where all that may stand just before it is done
+    pub own-job : (n : DutyNode) → AllDone n cells → (job : DutyWork) × (job.node ≡ n) × IsWorkOf (crew s) t (IsDone (crew s) cells) job
+    own-job n all =
+        let b = befores n cells all in
+        let job : DutyWork = record { node = n; input = (crew s).input t n; before = b.0 } in (
           job,
           refl,
           record {
@@ -177,12 +159,32 @@ module _ (s : Settings) where
           },
         )
 
+  module _ (checked : IsChecked s) (t : Timetable) (sound : IsSound t) (cells : List (DutyNode × Cell Entries)) (nodes : AreNodes (crew s) t (map (λ c. c.0) cells)) (none_out : (n : DutyNode) → Member cells (n, Out) → ⊥) where
+    -- a node that waits, where all that may stand just before it is done
+    record Found : Type 0 where
+      pub node : DutyNode
+      pub waits : Member cells (node, Waiting)
+      pub all : AllDone node cells
+
+    found-at : (n : DutyNode) (c : Cell Entries) → Member cells (n, c) → IsUndone c → AllDone n cells → Found
+    found-at n (Done f) m u all = absurd u
+    found-at n Out m u all = absurd (none_out n m)
+    found-at n Waiting m u all = record { node = n; waits = m; all = all }
+
+    found-below : (k : ℕ) (n : DutyNode) (c : Cell Entries) → time-of checked t sound n < k → Member cells (n, c) → IsUndone c → Found
+    found-below zero n c low m u = absurd (omega (arith, low))
+    found-below (suc k) n c low m u =
+        ⊎_elim
+        (λ all. found-at n c m u all)
+        (λ r. let less = earlier checked t sound r.before n (node-in t cells nodes r.before r.cell r.there) r.arc in found-below k r.before r.cell (omega (arith, low, less)) r.there r.undone)
+        (look n cells)
+
     -- the step that claims it
     pub some-claim : (n : DutyNode) (c : Cell Entries) → Member cells (n, c) → IsUndone c → (place : ℕ) × (job : DutyWork) × IsReady (crew s) t cells place job.node × (slice_get cells place ≡ Some (job.node, Waiting)) × IsWorkOf (crew s) t (IsDone (crew s) cells) job
-    unfolding own-job found-below
+    unfolding found-below
     some-claim n c m u =
-        let f = found-below (time-of n + 1) n c (omega arith) m u in
+        let f = found-below (time-of checked t sound n + 1) n c (omega arith) m u in
         let at = place-of-member cells (f.node, Waiting) f.waits in
-        let own = own-job f in
-        let here : slice_get cells at.0 ≡ Some (own.0.node, Waiting) = at.1 in
-        (at.0, own.0, (here, is-ready f), here, own.2)
+        let own = own-job t cells nodes f.node f.all in
+        let here : slice_get cells at.0 ≡ Some (own.0.node, Waiting) = subst (λ (z : DutyNode). slice_get cells at.0 ≡ Some (z, Waiting)) (sym own.1) at.1 in
+        (at.0, own.0, (here, λ p b. befores-done t cells nodes f.node p f.all (subst (IsBefore (crew s) t p) own.1 b)), here, own.2)

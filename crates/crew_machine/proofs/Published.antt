@@ -95,12 +95,12 @@ module _ (s : Settings) where
         let one : sealed.number ≡ 1 = f.6 in
         absurd (omega (arith, number, one))) in
         let shows : Shows (crew s) next last = record { is_new = is-new; after = refl } in
-        let more : Run (crew s) next (Publish ∷ []) (Was_published ∷ []) last = (last, shows, refl) in
+        let more : Run (crew s) next (Publish ∷ []) (Was_published sealed ∷ []) last = (last, (refl, shows), refl) in
         let there : slice_get last.published 1 ≡ Some sealed = ap (λ (z : List CrewVersion). slice_get (z ++ sealed ∷ []) 1) f.7 in
-        let finished = runs-on s checked begun next last f.0 (Publish ∷ []) f.1 (Was_published ∷ []) f.3 more in (
+        let finished = runs-on s checked begun next last f.0 (Publish ∷ []) f.1 (Was_published sealed ∷ []) f.3 more in (
           (map Push entries ++ Begin ∷ []) ++ (f.0 ++ Publish ∷ []),
-          (places [] entries ++ Begun ∷ []) ++ (f.1 ++ Was_published ∷ []),
+          (places [] entries ++ Begun ∷ []) ++ (f.1 ++ Was_published sealed ∷ []),
           last,
-          runs-on s checked (start (crew s)) begun last (map Push entries ++ Begin ∷ []) (f.0 ++ Publish ∷ []) (places [] entries ++ Begun ∷ []) (f.1 ++ Was_published ∷ []) to-begun finished,
+          runs-on s checked (start (crew s)) begun last (map Push entries ++ Begin ∷ []) (f.0 ++ Publish ∷ []) (places [] entries ++ Begun ∷ []) (f.1 ++ Was_published sealed ∷ []) to-begun finished,
           (1, sealed, there, f.5),
         )

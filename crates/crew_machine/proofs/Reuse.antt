@@ -114,7 +114,7 @@ module _ {E D N I F B : Type 0} (w : World E D N I F B) (sealed : Version E N F 
         (ga i))
 
 -- an arc list ends at its node, or goes on from a node just before
-Leads-last : {E D N I F B : Type 0} (w : World E D N I F B) (d : D) (m : N) (way : List N) (n : N) → Leads w d m way n → (m ≡ n) ⊎ ((p : N) × (rest : List N) × IsBefore w d p n × Leads w d m rest p)
+pub Leads-last : {E D N I F B : Type 0} (w : World E D N I F B) (d : D) (m : N) (way : List N) (n : N) → Leads w d m way n → (m ≡ n) ⊎ ((p : N) × (rest : List N) × IsBefore w d p n × Leads w d m rest p)
 Leads-last w d m [] n h = inl h
 Leads-last w d m (x ∷ xs) n h =
     ⊎_elim

@@ -9,7 +9,7 @@ use Rattle.crew_machine.specs.Worlds.{Work, World}
 use Rattle.crew_machine.specs.Rounds.{Abandons, Board, Brings, GivesBack, Opens, Seals, Version}
 use Rattle.crew_machine.specs.declared.rounds.Brought.{Brought}
 use Rattle.crew_machine.specs.declared.rounds.Brought.TheVariants.{Stale, Again, Stored}
-use Rattle.crew_machine.specs.Steps.{Abandon, Abandoned, Act, Answered, Ask, Begin, Begun, Bring, Busy, Claim, Claimed, Give_back, Given_back, Last_version, No_job, No_round, None_ready, Not_done, Nothing_new, Publish, Push, Pushed, Reply, Run, Seal, Sealed, State, Step, Too_large, Was_brought, Was_published, last_of, opening, seen_by, start}
+use Rattle.crew_machine.specs.Steps.{Abandon, Abandoned, Act, Answered, Ask, Begin, Begun, Bring, Busy, Claim, Claimed, Give_back, Given_back, Last_version, No_round, None_ready, Not_brought, Not_done, Not_given_back, Nothing_new, Publish, Push, Pushed, Reply, Run, Seal, Sealed, State, Step, Too_large, Was_brought, Was_published, last_of, opening, seen_by, start}
 use Rattle.crew_machine.specs.Chains.{Follows, IsChain, NeverFalls, answers_to}
 use Rattle.crew_machine.specs.Machinery.Sound.{IsSound, IsStanding, IsVersion}
 use Rattle.crew_machine.specs.Machinery.Worked.{Laws}
@@ -17,7 +17,7 @@ use Rattle.crew_machine.proofs.Cells.{Some-same}
 use Rattle.crew_machine.proofs.Boards.{abandons_sound, brings_sound, claims_sound, gives_back_sound, opens_sound, seals_sound}
 
 -- the list and one more element
-slice_get_push_old : {X : Type 0} (xs : List X) (y : X) (i : ℕ) → i < length xs → slice_get (xs ++ y ∷ []) i ≡ slice_get xs i
+pub slice_get_push_old : {X : Type 0} (xs : List X) (y : X) (i : ℕ) → i < length xs → slice_get (xs ++ y ∷ []) i ≡ slice_get xs i
 slice_get_push_old [] y i h = absurd (omega arith)
 slice_get_push_old (x ∷ xs) y zero h = refl
 slice_get_push_old (x ∷ xs) y (suc i) h = slice_get_push_old xs y i (omega arith)
@@ -26,13 +26,13 @@ pub slice_get_push_new : {X : Type 0} (xs : List X) (y : X) → slice_get (xs ++
 slice_get_push_new [] y = refl
 slice_get_push_new (x ∷ xs) y = slice_get_push_new xs y
 
-slice_get_push_cases : {X : Type 0} (xs : List X) (y x : X) (i : ℕ) → slice_get (xs ++ y ∷ []) i ≡ Some x → ((i < length xs) × (slice_get xs i ≡ Some x)) ⊎ ((i ≡ length xs) × (y ≡ x))
+pub slice_get_push_cases : {X : Type 0} (xs : List X) (y x : X) (i : ℕ) → slice_get (xs ++ y ∷ []) i ≡ Some x → ((i < length xs) × (slice_get xs i ≡ Some x)) ⊎ ((i ≡ length xs) × (y ≡ x))
 slice_get_push_cases [] y x zero e = inr (refl, Some-same y x e)
 slice_get_push_cases [] y x (suc i) e = absurd (let b : ⊥ = (cc) in b)
 slice_get_push_cases (z ∷ xs) y x zero e = inl (omega arith, e)
 slice_get_push_cases (z ∷ xs) y x (suc i) e = ⊎_elim (λ k. inl (omega (arith, k.0), k.1)) (λ k. inr (omega (arith, k.0), k.1)) (slice_get_push_cases xs y x i e)
 
-length_push_lem : {X : Type 0} (xs : List X) (y : X) → length (xs ++ y ∷ []) ≡ length xs + 1
+pub length_push_lem : {X : Type 0} (xs : List X) (y : X) → length (xs ++ y ∷ []) ≡ length xs + 1
 length_push_lem [] y = refl
 length_push_lem (x ∷ xs) y = omega (arith, length_push_lem xs y)
 
@@ -41,7 +41,7 @@ last_push xs y =
     let n : length (xs ++ y ∷ []) - 1 ≡ length xs = omega (arith, length_push_lem xs y) in
     ap (λ i. slice_get (xs ++ y ∷ []) i) n ∙ slice_get_push_new xs y
 
-prefix_trans : {E : Type 0} (a b c : List E) → IsPrefix a b → IsPrefix b c → IsPrefix a c
+pub prefix_trans : {E : Type 0} (a b c : List E) → IsPrefix a b → IsPrefix b c → IsPrefix a c
 prefix_trans a b c p q = (p.0 ++ q.0, sym (append_assoc a p.0 q.0) ∙ (ap (λ z. z ++ q.0) p.1 ∙ q.1))
 
 follows_trans : {E N F B : Type 0} (a b c : Version E N F B) → Follows a b → Follows b c → Follows a c
@@ -116,24 +116,24 @@ module _ {E D N I F B : Type 0} (w : World E D N I F B) (laws : Laws w) where
   step_sound old Begin Busy new s h = subst (IsSound w) (sym h.1) s
   step_sound old Begin Last_version new s h = subst (IsSound w) (sym h.2) s
   step_sound old Begin Too_large new s h = subst (IsSound w) (sym h.1) s
-  step_sound old Claim (Claimed job) new s h = subst (IsSound w) (sym h.after) (on_standing old old.log h.board (old.jobs ++ job ∷ []) old.seen s (claims_sound w laws old.board job h.board s.board h.claims) (ap (λ z. z.sealed) (sym h.claims.after)))
+  step_sound old Claim (Claimed j job) new s h = subst (IsSound w) (sym h.1.after) (on_standing old old.log h.1.board (old.jobs ++ job ∷ []) old.seen s (claims_sound w laws old.board job h.1.board s.board h.1.claims) (ap (λ z. z.sealed) (sym h.1.claims.after)))
   step_sound old Claim None_ready new s h = subst (IsSound w) (sym h.1) s
-  step_sound old (Bring j) No_job new s h = subst (IsSound w) (sym h.1) s
-  step_sound old (Bring j) (Was_brought b) new s h = subst (IsSound w) (sym h.after) (on_standing old old.log h.board old.jobs old.seen s (brings_sound w laws old.board h.job h.front b h.board s.board h.brings) (brings_same old.board h.job h.front b h.board h.brings))
-  step_sound old (Give_back j) No_job new s h = subst (IsSound w) (sym h.1) s
-  step_sound old (Give_back j) (Given_back freed) new s h = subst (IsSound w) (sym h.after) (on_standing old old.log h.board old.jobs old.seen s (gives_back_sound w laws old.board h.job freed h.board s.board h.gives_back) (gives_back_same old.board h.job freed h.board h.gives_back))
+  step_sound old (Bring j) (Not_brought k) new s h = subst (IsSound w) (sym h.2) s
+  step_sound old (Bring j) (Was_brought k b) new s h = subst (IsSound w) (sym h.1.after) (on_standing old old.log h.1.board old.jobs old.seen s (brings_sound w laws old.board h.1.job h.1.front b h.1.board s.board h.1.brings) (brings_same old.board h.1.job h.1.front b h.1.board h.1.brings))
+  step_sound old (Give_back j) (Not_given_back k) new s h = subst (IsSound w) (sym h.2) s
+  step_sound old (Give_back j) (Given_back k freed) new s h = subst (IsSound w) (sym h.1.after) (on_standing old old.log h.1.board old.jobs old.seen s (gives_back_sound w laws old.board h.1.job freed h.1.board s.board h.1.gives_back) (gives_back_same old.board h.1.job freed h.1.board h.1.gives_back))
   step_sound old Abandon (Abandoned was_open) new s h = subst (IsSound w) (sym h.after) (on_standing old old.log h.board old.jobs old.seen s (abandons_sound w laws old.board was_open h.board s.board h.abandons) (abandons_same old.board was_open h.board h.abandons))
-  step_sound old Seal (Sealed version) new s h = subst (IsSound w) (sym h.after) (record {
-    board = seals_sound w laws old.board version h.board s.board h.seals;
+  step_sound old Seal (Sealed settled version) new s h = subst (IsSound w) (sym h.1.after) (record {
+    board = seals_sound w laws old.board version h.1.board s.board h.1.seals;
     published = s.published;
     chain = s.chain;
-    newest = subst (λ z. (v : Version E N F B) × (last_of old.published ≡ Some v) × ((v ≡ z) ⊎ Follows v z)) (ap (λ z. z.sealed) (sym h.seals.after)) (seals_newest old version h.board s h.seals);
+    newest = subst (λ z. (v : Version E N F B) × (last_of old.published ≡ Some v) × ((v ≡ z) ⊎ Follows v z)) (ap (λ z. z.sealed) (sym h.1.seals.after)) (seals_newest old version h.1.board s h.1.seals);
   })
   step_sound old Seal No_round new s h = subst (IsSound w) (sym h.1) s
   step_sound old Seal (Not_done n) new s h = subst (IsSound w) (sym h.1) s
-  step_sound old Publish Was_published new s h = subst (IsSound w) (sym h.after) (shows_sound old s h.is_new)
+  step_sound old Publish (Was_published version) new s h = subst (IsSound w) (sym h.1.after) (shows_sound old s h.1.is_new)
   step_sound old Publish Nothing_new new s h = subst (IsSound w) (sym h.1) s
-  step_sound old (Ask r) (Answered place version) new s h = subst (IsSound w) (sym h.after) (on_standing old old.log old.board old.jobs ((r, place) ∷ old.seen) s s.board refl)
+  step_sound old (Ask r) (Answered q place version) new s h = subst (IsSound w) (sym h.1.after) (on_standing old old.log old.board old.jobs ((r, place) ∷ old.seen) s s.board refl)
   step_sound old act reply new s h = absurd h
 
   pub run_sound : (old : State E N I F B) (acts : List (Act E)) (replies : List (Reply E N I F B)) (new : State E N I F B) → IsSound w old → Run w old acts replies new → IsSound w new
@@ -144,7 +144,7 @@ module _ {E D N I F B : Type 0} (w : World E D N I F B) (laws : Laws w) where
 
   pub start_sound : IsSound w (start w)
   start_sound = record {
-    board = record { sealed = laws.opening; round = λ r e. absurd (let b : ⊥ = (cc) in b) };
+    board = record { sealed = laws.opening; number = omega arith; round = λ r e. absurd (let b : ⊥ = (cc) in b) };
     published = λ k v e. ⊎_elim (λ q. absurd (let b : ⊥ = (cc) in b)) (λ q. subst (IsVersion w) q.1 laws.opening) (slice_get_push_cases [] (opening w) v k e);
     chain = λ k a b first second. ⊎_elim (λ q. absurd (let l : k + 1 < 0 = q.0 in omega (arith, l))) (λ q. absurd (let l : k + 1 ≡ 0 = q.0 in omega (arith, l))) (slice_get_push_cases [] (opening w) b (k + 1) second);
     newest = (opening w, refl, inl refl);
@@ -162,24 +162,24 @@ module _ {E D N I F B : Type 0} (w : World E D N I F B) (laws : Laws w) where
   step_seen r old Begin Busy mid acts replies h n = subst (λ z. NeverFalls (seen_by r z.seen) (answers_to r acts replies)) h.1 n
   step_seen r old Begin Last_version mid acts replies h n = subst (λ z. NeverFalls (seen_by r z.seen) (answers_to r acts replies)) h.2 n
   step_seen r old Begin Too_large mid acts replies h n = subst (λ z. NeverFalls (seen_by r z.seen) (answers_to r acts replies)) h.1 n
-  step_seen r old Claim (Claimed job) mid acts replies h n = subst (λ z. NeverFalls (seen_by r z.seen) (answers_to r acts replies)) h.after n
+  step_seen r old Claim (Claimed j job) mid acts replies h n = subst (λ z. NeverFalls (seen_by r z.seen) (answers_to r acts replies)) h.1.after n
   step_seen r old Claim None_ready mid acts replies h n = subst (λ z. NeverFalls (seen_by r z.seen) (answers_to r acts replies)) h.1 n
-  step_seen r old (Bring j) No_job mid acts replies h n = subst (λ z. NeverFalls (seen_by r z.seen) (answers_to r acts replies)) h.1 n
-  step_seen r old (Bring j) (Was_brought b) mid acts replies h n = subst (λ z. NeverFalls (seen_by r z.seen) (answers_to r acts replies)) h.after n
-  step_seen r old (Give_back j) No_job mid acts replies h n = subst (λ z. NeverFalls (seen_by r z.seen) (answers_to r acts replies)) h.1 n
-  step_seen r old (Give_back j) (Given_back freed) mid acts replies h n = subst (λ z. NeverFalls (seen_by r z.seen) (answers_to r acts replies)) h.after n
+  step_seen r old (Bring j) (Not_brought k) mid acts replies h n = subst (λ z. NeverFalls (seen_by r z.seen) (answers_to r acts replies)) h.2 n
+  step_seen r old (Bring j) (Was_brought k b) mid acts replies h n = subst (λ z. NeverFalls (seen_by r z.seen) (answers_to r acts replies)) h.1.after n
+  step_seen r old (Give_back j) (Not_given_back k) mid acts replies h n = subst (λ z. NeverFalls (seen_by r z.seen) (answers_to r acts replies)) h.2 n
+  step_seen r old (Give_back j) (Given_back k freed) mid acts replies h n = subst (λ z. NeverFalls (seen_by r z.seen) (answers_to r acts replies)) h.1.after n
   step_seen r old Abandon (Abandoned was_open) mid acts replies h n = subst (λ z. NeverFalls (seen_by r z.seen) (answers_to r acts replies)) h.after n
-  step_seen r old Seal (Sealed version) mid acts replies h n = subst (λ z. NeverFalls (seen_by r z.seen) (answers_to r acts replies)) h.after n
+  step_seen r old Seal (Sealed settled version) mid acts replies h n = subst (λ z. NeverFalls (seen_by r z.seen) (answers_to r acts replies)) h.1.after n
   step_seen r old Seal No_round mid acts replies h n = subst (λ z. NeverFalls (seen_by r z.seen) (answers_to r acts replies)) h.1 n
   step_seen r old Seal (Not_done m) mid acts replies h n = subst (λ z. NeverFalls (seen_by r z.seen) (answers_to r acts replies)) h.1 n
-  step_seen r old Publish Was_published mid acts replies h n = subst (λ z. NeverFalls (seen_by r z.seen) (answers_to r acts replies)) h.after n
+  step_seen r old Publish (Was_published version) mid acts replies h n = subst (λ z. NeverFalls (seen_by r z.seen) (answers_to r acts replies)) h.1.after n
   step_seen r old Publish Nothing_new mid acts replies h n = subst (λ z. NeverFalls (seen_by r z.seen) (answers_to r acts replies)) h.1 n
-  step_seen r old (Ask q) (Answered place version) mid acts replies h n =
-      let after : NeverFalls (cond (q == r) place (seen_by r old.seen)) (answers_to r acts replies) = subst (λ z. NeverFalls (seen_by r z.seen) (answers_to r acts replies)) h.after n in
+  step_seen r old (Ask q) (Answered q' place version) mid acts replies h n =
+      let after : NeverFalls (cond (q == r) place (seen_by r old.seen)) (answers_to r acts replies) = subst (λ z. NeverFalls (seen_by r z.seen) (answers_to r acts replies)) h.1.after n in
       ⊎_elim
       (λ t.
       let same : q ≡ r = grind (arith, t) in
-      let low : seen_by r old.seen ≤ place = subst (λ z. seen_by z old.seen ≤ place) same h.not_before in
+      let low : seen_by r old.seen ≤ place = subst (λ z. seen_by z old.seen ≤ place) same h.1.not_before in
       let at : NeverFalls place (answers_to r acts replies) = rw t at after in
       rw t (low, at))
       (λ f. let at : NeverFalls (seen_by r old.seen) (answers_to r acts replies) = rw f at after in rw f at)
@@ -203,21 +203,21 @@ module _ {E D N I F B : Type 0} (w : World E D N I F B) (laws : Laws w) where
   step_published old Begin Busy new place v h s = stays_published old new place v (ap (λ z. z.published) (sym (h.1))) s
   step_published old Begin Last_version new place v h s = stays_published old new place v (ap (λ z. z.published) (sym (h.2))) s
   step_published old Begin Too_large new place v h s = stays_published old new place v (ap (λ z. z.published) (sym (h.1))) s
-  step_published old Claim (Claimed job) new place v h s = stays_published old new place v (ap (λ z. z.published) (sym (h.after))) s
+  step_published old Claim (Claimed j job) new place v h s = stays_published old new place v (ap (λ z. z.published) (sym (h.1.after))) s
   step_published old Claim None_ready new place v h s = stays_published old new place v (ap (λ z. z.published) (sym (h.1))) s
-  step_published old (Bring j) No_job new place v h s = stays_published old new place v (ap (λ z. z.published) (sym (h.1))) s
-  step_published old (Bring j) (Was_brought b) new place v h s = stays_published old new place v (ap (λ z. z.published) (sym (h.after))) s
-  step_published old (Give_back j) No_job new place v h s = stays_published old new place v (ap (λ z. z.published) (sym (h.1))) s
-  step_published old (Give_back j) (Given_back freed) new place v h s = stays_published old new place v (ap (λ z. z.published) (sym (h.after))) s
+  step_published old (Bring j) (Not_brought k) new place v h s = stays_published old new place v (ap (λ z. z.published) (sym (h.2))) s
+  step_published old (Bring j) (Was_brought k b) new place v h s = stays_published old new place v (ap (λ z. z.published) (sym (h.1.after))) s
+  step_published old (Give_back j) (Not_given_back k) new place v h s = stays_published old new place v (ap (λ z. z.published) (sym (h.2))) s
+  step_published old (Give_back j) (Given_back k freed) new place v h s = stays_published old new place v (ap (λ z. z.published) (sym (h.1.after))) s
   step_published old Abandon (Abandoned was_open) new place v h s = stays_published old new place v (ap (λ z. z.published) (sym (h.after))) s
-  step_published old Seal (Sealed version) new place v h s = stays_published old new place v (ap (λ z. z.published) (sym (h.after))) s
+  step_published old Seal (Sealed settled version) new place v h s = stays_published old new place v (ap (λ z. z.published) (sym (h.1.after))) s
   step_published old Seal No_round new place v h s = stays_published old new place v (ap (λ z. z.published) (sym (h.1))) s
   step_published old Seal (Not_done n) new place v h s = stays_published old new place v (ap (λ z. z.published) (sym (h.1))) s
-  step_published old Publish Was_published new place v h s =
+  step_published old Publish (Was_published version) new place v h s =
       let within = slice_get_within old.published place v s in
-      subst (λ z. slice_get z.published place ≡ Some v) (sym h.after) (slice_get_push_old old.published old.board.sealed place within ∙ s)
+      subst (λ z. slice_get z.published place ≡ Some v) (sym h.1.after) (slice_get_push_old old.published old.board.sealed place within ∙ s)
   step_published old Publish Nothing_new new place v h s = stays_published old new place v (ap (λ z. z.published) (sym (h.1))) s
-  step_published old (Ask r) (Answered at version) new place v h s = stays_published old new place v (ap (λ z. z.published) (sym (h.after))) s
+  step_published old (Ask r) (Answered q at version) new place v h s = stays_published old new place v (ap (λ z. z.published) (sym (h.1.after))) s
   step_published old act reply new place v h s = absurd h
 
   run_published : (old : State E N I F B) (acts : List (Act E)) (replies : List (Reply E N I F B)) (new : State E N I F B) (place : ℕ) (v : Version E N F B) → Run w old acts replies new → slice_get old.published place ≡ Some v → slice_get new.published place ≡ Some v
@@ -227,23 +227,23 @@ module _ {E D N I F B : Type 0} (w : World E D N I F B) (laws : Laws w) where
   run_published old (act ∷ acts) (reply ∷ replies) new place v h s = run_published h.0 acts replies new place v h.2 (step_published old act reply h.0 place v h.1 s)
 
   -- an answer is a published version
-  step_answers : (old : State E N I F B) (act : Act E) (place : ℕ) (v : Version E N F B) (new : State E N I F B) → Step w old act (Answered place v) new → slice_get new.published place ≡ Some v
-  step_answers old (Ask r) place v new h = stays_published old new place v (ap (λ z. z.published) (sym h.after)) h.stands
-  step_answers old (Push e) place v new h = absurd h
-  step_answers old Begin place v new h = absurd h
-  step_answers old Claim place v new h = absurd h
-  step_answers old (Bring j) place v new h = absurd h
-  step_answers old (Give_back j) place v new h = absurd h
-  step_answers old Abandon place v new h = absurd h
-  step_answers old Seal place v new h = absurd h
-  step_answers old Publish place v new h = absurd h
+  step_answers : (old : State E N I F B) (act : Act E) (reader place : ℕ) (v : Version E N F B) (new : State E N I F B) → Step w old act (Answered reader place v) new → slice_get new.published place ≡ Some v
+  step_answers old (Ask r) reader place v new h = stays_published old new place v (ap (λ z. z.published) (sym h.1.after)) h.1.stands
+  step_answers old (Push e) reader place v new h = absurd h
+  step_answers old Begin reader place v new h = absurd h
+  step_answers old Claim reader place v new h = absurd h
+  step_answers old (Bring j) reader place v new h = absurd h
+  step_answers old (Give_back j) reader place v new h = absurd h
+  step_answers old Abandon reader place v new h = absurd h
+  step_answers old Seal reader place v new h = absurd h
+  step_answers old Publish reader place v new h = absurd h
 
-  pub run_answers : (old : State E N I F B) (acts : List (Act E)) (replies : List (Reply E N I F B)) (new : State E N I F B) (place : ℕ) (v : Version E N F B) → Run w old acts replies new → Member replies (Answered place v) → slice_get new.published place ≡ Some v
-  run_answers old [] [] new place v h m = absurd m
-  run_answers old [] (reply ∷ replies) new place v h m = absurd h
-  run_answers old (act ∷ acts) [] new place v h m = absurd h
-  run_answers old (act ∷ acts) (reply ∷ replies) new place v h m =
+  pub run_answers : (old : State E N I F B) (acts : List (Act E)) (replies : List (Reply E N I F B)) (new : State E N I F B) (reader place : ℕ) (v : Version E N F B) → Run w old acts replies new → Member replies (Answered reader place v) → slice_get new.published place ≡ Some v
+  run_answers old [] [] new reader place v h m = absurd m
+  run_answers old [] (reply ∷ replies) new reader place v h m = absurd h
+  run_answers old (act ∷ acts) [] new reader place v h m = absurd h
+  run_answers old (act ∷ acts) (reply ∷ replies) new reader place v h m =
       ⊎_elim
-      (λ e. run_published h.0 acts replies new place v h.2 (step_answers old act place v h.0 (subst (λ z. Step w old act z h.0) e h.1)))
-      (λ k. run_answers h.0 acts replies new place v h.2 k)
+      (λ e. run_published h.0 acts replies new place v h.2 (step_answers old act reader place v h.0 (subst (λ z. Step w old act z h.0) e h.1)))
+      (λ k. run_answers h.0 acts replies new reader place v h.2 k)
       m

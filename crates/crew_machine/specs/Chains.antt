@@ -19,7 +19,7 @@ IsChain {E} {N} {F} {B} versions = (k : ℕ) (a b : Version E N F B) → slice_g
 abbrev pub answers_to : {E N I F B : Type 0} → ℕ → List (Act E) → List (Reply E N I F B) → List ℕ
 answers_to reader [] replies = []
 answers_to reader (act ∷ acts) [] = []
-answers_to reader (Ask r ∷ acts) (Answered place version ∷ replies) =
+answers_to reader (Ask r ∷ acts) (Answered q place version ∷ replies) =
     cond (r == reader) (place ∷ answers_to reader acts replies) (answers_to reader acts replies)
 answers_to reader (act ∷ acts) (reply ∷ replies) = answers_to reader acts replies
 

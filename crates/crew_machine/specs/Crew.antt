@@ -136,6 +136,9 @@ CrewVersion = Rounds.Version Entry DutyNode Entries PricedPairing
 abbrev pub CrewRound : Type 0
 CrewRound = Rounds.Round Entry DutyNode Entries
 
+abbrev pub CrewBoard : Type 0
+CrewBoard = Rounds.Board Entry DutyNode Entries PricedPairing
+
 abbrev pub CrewAct : Type 0
 CrewAct = Steps.Act Entry
 

@@ -2,5 +2,6 @@ pub mod Worlds
 pub mod Rounds
 pub mod Steps
 pub mod Chains
+pub mod Choices
 pub mod Crew
 pub mod Machinery

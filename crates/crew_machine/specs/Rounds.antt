@@ -1,6 +1,6 @@
 -- One round of work: the version that was sealed last, the round that is open, and what each call
--- does to them. The relations leave free which node is claimed and which equal jobs are reused.
-use Rattle.std.specs.Prelude.{◌≡◌, ℕ, ◌+◌, ◌<◌, Bool, true, false, List, [], ◌∷◌, Option, Some, None, map, slice_set}
+-- does to them, or why it doesn't. The relations leave free which node is claimed and which equal jobs are reused.
+use Rattle.std.specs.Prelude.{◌≡◌, ℕ, ◌+◌, ◌<◌, Bool, true, false, List, [], ◌∷◌, Option, Some, None, filter, length, map, slice_set}
 use mathlib.Core.List.{IsPrefix}
 use Rattle.std.specs.List.{slice_get}
 use Rattle.crew_resource.specs.Members.{Member}
@@ -190,3 +190,59 @@ module _ {E D N I F B : Type 0} (w : World E D N I F B) where
     pub undone : IsUndone cell
     pub least : (k : ℕ) (m : N) (c : Cell F) → k < place → slice_get round.cells k ≡ Some (m, c)
         → IsUndone c → ⊥
+
+  -- begin over given entries is refused, and the board stays, for the first of these that applies:
+  -- a round is open
+  abbrev pub IsBusy : Board E N F B → Type 0
+  IsBusy old = (round : Round E N F) × (old.round ≡ Some round)
+
+  -- .. the entries don't begin with the sealed version's
+  pub record IsShorter (old : Board E N F B) (entries : List E) : Type 0 where
+    pub none_open : old.round ≡ None
+    pub shorter : IsPrefix old.sealed.entries entries → ⊥
+
+  -- .. there is no number after the sealed version's
+  pub record HasNoNumber (old : Board E N F B) (entries : List E) : Type 0 where
+    pub none_open : old.round ≡ None
+    pub begins : IsPrefix old.sealed.entries entries
+    pub is_last : old.sealed.number ≡ last_number
+
+  -- .. they come to too many nodes
+  pub record ComesToTooMany (old : Board E N F B) (entries : List E) : Type 0 where
+    pub none_open : old.round ≡ None
+    pub begins : IsPrefix old.sealed.entries entries
+    pub number_left : old.sealed.number < last_number
+    pub too_large : w.IsTooLarge (w.fold entries)
+
+  -- restore: any round is dropped, and the given version is the sealed one
+  abbrev pub Restores : Board E N F B → Version E N F B → Board E N F B → Type 0
+  Restores old version new = new ≡ record { sealed = version; round = None }
+
+-- how many nodes a round has, how many of them are done, and how many out
+pub record Progress : Type 0 where
+  pub nodes : ℕ
+  pub done : ℕ
+  pub out : ℕ
+
+abbrev pub is_done : {F : Type 0} → Cell F → Bool
+is_done Waiting = false
+is_done Out = false
+is_done (Done f) = true
+
+abbrev pub is_out : {F : Type 0} → Cell F → Bool
+is_out Waiting = false
+is_out Out = true
+is_out (Done f) = false
+
+abbrev pub progress_of : {N F : Type 0} → List (N × Cell F) → Progress
+progress_of cells = record {
+  nodes = length cells;
+  done = length (filter (λ c. is_done c.1) cells);
+  out = length (filter (λ c. is_out c.1) cells);
+}
+
+-- progress: the counts of the round that is open, none without one
+abbrev pub IsProgress : {E N F B : Type 0} → Board E N F B → Option Progress → Type 0
+IsProgress board None = board.round ≡ None
+IsProgress {E} {N} {F} {B} board (Some progress) = (round : Round E N F)
+    × (board.round ≡ Some round) × (progress ≡ progress_of round.cells)

@@ -32,24 +32,36 @@ pub data Act (E : Type 0) : Type 0 where
   Publish : Act E
   Ask : (reader : ℕ) → Act E
 
+-- the entries that a step pushes, and those that steps push one after another
+abbrev pub pushed_by : {E : Type 0} → Act E → List E
+pushed_by (Push entry) = entry ∷ []
+pushed_by act = []
+
+abbrev pub pushed_in : {E : Type 0} → List (Act E) → List E
+pushed_in [] = []
+pushed_in (act ∷ acts) = pushed_by act ++ pushed_in acts
+
+-- A reply tells all that a line about its step shows: the number of a job, which is its place among
+-- those handed out; how many entries were settled before a version was sealed; who asked.
 pub data Reply (E N I F B : Type 0) : Type 0 where
   Pushed : (place : ℕ) → Reply E N I F B
   Begun : Reply E N I F B
   Busy : Reply E N I F B
   Last_version : Reply E N I F B
   Too_large : Reply E N I F B
-  Claimed : (job : Work N I F) → Reply E N I F B
+  Claimed : (number : ℕ) (job : Work N I F) → Reply E N I F B
   None_ready : Reply E N I F B
-  No_job : Reply E N I F B
-  Was_brought : (brought : Brought) → Reply E N I F B
-  Given_back : (freed : Bool) → Reply E N I F B
+  Was_brought : (number : ℕ) (brought : Brought) → Reply E N I F B
+  Not_brought : (number : ℕ) → Reply E N I F B
+  Given_back : (number : ℕ) (freed : Bool) → Reply E N I F B
+  Not_given_back : (number : ℕ) → Reply E N I F B
   Abandoned : (was_open : Bool) → Reply E N I F B
-  Sealed : (version : Version E N F B) → Reply E N I F B
+  Sealed : (settled : ℕ) (version : Version E N F B) → Reply E N I F B
   No_round : Reply E N I F B
   Not_done : (node : N) → Reply E N I F B
-  Was_published : Reply E N I F B
+  Was_published : (version : Version E N F B) → Reply E N I F B
   Nothing_new : Reply E N I F B
-  Answered : (place : ℕ) (version : Version E N F B) → Reply E N I F B
+  Answered : (reader place : ℕ) (version : Version E N F B) → Reply E N I F B
 
 abbrev pub last_of : {X : Type 0} → List X → Option X
 last_of xs = slice_get xs (length xs - 1)
@@ -162,19 +174,20 @@ module _ {E D N I F B : Type 0} (w : World E D N I F B) where
   Step old Begin Last_version new = (old.board.round ≡ None)
       × (old.board.sealed.number ≡ last_number) × (new ≡ old)
   Step old Begin Too_large new = RefusesTooLarge old × (new ≡ old)
-  Step old Claim (Claimed job) new = HandsOut old job new
+  Step old Claim (Claimed j job) new = (j ≡ length old.jobs) × HandsOut old job new
   Step old Claim None_ready new = NoneReady w old.board × (new ≡ old)
-  Step old (Bring j) No_job new = (length old.jobs ≤ j) × (new ≡ old)
-  Step old (Bring j) (Was_brought b) new = TakesBack old j b new
-  Step old (Give_back j) No_job new = (length old.jobs ≤ j) × (new ≡ old)
-  Step old (Give_back j) (Given_back freed) new = GivesUp old j freed new
+  Step old (Bring j) (Was_brought k b) new = (k ≡ j) × TakesBack old j b new
+  Step old (Bring j) (Not_brought k) new = (k ≡ j) × (length old.jobs ≤ j) × (new ≡ old)
+  Step old (Give_back j) (Given_back k freed) new = (k ≡ j) × GivesUp old j freed new
+  Step old (Give_back j) (Not_given_back k) new = (k ≡ j) × (length old.jobs ≤ j) × (new ≡ old)
   Step old Abandon (Abandoned was_open) new = Drops old was_open new
-  Step old Seal (Sealed version) new = Closes old version new
+  Step old Seal (Sealed settled version) new = (settled ≡ length old.board.sealed.entries)
+      × Closes old version new
   Step old Seal No_round new = (old.board.round ≡ None) × (new ≡ old)
   Step old Seal (Not_done n) new = IsFirstUndone w old.board n × (new ≡ old)
-  Step old Publish Was_published new = Shows old new
+  Step old Publish (Was_published version) new = (version ≡ old.board.sealed) × Shows old new
   Step old Publish Nothing_new new = (last_of old.published ≡ Some old.board.sealed) × (new ≡ old)
-  Step old (Ask r) (Answered place version) new = Answers old r place version new
+  Step old (Ask r) (Answered q place version) new = (q ≡ r) × Answers old r place version new
   Step old act reply new = ⊥
 
   -- the steps give these replies, one after another

@@ -1,13 +1,13 @@
 -- What every run keeps: done fronts are right, versions are from scratch, the published list is a
--- chain.
-use Rattle.std.specs.Prelude.{◌≡◌, ◌⊎◌, ℕ, Some, map}
+-- chain, and what is settled is a beginning of the log.
+use Rattle.std.specs.Prelude.{◌≡◌, ◌⊎◌, ℕ, ◌<◌, ◌≤◌, List, Some, length, map}
 use mathlib.Core.List.{IsPrefix}
 use Rattle.std.specs.List.{slice_get}
 use Rattle.crew_resource.specs.Members.{Member}
 use Rattle.crew_machine.specs.Chains.{Follows, IsChain}
-use Rattle.crew_machine.specs.Rounds.{Board, Round, Version}
-use Rattle.crew_machine.specs.Steps.{State, last_of}
-use Rattle.crew_machine.specs.Worlds.{AreNodes, IsScratch, World}
+use Rattle.crew_machine.specs.Rounds.{Board, Round, Version, last_number}
+use Rattle.crew_machine.specs.Steps.{State, last_of, seen_by}
+use Rattle.crew_machine.specs.Worlds.{AreNodes, IsScratch, IsWorkOf, Work, World}
 use Rattle.crew_machine.specs.declared.rounds.Cell.TheVariants.{Done}
 
 module _ {E D N I F B : Type 0} (w : World E D N I F B) where
@@ -20,9 +20,11 @@ module _ {E D N I F B : Type 0} (w : World E D N I F B) where
         → w.IsFront (w.fold round.entries) n f
     pub begins : IsPrefix sealed.entries round.entries
     pub small : w.IsSmall (w.fold round.entries)
+    pub number_left : sealed.number < last_number
 
   pub record IsStanding (board : Board E N F B) : Type 0 where
     pub sealed : IsVersion board.sealed
+    pub number : board.sealed.number ≤ last_number
     pub round : (r : Round E N F) → board.round ≡ Some r → IsRound board.sealed r
 
   pub record IsSound (s : State E N I F B) : Type 0 where
@@ -31,3 +33,18 @@ module _ {E D N I F B : Type 0} (w : World E D N I F B) where
     pub chain : IsChain s.published
     pub newest : (v : Version E N F B) × (last_of s.published ≡ Some v)
         × ((v ≡ s.board.sealed) ⊎ Follows v s.board.sealed)
+
+  -- what is settled, or is about to be, is a beginning of the log
+  pub record IsLogged (s : State E N I F B) : Type 0 where
+    pub sealed : IsPrefix s.board.sealed.entries s.log
+    pub round : (r : Round E N F) → s.board.round ≡ Some r → IsPrefix r.entries s.log
+    pub published : (k : ℕ) (v : Version E N F B) → slice_get s.published k ≡ Some v
+        → IsPrefix v.entries s.log
+
+  -- each job that was handed out is its node's own job in the data of some entries, and each reader
+  -- has seen a published version
+  pub record IsServed (s : State E N I F B) : Type 0 where
+    pub jobs : (j : ℕ) (job : Work N I F) → slice_get s.jobs j ≡ Some job
+        → (es : List E) × w.IsNode (w.fold es) job.node
+        × IsWorkOf w (w.fold es) (w.IsFront (w.fold es)) job
+    pub seen : (reader : ℕ) → seen_by reader s.seen < length s.published

@@ -14,7 +14,7 @@ pub returns-clause-scratch : goal.returns-clause-scratch
 returns-clause-scratch c = λ s acts replies state checked run place version at. version-from-scratch s checked version ((all_sound (crew s) (crew-laws s checked) acts replies state run).published place version at)
 
 pub returns-clause-answers : goal.returns-clause-answers
-returns-clause-answers c = λ s acts replies state checked run place version m. run_answers (crew s) (crew-laws s checked) (start (crew s)) acts replies state place version run m
+returns-clause-answers c = λ s acts replies state checked run reader place version m. run_answers (crew s) (crew-laws s checked) (start (crew s)) acts replies state reader place version run m
 
 pub returns-clause-never_back : goal.returns-clause-never_back
 returns-clause-never_back c = λ s acts replies state checked run reader. run_seen (crew s) (crew-laws s checked) reader (start (crew s)) acts replies state run
