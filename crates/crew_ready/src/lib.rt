@@ -3,6 +3,8 @@
 #![tactic(auto)]
 
 mod bits;
+mod counts;
 mod place_set;
 
+pub use counts::Counts;
 pub use place_set::PlaceSet;
