@@ -1,13 +1,15 @@
 //! What is carried over from one network to the next.
 ghost use Rattle.std.specs.Prelude.{◌≡◌, ◌↔◌, ◌&&◌, ◌≤◌, ◌<◌, ℕ, IfOk, IsTrue, List, MatchOption, Some, false, get_or, length, slice_get, true};
+ghost use Rattle.std.specs.FinMap as map;
 ghost use Rattle.crew_dirty.specs.Carried.{AreKeptFrom, IsCarriedOver, IsNextDirty};
-ghost use Rattle.crew_dirty.specs.Dirty.{IsKept, IsNetOver};
+ghost use Rattle.crew_dirty.specs.Dirty.{IsKept, IsNetOver, IsUntouched};
 ghost use Rattle.crew_dirty.specs.Unchanged.{IsUnchanged};
 ghost use Rattle.crew_dirty.specs.declared.standing.Standing.TheVariants.{Same};
 ghost use Rattle.crew_flights.specs.Timetable as TimetableSpec;
 ghost use Rattle.crew_net.specs.Events.{arrives_at};
 ghost use Rattle.crew_net.specs.Nets as Nets;
 ghost use Rattle.crew_net.specs.Ranks.{ranks_where};
+ghost use Rattle.crew_pairing.specs.declared.duty.Duty.{Duty};
 ghost use Rattle.crew_pairing.specs.declared.events.Arrival.{Arrival};
 ghost use Rattle.crew_resource.specs.Members.{Member};
 
@@ -78,20 +80,31 @@ pub fn carry(
 }
 
 impl Carried {
-    // Whether the node of a base's place and a rank is kept.
-    fn is_kept_at(&self, base: usize, rank: usize) -> bool
-        ensures { result ≡ (get_or self.now.bases base false
+    /// Whether the node of a base's place and a rank isn't reached.
+    #[inline]
+    pub fn is_kept_at(&self, base: usize, rank: usize) -> bool
+        ensures flags { result ≡ (get_or self.now.bases base false
             && get_or self.now.unreached rank false) }
+        ensures told { (t u : TimetableSpec.Timetable) (old new : Nets.Net) (code : List ℕ)
+            (d : Duty) → IsCarriedOver t u old new self.now → slice_get new.bases base ≡ Some code
+            → slice_get new.duties rank ≡ Some d
+            → (IsTrue result ↔ IsKept t u old new (record { base = code; key = d.key })) }
     {
         let own = flag(&self.bases, base);
         let unreached = flag(&self.unreached, rank);
         own & unreached
     }
 
-    // Whether the node of a base's place and a rank is untouched.
-    fn is_untouched_at(&self, base: usize, rank: usize) -> bool
-        ensures { result ≡ (get_or self.now.bases base false
+    /// Whether the node of a base's place and a rank isn't touched.
+    #[inline]
+    pub fn is_untouched_at(&self, base: usize, rank: usize) -> bool
+        ensures flags { result ≡ (get_or self.now.bases base false
             && get_or self.now.same rank false) }
+        ensures told { (t u : TimetableSpec.Timetable) (old new : Nets.Net) (code : List ℕ)
+            (d : Duty) → IsCarriedOver t u old new self.now → slice_get new.bases base ≡ Some code
+            → slice_get new.duties rank ≡ Some d
+            → (IsTrue result ↔ IsUntouched old new (map.get t.bases code) (map.get u.bases code)
+            code d) }
     {
         let own = flag(&self.bases, base);
         let same = flag(&self.same, rank);

@@ -10,4 +10,4 @@ returns-in-Some c = λ t u old over.
     let at = c.in-Some.place in
     let d = place.is_rank.0 in
     let told = kept-at t u old net c.args.self.now over at.base at.rank node d place.is_base place.is_rank.2 place.is_rank.1.key in
-    (λ e. told.0 (sym c.is_kept_at.ensures ∙ e), λ k. c.is_kept_at.ensures ∙ told.1 k)
+    (λ e. told.0 (sym c.is_kept_at.ensures.flags ∙ e), λ k. c.is_kept_at.ensures.flags ∙ told.1 k)

@@ -14,7 +14,7 @@ returns-then-not-kept c = λ t u old over.
     let long = c.len-place-end.ensures in
     let node = node-within net.bases net.duties place (omega (arith, below, long)) in
     let flags : c.is_kept_at-kept.result ≡ (get_or own.bases (place / length net.duties) false && get_or own.unreached (place % length net.duties) false) =
-    subst (λ (ds : List Duty). c.is_kept_at-kept.result ≡ (get_or own.bases (place / length ds) false && get_or own.unreached (place % length ds) false)) duties c.is_kept_at-kept.ensures in
+    subst (λ (ds : List Duty). c.is_kept_at-kept.result ≡ (get_or own.bases (place / length ds) false && get_or own.unreached (place % length ds) false)) duties c.is_kept_at-kept.ensures.flags in
     record {
       not_before = c.loop-place.auto.place;
       node = node.0;

@@ -15,7 +15,7 @@ returns-then-not-untouched g c = λ t u old over.
     let known = c.in-Some.ensures.is in
     let at_node = c.in-Some.place in
     let flags : c.is_untouched_at-untouched.result ≡ (get_or own.bases at_node.base false && get_or own.same at_node.rank false) =
-    c.is_untouched_at-untouched.ensures in (
+    c.is_untouched_at-untouched.ensures.flags in (
       λ z. absurd (let q : ⊥ = (cc) in q),
       λ k.
           absurd
@@ -65,7 +65,7 @@ returns g c = λ t u old over.
     let window = c.window.ensures (departure_of d) at in
     let standing = g.S.Standings.standing_at c.args.standings.now in
     let flags : (get_or own.bases at_node.base false && get_or own.same at_node.rank false) ≡ true =
-    sym c.is_untouched_at-untouched.ensures ∙ c.if-not-untouched.false in (
+    sym c.is_untouched_at-untouched.ensures.flags ∙ c.if-not-untouched.false in (
       λ e. is-unchanged t u old net own over at_node.base at_node.rank node d known.is_base known.is_rank.2 known.is_rank.1.key standing c.window.result window c.arrivals-arrivals.ensures.exact flags (c.are_same_before.ensures.0 e),
       λ k. c.are_same_before.ensures.1 (are-same t u old net own over at_node.base at_node.rank node d known.is_base known.is_rank.2 known.is_rank.1.key standing c.window.result window c.arrivals-arrivals.ensures.exact k),
     )

@@ -1,0 +1,2 @@
+mod Counted
+mod Rows

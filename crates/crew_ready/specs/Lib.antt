@@ -1,0 +1,3 @@
+pub mod Counts
+pub mod Firsts
+pub mod Machinery

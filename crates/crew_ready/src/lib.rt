@@ -1,0 +1,10 @@
+//! Which nodes of a round are ready, kept up as nodes become done, so that no call goes over all
+//! nodes or arcs: sets of places with the least one at hand.
+#![tactic(auto)]
+
+mod bits;
+mod counts;
+mod place_set;
+
+pub use counts::Counts;
+pub use place_set::PlaceSet;

@@ -1,0 +1,96 @@
+//! Sets of places.
+ghost use Rattle.std.specs.Prelude.{◌≡◌, ◌<◌, ◌≤◌, IfOk, MatchOption, false, get_or, length, replicate, slice_set};
+ghost use Rattle.crew_ready.specs.Firsts.{IsFirst, NoneSet};
+
+use crate::bits::{clear_words, first_in, has_bit, rows_of, with_bit};
+use std::alloc::{AllocError, Global};
+use std::marker::Model;
+
+/// A set of the places below a number, with the least one at hand. Once made it takes no memory.
+///
+/// A contract sees a list of flags, one for each place. Each place is a bit of a word, and above
+/// the words stands a set of those that have a bit set: a change, or the least place, takes a step
+/// for each factor of 64.
+#[derive(Drop)]
+pub struct PlaceSet {
+    count: usize,
+    words: Vec<u64>,
+    above: Option<Box<PlaceSet>>,
+}
+
+impl Model for PlaceSet {
+    ghost use Rattle.std.specs.Prelude.{◌≤◌, Bool, List, MatchOption, length};
+    ghost use Rattle.crew_ready.specs.Machinery.Words.{IsAbove, IsRow, flags_of};
+
+    ghost Value = { List Bool };
+
+    ghost view = { λ s. flags_of s.count s.words.items };
+
+    ghost invariant = { λ s. IsRow s.count s.words.items
+        × MatchOption s.above (length s.words.items ≤ 1)
+        (λ a. IsAbove s.count s.words.items a.value) };
+
+    ghost size = { length };
+}
+
+impl PlaceSet {
+    /// The empty set of places below `count`.
+    pub fn new(alloc: Global, count: usize) -> Result<PlaceSet, AllocError>
+        requires { count ≤ 4_294_967_295 }
+        ensures { IfOk result (λ set. set ≡ replicate count false) }
+    {
+        let rows = rows_of(count);
+        let words = clear_words(alloc, rows)?;
+        if rows <= 1 {
+            return Ok(PlaceSet {
+                count,
+                words,
+                above: None,
+            });
+        }
+        let above = Box::new(alloc, PlaceSet::new(alloc, rows)?)?;
+        Ok(PlaceSet {
+            count,
+            words,
+            above: Some(above),
+        })
+    }
+
+    /// Puts a place in, or takes it out.
+    pub fn set(&mut self, place: usize, member: bool)
+        requires { place < length self.old }
+        ensures { self.new ≡ slice_set self.old place member }
+    {
+        let row = place / 64;
+        let word = with_bit(self.words[row], (place % 64) as u32, member);
+        self.words[row] = word;
+        if let Some(above) = &mut self.above {
+            above.set(row, word > 0);
+        }
+    }
+
+    /// Whether a place is in the set, and `false` past the end.
+    pub fn contains(&self, place: usize) -> bool
+        ensures { result ≡ get_or self.now place false }
+    {
+        if place >= self.count {
+            return false;
+        }
+        has_bit(self.words[place / 64], (place % 64) as u32)
+    }
+
+    /// The least place of the set.
+    pub fn first(&self) -> Option<usize>
+        ensures { MatchOption result (NoneSet self.now) (IsFirst self.now) }
+    {
+        match &self.above {
+            None => first_in(&self.words, 0),
+            Some(above) => {
+                let Some(row) = above.first() else {
+                    return None;
+                };
+                first_in(&self.words, row)
+            }
+        }
+    }
+}
