@@ -1,11 +1,13 @@
 //! Versions.
 
-ghost use Rattle.std.specs.Prelude.{◌≡◌, ◌↔◌, ◌≤ℤ◌, ◌+◌, ◌++◌, [], IfOk, IfErr, IfSome, IsNone, length, slice_get};
+ghost use Rattle.std.specs.Prelude.{◌≡◌, ◌↔◌, ◌≤ℤ◌, ◌+◌, ◌++◌, [], IfOk, IfErr, IfSome, IsNone, None, length, slice_get};
 ghost use Rattle.std.specs.Option.{option_copied};
 ghost use Rattle.std.specs.FinMap as map;
 ghost use Rattle.crew_rules.specs.Settings.{IsChecked};
+ghost use Rattle.crew_flights.specs.Timetable.{empty_timetable};
 ghost use Rattle.crew_solve.specs.Cheapest.{AreCheapest};
-ghost use Rattle.crew_vector.specs.Bests.{IsPairing};
+ghost use Rattle.crew_solve.specs.Solutions.{HasNetOf, front_of};
+ghost use Rattle.crew_vector.specs.Bests.{IsPairing, IsScratch};
 ghost use Rattle.crew_vector.specs.declared.priced.PricedPairing.{PricedPairing as Pairing};
 ghost use Rattle.crew_version.specs.Faults.{IsNextFault, IsSearchFault};
 ghost use Rattle.crew_version.specs.Fronts.{IsFrontByKey};
@@ -149,6 +151,22 @@ impl Version {
         ensures { result.now ≡ Spec.timetable_of self.now.entries }
     {
         self.fold.timetable()
+    }
+
+    /// All fronts and the best pairing of its timetable. None is there only where the timetable is
+    /// empty, as it is before any entry.
+    pub fn solution(&self) -> Option<&Solution>
+        ensures scratch { IfSome result (λ solution. IsScratch self.now.settings
+            (Spec.timetable_of self.now.entries) (front_of solution.now) solution.now.best) }
+        ensures best { IfSome result (λ solution. solution.now.best ≡ self.now.best) }
+        ensures network { IfSome result (λ solution. HasNetOf self.now.settings
+            (Spec.timetable_of self.now.entries) solution.now) }
+        ensures none { result ≡ None → Spec.timetable_of self.now.entries ≡ empty_timetable }
+    {
+        match &self.solution {
+            None => None,
+            Some(solution) => Some(&**solution),
+        }
     }
 
     /// The best pairing: a legal one than which no legal pairing of the timetable costs less. None is
