@@ -1,9 +1,9 @@
 -- The labels that board a duty, listed and shown as entries.
-use Rattle.std.proofs.Common.{◌≡◌, ◌∙◌, ◌<◌, ◌≤◌, ◌+◌, ℕ, ℤ, List, [], ◌∷◌, ◌++◌, Some, get_or, length, map, take, refl, sym, ap, subst, arith}
+use Rattle.std.proofs.Common.{◌≡◌, ◌∙◌, ◌<◌, ℕ, ℤ, List, [], ◌∷◌, Some, get_or, length, map, refl, sym, ap, subst, arith, inl, inr}
 use Rattle.std.specs.Prelude.{slice_get}
 use Rattle.std.specs.List.Sorted.{IsPermutation}
-use Rattle.std.proofs.lemmas.List.{map-append, take_all}
-use Rattle.std.proofs.lemmas.List.Sorted.{IsPermutation-map, IsPermutation-sym}
+use Rattle.std.proofs.lemmas.Bool.{false≢true}
+use Rattle.std.specs.declared.cmp.Ordering.TheVariants.{Equal}
 use Rattle.crew_anchor.specs.Machinery.Bounds.{fits_in, is_ready}
 use Rattle.crew_anchor.specs.Stages.{anchored_board}
 use Rattle.crew_anchor.specs.Sweeps.{shown_labels}
@@ -17,22 +17,22 @@ use Rattle.crew_pool.specs.LabelWalks.{shown, walk_of_label}
 use Rattle.crew_pool.specs.Machinery.Meets.{vectors_of}
 use Rattle.crew_pool.specs.Ranks.{by_key}
 use Rattle.crew_pool.specs.declared.label_walk.LabelWalk.{LabelWalk}
-use Rattle.crew_pool.proofs.Permuted.{Member-permuted}
-use Rattle.crew_resource.specs.Entries.{IsApart}
+use Rattle.crew_pool.specs.Apart.{ApartFromAll, AreApart}
 use Rattle.crew_resource.specs.Machinery.Sum.{LiesWithin}
 use Rattle.crew_resource.specs.Machinery.Uses.{HasRoom}
 use Rattle.crew_resource.specs.Members.{Each, Member}
-use Rattle.crew_resource.proofs.Members.{Member-get_or}
 use Rattle.crew_solve.specs.Machinery.Homes.{IsFit, boarding, resource_of}
 use Rattle.crew_solve.specs.Machinery.Solved.{AreShownAt}
 use Rattle.crew_solve.proofs.Boarded.{are-whole, boarded-by-key, boarded-kept, boarded-shown, key-of}
-use Rattle.crew_solve.proofs.Listed.{get-same, take-more}
-use Rattle.crew_solve.proofs.Shown.{entry_of, shown-rise}
+use Rattle.crew_solve.proofs.Lent.{AreFresh, by_vector-permutes, by_vector-rises}
+use Rattle.crew_solve.proofs.Shown.{shown-listed}
+use Rattle.crew_solve.specs.Machinery.Lent.{AreLent, by_vector, entry_of}
 use Rattle.crew_sweep.proofs.Numbers.{get-member, get-within}
 use Rattle.crew_sweep.specs.Machinery.Kept.{AreKept}
 use Rattle.crew_sweep.specs.Sweeps.{BaseSweep, in_order}
 use Rattle.crew_vector.specs.Dominance.{is_at_most}
-use Rattle.crew_vector.specs.Fronts.{vector_cmp}
+use Rattle.crew_vector.specs.Fronts.{RiseByVector, vector_cmp}
+use Rattle.crew_vector.specs.Machinery.Named.{named_order}
 
 -- the labels of a departure's pool that board the duty of a rank
 abbrev pub boarders : BaseSweep → ℕ → ℕ → Duty → List (PairingVector × LabelWalk)
@@ -41,21 +41,6 @@ boarders b index rank d = boarded_labels (λ v. anchored_board (resource_of b) v
 pub boarders-are : (b : BaseSweep) (index rank : ℕ) (d : Duty) (r : AnchoredResource) (pool view : List (PairingVector × LabelWalk)) → view ≡ boarded_labels (λ v. anchored_board r v d) rank pool → r ≡ resource_of b → pool ≡ get_or b.pools index []
     → view ≡ boarders b index rank d
 boarders-are b index rank d r pool view e f g = e ∙ (ap (λ (x : AnchoredResource). boarded_labels (λ v. anchored_board x v d) rank pool) f ∙ ap (boarded_labels (λ v. anchored_board (resource_of b) v d) rank) g)
-
--- what stands in a list of the same items is one of them
-pub is-among : {X : Type 0} (xs view ys zs : List X) (i : ℕ) (x : X) → view ≡ xs → IsPermutation view ys → zs ≡ ys → i < length zs → Member xs (get_or zs i x)
-is-among {X} xs view ys zs i x same p e h =
-    let y = get_or zs i x in
-    let m = subst (λ (ls : List X). Member ls y) e (Member-get_or zs i y h (get-same zs i y x h)) in
-    subst (λ (ls : List X). Member ls y) same (Member-permuted ys view (IsPermutation-sym view ys p) y m)
-
--- an item more
-pub map-more : {X Y : Type 0} (f : X → Y) (xs : List X) (i : ℕ) (x : X) (y : Y) (ys zs : List Y) → i < length xs → ys ≡ map f (take i xs) → y ≡ f (get_or xs i x) → zs ≡ ys ++ y ∷ [] → zs ≡ map f (take (i + 1) xs)
-map-more {X} f xs i x y ys zs h e k n =
-    n ∙ ((λ j. e j ++ k j ∷ []) ∙ (sym (map-append f (take i xs) (get_or xs i x ∷ [])) ∙ ap (λ (l : List X). map f l) (sym (take-more xs i x h))))
-
-pub map-whole : {X Y : Type 0} (f : X → Y) (xs zs : List X) (i : ℕ) (ys : List Y) → zs ≡ xs → length zs ≤ i → ys ≡ map f (take i zs) → ys ≡ map f xs
-map-whole {X} f xs zs i ys same h e = e ∙ ap (λ (l : List X). map f l) (take_all i zs h ∙ same)
 
 has-rank : (b : BaseSweep) (rank : ℕ) (d : Duty) → IsFit b → slice_get b.net.duties rank ≡ Some d → rank < 4294967295
 has-rank b rank d fit at = let low = get-within b.net.duties rank d at in omega (arith, low, fit.few)
@@ -87,12 +72,39 @@ boarders-shown b index rank d fit at kept =
     each-entry b d.release (boarders b index rank d)
     ∙ ap (shown_labels b.net.settings.trip_rig d.release) (boarded-by-key (resource_of b) rank b.walks pool b.net.duties d whole (has-rank b rank d fit at) (key-of b.net.duties rank d at))
 
--- and so are those of a list of them in order of vector
-pub listed-shown : (b : BaseSweep) (index rank : ℕ) (d : Duty) → IsFit b → slice_get b.net.duties rank ≡ Some d → AreKept (resource_of b) (length b.net.duties) b.walks (get_or b.pools index [])
-    → (view labels : List (PairingVector × LabelWalk)) (entries : List (PairingVector × List (List Leg))) → view ≡ boarders b index rank d → IsPermutation view labels → IsApart vector_cmp is_at_most (vectors_of labels)
-    → entries ≡ map (entry_of b d.release) labels → AreShownAt b index d entries
-listed-shown b index rank d fit at kept view labels entries is p apart e =
-    let entry = entry_of b d.release in
-    let all : map entry view ≡ shown_labels b.net.settings.trip_rig d.release (boarding b index d) = ap (λ (l : List (PairingVector × LabelWalk)). map entry l) is ∙ boarders-shown b index rank d fit at kept in
-    let same = subst (λ (es : List (PairingVector × List (List Leg))). IsPermutation es (map entry labels)) all (IsPermutation-map entry view labels p) in
-    subst (AreShownAt b index d) (sym e) (record { same = same; rises = shown-rise b d.release labels apart })
+-- labels that are apart, shown as of a minute, rise in order of vector
+fresh-from : (b : BaseSweep) (minute : ℤ) (l : PairingVector × LabelWalk) (ls : List (PairingVector × LabelWalk)) → ApartFromAll is_at_most l.0 (vectors_of ls)
+    → (e : PairingVector × List (List Leg)) → Member (map (entry_of b minute) ls) e → vector_cmp (entry_of b minute l).0 e.0 ≡ Equal → ⊥
+fresh-from b minute l [] h e m q = absurd m
+fresh-from b minute l (x ∷ ls) h e (inl i) q =
+    let same = sym (shown-listed b.net.settings.trip_rig minute l.0 x.0) ∙ (ap (λ (z : PairingVector × List (List Leg)). vector_cmp (entry_of b minute l).0 z.0) i ∙ q) in
+    false≢true (sym h.0.0 ∙ (ap (is_at_most l.0) (sym (named_order.exact l.0 x.0 same)) ∙ named_order.reflexive l.0))
+fresh-from b minute l (x ∷ ls) h e (inr m) q = fresh-from b minute l ls h.1 e m q
+
+all-fresh : (b : BaseSweep) (minute : ℤ) (ls : List (PairingVector × LabelWalk)) → AreApart is_at_most (vectors_of ls) → AreFresh (map (entry_of b minute) ls)
+all-fresh b minute [] h = tt
+all-fresh b minute (l ∷ ls) h = (fresh-from b minute l ls h.0, all-fresh b minute ls h.1)
+
+pub entries-rise : (b : BaseSweep) (minute : ℤ) (ls : List (PairingVector × LabelWalk)) → AreApart is_at_most (vectors_of ls) → RiseByVector (by_vector (map (entry_of b minute) ls))
+entries-rise b minute ls h = by_vector-rises (map (entry_of b minute) ls) (all-fresh b minute ls h)
+
+-- and the entries in order of vector are what the departure's pool shows of the duty
+pub lent-shown : (b : BaseSweep) (index rank : ℕ) (d : Duty) → IsFit b → slice_get b.net.duties rank ≡ Some d → AreKept (resource_of b) (length b.net.duties) b.walks (get_or b.pools index [])
+    → (view : List (PairingVector × LabelWalk)) → view ≡ boarders b index rank d → AreApart is_at_most (vectors_of view) → AreShownAt b index d (by_vector (map (entry_of b d.release) view))
+lent-shown b index rank d fit at kept view is apart =
+    let entries = map (entry_of b d.release) view in
+    let all : entries ≡ shown_labels b.net.settings.trip_rig d.release (boarding b index d) = ap (λ (l : List (PairingVector × LabelWalk)). map (entry_of b d.release) l) is ∙ boarders-shown b index rank d fit at kept in
+    record {
+      same = subst (λ (es : List (PairingVector × List (List Leg))). IsPermutation es (by_vector entries)) all (by_vector-permutes entries);
+      rises = entries-rise b d.release view apart;
+    }
+
+-- and they can be lent
+pub are-lent : (b : BaseSweep) (index rank : ℕ) (d : Duty) → IsFit b → slice_get b.net.duties rank ≡ Some d → AreKept (resource_of b) (length b.net.duties) b.walks (get_or b.pools index [])
+    → slice_get (in_order b.net) index ≡ Some (departure_of d) → (view : List (PairingVector × LabelWalk)) → view ≡ boarders b index rank d → AreApart is_at_most (vectors_of view) → AreLent b d view
+are-lent b index rank d fit at kept own view is apart =
+    record {
+      room = λ within l m. boarder-room b index rank d fit at kept own within l (subst (λ (ls : List (PairingVector × LabelWalk)). Member ls l) is m);
+      walks = λ l m. boarder-kept b index rank d fit at kept l (subst (λ (ls : List (PairingVector × LabelWalk)). Member ls l) is m);
+      apart = apart;
+    }

@@ -11,8 +11,10 @@ pub mod Least
 pub mod Homing
 pub mod Solving
 pub mod Shown
+pub mod Lent
 pub mod Entered
 pub mod Swept
 pub mod Keeping
 pub mod Cheapest
 pub mod OneList
+pub mod Below

@@ -1,25 +1,18 @@
 -- The entries of a front, in order of vector.
-use Rattle.std.proofs.Common.{◌≡◌, ◌∙◌, ◌≤◌, ◌+◌, ℕ, zero, suc, ℤ, Bool, true, false, cond, List, [], ◌∷◌, Some, refl, sym, ap, inl, inr, length, map, take, arith, pos, ◌*ℤ◌}
+use Rattle.std.proofs.Common.{◌≡◌, ◌∙◌, ◌≤◌, ◌+◌, ℕ, zero, suc, ℤ, Bool, true, false, cond, List, [], ◌∷◌, Some, refl, sym, ap, inl, inr, length, take, arith, pos, ◌*ℤ◌}
 use Rattle.std.specs.Prelude.{slice_get}
 use Rattle.std.specs.Ordering.{eq_by_cmp, int_cmp, ordering_then}
-use Rattle.std.specs.declared.cmp.Ordering.TheVariants.{Less}
 use Rattle.crew_anchor.specs.Anchors.{shown}
 use Rattle.crew_anchor.specs.Machinery.Shifts.{cmp_more}
 use Rattle.crew_flights.specs.Codes.{code_cmp}
-use Rattle.crew_pairing.specs.Legs.{Leg}
 use Rattle.crew_pairing.specs.declared.duty.Duty.{Duty}
 use Rattle.crew_pairing.specs.declared.vector.PairingVector.{PairingVector}
-use Rattle.crew_pool.specs.Machinery.Meets.{vectors_of}
-use Rattle.crew_pool.specs.declared.label_walk.LabelWalk.{LabelWalk}
-use Rattle.crew_resource.specs.Entries.{IsApart, PartedFromAll}
 use Rattle.crew_resource.specs.Members.{Each, Member}
-use Rattle.crew_solve.specs.Machinery.Homes.{walk_by_key}
 use Rattle.crew_solve.specs.Solutions.{front_among}
 use Rattle.crew_sweep.specs.Machinery.Numbered.{place_of}
 use Rattle.crew_sweep.specs.Sweeps.{BaseSweep, front_at}
 use Rattle.crew_vector.proofs.Orders.{code-itself}
-use Rattle.crew_vector.specs.Dominance.{is_at_most}
-use Rattle.crew_vector.specs.Fronts.{RiseByVector, vector_cmp}
+use Rattle.crew_vector.specs.Fronts.{vector_cmp}
 
 -- the first that passes a test
 place-split : (b : Bool) (n i : ℕ) → cond b 0 (suc n) ≡ suc i → (b ≡ false) × (n ≡ i)
@@ -57,19 +50,7 @@ none-at (x ∷ xs) zero base h e b m own = absurd (omega (arith, h))
 none-at (x ∷ xs) (suc i) base h e b (inl q) own = let t = code-itself x.base base (ap (λ (y : BaseSweep). y.base) q ∙ own) in let both = sym t ∙ e.0 in let z : ⊥ = (cc) in z
 none-at (x ∷ xs) (suc i) base h e b (inr m) own = none-at xs i base (omega (arith, h)) e.1 b m own
 
--- labels that rise, shown as of a minute, rise
-shown-listed : (rate : ℕ) (minute : ℤ) (u v : PairingVector) → vector_cmp (shown rate minute u) (shown rate minute v) ≡ vector_cmp u v
+-- vectors shown as of a minute compare as they did
+pub shown-listed : (rate : ℕ) (minute : ℤ) (u v : PairingVector) → vector_cmp (shown rate minute u) (shown rate minute v) ≡ vector_cmp u v
 shown-listed rate minute u v =
     λ i. ordering_then (int_cmp u.duty_pay v.duty_pay) (ordering_then (cmp_more u.trip_rig v.trip_rig (pos rate *ℤ minute) i) (ordering_then (int_cmp u.guarantee v.guarantee) (ordering_then (int_cmp u.fdp v.fdp) (ordering_then (int_cmp u.fly v.fly) (ordering_then (int_cmp u.duties v.duties) (cmp_more u.away v.away minute i))))))
-
-abbrev pub entry_of : BaseSweep → ℤ → PairingVector × LabelWalk → PairingVector × List (List Leg)
-entry_of b minute l = (shown b.net.settings.trip_rig minute l.0, walk_by_key b l.1)
-
-after-all : (b : BaseSweep) (minute : ℤ) (l : PairingVector × LabelWalk) (ls : List (PairingVector × LabelWalk)) → PartedFromAll vector_cmp is_at_most l.0 (vectors_of ls)
-    → Each (λ (later : PairingVector × List (List Leg)). vector_cmp (shown b.net.settings.trip_rig minute l.0) later.0 ≡ Less) (map (entry_of b minute) ls)
-after-all b minute l [] h = tt
-after-all b minute l (x ∷ ls) h = (shown-listed b.net.settings.trip_rig minute l.0 x.0 ∙ h.0.rises, after-all b minute l ls h.1)
-
-pub shown-rise : (b : BaseSweep) (minute : ℤ) (ls : List (PairingVector × LabelWalk)) → IsApart vector_cmp is_at_most (vectors_of ls) → RiseByVector (map (entry_of b minute) ls)
-shown-rise b minute [] h = tt
-shown-rise b minute (l ∷ ls) h = (after-all b minute l ls h.0, shown-rise b minute ls h.1)

@@ -1,5 +1,6 @@
--- The pairings that come home.
+-- The pairings that come home, and the fronts that are lent.
 pub mod Floors
 pub mod Homes
 pub mod Keeps
+pub mod Lent
 pub mod Solved

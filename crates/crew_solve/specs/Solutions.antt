@@ -1,6 +1,5 @@
 -- The fronts of all bases and duties, and the best pairing.
-use Rattle.std.specs.Prelude.{◌≡◌, ℕ, cond, List, [], ◌∷◌, Option, Some, None, Vec, IsPermutation}
-use Rattle.std.specs.Global.{Global}
+use Rattle.std.specs.Prelude.{◌≡◌, ℕ, cond, List, [], ◌∷◌, Option, Some, None, IsPermutation}
 use Rattle.std.specs.Ordering.{eq_by_cmp}
 use Rattle.crew_flights.specs.Codes.{code_cmp}
 use Rattle.crew_flights.specs.Timetable.{Timetable}
@@ -36,8 +35,8 @@ front_of s base d = front_among s.sweeps base d
 
 -- the front of a base and the duty of a key, in order of vector; none where it isn't a node
 abbrev pub IsFrontOf : Solution → List ℕ → List Leg
-    → Option (Vec (PairingVector × List (List Leg)) Global) → Type 0
+    → Option (List (PairingVector × List (List Leg))) → Type 0
 IsFrontOf s base key None = (d : Duty) → Member s.net.bases base → Member s.net.duties d
     → d.key ≡ key → ⊥
 IsFrontOf s base key (Some entries) = (d : Duty) × Member s.net.bases base × Member s.net.duties d
-    × (d.key ≡ key) × IsPermutation (front_of s base d) entries.items × RiseByVector entries.items
+    × (d.key ≡ key) × IsPermutation (front_of s base d) entries × RiseByVector entries

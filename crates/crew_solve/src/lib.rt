@@ -6,12 +6,16 @@
 
 mod best;
 mod entries;
+mod front_view;
 mod kept;
 pub mod laws;
 mod past;
 mod scratch;
 mod solution;
 mod sweeps;
+mod walk_view;
 
+pub use front_view::{FrontEntries, FrontView};
 pub use scratch::{solve, solve_listed, solve_next, solve_with};
 pub use solution::Solution;
+pub use walk_view::WalkView;

@@ -12,11 +12,12 @@ ghost use Rattle.crew_solve.specs.Solutions.{HasNetOf, IsFrontOf, front_of};
 ghost use Rattle.crew_vector.specs.Bests.{AreFronts};
 
 use crate::best::keep_home;
-use crate::entries::{entries_at, place_of, sweep_of};
+use crate::entries::{place_of, sweep_of};
+use crate::front_view::FrontView;
 use crate::kept::Kept;
 use crew_flights::Code;
 use crew_net::{Net, Node};
-use crew_pairing::{Key, PairingVector, Walk};
+use crew_pairing::Key;
 use crew_sweep::Sweep;
 use crew_vector::PricedPairing;
 use std::alloc::{AllocError, Global};
@@ -103,26 +104,17 @@ impl Solution {
 
     /// The front of a base and the duty of a key, in order of vector: each vector with its walk.
     /// `None` where the code is no base or the key is no legal duty's.
-    pub fn front(
-        &self,
-        alloc: Global,
-        base: Code,
-        key: &Key,
-    ) -> Result<Option<Vec<(PairingVector, Walk)>>, AllocError>
-        ensures { IfOk result (IsFrontOf self.now base key.now) }
+    pub fn front(&self, base: Code, key: &Key) -> Option<FrontView<'_>>
+        ensures { IsFrontOf self.now base key.now result }
     {
         let node = Node {
             base,
             key: key.copy(),
         };
-        let Some(rank) = self.net.rank(&node) else {
-            return Ok(None);
-        };
-        let Some(sweep) = sweep_of(&self.sweeps, base) else {
-            return Ok(None);
-        };
+        let rank = self.net.rank(&node)?;
+        let sweep = sweep_of(&self.sweeps, base)?;
         let duty = &sweep.net().duties().as_slice()[rank];
         let index = place_of(sweep.net(), duty);
-        Ok(Some(entries_at(alloc, sweep, index, rank as u32, duty)?))
+        Some(FrontView::new(sweep, index, rank as u32, duty))
     }
 }

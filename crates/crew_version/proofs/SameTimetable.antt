@@ -1,5 +1,5 @@
 -- Two timetables with the same flights and bases are one.
-use Rattle.std.proofs.Common.{◌≡◌, ℕ, ℤ, Bool, true, List, [], ◌∷◌, ◌&&◌, refl, sym, ◌∙◌, ap, Some, zero, suc, nat_eq}
+use Rattle.std.proofs.Common.{◌≡◌, ℕ, ℤ, Bool, true, List, [], ◌∷◌, ◌&&◌, refl, sym, ◌∙◌, ap, Some, suc, nat_eq}
 use Rattle.std.specs.Bool.{Decides}
 use Rattle.std.specs.Ordering.{eq_by_cmp, int_eq}
 use Rattle.crew_flights.specs.Codes.{code_cmp}

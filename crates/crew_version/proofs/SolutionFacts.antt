@@ -1,9 +1,10 @@
 -- What a solution says of a timetable.
 use Rattle.std.proofs.Common.{◌≡◌, ℕ, ℤ, Bool, true, false, cond, List, [], ◌∷◌, Option, Some, None, refl, sym, ap, subst, ◌∙◌, inl, inr, ◌||◌, ◌++◌, reverse, arith}
-use Rattle.std.specs.Prelude.{Vec, is_some}
+use Rattle.std.specs.Prelude.{◌↔◌, ◌≤ℤ◌, IfSome, IsNone, is_some}
+use Rattle.std.proofs.lemmas.Bool.{false≢true}
+use Rattle.std.specs.Borrow.{Bor}
 use Rattle.std.specs.FinMap as fin
-use Rattle.std.specs.Global.{Global}
-use Rattle.std.specs.Option.{option_map}
+use Rattle.std.specs.Option.{option_copied}
 use Rattle.std.specs.Ordering.{eq_by_cmp, is_eq}
 use Rattle.std.specs.Cmp.{Equal-is}
 use Rattle.std.specs.List.{list_any}
@@ -33,7 +34,9 @@ use Rattle.crew_version.specs.declared.version.Ahead.{Ahead}
 use Rattle.crew_rules.specs.Settings.{IsChecked}
 use Rattle.crew_solve.specs.Cheapest.{AreCheapest}
 use Rattle.crew_solve.specs.Solutions.{IsFrontOf, Solution, front_of}
-use Rattle.crew_vector.specs.Bests.{IsBest}
+use Rattle.crew_vector.specs.Bests.{IsBest, IsPairing}
+use Rattle.crew_vector.proofs.Cheapest.{best-least}
+use Rattle.crew_vector.specs.declared.priced.PricedPairing.{PricedPairing}
 use Rattle.crew_vector.specs.Fronts.{IsFrontAt}
 
 -- ---- codes among the keys of the bases
@@ -86,15 +89,15 @@ front-permuted s t base price d xs ys p h =
     }
 
 -- the front that a solution shows is the front of the base and the duty
-pub front-shown : (s : Settings) (t : Timetable) (solution : Solution) (base : List ℕ) (key : List Leg) (front : Option (Vec (PairingVector × List (List Leg)) Global)) → IsSolutionOf s t solution → IsFrontOf solution base key front
-    → IsFrontByKey s t base key (option_map (λ v. v.items) front)
+pub front-shown : (s : Settings) (t : Timetable) (solution : Solution) (base : List ℕ) (key : List Leg) (front : Option (List (PairingVector × List (List Leg)))) → IsSolutionOf s t solution → IsFrontOf solution base key front
+    → IsFrontByKey s t base key front
 front-shown s t solution base key None h shown = λ price d based duty named.
     let listed = subst (Member h.network.0) (sym duty.3) (h.network.1.every duty.0 duty.1 duty.2) in
     shown d (rw h.network.2.bases (priced-base t base price based)) (rw h.network.2.duties listed) named
 front-shown s t solution base key (Some entries) h shown =
     let priced = base-priced t base (rw h.network.2.bases at shown.1) in
     let duty = h.network.1.sound shown.0 (rw h.network.2.duties at shown.2) in
-    (priced.0, shown.0, priced.1, duty, shown.3, front-permuted s t base priced.0 shown.0 (front_of solution base shown.0) entries.items shown.4 (h.scratch.fronts base priced.0 shown.0 priced.1 duty), shown.5)
+    (priced.0, shown.0, priced.1, duty, shown.3, front-permuted s t base priced.0 shown.0 (front_of solution base shown.0) entries shown.4 (h.scratch.fronts base priced.0 shown.0 priced.1 duty), shown.5)
 
 no-base : (base : List ℕ) (price : ℤ) → fin.get empty_timetable.bases base ≡ Some price → ⊥
 no-base base price h = let none : fin.get empty_timetable.bases base ≡ None = fin.get-empty code_cmp base in cc (none, h)
@@ -159,3 +162,18 @@ kept-ahead s old more ahead checked h = record { checked = checked; judged = h.j
 pub right-of : (number : ℕ) (s : Settings) (entries : List Entry) (verdicts : List Verdict) (standing : Standing) (solution : Option Solution) → IsKept s entries verdicts standing solution
     → IsRight (record { number = number; settings = s; entries = entries; best = best_of solution })
 right-of number s entries verdicts standing solution kept = record { few = kept.few; least = best-right s _ solution kept.solved }
+
+-- ---- what the best says, where it is lent
+
+pub best-legal : (s : Settings) (t : Timetable) (lent : Option (Bor PricedPairing)) → IsBest s t (option_copied lent) → IfSome lent (λ b. IsPairing s t b.now)
+best-legal s t None h = tt
+best-legal s t (Some b) h = h.0.pairing
+
+pub best-costs-least : (s : Settings) (t : Timetable) (lent : Option (Bor PricedPairing)) → IsChecked s → IsSound t → IsBest s t (option_copied lent)
+    → IfSome lent (λ b. (p : PricedPairing) → IsPairing s t p → b.now.cost ≤ℤ p.cost)
+best-costs-least s t None checked sound h = tt
+best-costs-least s t (Some b) checked sound h = λ p is. best-least s t b.now p checked sound h is
+
+pub best-none : (s : Settings) (t : Timetable) (lent : Option (Bor PricedPairing)) → IsBest s t (option_copied lent) → IsNone lent ↔ ((p : PricedPairing) → IsPairing s t p → ⊥)
+best-none s t None h = (λ _. h, λ _. refl)
+best-none s t (Some b) h = (λ e. absurd (false≢true (sym e)), λ none. absurd (none b.now h.0.pairing))

@@ -1,10 +1,14 @@
 //! Versions.
 
-ghost use Rattle.std.specs.Prelude.{◌≡◌, ◌+◌, ◌++◌, [], IfOk, IfErr, IfSome, length, slice_get};
-ghost use Rattle.std.specs.Option.{option_copied, option_map};
+ghost use Rattle.std.specs.Prelude.{◌≡◌, ◌↔◌, ◌≤ℤ◌, ◌+◌, ◌++◌, [], IfOk, IfErr, IfSome, IsNone, None, length, slice_get};
+ghost use Rattle.std.specs.Option.{option_copied};
 ghost use Rattle.std.specs.FinMap as map;
 ghost use Rattle.crew_rules.specs.Settings.{IsChecked};
+ghost use Rattle.crew_flights.specs.Timetable.{empty_timetable};
 ghost use Rattle.crew_solve.specs.Cheapest.{AreCheapest};
+ghost use Rattle.crew_solve.specs.Solutions.{HasNetOf, front_of};
+ghost use Rattle.crew_vector.specs.Bests.{IsPairing, IsScratch};
+ghost use Rattle.crew_vector.specs.declared.priced.PricedPairing.{PricedPairing as Pairing};
 ghost use Rattle.crew_version.specs.Faults.{IsNextFault, IsSearchFault};
 ghost use Rattle.crew_version.specs.Fronts.{IsFrontByKey};
 ghost use Rattle.crew_version.specs.Machinery.Kept.{FoldsOn, IsAhead, IsRightEarlier};
@@ -13,9 +17,9 @@ use crate::chunks::Chunks;
 use crate::fault::VersionFault;
 use crate::search::{Earlier, find_solution};
 use crew_flights::{Code, Entry, Folding, Timetable, Verdict};
-use crew_pairing::{Key, PairingVector, Walk};
+use crew_pairing::Key;
 use crew_rules::Settings;
-use crew_solve::Solution;
+use crew_solve::{FrontView, Solution};
 use crew_vector::PricedPairing;
 use std::alloc::{AllocError, Global};
 use std::marker::Model;
@@ -149,10 +153,33 @@ impl Version {
         self.fold.timetable()
     }
 
-    /// The best pairing, if there is one.
+    /// All fronts and the best pairing of its timetable. None is there only where the timetable is
+    /// empty, as it is before any entry.
+    pub fn solution(&self) -> Option<&Solution>
+        ensures scratch { IfSome result (λ solution. IsScratch self.now.settings
+            (Spec.timetable_of self.now.entries) (front_of solution.now) solution.now.best) }
+        ensures best { IfSome result (λ solution. solution.now.best ≡ self.now.best) }
+        ensures network { IfSome result (λ solution. HasNetOf self.now.settings
+            (Spec.timetable_of self.now.entries) solution.now) }
+        ensures none { result ≡ None → Spec.timetable_of self.now.entries ≡ empty_timetable }
+    {
+        match &self.solution {
+            None => None,
+            Some(solution) => Some(&**solution),
+        }
+    }
+
+    /// The best pairing: a legal one than which no legal pairing of the timetable costs less. None is
+    /// there exactly where there is no legal pairing.
     pub fn best(&self) -> Option<&PricedPairing>
         ensures value { option_copied result ≡ self.now.best }
         ensures right { IsRight self.now }
+        ensures legal { IfSome result (λ best. IsPairing self.now.settings
+            (Spec.timetable_of self.now.entries) best.now) }
+        ensures least { IfSome result (λ best. (p : Pairing) → IsPairing self.now.settings
+            (Spec.timetable_of self.now.entries) p → best.now.cost ≤ℤ p.cost) }
+        ensures none { IsNone result ↔ ((p : Pairing) → IsPairing self.now.settings
+            (Spec.timetable_of self.now.entries) p → ⊥) }
     {
         match &self.solution {
             None => None,
@@ -173,19 +200,14 @@ impl Version {
     }
 
     /// The front of a base and the duty of a key, in order of vector: each vector with its walk.
-    /// `None` where the code is no base, or no legal duty has the key.
-    pub fn front(
-        &self,
-        alloc: Global,
-        base: Code,
-        key: &Key,
-    ) -> Result<Option<Vec<(PairingVector, Walk)>>, AllocError>
-        ensures { IfOk result (λ front. IsFrontByKey self.now.settings
-            (Spec.timetable_of self.now.entries) base key.now (option_map (λ v. v.items) front)) }
+    /// `None` where the code is no base, or no legal duty has the key. It takes no memory.
+    pub fn front(&self, base: Code, key: &Key) -> Option<FrontView<'_>>
+        ensures { IsFrontByKey self.now.settings (Spec.timetable_of self.now.entries) base key.now
+            result }
     {
         match &self.solution {
-            None => Ok(None),
-            Some(solution) => solution.front(alloc, base, key),
+            None => None,
+            Some(solution) => solution.front(base, key),
         }
     }
 

@@ -8,11 +8,10 @@ use crate::words::count_of;
 use crew_audit::{Partial, enumerate};
 use crew_flights::Timetable;
 use crew_net::Node;
-use crew_pairing::{PairingVector, Walk};
+use crew_pairing::{Key, PairingVector};
 use crew_rules::Settings;
-use crew_solve::{Solution, solve_with};
+use crew_solve::{Solution, WalkView, solve_with};
 use crew_vector::PricedPairing;
-use std::alloc::Global;
 use std::thread::Threads;
 
 // Whether one vector is at most another in each part.
@@ -81,17 +80,27 @@ fn count_picked(partials: &[Partial]) -> usize {
     count
 }
 
+// Whether a walk that is lent is one of these keys.
+fn is_same_walk(walk: &WalkView<'_>, keys: &[Key]) -> bool {
+    for place in 0..keys.len() {
+        if walk.key(place) != Some(&keys[place]) {
+            return false;
+        }
+    }
+    walk.len() == keys.len()
+}
+
 // Whether a partial is what a front shows of a node.
-fn is_shown(partial: &Partial, node: &Node, vector: &PairingVector, walk: &Walk) -> bool {
+fn is_shown(partial: &Partial, node: &Node, vector: &PairingVector, walk: &WalkView<'_>) -> bool {
     let keys = partial.walk.keys();
     partial.base == node.base
         && keys.last() == Some(&node.key)
         && partial.vector == *vector
-        && partial.walk == *walk
+        && is_same_walk(walk, keys)
 }
 
 // Whether what a front shows of a node belongs there.
-fn belongs(partials: &[Partial], node: &Node, vector: &PairingVector, walk: &Walk) -> bool {
+fn belongs(partials: &[Partial], node: &Node, vector: &PairingVector, walk: &WalkView<'_>) -> bool {
     for partial in partials {
         if is_shown(partial, node, vector, walk) {
             return is_picked(partials, partial);
@@ -100,37 +109,32 @@ fn belongs(partials: &[Partial], node: &Node, vector: &PairingVector, walk: &Wal
     false
 }
 
-// Whether all entries of a node's front belong there, in order of vector.
-fn is_front(partials: &[Partial], node: &Node, entries: &[(PairingVector, Walk)]) -> bool {
+// How many entries a node's front has; `None` where one doesn't belong there, or they don't stand
+// in order of vector.
+fn count_front(partials: &[Partial], solution: &Solution, node: &Node) -> Option<usize> {
+    let front = solution.front(node.base, &node.key)?;
     let mut last: Option<PairingVector> = None;
-    for (vector, walk) in entries {
-        if last >= Some(*vector) || !belongs(partials, node, vector, walk) {
-            return false;
+    let mut count: usize = 0;
+    for (vector, walk) in front.iter() {
+        if last >= Some(vector) || !belongs(partials, node, &vector, &walk) {
+            return None;
         }
-        last = Some(*vector);
+        last = Some(vector);
+        count = count.saturating_add(1);
     }
-    true
-}
-
-// How many entries a node's front has; `None` where one doesn't belong there.
-fn count_front(
-    alloc: Global,
-    partials: &[Partial],
-    solution: &Solution,
-    node: &Node,
-) -> Option<usize> {
-    match solution.front(alloc, node.base, &node.key) {
-        Ok(Some(entries)) if is_front(partials, node, &entries) => Some(entries.len()),
-        _ => None,
+    if count == front.len() {
+        Some(count)
+    } else {
+        None
     }
 }
 
 // How many entries all fronts have; `None` where one doesn't belong there.
-fn count_fronts(alloc: Global, partials: &[Partial], solution: &Solution) -> Option<usize> {
+fn count_fronts(partials: &[Partial], solution: &Solution) -> Option<usize> {
     let mut count: usize = 0;
     for place in 0..solution.net().len() {
         let node = solution.net().node(place)?;
-        count = count.saturating_add(count_front(alloc, partials, solution, &node)?);
+        count = count.saturating_add(count_front(partials, solution, &node)?);
     }
     Some(count)
 }
@@ -170,8 +174,8 @@ fn is_best(pairing: Option<&PricedPairing>, picked: Option<&Partial>) -> bool {
 
 // Whether all fronts, and the best, are those that are picked from these partials. The entries that
 // belong in the fronts differ, so all of them are there if there are as many.
-fn is_as_picked(alloc: Global, partials: &[Partial], solution: &Solution) -> bool {
-    count_fronts(alloc, partials, solution) == Some(count_picked(partials))
+fn is_as_picked(partials: &[Partial], solution: &Solution) -> bool {
+    count_fronts(partials, solution) == Some(count_picked(partials))
         && is_best(solution.best(), best_of(partials))
 }
 
@@ -186,7 +190,7 @@ fn compare<R: Threads + Sync + AllocGlobal>(
     requires { IsChecked settings.now }
 {
     match solve_with(rt, rt.alloc(), settings, timetable, workers) {
-        Ok(solution) => Some(is_as_picked(rt.alloc(), partials, &solution)),
+        Ok(solution) => Some(is_as_picked(partials, &solution)),
         Err(_) => None,
     }
 }

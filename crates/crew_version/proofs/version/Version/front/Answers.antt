@@ -1,5 +1,4 @@
 use Rattle.std.proofs.Common.{◌≡◌, ◌∙◌, sym, ap, subst}
-use Rattle.std.proofs.lemmas.Result.{IfOk-weaker}
 use Rattle.crew_flights.specs.Timetable.{empty_timetable}
 use Rattle.crew_version.specs.Versions.{Snapshot, timetable_of}
 use Rattle.crew_version.specs.Machinery.Kept.{IsSolutionOf}
@@ -17,4 +16,4 @@ returns-in-Some c =
     let inside : IsSolutionOf c.self.inside.settings (timetable_of c.self.inside.entries) c.in-Some.solution.value = rw c.in-Some.is at c.self.invariant.solved in
     let lent = subst (λ x. IsSolutionOf c.self.inside.settings (timetable_of c.self.inside.entries) x) (sym c.deref.ensures) inside in
     let solved = subst (λ (x : Snapshot). IsSolutionOf x.settings (timetable_of x.entries) c.deref.result.now) c.self.view_is lent in
-    IfOk-weaker c.front.result _ _ (λ front h. front-shown v.settings (timetable_of v.entries) c.deref.result.now c.args.base c.args.key.now front solved h) c.front.ensures
+    front-shown v.settings (timetable_of v.entries) c.deref.result.now c.args.base c.args.key.now c.front.result solved c.front.ensures

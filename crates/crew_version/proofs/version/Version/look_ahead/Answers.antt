@@ -2,7 +2,6 @@ use Rattle.std.proofs.Common.{◌≡◌, ◌∙◌, ◌++◌, ap, refl, sym, sub
 use Rattle.std.specs.Prelude.{IfErr}
 use Rattle.std.proofs.lemmas.Result.{err_from_is_err_and}
 use Rattle.crew_flights.specs.declared.entries.Entry.{Entry}
-use Rattle.crew_flights.specs.declared.edit.Verdict.{Verdict}
 use Rattle.crew_version.specs.Faults.{IsSearchFault}
 use Rattle.crew_version.specs.Versions.{Snapshot, timetable_of}
 use Rattle.crew_version.specs.Machinery.Kept.{IsAhead}
