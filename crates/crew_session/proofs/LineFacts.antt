@@ -1,6 +1,6 @@
 -- How the lines of refusals follow one another.
-use Rattle.std.proofs.Common.{◌≡◌, ◌<◌, ◌+◌, ℕ, zero, suc, List, [], ◌∷◌, ◌++◌, length, get_or, drop, Option, Some, None, refl, sym, ap, ◌∙◌, arith, add-one, drop-cons, append_assoc}
-use Rattle.std.specs.Prelude.{slice_get}
+use Rattle.std.proofs.Common.{◌≡◌, ◌<◌, ◌+◌, ℕ, zero, suc, List, [], ◌∷◌, ◌++◌, length, get_or, drop, Option, Some, None, Result, Ok, Err, refl, sym, ap, ◌∙◌, arith, add-one, drop-cons, append_assoc}
+use Rattle.std.specs.Prelude.{OnOk, slice_get}
 use Rattle.std.specs.Io.KnownBytes.{Appends}
 use Rattle.std.proofs.lemmas.List.{append-nil}
 use Rattle.crew_flights.specs.declared.edit.Verdict.{Verdict}
@@ -19,6 +19,11 @@ appends-both None b c x y p q = tt
 appends-both (Some s) None c x y p q = absurd p
 appends-both (Some s) (Some t) None x y p q = absurd q
 appends-both (Some s) (Some t) (Some u) x y p q = q ∙ ap (λ (l : List ℕ). l ++ y) p ∙ append_assoc s x y
+
+-- a text and then a second
+pub wrote-both : {F : Type 0} (r : Result (Unit {0}) F) (a b c : Option (List ℕ)) (x y : List ℕ) → Appends a b x → OnOk r (Appends b c y) → OnOk r (Appends a c (x ++ y))
+wrote-both (Ok u) a b c x y p q = appends-both a b c x y p q
+wrote-both (Err e) a b c x y p q = tt
 
 no-verdicts : (numbers : List ℕ) → refused_lines numbers [] ≡ []
 no-verdicts [] = refl

@@ -1,10 +1,10 @@
 -- How a session goes on by a record.
-use Rattle.std.proofs.Common.{◌≡◌, ◌≤◌, ◌+◌, ◌∙◌, ℕ, zero, suc, Bool, false, List, [], ◌∷◌, ◌++◌, length, drop, Option, Some, None, Result, Ok, Err, refl, sym, ap, subst, arith, option_map, if◌then◌else◌, append_assoc, length-append}
-use Rattle.std.specs.Prelude.{IfSome, OnOk, nat_lt}
+use Rattle.std.proofs.Common.{◌≡◌, ◌≤◌, ◌<◌, ◌+◌, ◌∙◌, ℕ, zero, suc, Bool, false, List, [], ◌∷◌, ◌++◌, length, drop, take, Option, Some, None, Result, Ok, Err, refl, sym, ap, subst, arith, option_map, if◌then◌else◌, append_assoc, length-append, inl, inr}
+use Rattle.std.specs.Prelude.{IfSome, OnErr, OnOk, nat_le, nat_lt, true}
 use Rattle.std.proofs.lemmas.Bool.Decides.{nat_tests}
 use Rattle.std.specs.FinMap as map
-use Rattle.std.specs.Io.KnownBytes.{Appends}
-use Rattle.std.proofs.lemmas.List.{append-nil}
+use Rattle.std.specs.Io.KnownBytes.{Appends, Keeps}
+use Rattle.std.proofs.lemmas.List.{append-nil, take_all}
 use Rattle.csv.specs.Reading.{default_config, records_from, strip_bom}
 use Rattle.csv.specs.declared.parser.State.TheVariants as st
 use Rattle.crew_rules.specs.declared.settings.Settings.{Settings}
@@ -13,13 +13,14 @@ use Rattle.crew_records.specs.Fields.{Fields}
 use Rattle.crew_session.specs.Rows.{HasNoRow, TakesRow, records_of}
 use Rattle.crew_flights.specs.declared.edit.Edit.{Edit}
 use Rattle.crew_flights.specs.declared.entries.Entry.{Entry}
-use Rattle.crew_session.specs.Engines.{BeginsWith, IsSubmitFault, engine_number}
+use Rattle.crew_session.specs.Engines.{AreTooMany, BeginsWith, IsSubmitFault, engine_number}
 use Rattle.crew_session.specs.declared.engine_fault.EngineFault.{EngineFault}
 use Rattle.crew_session.specs.declared.engine_fault.EngineFault.TheVariants.{TooManyDuties, LastVersion, SeatFull, Gap, OtherLog, NoView, Memory}
-use Rattle.crew_session.specs.Machinery.Journals.{Came, HasEnded, IsInStep, since, state_of, zones_of}
-use Rattle.crew_session.specs.Lines.{refused_line}
-use Rattle.crew_session.specs.Session.{Does, Obeys, State, Writes, entry_count, refuse, start, submit, with_entry}
-use Rattle.crew_version.specs.Versions.{Snapshot, opening}
+use Rattle.crew_session.specs.Machinery.Journals.{Came, HasEnded, IsInStep, IsRefusal, since, state_of, zone_fault, zones_of}
+use Rattle.crew_session.specs.Lines.{refused_line, refused_lines, version_line}
+use Rattle.crew_session.specs.Session.{Begins, Does, Obeys, Publishes, Settles, State, Writes, add_zone, entry_count, refuse, start, submit, submit_at, with_entry, with_zone}
+use Rattle.crew_version.specs.Versions.{IsRight, Snapshot, opening, timetable_of, verdicts_of}
+use Rattle.crew_pairing.specs.Duties.{HasTooMany}
 use Rattle.crew_session.specs.declared.journal.Journal.{Journal}
 use Rattle.crew_session.specs.declared.session.Ending.TheVariants.{AtEnd, TooManyRecords}
 use Rattle.crew_session.specs.Audits.{Audits}
@@ -27,7 +28,19 @@ use Rattle.crew_session.specs.Fronts.{ShowsFront}
 use Rattle.crew_session.specs.Pairings.{ShowsCheapest}
 use Rattle.crew_pairing.specs.Legs.{Leg}
 use Rattle.crew_records.specs.declared.command.Command.{Command}
-use Rattle.crew_records.specs.declared.command.Command.TheVariants.{Audit, Cheapest, ShowFront}
+use Rattle.crew_records.specs.declared.command.Command.TheVariants.{Audit, Cheapest, Settle, ShowFront}
+use Rattle.jiff_tz.specs.PosixText.{TzText}
+use Rattle.crew_records.specs.Faults.{record_number}
+use Rattle.crew_records.specs.declared.fault.RecordFault.{RecordFault}
+use Rattle.crew_records.specs.declared.fault.RecordFault.TheVariants.{ZoneExists, TooManyZones}
+use Rattle.crew_session.specs.Faults.{IsPlayFault, cause_of}
+use Rattle.crew_session.specs.Stops.{HasTooManyRecords, IsSessionFault}
+use Rattle.crew_session.specs.declared.fault.SessionFault.{SessionFault}
+use Rattle.crew_session.specs.declared.fault.SessionFault.TheVariants.{Read, Strange, Write}
+use Rattle.crew_session.specs.declared.fault.SessionFault.TheVariants as fault
+use Rattle.crew_session.specs.declared.session.Ending.{Ending}
+use Rattle.crew_session.specs.Texts.{AppendsBeginning, BeginsOne}
+use Rattle.crew_session.proofs.BeginFacts.{begins-then, begins-whole, begun-as}
 use Rattle.crew_session.proofs.LineFacts.{appends-both, appends-none}
 
 -- a session has come this far: what it wrote, with what the records that are left write, is what all write
@@ -36,11 +49,15 @@ HasWritten s None left old new number first now = Unit {0}
 HasWritten s (Some all) None old new number first now = ⊥
 HasWritten s (Some all) (Some left) old new number first now =
     (done : List ℕ) × Appends old new done × ((rest : List ℕ) → Writes s number now left rest → Writes s 0 first all (done ++ rest)) × (length left + number ≡ length all)
+    × ((k : ℕ) (rest : List ℕ) → Writes s number now (take k left) rest → Writes s 0 first (take (number + k) all) (done ++ rest))
 
 -- nothing was written yet
 pub written-start : (s : Settings) (all : Option (List Fields)) (w : Option (List ℕ)) (a : State) → HasWritten s all all w w 0 a a
 written-start s None w a = tt
-written-start s (Some rows) w a = ([], appends-none w, λ rest h. h, omega arith)
+written-start s (Some rows) w a = ([], appends-none w, λ rest h. h, omega arith, λ k rest h. subst (λ (n : ℕ). Writes s 0 a (take n rows) rest) (first-so-many k) h)
+  where
+    first-so-many : (k : ℕ) → k ≡ 0 + k
+    first-so-many k = omega arith
 
 -- a record was obeyed
 pub written-more : (s : Settings) (all before left : Option (List Fields)) (old mid new : Option (List ℕ)) (number : ℕ) (first a b : State) (row : Fields) (command : Command) (line : List ℕ)
@@ -55,7 +72,61 @@ written-more s (Some all) (Some rows) (Some rest) old mid new number first a b r
       appends-both old mid new h.0 line h.1 w,
       λ text more. subst (Writes s 0 first all) (sym (append_assoc h.0 line text)) (h.2 (line ++ text) (subst (λ (xs : List Fields). Writes s number a xs (line ++ text)) (sym r) (b, line, text, subst (λ (c : Command). Obeys s (number + 1) c a b line) e o, more, refl))),
       count,
+      λ k text more.
+          let placed : number + suc k ≡ (number + 1) + k = omega arith in
+          let shifted = subst (Writes s 0 first (take (number + suc k) all)) (sym (append_assoc h.0 line text))
+          (h.4 (suc k) (line ++ text) (subst (λ (xs : List Fields). Writes s number a (take (suc k) xs) (line ++ text)) (sym r) (b, line, text, subst (λ (c : Command). Obeys s (number + 1) c a b line) e o, more, refl))) in
+          subst (λ (n : ℕ). Writes s 0 first (take n all) ((h.0 ++ line) ++ text)) placed shifted,
     )
+
+-- what was written by now is the text of the first records
+text-so-far : (s : Settings) (number : ℕ) (first : State) (all : List Fields) (done : List ℕ) → Writes s 0 first (take (number + 0) all) (done ++ []) → Writes s 0 first (take number all) done
+text-so-far s number first all done w =
+    let same : number + 0 ≡ number = omega arith in
+    subst (λ (n : ℕ). Writes s 0 first (take n all) done) same (subst (Writes s 0 first (take (number + 0) all)) (append-nil done) w)
+
+-- it stops between two records
+pub stopped-between : (s : Settings) (all left : Option (List Fields)) (old new : Option (List ℕ)) (number : ℕ) (first a : State)
+    → HasWritten s all left old new number first a → number ≤ 2_000_000 → IfSome all (λ rows. Begins s first rows old new)
+stopped-between s None left old new number first a h small = tt
+stopped-between s (Some all) None old new number first a h small = absurd h
+stopped-between s (Some all) (Some rows) old new number first a h small =
+    record { count = number; few = small; text = h.0; first = text-so-far s number first all h.0 (h.4 0 [] refl); begun = begins-whole old new h.0 h.1 }
+
+-- it stops in a record
+stopped-by : (s : Settings) (all rows rest : List Fields) (old mid new : Option (List ℕ)) (number : ℕ) (first a : State) (row : Fields) (command : Command)
+    → HasWritten s (Some all) (Some rows) old mid number first a → rows ≡ row ∷ rest → command ≡ command_of row
+    → BeginsOne mid new (λ text. (b : State) × Obeys s (number + 1) command a b text) → number < 2_000_000 → Begins s first all old new
+stopped-by s all rows rest old mid new number first a row command h r e (inl none) small =
+    record {
+      count = number;
+      few = omega arith;
+      text = h.0;
+      first = text-so-far s number first all h.0 (h.4 0 [] refl);
+      begun = begins-whole old new h.0 (subst (Appends old new) (append-nil h.0) (appends-both old mid new h.0 [] h.1 none));
+    }
+stopped-by s all rows rest old mid new number first a row command h r e (inr told) small =
+    record {
+      count = number + 1;
+      few = omega arith;
+      text = h.0 ++ told.0;
+      first = h.4 1 told.0 (subst (λ (xs : List Fields). Writes s number a (take 1 xs) told.0) (sym r) (told.1.0, told.0, [], subst (λ (c : Command). Obeys s (number + 1) c a told.1.0 told.0) e told.1.1, refl, sym (append-nil told.0)));
+      begun = begins-then old mid new h.0 told.0 h.1 told.2;
+    }
+
+pub stopped-in : (s : Settings) (all before left : Option (List Fields)) (old mid new : Option (List ℕ)) (number : ℕ) (first a : State) (row : Fields) (command : Command)
+    → HasWritten s all before old mid number first a → TakesRow before left row → command ≡ command_of row
+    → BeginsOne mid new (λ text. (b : State) × Obeys s (number + 1) command a b text) → number < 2_000_000 → IfSome all (λ rows. Begins s first rows old new)
+stopped-in s None before left old mid new number first a row command h r e told small = tt
+stopped-in s (Some all) None left old mid new number first a row command h r e told small = absurd h
+stopped-in s (Some all) (Some rows) None old mid new number first a row command h r e told small = absurd r
+stopped-in s (Some all) (Some rows) (Some rest) old mid new number first a row command h r e told small =
+    stopped-by s all rows rest old mid new number first a row command h r e told small
+
+-- all records were obeyed
+pub begun-by-all : (s : Settings) (a : State) (rows : List Fields) (old new : Option (List ℕ)) → HasEnded s a rows old new AtEnd → Begins s a rows old new
+begun-by-all s a rows old new h =
+    record { count = length rows; few = h.1; text = h.0.0; first = subst (λ (xs : List Fields). Writes s 0 a xs h.0.0) (sym (take_all (length rows) rows (omega arith))) h.0.2; begun = begins-whole old new h.0.0 h.0.1 }
 
 -- no record is left
 pub written-ended : (s : Settings) (all left : Option (List Fields)) (old new : Option (List ℕ)) (number : ℕ) (first a : State)
@@ -68,11 +139,41 @@ written-ended s (Some all) (Some rows) old new number first a h e small =
 
 -- a record is left after 2,000,000
 pub written-over : (s : Settings) (all before left : Option (List Fields)) (row : Fields) (old new : Option (List ℕ)) (number : ℕ) (first a : State)
-    → HasWritten s all before old new number first a → TakesRow before left row → 2_000_000 ≤ number → IfSome all (λ rows. HasEnded s first rows old new TooManyRecords)
+    → HasWritten s all before old new number first a → TakesRow before left row → number ≡ 2_000_000 → IfSome all (λ rows. HasEnded s first rows old new TooManyRecords)
 written-over s None before left row old new number first a h r many = tt
 written-over s (Some all) None left row old new number first a h r many = absurd h
 written-over s (Some all) (Some rows) None row old new number first a h r many = absurd r
-written-over s (Some all) (Some rows) (Some rest) row old new number first a h r many = omega (arith, ap length r, h.3)
+written-over s (Some all) (Some rows) (Some rest) row old new number first a h r many =
+    (stopped-between s (Some all) (Some rows) old new number first a h (omega arith), omega (arith, ap length r, h.3))
+
+appends-kept : (a b c : Option (List ℕ)) (text : List ℕ) → Appends a b text → Keeps b c → Appends a c text
+appends-kept None b c text w k = tt
+appends-kept (Some x) None c text w k = absurd w
+appends-kept (Some x) (Some y) None text w k = absurd k
+appends-kept (Some x) (Some y) (Some z) text w k = k ∙ w
+
+-- all that was written has gone out
+pub ended-kept : (s : Settings) (a : State) (known : Option (List ℕ)) (old mid new : Option (List ℕ)) (ending : Ending) → IfSome known (λ bytes. HasEnded s a (records_of bytes) old mid ending) → ending ≡ AtEnd → Keeps mid new
+    → IfSome known (λ bytes. HasEnded s a (records_of bytes) old new AtEnd)
+ended-kept s a None old mid new ending h e k = tt
+ended-kept s a (Some bytes) old mid new ending h e k =
+    let all = subst (HasEnded s a (records_of bytes) old mid) e h in
+    ((all.0.0, appends-kept old mid new all.0.0 all.0.1 k, all.0.2), all.1)
+
+pub ended-begun : (s : Settings) (a : State) (known : Option (List ℕ)) (old mid new : Option (List ℕ)) (ending : Ending) → IfSome known (λ bytes. HasEnded s a (records_of bytes) old mid ending) → ending ≡ AtEnd → Keeps mid new
+    → IfSome known (λ bytes. Begins s a (records_of bytes) old new)
+ended-begun s a None old mid new ending h e k = tt
+ended-begun s a (Some bytes) old mid new ending h e k = begun-by-all s a (records_of bytes) old new (ended-kept s a (Some bytes) old mid new ending h e k)
+
+-- there were too many records
+pub over-begun : (s : Settings) (a : State) (known : Option (List ℕ)) (old new : Option (List ℕ)) (ending : Ending) → IfSome known (λ bytes. HasEnded s a (records_of bytes) old new ending) → ending ≡ TooManyRecords
+    → IfSome known (λ bytes. Begins s a (records_of bytes) old new)
+over-begun s a None old new ending h e = tt
+over-begun s a (Some bytes) old new ending h e = (subst (HasEnded s a (records_of bytes) old new) e h).0
+
+pub over-many : (s : Settings) (a : State) (known : Option (List ℕ)) (old new : Option (List ℕ)) (ending : Ending) → IfSome known (λ bytes. HasEnded s a (records_of bytes) old new ending) → ending ≡ TooManyRecords → HasTooManyRecords known
+over-many s a None old new ending h e = tt
+over-many s a (Some bytes) old new ending h e = (subst (HasEnded s a (records_of bytes) old new) e h).1
 
 -- a reader at the start of known bytes has all of their records left
 pub rows-at-start : (known source : Option (List ℕ)) (P : List Fields → Type 0) → source ≡ option_map strip_bom known
@@ -108,6 +209,80 @@ pub audited : {F : Type 0} (r : Result (Unit {0}) F) (old new : Option (List ℕ
 audited (Ok u) old new s number limit command j v w taken e f told =
     (told.0, told.1, subst (λ (k : Command). Obeys s number k (state_of j v taken) (state_of j v taken) told.0) (sym e) (refl, subst (λ (x : Snapshot). Audits limit number x told.0) f told.2))
 audited (Err x) old new s number limit command j v w taken e f told = tt
+
+-- ---- what was begun
+
+-- a beginning of a text that comes of a record is one of what the record writes
+pub did-begin : {F : Type 0} (r : Result (Unit {0}) F) (old new : Option (List ℕ)) (s : Settings) (number : ℕ) (command kind : Command) (a : State) (p q : State × List ℕ)
+    → command ≡ kind → p ≡ q → ((b : State) (text : List ℕ) → Does b text q → Obeys s number kind a b text) → OnErr r (AppendsBeginning old new p.1)
+    → OnErr r (BeginsOne old new (λ text. (b : State) × Obeys s number command a b text))
+did-begin (Ok u) old new s number command kind a p q e f does begun = tt
+did-begin (Err x) old new s number command kind a p q e f does begun =
+    inr (q.1, (q.0, subst (λ (k : Command). Obeys s number k a q.0 q.1) (sym e) (does q.0 q.1 (refl, refl))), subst (λ (x : State × List ℕ). AppendsBeginning old new x.1) f begun)
+
+-- the same of what was asked for itself
+pub begun-do : {F : Type 0} (r : Result (Unit {0}) F) (old new : Option (List ℕ)) (s : Settings) (number : ℕ) (command kind : Command) (a : State) (q : State × List ℕ)
+    → command ≡ kind → ((b : State) (text : List ℕ) → Does b text q → Obeys s number kind a b text) → OnErr r (AppendsBeginning old new q.1)
+    → OnErr r (BeginsOne old new (λ text. (b : State) × Obeys s number command a b text))
+begun-do r old new s number command kind a q e does begun = did-begin r old new s number command kind a q q e refl does begun
+
+-- the same of an edit that needs a report clock
+pub edit-begin : {F : Type 0} (r : Result (Unit {0}) F) (old new : Option (List ℕ)) (s : Settings) (number : ℕ) (command kind : Command) (a : State) (clock was : Option ℕ) (e : ℕ → Edit)
+    → command ≡ kind → was ≡ clock → ((b : State) (text : List ℕ) → Does b text (submit_at clock e number a) → Obeys s number kind a b text) → OnErr r (AppendsBeginning old new (submit_at was e number a).1)
+    → OnErr r (BeginsOne old new (λ text. (b : State) × Obeys s number command a b text))
+edit-begin r old new s number command kind a clock was e is same does begun =
+    did-begin r old new s number command kind a (submit_at was e number a) (submit_at clock e number a) is (ap (λ (o : Option ℕ). submit_at o e number a) same) does begun
+
+-- what an edit writes is the same whatever it is
+text-by : (number : ℕ) (a b c : State) (few : Bool) → (if few then (b, []) else refuse number 61 a).1 ≡ (if few then (c, []) else refuse number 61 a).1
+text-by number a b c true = refl
+text-by number a b c false = refl
+
+pub submit-text : (number : ℕ) (e f : Edit) (a : State) → (submit number e a).1 ≡ (submit number f a).1
+submit-text number e f a = text-by number a (with_entry number e a) (with_entry number f a) (nat_lt (entry_count a) 1_000_000)
+
+-- the line of a zone that is refused
+zone-line : (number : ℕ) (a w : State) (there many : Bool) (fault : RecordFault) → (if there then Some ZoneExists else (if many then Some TooManyZones else None)) ≡ Some fault
+    → refused_line number (record_number fault) ≡ (if there then refuse number 74 a else (if many then refuse number 75 a else (w, []))).1
+zone-line number a w true many fault e = let is : fault ≡ ZoneExists = cc in ap (λ (f : RecordFault). refused_line number (record_number f)) is
+zone-line number a w false true fault e = let is : fault ≡ TooManyZones = cc in ap (λ (f : RecordFault). refused_line number (record_number f)) is
+zone-line number a w false false fault e = cc
+
+pub zone-begin : {F : Type 0} (r : Result (Unit {0}) F) (old new : Option (List ℕ)) (number : ℕ) (code : List ℕ) (zone : TzText) (j : Journal) (v : Snapshot) (taken : List Entry) (fault : RecordFault)
+    → zone_fault (zones_of j.zones) code ≡ Some fault → OnErr r (AppendsBeginning old new (refused_line number (record_number fault))) → OnErr r (AppendsBeginning old new (add_zone number code zone (state_of j v taken)).1)
+zone-begin r old new number code zone j v taken fault e begun =
+    begun-as r old new _ _ (zone-line number (state_of j v taken) (with_zone code zone (state_of j v taken)) (map.contains_key (zones_of j.zones) code) (nat_le 2_000 (map.len (zones_of j.zones))) fault e) begun
+
+-- texts of one kind are of another
+pub begins-of : {F : Type 0} (r : Result (Unit {0}) F) (old new : Option (List ℕ)) (Is Was : List ℕ → Type 0) → ((text : List ℕ) → Is text → Was text) → OnErr r (BeginsOne old new Is) → OnErr r (BeginsOne old new Was)
+begins-of (Ok u) old new Is Was more begun = tt
+begins-of (Err x) old new Is Was more (inl none) = inl none
+begins-of (Err x) old new Is Was more (inr told) = inr (told.0, more told.0 told.1, told.2)
+
+-- a settle, a front, pairings and an audit
+pub settled-begin : {F : Type 0} (r : Result (Unit {0}) F) (old new : Option (List ℕ)) (s : Settings) (number : ℕ) (command : Command) (a : State) → command ≡ Settle
+    → OnErr r (BeginsOne old new (λ text. (b : State) × Settles number a b text)) → OnErr r (BeginsOne old new (λ text. (b : State) × Obeys s number command a b text))
+settled-begin r old new s number command a e =
+    begins-of r old new (λ text. (b : State) × Settles number a b text) (λ text. (b : State) × Obeys s number command a b text)
+    (λ text h. (h.0, subst (λ (k : Command). Obeys s number k a h.0 text) (sym e) h.1))
+
+pub fronted-begin : {F : Type 0} (r : Result (Unit {0}) F) (old new : Option (List ℕ)) (s : Settings) (number : ℕ) (base : List ℕ) (key : List Leg) (command : Command) (j : Journal) (v w : Snapshot) (taken : List Entry) → command ≡ ShowFront base key → w ≡ v
+    → OnErr r (BeginsOne old new (ShowsFront base key w)) → OnErr r (BeginsOne old new (λ text. (b : State) × Obeys s number command (state_of j v taken) b text))
+fronted-begin r old new s number base key command j v w taken e f =
+    begins-of r old new (ShowsFront base key w) (λ text. (b : State) × Obeys s number command (state_of j v taken) b text)
+    (λ text h. (state_of j v taken, subst (λ (k : Command). Obeys s number k (state_of j v taken) (state_of j v taken) text) (sym e) (refl, subst (λ (x : Snapshot). ShowsFront base key x text) f h)))
+
+pub cheapest-begin : {F : Type 0} (r : Result (Unit {0}) F) (old new : Option (List ℕ)) (s : Settings) (number limit : ℕ) (command : Command) (j : Journal) (v w : Snapshot) (taken : List Entry) → command ≡ Cheapest limit → w ≡ v
+    → OnErr r (BeginsOne old new (ShowsCheapest limit w)) → OnErr r (BeginsOne old new (λ text. (b : State) × Obeys s number command (state_of j v taken) b text))
+cheapest-begin r old new s number limit command j v w taken e f =
+    begins-of r old new (ShowsCheapest limit w) (λ text. (b : State) × Obeys s number command (state_of j v taken) b text)
+    (λ text h. (state_of j v taken, subst (λ (k : Command). Obeys s number k (state_of j v taken) (state_of j v taken) text) (sym e) (refl, subst (λ (x : Snapshot). ShowsCheapest limit x text) f h)))
+
+pub audited-begin : {F : Type 0} (r : Result (Unit {0}) F) (old new : Option (List ℕ)) (s : Settings) (number limit : ℕ) (command : Command) (j : Journal) (v w : Snapshot) (taken : List Entry) → command ≡ Audit limit → w ≡ v
+    → OnErr r (BeginsOne old new (Audits limit number w)) → OnErr r (BeginsOne old new (λ text. (b : State) × Obeys s number command (state_of j v taken) b text))
+audited-begin r old new s number limit command j v w taken e f =
+    begins-of r old new (Audits limit number w) (λ text. (b : State) × Obeys s number command (state_of j v taken) b text)
+    (λ text h. (state_of j v taken, subst (λ (k : Command). Obeys s number k (state_of j v taken) (state_of j v taken) text) (sym e) (refl, subst (λ (x : Snapshot). Audits limit number x text) f h)))
 
 -- ---- entries since the last version
 
@@ -146,6 +321,34 @@ refused-edit (Ok u) strange j v w taken taken' number e old new OtherLog step wh
 refused-edit (Ok u) strange j v w taken taken' number e old new NoView step why same kept told = absurd why
 refused-edit (Err x) strange j v w taken taken' number e old new fault step why same kept told = tt
 
+full-begin : (strange : Bool) (j : Journal) (v : Snapshot) (taken : List Entry) (number : ℕ) (e : Edit) (old new : Option (List ℕ)) → IsInStep strange j v taken → length taken ≡ 1_000_000
+    → AppendsBeginning old new (refused_line number 61) → AppendsBeginning old new (submit number e (state_of j v taken)).1
+full-begin strange j v taken number e old new step full begun =
+    let count = state-count strange j v taken step in
+    let test : nat_lt (entry_count (state_of j v taken)) 1_000_000 ≡ false = rw count (grind (arith, nat_tests)) in
+    let refused : submit number e (state_of j v taken) ≡ refuse number 61 (state_of j v taken) =
+    ap (λ b. if b then (with_entry number e (state_of j v taken), []) else refuse number 61 (state_of j v taken)) test in
+    subst (λ (p : State × List ℕ). AppendsBeginning old new p.1) (sym refused) begun
+
+begun-by : (strange : Bool) (j : Journal) (v : Snapshot) (taken : List Entry) (number : ℕ) (e : Edit) (old new : Option (List ℕ)) (fault : EngineFault) → IsInStep strange j v taken
+    → IsSubmitFault taken fault → (text : List ℕ) → IsRefusal number fault text → AppendsBeginning old new text → AppendsBeginning old new (submit number e (state_of j v taken)).1
+begun-by strange j v taken number e old new SeatFull step why text is begun =
+    let number61 : is.0 ≡ 61 = cc (is.1) in
+    full-begin strange j v taken number e old new step why (subst (AppendsBeginning old new) (is.2 ∙ ap (refused_line number) number61) begun)
+begun-by strange j v taken number e old new Memory step why text is begun = cc (is.1)
+begun-by strange j v taken number e old new TooManyDuties step why text is begun = absurd why
+begun-by strange j v taken number e old new LastVersion step why text is begun = absurd why
+begun-by strange j v taken number e old new (Gap place) step why text is begun = absurd why
+begun-by strange j v taken number e old new OtherLog step why text is begun = absurd why
+begun-by strange j v taken number e old new NoView step why text is begun = absurd why
+
+-- a beginning of the line of an edit that an engine refuses
+pub refused-begin : {F : Type 0} (r : Result (Unit {0}) F) (strange : Bool) (j : Journal) (v : Snapshot) (taken : List Entry) (number : ℕ) (e : Edit) (old new : Option (List ℕ)) (fault : EngineFault) → IsInStep strange j v taken
+    → IsSubmitFault taken fault → OnErr r (BeginsOne old new (IsRefusal number fault)) → OnErr r (AppendsBeginning old new (submit number e (state_of j v taken)).1)
+refused-begin (Ok u) strange j v taken number e old new fault step why begun = tt
+refused-begin (Err x) strange j v taken number e old new fault step why (inl none) = ([], _, refl, none)
+refused-begin (Err x) strange j v taken number e old new fault step why (inr told) = begun-by strange j v taken number e old new fault step why told.0 told.1 told.2
+
 -- ---- a settle
 
 nothing-more : (xs ys zs : List Entry) → ys ≡ xs ++ zs → length ys ≡ length xs → ys ≡ xs
@@ -158,6 +361,42 @@ has-all w taken begins n = nothing-more w.entries taken begins.0 begins.1 (sym n
 
 none-since : (w : Snapshot) (taken : List Entry) → taken ≡ w.entries → since w taken ≡ []
 none-since w taken e = ap (λ (es : List Entry). drop (length w.entries) es) (e ∙ sym (append-nil w.entries)) ∙ drop-all w.entries []
+
+-- a version of all entries that were taken
+publishes-all : (strange : Bool) (j : Journal) (v w : Snapshot) (taken after : List Entry) (text : List ℕ) → IsInStep strange j v taken → after ≡ taken → BeginsWith w.entries after → w.number ≡ v.number + 1
+    → length w.entries ≡ length v.entries + length j.records.items → w.settings ≡ v.settings → IsRight w → text ≡ refused_lines j.records.items (drop (length v.entries) (verdicts_of w.entries)) ++ version_line w
+    → after ≡ w.entries × Publishes (state_of j v taken) (record { zones = zones_of j.zones; version = w; entries = []; records = [] }) text
+publishes-all strange j v w taken after text step same begins number count settings right written =
+    let total = ap length step.goes_on ∙ length-append v.entries (since v taken) in
+    let records = step.records in
+    let long : length w.entries ≡ length after = omega (arith, total, records, count, ap length same) in
+    let all = has-all w after begins long in
+    (all, record { next = record { number = number; settings = settings; grown = sym all ∙ same ∙ step.goes_on }; right = right; after = refl; written = written })
+
+pub published : (strange : Bool) (j k : Journal) (v w : Snapshot) (taken after : List Entry) (number : ℕ) (text : List ℕ) → IsInStep strange j v taken → after ≡ taken → BeginsWith w.entries after → w.number ≡ v.number + 1
+    → length w.entries ≡ length v.entries + length j.records.items → w.settings ≡ v.settings → IsRight w → text ≡ refused_lines j.records.items (drop (length v.entries) (verdicts_of w.entries)) ++ version_line w
+    → zones_of k.zones ≡ zones_of j.zones → k.records.items ≡ [] → Settles number (state_of j v taken) (state_of k w after) text
+published strange j k v w taken after number text step same begins next count settings right written zones records =
+    let all = publishes-all strange j v w taken after text step same begins next count settings right written in
+    let one : (let s : State = record { zones = zones_of j.zones; version = w; entries = []; records = [] } in s) ≡ state_of k w after =
+    λ i. record { zones = sym zones i; version = w; entries = sym (none-since w after all.0) i; records = sym records i } in
+    subst (λ (b : State). Settles number (state_of j v taken) b text) one (inl all.1)
+
+-- a version that was begun to be told
+pub begun-publishing : (strange : Bool) (j : Journal) (v w : Snapshot) (taken after : List Entry) (number : ℕ) (old new : Option (List ℕ)) → IsInStep strange j v taken → after ≡ taken → BeginsWith w.entries after → w.number ≡ v.number + 1
+    → length w.entries ≡ length v.entries + length j.records.items → w.settings ≡ v.settings → IsRight w
+    → AppendsBeginning old new (refused_lines j.records.items (drop (length v.entries) (verdicts_of w.entries)) ++ version_line w)
+    → BeginsOne old new (λ text. (b : State) × Settles number (state_of j v taken) b text)
+begun-publishing strange j v w taken after number old new step same begins next count settings right begun =
+    let all = publishes-all strange j v w taken after _ step same begins next count settings right refl in
+    inr (_, (_, inl all.1), begun)
+
+-- a settle that is declined
+pub begun-declining : {F : Type 0} (r : Result (Unit {0}) F) (strange : Bool) (j : Journal) (v w : Snapshot) (taken after : List Entry) (number : ℕ) (old new : Option (List ℕ)) → IsInStep strange j v taken → w ≡ v → after ≡ taken
+    → OnErr r (BeginsOne old new (λ text. AreTooMany w after × (text ≡ refused_line number 40))) → OnErr r (BeginsOne old new (λ text. (b : State) × Settles number (state_of j v taken) b text))
+begun-declining r strange j v w taken after number old new step same kept =
+    begins-of r old new (λ text. AreTooMany w after × (text ≡ refused_line number 40)) (λ text. (b : State) × Settles number (state_of j v taken) b text)
+    (λ text h. (state_of j v taken, inr (record { many = subst (λ (x : Snapshot). HasTooMany x.settings (timetable_of (v.entries ++ since v taken))) same (subst (λ (es : List Entry). HasTooMany w.settings (timetable_of es)) (kept ∙ step.goes_on) h.0); after = refl; written = h.1 })))
 
 -- before any record
 pub at-start : (j : Journal) (v : Snapshot) (s : Settings) (taken : List Entry) → zones_of j.zones ≡ map.empty → j.records.items ≡ [] → v ≡ opening s → taken ≡ [] → state_of j v taken ≡ start s
@@ -178,3 +417,18 @@ in-step-at-start strange j v s taken entries records version none =
       few = omega arith;
       kept = λ s. entries;
     })
+
+-- ---- which fault
+
+-- why a session stops, of what its play says and what has failed
+pub stops-by : (strange reader writer : Bool) (input : Option (List ℕ)) (fault : SessionFault) → IsPlayFault strange fault → IsSessionFault strange input reader writer (cause_of fault reader writer)
+stops-by strange reader writer input (Strange number) h = h
+stops-by strange true writer input Read h = inl refl
+stops-by strange false true input Read h = refl
+stops-by strange false false input Read h = (refl, refl)
+stops-by strange true writer input Write h = inl refl
+stops-by strange false true input Write h = refl
+stops-by strange false false input Write h = (refl, refl)
+stops-by strange true writer input fault.Memory h = inl refl
+stops-by strange false true input fault.Memory h = refl
+stops-by strange false false input fault.Memory h = (refl, refl)

@@ -1,5 +1,5 @@
 -- Why a session stops.
-use Rattle.std.specs.Prelude.{◌≡◌, ◌⊎◌, ℕ, Bool, IsTrue, Option, Some, None}
+use Rattle.std.specs.Prelude.{◌≡◌, ◌⊎◌, ℕ, Bool, IsTrue, true, false, Option, Some, None}
 use Rattle.crew_session.specs.Engines.{engine_number}
 use Rattle.crew_session.specs.declared.engine_fault.EngineFault.{EngineFault}
 use Rattle.crew_session.specs.declared.fault.SessionFault.{SessionFault}
@@ -45,9 +45,21 @@ IsRecordFault strange Memory = Unit {0}
 IsRecordFault strange Read = ⊥
 IsRecordFault strange (Strange number) = IsTrue strange × IsStrange number
 
--- a session stops for the reader too
-abbrev pub IsSessionFault : Bool → SessionFault → Type 0
-IsSessionFault strange Read = Unit {0}
-IsSessionFault strange Write = Unit {0}
-IsSessionFault strange Memory = Unit {0}
-IsSessionFault strange (Strange number) = IsTrue strange × IsStrange number
+-- the play of a session stops for the reader too
+abbrev pub IsPlayFault : Bool → SessionFault → Type 0
+IsPlayFault strange Read = Unit {0}
+IsPlayFault strange Write = Unit {0}
+IsPlayFault strange Memory = Unit {0}
+IsPlayFault strange (Strange number) = IsTrue strange × IsStrange number
+
+-- why a session stops, by whether the reader and the writer have failed
+abbrev pub cause_by : Bool → Bool → SessionFault
+cause_by true writer = Read
+cause_by false true = Write
+cause_by false false = Memory
+
+abbrev pub cause_of : SessionFault → Bool → Bool → SessionFault
+cause_of (Strange number) reader writer = Strange number
+cause_of Read reader writer = cause_by reader writer
+cause_of Write reader writer = cause_by reader writer
+cause_of Memory reader writer = cause_by reader writer

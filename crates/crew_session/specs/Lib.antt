@@ -7,5 +7,8 @@ pub mod Lines
 pub mod Pairings
 pub mod Rows
 pub mod Session
+pub mod Stops
+pub mod Streams
+pub mod Texts
 pub mod Verdicts
 pub mod Machinery

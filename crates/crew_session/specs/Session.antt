@@ -1,5 +1,5 @@
 -- What a session writes.
-use Rattle.std.specs.Prelude.{◌≡◌, ◌⊎◌, ◌+◌, ◌-ℤ◌, ℕ, ℤ, pos, nat_le, nat_lt, List, [], ◌∷◌, ◌++◌, length, drop, Option, Some, None, option_map, if◌then◌else◌}
+use Rattle.std.specs.Prelude.{◌≡◌, ◌⊎◌, ◌+◌, ◌-ℤ◌, ◌≤◌, ℕ, ℤ, pos, nat_le, nat_lt, List, [], ◌∷◌, ◌++◌, length, drop, take, Option, Some, None, option_map, if◌then◌else◌}
 use Rattle.std.specs.FinMap as map
 use Rattle.jiff_tz.specs.PosixText.{TzText}
 use Rattle.crew_clocks.specs.Zone.{clock_of}
@@ -18,6 +18,7 @@ use Rattle.crew_records.specs.Fields.{Fields}
 use Rattle.crew_session.specs.Pairings.{ShowsCheapest}
 use Rattle.crew_session.specs.Rows.{records_of}
 use Rattle.crew_session.specs.Entries.{entry_of}
+use Rattle.crew_session.specs.Texts.{AppendsBeginning}
 use Rattle.crew_version.specs.Versions.{IsNext, IsRight, Snapshot, opening, timetable_of, verdicts_of}
 use Rattle.crew_records.specs.declared.command.Command.{Command}
 use Rattle.crew_records.specs.declared.command.Command.TheVariants.{AddZone, Submit, AddFlight, Retime, Settle, Best, ShowFront, Cheapest, Audit, Refuse}
@@ -138,6 +139,16 @@ Writes s number a (row ∷ rows) text =
     (b : State) × (line : List ℕ) × (rest : List ℕ)
     × Obeys s (number + 1) (command_of row) a b line
     × Writes s (number + 1) b rows rest × (text ≡ line ++ rest)
+
+-- what was written of these records, obeyed from a state on, is a beginning of the text of the first
+-- so many, which are 2,000,000 at most
+pub record Begins (s : Settings) (a : State) (rows : List Fields)
+    (before after : Option (List ℕ)) : Type 0 where
+  pub count : ℕ
+  pub few : count ≤ 2_000_000
+  pub text : List ℕ
+  pub first : Writes s 0 a (take count rows) text
+  pub begun : AppendsBeginning before after text
 
 -- what a session of these bytes writes
 abbrev pub IsSessionText : Settings → List ℕ → List ℕ → Type 0

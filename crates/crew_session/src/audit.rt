@@ -1,9 +1,10 @@
 //! The answer to an audit.
 
-ghost use Rattle.std.specs.Prelude.{◌≡◌, List, ℕ, IfErr, OnOk};
+ghost use Rattle.std.specs.Prelude.{◌≡◌, List, ℕ, IfErr, OnErr, OnOk};
 ghost use Rattle.std.specs.Io.KnownBytes.{Appends};
 ghost use Rattle.crew_session.specs.Audits.{Audits};
 ghost use Rattle.crew_session.specs.Faults.{IsLineFault};
+ghost use Rattle.crew_session.specs.Texts.{BeginsOne};
 
 use crate::fault::SessionFault;
 use crate::lines::{write_audit, write_refused};
@@ -24,6 +25,8 @@ pub(crate) fn answer_audit<W: Write>(
     ensures answered { OnOk result ((text : List ℕ)
         × Appends (W.contents writer.old) (W.contents writer.new) text
         × Audits limit number version.now text) }
+    ensures begun { OnErr result (BeginsOne (W.contents writer.old) (W.contents writer.new)
+        (Audits limit number version.now)) }
     ensures fault { IfErr result IsLineFault }
 {
     match tally_all(

@@ -1,12 +1,13 @@
 //! The answer to a front.
 
-ghost use Rattle.std.specs.Prelude.{◌≡◌, ◌++◌, List, ℕ, IfErr, IfOk, None, OnOk, codes, decimal};
+ghost use Rattle.std.specs.Prelude.{◌≡◌, ◌++◌, List, ℕ, IfErr, IfOk, None, OnErr, OnOk, Some, codes, decimal, length};
 ghost use Rattle.std.specs.Io.KnownBytes.{Appends};
 ghost use Rattle.std.specs.List.{flat_map};
 ghost use Rattle.std.specs.Option.{option_map};
 ghost use Rattle.crew_session.specs.Faults.{IsLineFault};
 ghost use Rattle.crew_session.specs.Fronts.{ShowsFront};
 ghost use Rattle.crew_session.specs.Lines as Spec;
+ghost use Rattle.crew_session.specs.Texts.{AppendsBeginning, BeginsOne};
 
 use crate::fault::SessionFault;
 use crate::lines::{put_key, put_number, put_signed, put_walk, write_line};
@@ -65,6 +66,9 @@ fn write_entries<W: Write>(
 ) -> Result<(), SessionFault>
     ensures written { OnOk result (Appends (W.contents writer.old) (W.contents writer.new)
         (flat_map Spec.entry_line entries.now)) }
+    ensures begun { OnErr result
+        (AppendsBeginning (W.contents writer.old) (W.contents writer.new)
+        (flat_map Spec.entry_line entries.now)) }
     ensures fault { IfErr result IsLineFault }
 {
     for entry in entries {
@@ -96,16 +100,39 @@ fn none_line(alloc: Global, base: Code, key: &Key) -> Result<Vec<u8>, AllocError
 }
 
 // The line before the entries.
-fn count_line(alloc: Global, base: Code, key: &Key, count: usize) -> Result<Vec<u8>, AllocError>
+fn count_line(
+    alloc: Global,
+    base: Code,
+    key: &Key,
+    entries: &[(PairingVector, Walk)],
+) -> Result<Vec<u8>, AllocError>
     ensures { IfOk result (λ line. line.items
         ≡ codes "front " ++ base ++ codes " " ++ Spec.key_text key.now
-        ++ codes " entries " ++ decimal count ++ codes "\n") }
+        ++ codes " entries " ++ decimal (length entries.now) ++ codes "\n") }
 {
     let mut line = node_text(alloc, base, key)?;
     line.extend_from_slice(b" entries ")?;
-    put_number(&mut line, count)?;
+    put_number(&mut line, entries.len())?;
     line.push(b'\n')?;
     Ok(line)
+}
+
+// Writes how many entries a front has, and a line for each.
+fn write_listed<W: Write>(
+    alloc: Global,
+    writer: &mut W,
+    base: Code,
+    key: &Key,
+    entries: &[(PairingVector, Walk)],
+) -> Result<(), SessionFault>
+    ensures written { OnOk result (Appends (W.contents writer.old) (W.contents writer.new)
+        (Spec.front_lines base key.now (Some entries.now))) }
+    ensures begun { OnErr result (AppendsBeginning (W.contents writer.old) (W.contents writer.new)
+        (Spec.front_lines base key.now (Some entries.now))) }
+    ensures fault { IfErr result IsLineFault }
+{
+    write_line(writer, &count_line(alloc, base, key, entries)?)?;
+    write_entries(alloc, writer, entries)
 }
 
 // Writes a front, or that there is none.
@@ -118,14 +145,14 @@ fn write_front<W: Write>(
 ) -> Result<(), SessionFault>
     ensures written { OnOk result (Appends (W.contents writer.old) (W.contents writer.new)
         (Spec.front_lines base key.now (option_map (λ v. v.items) front))) }
+    ensures begun { OnErr result
+        (AppendsBeginning (W.contents writer.old) (W.contents writer.new)
+        (Spec.front_lines base key.now (option_map (λ v. v.items) front))) }
     ensures fault { IfErr result IsLineFault }
 {
     match front {
         None => write_line(writer, &none_line(alloc, base, key)?),
-        Some(entries) => {
-            write_line(writer, &count_line(alloc, base, key, entries.len())?)?;
-            write_entries(alloc, writer, &entries)
-        }
+        Some(entries) => write_listed(alloc, writer, base, key, &entries),
     }
 }
 
@@ -140,6 +167,8 @@ pub(crate) fn answer_front<W: Write>(
     ensures answered { OnOk result ((text : List ℕ)
         × Appends (W.contents writer.old) (W.contents writer.new) text
         × ShowsFront base key.now version.now text) }
+    ensures begun { OnErr result (BeginsOne (W.contents writer.old) (W.contents writer.new)
+        (ShowsFront base key.now version.now)) }
     ensures fault { IfErr result IsLineFault }
 {
     let front = version.front(alloc, base, key)?;

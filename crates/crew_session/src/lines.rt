@@ -1,14 +1,16 @@
 //! The lines that a session writes.
 
-ghost use Rattle.std.specs.Prelude.{◌≡◌, ◌++◌, ◌+◌, ◌≤◌, IfErr, IfOk, OnOk, Some, decimal, drop, length};
+ghost use Rattle.std.specs.Prelude.{◌≡◌, ◌++◌, ◌+◌, ◌≤◌, IfErr, IfOk, OnErr, OnOk, Some, decimal, drop, length, string_bytes};
 ghost use Rattle.std.specs.Fmt.{signed_decimal};
 ghost use Rattle.std.specs.Io.KnownBytes.{Appends};
 ghost use Rattle.crew_session.specs.Faults.{IsLineFault};
 ghost use Rattle.crew_session.specs.Lines as Spec;
+ghost use Rattle.crew_session.specs.Texts.{AppendsBeginning};
 ghost use Rattle.crew_session.specs.Verdicts.{verdict_text};
 ghost use Rattle.crew_version.specs.Versions.{verdicts_of};
 
 use crate::fault::SessionFault;
+use crate::text::write_text;
 use crew_audit::Tally;
 use crew_flights::Verdict;
 use crew_pairing::{Key, Leg, Walk};
@@ -21,9 +23,12 @@ use std::io::Write;
 pub(crate) fn write_line<W: Write>(writer: &mut W, line: &[u8]) -> Result<(), SessionFault>
     ensures written { OnOk result
         (Appends (W.contents writer.old) (W.contents writer.new) line.now) }
+    ensures begun { OnErr result
+        (AppendsBeginning (W.contents writer.old) (W.contents writer.new)
+        line.now) }
     ensures fault { IfErr result (λ why. why ≡ SessionFault.Write) }
 {
-    writer.write_all(line).map_err(|_| SessionFault::Write)
+    write_text(writer, line).map_err(|_| SessionFault::Write)
 }
 
 // Appends a number.
@@ -105,6 +110,14 @@ pub(crate) fn pairing_line(
     Ok(line)
 }
 
+// The line of a refused record.
+fn refused_line(alloc: Global, number: u32, why: u8) -> Result<String, AllocError>
+    ensures { IfOk result (λ line. string_bytes line ≡ Spec.refused_line number why) }
+{
+    let line = format!(in alloc; "record {number} refused {why}\n")?;
+    Ok(line)
+}
+
 // Writes that a record is refused.
 pub(crate) fn write_refused<W: Write>(
     alloc: Global,
@@ -114,9 +127,12 @@ pub(crate) fn write_refused<W: Write>(
 ) -> Result<(), SessionFault>
     ensures written { OnOk result (Appends (W.contents writer.old) (W.contents writer.new)
         (Spec.refused_line number why)) }
+    ensures begun { OnErr result
+        (AppendsBeginning (W.contents writer.old) (W.contents writer.new)
+        (Spec.refused_line number why)) }
     ensures fault { IfErr result IsLineFault }
 {
-    let line = format!(in alloc; "record {number} refused {why}\n")?;
+    let line = refused_line(alloc, number, why)?;
     write_line(writer, line.as_bytes())
 }
 
@@ -128,6 +144,9 @@ fn write_verdict<W: Write>(
     verdict: Option<Verdict>,
 ) -> Result<(), SessionFault>
     ensures written { OnOk result (Appends (W.contents writer.old) (W.contents writer.new)
+        (verdict_text number verdict)) }
+    ensures begun { OnErr result
+        (AppendsBeginning (W.contents writer.old) (W.contents writer.new)
         (verdict_text number verdict)) }
     ensures fault { IfErr result IsLineFault }
 {
@@ -148,12 +167,26 @@ pub(crate) fn write_refusals<W: Write>(
     requires { first + length numbers.now ≤ 1_000_000 }
     ensures written { OnOk result (Appends (W.contents writer.old) (W.contents writer.new)
         (Spec.refused_lines numbers.now (drop first (verdicts_of version.now.entries)))) }
+    ensures begun { OnErr result
+        (AppendsBeginning (W.contents writer.old) (W.contents writer.new)
+        (Spec.refused_lines numbers.now (drop first (verdicts_of version.now.entries)))) }
     ensures fault { IfErr result IsLineFault }
 {
     for (i, number) in numbers.iter().enumerate() {
         write_verdict(alloc, writer, *number, version.verdict(first + i))?;
     }
     Ok(())
+}
+
+// The line of a version: its number and what it has.
+fn version_line(alloc: Global, version: &Version) -> Result<String, AllocError>
+    ensures { IfOk result (λ line. string_bytes line ≡ Spec.version_line version.now) }
+{
+    let number = version.number();
+    let entries = version.count();
+    let flights = version.flights();
+    let line = format!(in alloc; "version {number} entries {entries} flights {flights}\n")?;
+    Ok(line)
 }
 
 // Writes the number of a version and what it has.
@@ -164,12 +197,12 @@ pub(crate) fn write_version<W: Write>(
 ) -> Result<(), SessionFault>
     ensures written { OnOk result (Appends (W.contents writer.old) (W.contents writer.new)
         (Spec.version_line version.now)) }
+    ensures begun { OnErr result
+        (AppendsBeginning (W.contents writer.old) (W.contents writer.new)
+        (Spec.version_line version.now)) }
     ensures fault { IfErr result IsLineFault }
 {
-    let number = version.number();
-    let entries = version.count();
-    let flights = version.flights();
-    let line = format!(in alloc; "version {number} entries {entries} flights {flights}\n")?;
+    let line = version_line(alloc, version)?;
     write_line(writer, line.as_bytes())
 }
 
@@ -180,6 +213,9 @@ pub(crate) fn write_best<W: Write>(
     version: &Version,
 ) -> Result<(), SessionFault>
     ensures written { OnOk result (Appends (W.contents writer.old) (W.contents writer.new)
+        (Spec.best_line version.now.best)) }
+    ensures begun { OnErr result
+        (AppendsBeginning (W.contents writer.old) (W.contents writer.new)
         (Spec.best_line version.now.best)) }
     ensures fault { IfErr result IsLineFault }
 {
@@ -221,6 +257,9 @@ pub(crate) fn write_audit<W: Write>(
     tally: &Tally,
 ) -> Result<(), SessionFault>
     ensures written { OnOk result (Appends (W.contents writer.old) (W.contents writer.new)
+        (Spec.audit_line tally.now)) }
+    ensures begun { OnErr result
+        (AppendsBeginning (W.contents writer.old) (W.contents writer.new)
         (Spec.audit_line tally.now)) }
     ensures fault { IfErr result IsLineFault }
 {

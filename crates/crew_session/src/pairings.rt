@@ -1,10 +1,11 @@
 //! The answer to a record of pairings.
 
-ghost use Rattle.std.specs.Prelude.{◌≡◌, ◌++◌, List, ℕ, IfErr, IfOk, OnOk, codes, decimal};
+ghost use Rattle.std.specs.Prelude.{◌≡◌, ◌++◌, List, ℕ, IfErr, IfOk, OnErr, OnOk, codes, decimal, length};
 ghost use Rattle.std.specs.Io.KnownBytes.{Appends};
 ghost use Rattle.std.specs.List.{flat_map};
 ghost use Rattle.crew_session.specs.Faults.{IsLineFault};
 ghost use Rattle.crew_session.specs.Lines as Spec;
+ghost use Rattle.crew_session.specs.Texts.{AppendsBeginning, BeginsOne};
 ghost use Rattle.crew_session.specs.Pairings.{ShowsCheapest};
 
 use crate::fault::SessionFault;
@@ -15,13 +16,13 @@ use std::alloc::{AllocError, Global};
 use std::io::Write;
 
 // The line before the pairings.
-fn count_line(alloc: Global, count: usize) -> Result<Vec<u8>, AllocError>
+fn count_line(alloc: Global, pairings: &[PricedPairing]) -> Result<Vec<u8>, AllocError>
     ensures { IfOk result (λ line. line.items
-        ≡ codes "pairings " ++ decimal count ++ codes "\n") }
+        ≡ codes "pairings " ++ decimal (length pairings.now) ++ codes "\n") }
 {
     let mut line = Vec::new(alloc);
     line.extend_from_slice(b"pairings ")?;
-    put_number(&mut line, count)?;
+    put_number(&mut line, pairings.len())?;
     line.push(b'\n')?;
     Ok(line)
 }
@@ -33,6 +34,9 @@ fn write_each<W: Write>(
     pairings: &[PricedPairing],
 ) -> Result<(), SessionFault>
     ensures written { OnOk result (Appends (W.contents writer.old) (W.contents writer.new)
+        (flat_map (Spec.pairing_line (codes "pairing")) pairings.now)) }
+    ensures begun { OnErr result
+        (AppendsBeginning (W.contents writer.old) (W.contents writer.new)
         (flat_map (Spec.pairing_line (codes "pairing")) pairings.now)) }
     ensures fault { IfErr result IsLineFault }
 {
@@ -50,9 +54,12 @@ fn write_pairings<W: Write>(
 ) -> Result<(), SessionFault>
     ensures written { OnOk result (Appends (W.contents writer.old) (W.contents writer.new)
         (Spec.pairings_lines pairings.now)) }
+    ensures begun { OnErr result
+        (AppendsBeginning (W.contents writer.old) (W.contents writer.new)
+        (Spec.pairings_lines pairings.now)) }
     ensures fault { IfErr result IsLineFault }
 {
-    write_line(writer, &count_line(alloc, pairings.len())?)?;
+    write_line(writer, &count_line(alloc, pairings)?)?;
     write_each(alloc, writer, pairings)
 }
 
@@ -66,6 +73,8 @@ pub(crate) fn answer_cheapest<W: Write>(
     ensures answered { OnOk result ((text : List ℕ)
         × Appends (W.contents writer.old) (W.contents writer.new) text
         × ShowsCheapest limit version.now text) }
+    ensures begun { OnErr result (BeginsOne (W.contents writer.old) (W.contents writer.new)
+        (ShowsCheapest limit version.now)) }
     ensures fault { IfErr result IsLineFault }
 {
     let pairings = version.cheapest(alloc, limit as usize)?;

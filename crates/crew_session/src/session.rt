@@ -1,6 +1,6 @@
 //! A session: records to commands, and commands to lines.
 
-ghost use Rattle.std.specs.Prelude.{◌≡◌, ◌⊎◌, ◌↔◌, ◌+◌, ◌++◌, ◌<◌, ◌≤◌, ◌-ℤ◌, [], ℕ, List, IsTrue, pos, true, drop, length, IfErr, IfOk, IfSome, OnOk, Some};
+ghost use Rattle.std.specs.Prelude.{◌≡◌, ◌⊎◌, ◌↔◌, ◌+◌, ◌++◌, ◌<◌, ◌≤◌, ◌-ℤ◌, [], ℕ, List, IsTrue, false, pos, true, drop, length, IfErr, IfOk, IfSome, OnErr, OnOk, Some};
 ghost use Rattle.std.specs.Io.KnownBytes.{Appends, IsAtEnd, Keeps};
 ghost use Rattle.csv.specs.Records.{fields_of};
 ghost use Rattle.crew_time.specs.Instant.{IsInYears};
@@ -9,12 +9,15 @@ ghost use Rattle.crew_rules.specs.Settings.{IsChecked};
 ghost use Rattle.crew_records.specs.Commands.{IsDated};
 ghost use Rattle.crew_pairing.specs.Duties.{HasTooMany};
 ghost use Rattle.crew_session.specs.Engines.{AreTooMany, engine_number};
-ghost use Rattle.crew_session.specs.Faults.{IsLineFault, IsRecordFault, IsSessionFault};
-ghost use Rattle.crew_session.specs.Machinery.Journals.{Came, HasEnded, IsInStep, state_of, zones_of};
+ghost use Rattle.crew_session.specs.Faults.{IsLineFault, IsPlayFault, IsRecordFault, cause_of};
+ghost use Rattle.crew_session.specs.Machinery.Journals.{Came, HasEnded, IsInStep, IsRefusal, state_of, zones_of};
 ghost use Rattle.crew_session.specs.Lines.{refused_line, refused_lines, version_line};
 ghost use Rattle.crew_session.specs.Rows.{IsOpen, records_of, rows_left};
-ghost use Rattle.crew_session.specs.Session.{IsSessionText, Obeys, Writes};
+ghost use Rattle.crew_session.specs.Session.{Begins, IsSessionText, Obeys, State, Writes};
 ghost use Rattle.crew_session.specs.Session as Spec;
+ghost use Rattle.crew_session.specs.Stops.{IsSessionFault};
+ghost use Rattle.crew_session.specs.Streams.{bytes_held, bytes_left, read_failed, write_failed};
+ghost use Rattle.crew_session.specs.Texts.{AppendsBeginning, BeginsOne};
 ghost use Rattle.crew_version.specs.Versions.{Snapshot, opening, timetable_of, verdicts_of};
 
 use crate::audit::answer_audit;
@@ -24,6 +27,7 @@ use crate::fault::{SessionFault, stop};
 use crate::front::answer_front;
 use crate::journal::Journal;
 use crate::lines::{write_best, write_refusals, write_refused, write_version};
+use crate::noted::{NotedReader, NotedWriter};
 use crate::pairings::answer_cheapest;
 use crate::rows::next_row;
 use crate::zones::Zones;
@@ -75,6 +79,8 @@ fn refuse<W: Write>(
 ) -> Result<(), SessionFault>
     ensures written { OnOk result ((why : ℕ) × (engine_number fault ≡ Some why)
         × Appends (W.contents writer.old) (W.contents writer.new) (refused_line number why)) }
+    ensures begun { OnErr result (BeginsOne (W.contents writer.old) (W.contents writer.new)
+        (IsRefusal number fault)) }
     ensures fault { IfErr result IsLineFault }
 {
     match fault.number() {
@@ -97,6 +103,9 @@ fn submit<W: Write, E: Engine>(
         (state_of journal.new (E.shown engine.new) (E.entries engine.new))
         (Spec.submit number edit
         (state_of journal.old (E.shown engine.old) (E.entries engine.old)))) }
+    ensures begun { OnErr result (AppendsBeginning (W.contents writer.old) (W.contents writer.new)
+        (Spec.submit number edit
+        (state_of journal.old (E.shown engine.old) (E.entries engine.old))).1) }
     ensures in_step { OnOk result
         (IsInStep E.MAY_BE_STRANGE journal.new (E.shown engine.new) (E.entries engine.new)) }
     ensures shown { E.shown engine.new ≡ E.shown engine.old }
@@ -122,6 +131,9 @@ fn add_zone<W: Write>(
         → OnOk result (Came (W.contents writer.old) (W.contents writer.new)
         (state_of journal.new version taken)
         (Spec.add_zone number code zone (state_of journal.old version taken))) }
+    ensures begun { (version : Snapshot) (taken : List EntryOf)
+        → OnErr result (AppendsBeginning (W.contents writer.old) (W.contents writer.new)
+        (Spec.add_zone number code zone (state_of journal.old version taken)).1) }
     ensures records { journal.new.records ≡ journal.old.records }
     ensures entries { journal.new.entries ≡ journal.old.entries }
     ensures fault { IfErr result IsLineFault }
@@ -167,6 +179,9 @@ fn decline<R: Threads + Sync, W: Write, E: Engine>(
     ensures written { OnOk result
         (Appends (W.contents writer.old) (W.contents writer.new) (refused_line number 40)) }
     ensures many { OnOk result (AreTooMany (E.shown engine.now) (E.entries engine.now)) }
+    ensures begun { OnErr result (BeginsOne (W.contents writer.old) (W.contents writer.new)
+        (λ text. AreTooMany (E.shown engine.now) (E.entries engine.now)
+        × (text ≡ refused_line number 40))) }
     ensures fault { IfErr result (IsRecordFault E.MAY_BE_STRANGE) }
 {
     if E::MAY_BE_STRANGE && !has_too_many(rt, alloc, engine.version(), &journal.entries)? {
@@ -196,6 +211,9 @@ fn publish<W: Write>(
     ensures written { OnOk result (Appends (W.contents writer.old) (W.contents writer.new)
         (refused_lines records.now (drop first (verdicts_of version.now.entries))
         ++ version_line version.now)) }
+    ensures begun { OnErr result (AppendsBeginning (W.contents writer.old) (W.contents writer.new)
+        (refused_lines records.now (drop first (verdicts_of version.now.entries))
+        ++ version_line version.now)) }
     ensures fault { IfErr result IsLineFault }
 {
     write_refusals(alloc, writer, records, version, first)?;
@@ -218,6 +236,9 @@ fn settle<R: Threads + Sync, W: Write, E: Engine>(
         × Appends (W.contents writer.old) (W.contents writer.new) text
         × Spec.Settles number (state_of journal.old (E.shown engine.old) (E.entries engine.old))
         (state_of journal.new (E.shown engine.new) (E.entries engine.new)) text) }
+    ensures begun { OnErr result (BeginsOne (W.contents writer.old) (W.contents writer.new)
+        (λ text. (after : State) × Spec.Settles number
+        (state_of journal.old (E.shown engine.old) (E.entries engine.old)) after text)) }
     ensures in_step { OnOk result
         (IsInStep E.MAY_BE_STRANGE journal.new (E.shown engine.new) (E.entries engine.new)) }
     ensures late { OnOk result ((E.shown engine.new).number ≤ number) }
@@ -261,6 +282,9 @@ fn obey<R: Threads + Sync, W: Write, E: Engine>(
         × Obeys settings.now number command
         (state_of journal.old (E.shown engine.old) (E.entries engine.old))
         (state_of journal.new (E.shown engine.new) (E.entries engine.new)) text) }
+    ensures begun { OnErr result (BeginsOne (W.contents writer.old) (W.contents writer.new)
+        (λ text. (after : State) × Obeys settings.now number command
+        (state_of journal.old (E.shown engine.old) (E.entries engine.old)) after text)) }
     ensures in_step { OnOk result
         (IsInStep E.MAY_BE_STRANGE journal.new (E.shown engine.new) (E.entries engine.new)) }
     ensures late { OnOk result ((E.shown engine.new).number ≤ number) }
@@ -353,7 +377,10 @@ fn obey_all<T: Threads + Sync, R: Read, W: Write, E: Engine>(
         HasEnded settings.now
         (state_of journal.old (E.shown engine.old) (E.entries engine.old)) rows
         (W.contents writer.old) (W.contents writer.new) ending)) }
-    ensures fault { IfErr result (IsSessionFault E.MAY_BE_STRANGE) }
+    ensures begun { OnErr result (IfSome (rows_left R.remaining records.old) (λ rows.
+        Begins settings.now (state_of journal.old (E.shown engine.old) (E.entries engine.old)) rows
+        (W.contents writer.old) (W.contents writer.new))) }
+    ensures fault { IfErr result (IsPlayFault E.MAY_BE_STRANGE) }
 {
     'records: for number in 0..RECORDS {
         if !next_row(records, row)? {
@@ -392,7 +419,10 @@ fn read_all<T: Threads + Sync, R: Read + Drop, W: Write, E: Engine>(
     ensures ended { IfOk result (λ ending. IfSome (R.remaining reader) (λ bytes.
         HasEnded settings.now (Spec.start settings.now) (records_of bytes)
         (W.contents writer.old) (W.contents writer.new) ending)) }
-    ensures fault { IfErr result (IsSessionFault E.MAY_BE_STRANGE) }
+    ensures begun { OnErr result (IfSome (R.remaining reader) (λ bytes.
+        Begins settings.now (Spec.start settings.now) (records_of bytes)
+        (W.contents writer.old) (W.contents writer.new))) }
+    ensures fault { IfErr result (IsPlayFault E.MAY_BE_STRANGE) }
 {
     let mut records = ReaderBuilder::new()
         .has_headers(false)
@@ -431,6 +461,68 @@ fn check_written<W: Write>(writer: &mut W) -> Result<(), SessionFault>
     writer.flush().map_err(|_| SessionFault::Write)
 }
 
+// That the input is at its end, and that all that was written has gone out.
+fn check_all<R: Read, W: Write>(reader: &mut R, writer: &mut W) -> Result<(), SessionFault>
+    ensures end { OnOk result (IsAtEnd (R.remaining reader.new)) }
+    ensures kept { Keeps (W.contents writer.old) (W.contents writer.new) }
+    ensures fault { IfErr result (IsPlayFault false) }
+{
+    check_end(reader)?;
+    check_written(writer)
+}
+
+// Plays a session over any reader and writer.
+fn play<T: Threads + Sync, R: Read, W: Write, E: Engine>(
+    rt: &T,
+    alloc: Global,
+    reader: &mut R,
+    writer: &mut W,
+    settings: &Settings,
+    engine: &mut E,
+) -> Result<Ending, SessionFault>
+    requires checked { IsChecked settings.now }
+    requires entries { E.entries engine.old ≡ [] }
+    requires version { E.shown engine.old ≡ opening settings.now }
+    ensures ended { IfOk result (λ ending. IfSome (R.remaining reader.old) (λ bytes.
+        HasEnded settings.now (Spec.start settings.now) (records_of bytes)
+        (W.contents writer.old) (W.contents writer.new) ending)) }
+    ensures end { IfOk result (λ ending. ending ≡ Ending.AtEnd
+        → IsAtEnd (R.remaining reader.new)) }
+    ensures begun { OnErr result (IfSome (R.remaining reader.old) (λ bytes.
+        Begins settings.now (Spec.start settings.now) (records_of bytes)
+        (W.contents writer.old) (W.contents writer.new))) }
+    ensures fault { IfErr result (IsPlayFault E.MAY_BE_STRANGE) }
+{
+    let ending = read_all(rt, alloc, settings, &mut *reader, writer, engine)?;
+    if let Ending::AtEnd = ending {
+        check_all(reader, writer)?;
+    }
+    Ok(ending)
+}
+
+// Why a session stops, by what has failed: the reader, the writer, or neither, and then there was
+// no memory.
+fn cause<R: Read + Drop, W: Write + Drop>(
+    fault: SessionFault,
+    reader: &NotedReader<R>,
+    writer: &NotedWriter<W>,
+) -> SessionFault
+    ensures { result ≡ cause_of fault (read_failed reader.now) (write_failed writer.now) }
+{
+    match fault {
+        SessionFault::Strange(number) => SessionFault::Strange(number),
+        _ => {
+            if reader.has_failed() {
+                SessionFault::Read
+            } else if writer.has_failed() {
+                SessionFault::Write
+            } else {
+                SessionFault::Memory
+            }
+        }
+    }
+}
+
 /// Plays a session: reads records to the end of the input, and writes a line for each refusal,
 /// version and answer.
 ///
@@ -438,37 +530,41 @@ fn check_written<W: Write>(writer: &mut W) -> Result<(), SessionFault>
 /// the answer is `Ok`, what is written is the text of a session of the bytes that were read, there
 /// were at most 2,000,000 records, and the input is at its end.
 ///
-/// Each line goes out by one `write_all` of the whole line, before the next record is read, and one
-/// `flush` comes before `Ok`: a writer that is to show lines while the input is open flushes
-/// them itself.
+/// Each line goes out before the next record is read, by one `write` where the writer takes all of
+/// it, and one `flush` comes before `Ok`: a writer that is to show lines while the input is open
+/// flushes them itself.
 ///
-/// `Read` where the reader fails or gives more records, `Write` where the writer fails, `Memory`
-/// where there is none, and `Strange` only of an engine that may be strange: where it answers what
-/// no session brings about. After a fault the engine is not used again, and it isn't promised
-/// what was written.
-pub fn run<T: Threads + Sync, R: Read, W: Write, E: Engine>(
+/// `Read` where the reader failed or gives more records, `Write` where the writer failed, `Memory`
+/// where neither did, and `Strange` only of an engine that may be strange: where it answers what
+/// no session brings about. What was written is then a beginning of the text of the first so many
+/// records, 2,000,000 at most, and the engine is not used again.
+pub fn run<T: Threads + Sync, R: Read + Drop, W: Write + Drop, E: Engine>(
     rt: &T,
     alloc: Global,
-    reader: &mut R,
-    writer: &mut W,
+    reader: &mut NotedReader<R>,
+    writer: &mut NotedWriter<W>,
     settings: &Settings,
     engine: &mut E,
 ) -> Result<(), SessionFault>
     requires checked { IsChecked settings.now }
     requires entries { E.entries engine.old ≡ [] }
     requires version { E.shown engine.old ≡ opening settings.now }
-    ensures output { OnOk result (IfSome (R.remaining reader.old) (λ bytes.
-        (text : List ℕ) × Appends (W.contents writer.old) (W.contents writer.new) text
+    ensures output { OnOk result (IfSome (bytes_left R.remaining reader.old) (λ bytes.
+        (text : List ℕ)
+        × Appends (bytes_held W.contents writer.old) (bytes_held W.contents writer.new) text
         × IsSessionText settings.now bytes text)) }
-    ensures limit { OnOk result (IfSome (R.remaining reader.old)
+    ensures limit { OnOk result (IfSome (bytes_left R.remaining reader.old)
         (λ bytes. length (records_of bytes) ≤ 2_000_000)) }
-    ensures end { OnOk result (IsAtEnd (R.remaining reader.new)) }
-    ensures fault { IfErr result (IsSessionFault E.MAY_BE_STRANGE) }
+    ensures end { OnOk result (IsAtEnd (bytes_left R.remaining reader.new)) }
+    ensures begun { OnErr result (IfSome (bytes_left R.remaining reader.old) (λ bytes.
+        Begins settings.now (Spec.start settings.now) (records_of bytes)
+        (bytes_held W.contents writer.old) (bytes_held W.contents writer.new))) }
+    ensures fault { IfErr result (IsSessionFault E.MAY_BE_STRANGE
+        (bytes_left R.remaining reader.old) (read_failed reader.new) (write_failed writer.new)) }
 {
-    match read_all(rt, alloc, settings, &mut *reader, writer, engine)? {
-        Ending::AtEnd => {}
-        Ending::TooManyRecords => return Err(SessionFault::Read),
+    match play(rt, alloc, &mut *reader, &mut *writer, settings, engine) {
+        Ok(Ending::AtEnd) => Ok(()),
+        Ok(Ending::TooManyRecords) => Err(SessionFault::Read),
+        Err(fault) => Err(cause(fault, reader, writer)),
     }
-    check_end(reader)?;
-    check_written(writer)
 }

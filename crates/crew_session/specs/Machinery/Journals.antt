@@ -5,7 +5,10 @@ use Rattle.std.specs.Io.KnownBytes.{Appends}
 use Rattle.crew_flights.specs.declared.entries.Entry.{Entry}
 use Rattle.crew_rules.specs.declared.settings.Settings.{Settings}
 use Rattle.crew_records.specs.Fields.{Fields}
-use Rattle.crew_session.specs.Session.{State, Writes, Zones as ZoneMap}
+use Rattle.crew_session.specs.Engines.{engine_number}
+use Rattle.crew_session.specs.Lines.{refused_line}
+use Rattle.crew_session.specs.declared.engine_fault.EngineFault.{EngineFault}
+use Rattle.crew_session.specs.Session.{Begins, State, Writes, Zones as ZoneMap}
 use Rattle.crew_version.specs.Versions.{Snapshot}
 use Rattle.crew_records.specs.declared.fault.RecordFault.{RecordFault}
 use Rattle.crew_records.specs.declared.fault.RecordFault.TheVariants.{ZoneExists, TooManyZones}
@@ -47,11 +50,18 @@ pub record IsInStep (strange : Bool) (j : Journal) (version : Snapshot) (taken :
   pub kept : strange ≡ true → j.entries.items ≡ since version taken
 
 -- how the reading of records ended: they were obeyed and their text is written, or are too many
+-- and the first 2,000,000 were
 abbrev pub HasEnded :
     Settings → State → List Fields → Option (List ℕ) → Option (List ℕ) → Ending → Type 0
 HasEnded s a rows old new AtEnd =
     ((text : List ℕ) × Appends old new text × Writes s 0 a rows text) × (length rows ≤ 2_000_000)
-HasEnded s a rows old new TooManyRecords = 2_000_000 < length rows
+HasEnded s a rows old new TooManyRecords =
+    Begins s a rows old new × (2_000_000 < length rows)
+
+-- the line of an engine's refusal
+abbrev pub IsRefusal : ℕ → EngineFault → List ℕ → Type 0
+IsRefusal number fault text =
+    (why : ℕ) × (engine_number fault ≡ Some why) × (text ≡ refused_line number why)
 
 -- a session came to a state, and wrote a text
 abbrev pub Came : Option (List ℕ) → Option (List ℕ) → State → State × List ℕ → Type 0

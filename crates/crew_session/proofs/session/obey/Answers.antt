@@ -1,3 +1,10 @@
+use Rattle.crew_session.proofs.SessionFacts.{edit-begin, submit-text}
+use Rattle.crew_session.proofs.BeginFacts.{begun-as}
+use Rattle.std.proofs.Common.{◌∙◌, None, Some, sym}
+use Rattle.crew_flights.specs.declared.edit.Edit.TheVariants as edit
+use Rattle.crew_session.specs.Machinery.Journals.{state_of, zones_of}
+use Rattle.crew_session.specs.Session.{clock_at, flight_with}
+use Rattle.crew_session.proofs.SessionFacts.{audited-begin, begun-do, cheapest-begin, fronted-begin, settled-begin}
 use Rattle.std.proofs.Common.{refl}
 use Rattle.crew_session.proofs.SessionFacts.{audited, cheapest-shown, did, fronted}
 use Rattle.crew_session.proofs.session.obey.Goals as goal
@@ -16,3 +23,47 @@ returns-in-ShowFront-clause-obeys g c =
 pub returns-in-Cheapest-clause-obeys : goal.returns-in-Cheapest-clause-obeys
 returns-in-Cheapest-clause-obeys g c =
     cheapest-shown c.answer_cheapest.result _ _ c.args.settings.now c.args.number _ _ c.args.journal.now _ _ _ c.in-Cheapest.is c.version-in-Cheapest.ensures c.answer_cheapest.ensures.answered
+
+pub returns-in-AddZone-clause-begun : goal.returns-in-AddZone-clause-begun
+returns-in-AddZone-clause-begun g c = begun-do c.add_zone.result _ _ c.args.settings.now c.args.number _ _ _ _ c.in-AddZone.is (λ b text d. d) (c.add_zone.ensures.begun (g.E.Engine.shown c.args.engine.now) (g.E.Engine.entries c.args.engine.now))
+
+pub returns-in-Submit-clause-begun : goal.returns-in-Submit-clause-begun
+returns-in-Submit-clause-begun g c = begun-do c.submit.result _ _ c.args.settings.now c.args.number _ _ _ _ c.in-Submit.is (λ b text d. d) c.submit.ensures.begun
+
+pub returns-in-Settle-clause-begun : goal.returns-in-Settle-clause-begun
+returns-in-Settle-clause-begun g c = settled-begin c.settle.result _ _ c.args.settings.now c.args.number _ _ c.in-Settle.is c.settle.ensures.begun
+
+pub returns-in-Best-clause-begun : goal.returns-in-Best-clause-begun
+returns-in-Best-clause-begun g c = begun-do c.write_best.result _ _ c.args.settings.now c.args.number _ _ _ (_, _) c.in-Best.is (λ b text d. d) (rw c.version.ensures at c.write_best.ensures.begun)
+
+pub returns-in-ShowFront-clause-begun : goal.returns-in-ShowFront-clause-begun
+returns-in-ShowFront-clause-begun g c = fronted-begin c.answer_front.result _ _ c.args.settings.now c.args.number _ _ _ c.args.journal.now _ _ _ c.in-ShowFront.is c.version-in-ShowFront.ensures c.answer_front.ensures.begun
+
+pub returns-in-Cheapest-clause-begun : goal.returns-in-Cheapest-clause-begun
+returns-in-Cheapest-clause-begun g c = cheapest-begin c.answer_cheapest.result _ _ c.args.settings.now c.args.number _ _ c.args.journal.now _ _ _ c.in-Cheapest.is c.version-in-Cheapest.ensures c.answer_cheapest.ensures.begun
+
+pub returns-in-Audit-clause-begun : goal.returns-in-Audit-clause-begun
+returns-in-Audit-clause-begun g c = audited-begin c.answer_audit.result _ _ c.args.settings.now c.args.number _ _ c.args.journal.now _ _ _ c.in-Audit.is c.version-in-Audit.ensures c.answer_audit.ensures.begun
+
+pub returns-in-Refuse-clause-begun : goal.returns-in-Refuse-clause-begun
+returns-in-Refuse-clause-begun g c = begun-do c.write_refused-in-Refuse.result _ _ c.args.settings.now c.args.number _ _ _ (_, _) c.in-Refuse.is (λ b text d. d) (rw c.number-in-Refuse.ensures at c.write_refused-in-Refuse.ensures.begun)
+
+pub returns-in-None-clause-begun : goal.returns-in-None-clause-begun
+returns-in-None-clause-begun g c =
+    edit-begin c.write_refused.result _ _ c.args.settings.now c.args.number _ _ (state_of c.args.journal.now (g.E.Engine.shown c.args.engine.now) (g.E.Engine.entries c.args.engine.now))
+    (clock_at c.args.settings.now (zones_of c.args.journal.now.zones) c.in-AddFlight.from c.in-AddFlight.dep) None (flight_with c.in-AddFlight.id c.in-AddFlight.from c.in-AddFlight.to c.in-AddFlight.dep c.in-AddFlight.arr c.in-AddFlight.price) c.in-AddFlight.is (sym c.in-None.is ∙ c.clock_at.ensures) (λ b text d. d) (rw c.number.ensures at c.write_refused.ensures.begun)
+
+pub returns-in-Some-clause-begun : goal.returns-in-Some-clause-begun
+returns-in-Some-clause-begun g c =
+    edit-begin c.submit-in-Some.result _ _ c.args.settings.now c.args.number _ _ (state_of c.args.journal.now (g.E.Engine.shown c.args.engine.now) (g.E.Engine.entries c.args.engine.now))
+    (clock_at c.args.settings.now (zones_of c.args.journal.now.zones) c.in-AddFlight.from c.in-AddFlight.dep) (Some c.in-Some.report_clock) (flight_with c.in-AddFlight.id c.in-AddFlight.from c.in-AddFlight.to c.in-AddFlight.dep c.in-AddFlight.arr c.in-AddFlight.price) c.in-AddFlight.is (sym c.in-Some.is ∙ c.clock_at.ensures) (λ b text d. d) (begun-as c.submit-in-Some.result _ _ _ _ (submit-text c.args.number _ _ (state_of c.args.journal.now (g.E.Engine.shown c.args.engine.now) (g.E.Engine.entries c.args.engine.now))) c.submit-in-Some.ensures.begun)
+
+pub returns-in-None-clock_at-clause-begun : goal.returns-in-None-clock_at-clause-begun
+returns-in-None-clock_at-clause-begun g c =
+    edit-begin c.write_refused-in-None-clock_at.result _ _ c.args.settings.now c.args.number _ _ (state_of c.args.journal.now (g.E.Engine.shown c.args.engine.now) (g.E.Engine.entries c.args.engine.now))
+    (clock_at c.args.settings.now (zones_of c.args.journal.now.zones) c.in-Retime.from c.in-Retime.dep) None (edit.Retime c.in-Retime.id c.in-Retime.from c.in-Retime.dep c.in-Retime.arr) c.in-Retime.is (sym c.in-None-clock_at.is ∙ c.clock_at-in-Retime.ensures) (λ b text d. d) (rw c.number-in-None-clock_at.ensures at c.write_refused-in-None-clock_at.ensures.begun)
+
+pub returns-in-Some-clock_at-clause-begun : goal.returns-in-Some-clock_at-clause-begun
+returns-in-Some-clock_at-clause-begun g c =
+    edit-begin c.submit-in-Some-clock_at.result _ _ c.args.settings.now c.args.number _ _ (state_of c.args.journal.now (g.E.Engine.shown c.args.engine.now) (g.E.Engine.entries c.args.engine.now))
+    (clock_at c.args.settings.now (zones_of c.args.journal.now.zones) c.in-Retime.from c.in-Retime.dep) (Some c.in-Some-clock_at.report_clock) (edit.Retime c.in-Retime.id c.in-Retime.from c.in-Retime.dep c.in-Retime.arr) c.in-Retime.is (sym c.in-Some-clock_at.is ∙ c.clock_at-in-Retime.ensures) (λ b text d. d) c.submit-in-Some-clock_at.ensures.begun

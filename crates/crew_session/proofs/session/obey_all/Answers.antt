@@ -1,3 +1,5 @@
+use Rattle.crew_session.proofs.SessionFacts.{stopped-between, stopped-in}
+use Rattle.crew_session.proofs.BeginFacts.{on-err}
 use Rattle.std.proofs.Common.{arith}
 use Rattle.crew_session.proofs.SessionFacts.{written-start, written-more, written-ended, written-over}
 use Rattle.crew_session.proofs.session.obey_all.Goals as goal
@@ -29,3 +31,13 @@ returns-then-branch-clause-ended g c =
 pub returns-else-branch-clause-ended : goal.returns-else-branch-clause-ended
 returns-else-branch-clause-ended g c =
     written-ended c.args.settings.now _ _ _ _ _ _ _ c.records.invariant.so_far (c.in_ok-next_row-2.ensures.end c.if-branch.false) (omega arith)
+
+pub returns-in_err-next_row-clause-begun : goal.returns-in_err-next_row-clause-begun
+returns-in_err-next_row-clause-begun g c = on-err _ _ (stopped-between c.args.settings.now _ _ _ _ _ _ _ c.records.invariant.so_far (omega arith))
+
+pub returns-in_err-obey-clause-begun : goal.returns-in_err-obey-clause-begun
+returns-in_err-obey-clause-begun g c =
+    on-err _ _ (stopped-in c.args.settings.now _ _ _ _ _ _ _ _ _ _ _ c.records.invariant.so_far (c.in_ok-next_row.ensures.row c.if-not-branch.false) c.read_command.ensures.value c.in_err-obey.ensures.begun (omega arith))
+
+pub returns-in_err-next_row-2-clause-begun : goal.returns-in_err-next_row-2-clause-begun
+returns-in_err-next_row-2-clause-begun g c = on-err _ _ (stopped-between c.args.settings.now _ _ _ _ _ _ _ c.records.invariant.so_far (omega arith))

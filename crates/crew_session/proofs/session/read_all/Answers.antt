@@ -1,3 +1,4 @@
+use Rattle.crew_session.proofs.BeginFacts.{on-err-weaker}
 use Rattle.std.proofs.lemmas.Result.{IfOk-weaker}
 use Rattle.crew_session.proofs.SessionFacts.{at-start, in-step-at-start, rows-at-start}
 use Rattle.crew_session.proofs.session.read_all.Goals as goal
@@ -13,3 +14,10 @@ returns-clause-ended g c =
     let j = c.new-journal.ensures in
     let begin = at-start c.new-journal.result _ c.args.settings.now _ j.zones j.records c.requires.version c.requires.entries in
     IfOk-weaker c.obey_all.result _ _ (λ u h. rows-at-start _ _ _ fr.source (rw (fr.state, begin) at h)) c.obey_all.ensures.ended
+
+pub returns-clause-begun : goal.returns-clause-begun
+returns-clause-begun g c =
+    let fr = c.from_reader-records.ensures in
+    let j = c.new-journal.ensures in
+    let begin = at-start c.new-journal.result _ c.args.settings.now _ j.zones j.records c.requires.version c.requires.entries in
+    on-err-weaker c.obey_all.result _ _ (λ h. rows-at-start _ _ _ fr.source (rw (fr.state, begin) at h)) c.obey_all.ensures.begun

@@ -1,7 +1,7 @@
 use Rattle.std.proofs.Common.{◌≡◌, ◌∙◌, ◌++◌, ◌-◌, ℕ, List, length, take, drop, arith, Option, Some, None, append_assoc, ap, sym}
 use Rattle.std.proofs.lemmas.List.{length-drop, take-append-drop, take_all}
 use Rattle.std.specs.Io.KnownBytes.{Appends}
-use Rattle.crew_command.proofs.fault.write_text.Goals as goal
+use Rattle.crew_session.proofs.text.write_text.Goals as goal
 
 appends : (before mid after : Option (List ℕ)) (xs ys : List ℕ) → Appends before mid xs → Appends mid after ys → Appends before after (xs ++ ys)
 appends None mid after xs ys a b = tt

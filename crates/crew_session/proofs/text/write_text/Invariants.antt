@@ -1,6 +1,6 @@
 use Rattle.std.proofs.Common.{◌≡◌, ◌++◌, ℕ, List, length}
 use Rattle.std.specs.Io.KnownBytes.{Appends}
-use Rattle.crew_command.proofs.fault.write_text.Given as goal
+use Rattle.crew_session.proofs.text.write_text.Given as goal
 
 -- what is written is the text so far
 abbrev pub invariant-loop-rest : goal.invariant-loop-rest
