@@ -39,10 +39,10 @@ blocked-more net undone n counts count within so own k g low at =
 
 -- nothing passes a filter exactly where its length is nought
 module _ (p : ℕ → Bool) where
-  more : (x : ℕ) (xs : List ℕ) → p x ≡ true → length (filter p (x ∷ xs)) ≡ suc (length (filter p xs))
+  pub more : (x : ℕ) (xs : List ℕ) → p x ≡ true → length (filter p (x ∷ xs)) ≡ suc (length (filter p xs))
   more x xs e = rw e refl
 
-  same : (x : ℕ) (xs : List ℕ) → p x ≡ false → filter p (x ∷ xs) ≡ filter p xs
+  pub same : (x : ℕ) (xs : List ℕ) → p x ≡ false → filter p (x ∷ xs) ≡ filter p xs
   same x xs e = rw e refl
 
   pub none-passes : (xs : List ℕ) → length (filter p xs) ≡ 0 → (x : ℕ) → Member xs x → p x ≡ false
@@ -103,10 +103,10 @@ from-part (x ∷ xs) (suc from) n y m =
     let within = r.within in
     record { place = suc r.place; low = omega (arith, low); high = omega (arith, high); within = omega (arith, within); is = r.is }
 
-nought : (n : ℕ) → nat_lt 0 n ≡ false → n ≡ 0
+pub nought : (n : ℕ) → nat_lt 0 n ≡ false → n ≡ 0
 nought n e = grind (arith, tests, e)
 
-is-nought : (n : ℕ) → n ≡ 0 → nat_lt 0 n ≡ false
+pub is-nought : (n : ℕ) → n ≡ 0 → nat_lt 0 n ≡ false
 is-nought n e = grind (arith, tests, e)
 
 module _ (net : Net) (done : List Bool) (c : Counts) (d : Duty) (place : ℕ) (counts : AreCounts net done c) (events : AreEvents arrival_of arrival_cmp net.duties net.arrivals) (at : slice_get net.departures place ≡ Some (departure_of d)) (below : place < length net.departures) where

@@ -1,2 +1,3 @@
 mod Counted
+mod Lowered
 mod Rows

@@ -1,5 +1,5 @@
 //! What keeps the nodes of a base from being ready, as counts.
-ghost use Rattle.std.specs.Prelude.{◌≡◌, ◌↔◌, ◌≤◌, ◌<◌, ℕ, Bool, IfOk, IsTrue, List, Some, false, get_or, length, slice_get};
+ghost use Rattle.std.specs.Prelude.{◌≡◌, ◌↔◌, ◌⊎◌, ◌≤◌, ◌<◌, ◌-◌, ℕ, Bool, IfOk, IsTrue, List, Some, false, get_or, length, slice_get, slice_set, true};
 ghost use Rattle.crew_net.specs.Events.{AreEvents, arrival_cmp, arrives_at};
 ghost use Rattle.crew_net.specs.Nets as Nets;
 ghost use Rattle.crew_net.specs.Ranks.{ranks_where};
@@ -40,6 +40,28 @@ impl Counts {
         Ok(Counts { undone, blocked })
     }
 
+    /// A node is done whose duty arrives at an arrival: answers whether it was the last there that
+    /// wasn't, so that the departures that may follow are nearer to being ready.
+    pub fn done(&mut self, net: &Net, arrival: usize) -> bool
+        requires arrival { arrival < length net.now.arrivals }
+        requires long { length self.old.undone ≡ length net.now.arrivals }
+        requires long_blocked { length self.old.blocked ≡ length net.now.departures }
+        ensures counts { (done : List Bool) (rank : ℕ) (d : Duty) → AreCounts net.now done self.old
+            → AreEvents arrival_of arrival_cmp net.now.duties net.now.arrivals
+            → slice_get net.now.duties rank ≡ Some d
+            → slice_get net.now.arrivals arrival ≡ Some (arrival_of d)
+            → rank < length done → get_or done rank false ≡ false
+            → AreCounts net.now (slice_set done rank true) self.new }
+        ensures last { IsTrue result ↔ (get_or self.new.undone arrival 0 ≡ 0) }
+    {
+        lower(&mut self.undone, arrival);
+        let last = count_at(&self.undone, arrival) == 0;
+        if last {
+            lower_all(&mut self.blocked, net.followers(arrival));
+        }
+        last
+    }
+
     /// Whether all that may stand just before the duties that leave at a departure is done.
     pub fn is_clear(&self, departure: usize) -> bool
         ensures { (net : Nets.Net) (done : List Bool) (d : Duty) → AreCounts net done self.now
@@ -48,6 +70,30 @@ impl Counts {
             → (IsTrue result ↔ AreDoneBefore net done d) }
     {
         count_at(&self.blocked, departure) == 0
+    }
+}
+
+// One less at a place.
+fn lower(counts: &mut [usize], place: usize)
+    requires { place < length counts.old }
+    ensures { counts.new ≡ slice_set counts.old place (get_or counts.old place 0 - 1) }
+{
+    let count = counts[place].saturating_sub(1);
+    counts[place] = count;
+}
+
+// One less at each place of a window.
+fn lower_all(counts: &mut [usize], window: Window)
+    requires ordered { window.from ≤ window.end }
+    requires within { window.end ≤ length counts.old }
+    ensures long { length counts.new ≡ length counts.old }
+    ensures lowered { (k : ℕ) → window.from ≤ k → k < window.end
+        → get_or counts.new k 0 ≡ get_or counts.old k 0 - 1 }
+    ensures elsewhere { (k : ℕ) → (k < window.from) ⊎ (window.end ≤ k)
+        → get_or counts.new k 0 ≡ get_or counts.old k 0 }
+{
+    for place in window.from..window.end {
+        lower(counts, place);
     }
 }
 
