@@ -1,6 +1,6 @@
--- The product's choices among the steps that are free: a round is begun over the whole log, the least
--- ready node is claimed, equal jobs are marked until none is left, and the version published last
--- answers. Each is a step with one fact more, so what holds of all runs holds of these.
+-- The product's choices among the steps that are free: a round is begun over the whole log, the
+-- least ready node is claimed, equal jobs are marked until none is left, and the version published
+-- last answers. Each is a step with one fact more, so what holds of all runs holds of these.
 use Rattle.std.specs.Prelude.{◌≡◌, ℕ, ◌+◌, ◌<◌, List, [], ◌∷◌, length}
 use Rattle.crew_machine.specs.Rounds.{Board, Brings, Claims, IsReady, NoneReusable, Stores}
 use Rattle.crew_machine.specs.Steps.{Act, Answered, Answers, Ask, Begin, BeginsOver, Begun, Bring, Claim, Claimed, HandsOut, RefusesTooLarge, Reply, State, Step, TakesBack, Too_large, Was_brought}

@@ -47,8 +47,8 @@ pub fn all_interleavings()
 {}
 
 /// At the end of every run, and so at each moment of one, the log is what was pushed, in order; and
-/// the entries of each published version, of the version that was sealed last, and of the round that
-/// is open are a beginning of it.
+/// the entries of each published version, of the version that was sealed last, and of the round
+/// that is open are a beginning of it.
 pub fn settled_entries_begin_the_log()
     ensures log { (s : Settings) (acts : List CrewAct) (replies : List CrewReply)
         (state : CrewState) → Run (crew s) (start (crew s)) acts replies state
@@ -167,8 +167,8 @@ pub fn jobs_are_right()
 {}
 
 /// Each call leaves a board right that was: its sealed version is from scratch, and what is done in
-/// its round are the fronts of the round's timetable. A board that a right version is restored to is
-/// right, whatever it was.
+/// its round are the fronts of the round's timetable. A board that a right version is restored to
+/// is right, whatever it was.
 pub fn calls_keep_boards_right()
     ensures begun { (s : Settings) (old new : CrewBoard) (entries : List Entry) → IsChecked s
         → IsStanding (crew s) old → Opens (crew s) old entries new → IsStanding (crew s) new }
