@@ -1,6 +1,5 @@
 -- The statuses of the program, and the lines of its faults.
-use Rattle.std.specs.Prelude.{◌≡◌, ℕ, List, [], ◌∷◌, ◌++◌, Option, Some, None, codes, decimal, option_map}
-use Rattle.std.specs.Io.KnownBytes.{Appends}
+use Rattle.std.specs.Prelude.{ℕ, List, [], ◌∷◌, ◌++◌, Option, Some, None, codes, decimal, option_map}
 use Rattle.crew_session.specs.declared.fault.SessionFault.{SessionFault}
 use Rattle.crew_session.specs.declared.fault.SessionFault.TheVariants as session
 use Rattle.crew_command.specs.declared.fault.Fault.{Fault}
@@ -37,7 +36,6 @@ text_of Strange = Some (codes "strange log")
 abbrev pub line_of : Fault → Option (List ℕ)
 line_of fault = option_map (λ text. codes "crewprice: " ++ text ++ 10 ∷ []) (text_of fault)
 
--- known bytes grow by a beginning of the text, and by nothing else
-abbrev pub AppendsBeginning : Option (List ℕ) → Option (List ℕ) → List ℕ → Type 0
-AppendsBeginning before after text = (part : List ℕ) × (rest : List ℕ) × (text ≡ part ++ rest)
-    × Appends before after part
+-- the same of a setting that is out of its range, by the text of its number
+abbrev pub bad_line : List ℕ → List ℕ
+bad_line number = codes "crewprice: " ++ (codes "bad setting " ++ number) ++ 10 ∷ []

@@ -1,12 +1,15 @@
 //! Why a run of the program fails.
 
-ghost use Rattle.std.specs.Prelude.{◌≡◌, ◌≤◌, IfOk, IfSome, OnOk, string_bytes};
+ghost use Rattle.std.specs.Prelude.{◌≡◌, ◌≤◌, IfSome, OnErr, OnOk, decimal, true};
 ghost use Rattle.std.specs.Io.KnownBytes.{Appends};
-ghost use Rattle.crew_command.specs.Faults.{AppendsBeginning, fault_of, line_of, status_of, text_of};
+ghost use Rattle.crew_session.specs.Streams.{bytes_held, write_failed};
+ghost use Rattle.crew_session.specs.Texts.{AppendsBeginning};
+ghost use Rattle.crew_command.specs.Faults.{bad_line, fault_of, line_of, status_of, text_of};
+ghost use Rattle.crew_command.specs.Program.{TellsLine};
 
 use crew_rules::BadSetting;
-use crew_session::SessionFault;
-use std::alloc::{AllocError, Global};
+use crew_session::{NotedWriter, SessionFault};
+use itoa::Buffer;
 use std::error::Error;
 use std::io::Write;
 use std::{fmt, io};
@@ -48,22 +51,29 @@ impl fmt::Display for Fault {
 
 impl Error for Fault {}
 
-// The line of want of memory, which takes none.
-static NO_MEMORY: &[u8] = b"crewprice: out of memory\n";
-
-// Writes a text, as far as the writer takes it.
-fn write_text<W: Write>(writer: &mut W, text: &[u8]) -> io::Result<()>
-    ensures whole { OnOk result (Appends (W.contents writer.old) (W.contents writer.new) text.now) }
-    ensures beginning { AppendsBeginning (W.contents writer.old) (W.contents writer.new) text.now }
+// Writes the line of a bad setting by the text of its number.
+fn put_bad<W: Write + Drop>(writer: &mut NotedWriter<W>, number: &[u8]) -> io::Result<()>
+    ensures whole { OnOk result (Appends (bytes_held W.contents writer.old)
+        (bytes_held W.contents writer.new) (bad_line number.now)) }
+    ensures beginning { OnErr result (AppendsBeginning (bytes_held W.contents writer.old)
+        (bytes_held W.contents writer.new) (bad_line number.now)) }
+    ensures failed { OnErr result (write_failed writer.new ≡ true) }
 {
-    let mut rest = text;
-    while !rest.is_empty() {
-        match writer.write(rest)? {
-            0 => return Err(io::Error::from(io::ErrorKind::WriteZero)),
-            taken => rest = &rest[taken..],
-        }
-    }
-    Ok(())
+    writer.put(b"crewprice: bad setting ")?;
+    writer.put(number)?;
+    writer.put(b"\n")
+}
+
+// Writes the line of a setting that is out of its range.
+fn put_setting<W: Write + Drop>(writer: &mut NotedWriter<W>, bad: BadSetting) -> io::Result<()>
+    ensures whole { OnOk result (Appends (bytes_held W.contents writer.old)
+        (bytes_held W.contents writer.new) (bad_line (decimal bad.field))) }
+    ensures beginning { OnErr result (AppendsBeginning (bytes_held W.contents writer.old)
+        (bytes_held W.contents writer.new) (bad_line (decimal bad.field))) }
+    ensures failed { OnErr result (write_failed writer.new ≡ true) }
+{
+    let mut buffer = Buffer::new();
+    put_bad(writer, buffer.format(bad.field).as_bytes())
 }
 
 impl Fault {
@@ -93,29 +103,32 @@ impl Fault {
         }
     }
 
-    // The line of the fault, but not of one in the words.
-    fn line(&self, alloc: Global) -> Result<String, AllocError>
-        ensures { IfOk result (λ line. IfSome (line_of self.now)
-            (λ text. string_bytes line ≡ text)) }
+    // Writes the line of the fault, or the text of the command line's own fault as it stands.
+    fn put_line<W: Write + Drop>(&self, writer: &mut NotedWriter<W>) -> io::Result<()>
+        ensures whole { OnOk result (IfSome (line_of self.now)
+            (Appends (bytes_held W.contents writer.old) (bytes_held W.contents writer.new))) }
+        ensures beginning { OnErr result (IfSome (line_of self.now) (AppendsBeginning
+            (bytes_held W.contents writer.old) (bytes_held W.contents writer.new))) }
+        ensures failed { OnErr result (IfSome (line_of self.now)
+            (λ line. write_failed writer.new ≡ true)) }
     {
-        match format!(in alloc; "crewprice: {self}\n") {
-            Ok(line) => Ok(line),
-            Err(_) => Err(AllocError),
+        match self {
+            Fault::Read => writer.put(b"crewprice: read fault\n"),
+            Fault::Write => writer.put(b"crewprice: write fault\n"),
+            Fault::Usage(error) => write!(writer, "{error}"),
+            Fault::Word => writer.put(b"crewprice: a word is not UTF-8\n"),
+            Fault::Memory => writer.put(b"crewprice: out of memory\n"),
+            Fault::Setting(bad) => put_setting(writer, *bad),
+            Fault::Strange => writer.put(b"crewprice: strange log\n"),
         }
     }
 
-    /// Writes the line of the fault, or the text of the command line's own fault as it stands.
-    /// Where that fails, the writer has got a beginning of the line, and nothing else.
-    pub fn tell<W: Write>(&self, alloc: Global, writer: &mut W) -> io::Result<()>
-        ensures whole { OnOk result (IfSome (line_of self.now)
-            (Appends (W.contents writer.old) (W.contents writer.new))) }
-        ensures beginning { IfSome (line_of self.now)
-            (AppendsBeginning (W.contents writer.old) (W.contents writer.new)) }
+    /// Writes the line of the fault, or the text of the command line's own fault as it stands. The
+    /// line goes out whole, or the writer fails after a beginning of it; it takes no memory.
+    pub fn tell<W: Write + Drop>(&self, writer: &mut NotedWriter<W>)
+        ensures { IfSome (line_of self.now) (TellsLine (bytes_held W.contents writer.old)
+            (bytes_held W.contents writer.new) (write_failed writer.new)) }
     {
-        match self {
-            Fault::Usage(error) => write!(writer, "{error}"),
-            Fault::Memory => write_text(writer, NO_MEMORY),
-            fault => write_text(writer, fault.line(alloc)?.as_bytes()),
-        }
+        let _ = self.put_line(writer);
     }
 }

@@ -8,6 +8,7 @@ mod fault;
 mod program;
 mod streams;
 
+pub use crew_session::{NotedReader, NotedWriter};
 pub use fault::Fault;
 pub use program::command;
 pub use streams::{Outlet, OutletWriter, SendingReader};

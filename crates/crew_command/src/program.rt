@@ -3,12 +3,13 @@
 ghost use Rattle.std.specs.Prelude.{◌≡◌, ◌≤◌, map};
 ghost use Rattle.clap.specs.Words.{kind_of};
 ghost use Rattle.crew_rules.specs.Settings.{check_of};
-ghost use Rattle.crew_command.specs.Program.{Answers, Comes, Outcome, Plays, Tells, status_after};
+ghost use Rattle.crew_session.specs.Streams.{bytes_held, bytes_left, read_failed, write_failed};
+ghost use Rattle.crew_command.specs.Program.{Answers, Comes, Outcome, Plays, Shows, Tells, status_after, streams};
 
 use crate::fault::Fault;
 use clap::error::ErrorKind;
 use crew_rules::Settings;
-use crew_session::{Plain, run};
+use crew_session::{NotedReader, NotedWriter, Plain, run};
 use crew_words::read_words;
 use std::alloc::Global;
 use std::convert::AsStr;
@@ -17,35 +18,52 @@ use std::io::{Read, Write};
 use std::thread::Threads;
 
 // Writes the help that the words asked for.
-fn show<W: Write>(help: &clap::Error, writer: &mut W) -> io::Result<()> {
+fn write_help<W: Write>(help: &clap::Error, writer: &mut W) -> io::Result<()> {
     write!(writer, "{help}")?;
     writer.flush()
 }
 
+// Shows the help that the words asked for. Where it can't, the writer failed, or there was no
+// memory.
+fn show<W: Write + Drop>(help: &clap::Error, writer: &mut NotedWriter<W>) -> Result<(), Fault>
+    ensures { Shows (write_failed writer.new) result }
+{
+    match write_help(help, &mut *writer) {
+        Ok(()) => Ok(()),
+        Err(_) => {
+            if writer.has_failed() {
+                Err(Fault::Write)
+            } else {
+                Err(Fault::Memory)
+            }
+        }
+    }
+}
+
 // Answers words that the parser doesn't take: with the help that they asked for, or a fault.
-fn answer<W: Write>(error: clap::Error, writer: &mut W) -> Result<(), Fault>
-    ensures { Answers (kind_of error) error (W.contents writer.old) (W.contents writer.new) result }
+fn answer<W: Write + Drop>(error: clap::Error, writer: &mut NotedWriter<W>) -> Result<(), Fault>
+    ensures { Answers (kind_of error) error (bytes_held W.contents writer.old)
+        (bytes_held W.contents writer.new) (write_failed writer.new) result }
 {
     match error.kind() {
         ErrorKind::OutOfMemory => Err(Fault::Memory),
-        ErrorKind::DisplayHelp | ErrorKind::DisplayVersion => match show(&error, writer) {
-            Ok(()) => Ok(()),
-            Err(_) => Err(Fault::Write),
-        },
+        ErrorKind::DisplayHelp | ErrorKind::DisplayVersion => show(&error, writer),
         _ => Err(Fault::Usage(error)),
     }
 }
 
 // Runs a session under these settings.
-fn run_session<T: Threads + Sync, R: Read, W: Write>(
+fn run_session<T: Threads + Sync, R: Read + Drop, W: Write + Drop>(
     rt: &T,
     alloc: Global,
     settings: &Settings,
-    reader: &mut R,
-    writer: &mut W,
+    reader: &mut NotedReader<R>,
+    writer: &mut NotedWriter<W>,
 ) -> Result<(), Fault>
-    ensures { Plays settings.now (check_of settings.now) (R.remaining reader.old)
-        (W.contents writer.old) (W.contents writer.new) result }
+    ensures { Plays settings.now (check_of settings.now)
+        (streams (bytes_left R.remaining reader.old) (bytes_held W.contents writer.old)
+        (bytes_held W.contents writer.new) (read_failed reader.new) (write_failed writer.new))
+        result }
 {
     if let Err(bad) = settings.check() {
         return Err(Fault::Setting(bad));
@@ -58,15 +76,16 @@ fn run_session<T: Threads + Sync, R: Read, W: Write>(
 }
 
 // Does what the words ask for.
-fn run_words<T: Threads + Sync, S: AsStr, R: Read, W: Write>(
+fn run_words<T: Threads + Sync, S: AsStr, R: Read + Drop, W: Write + Drop>(
     rt: &T,
     alloc: Global,
     words: &[S],
-    reader: &mut R,
-    writer: &mut W,
+    reader: &mut NotedReader<R>,
+    writer: &mut NotedWriter<W>,
 ) -> Result<(), Fault>
-    ensures { Comes (map S.text words.now) (R.remaining reader.old) (W.contents writer.old)
-        (W.contents writer.new) result }
+    ensures { Comes (map S.text words.now) (streams (bytes_left R.remaining reader.old)
+        (bytes_held W.contents writer.old) (bytes_held W.contents writer.new)
+        (read_failed reader.new) (write_failed writer.new)) result }
 {
     match read_words(alloc, words) {
         Ok(settings) => run_session(rt, alloc, &settings, reader, writer),
@@ -78,24 +97,26 @@ fn run_words<T: Threads + Sync, S: AsStr, R: Read, W: Write>(
 /// 1 a read or write fault; 2 a fault in the words; 3 no memory; 4 a bad setting; 5 a strange log.
 /// The line of a fault goes to `faults`, all else to `writer`; a fault in writing to `faults`
 /// changes nothing. The first word is the program's own name.
-pub fn command<T: Threads + Sync, S: AsStr, R: Read, W: Write, F: Write>(
+pub fn command<T: Threads + Sync, S: AsStr, R: Read + Drop, W: Write + Drop, F: Write + Drop>(
     rt: &T,
     alloc: Global,
     words: &[S],
-    reader: &mut R,
-    writer: &mut W,
-    faults: &mut F,
+    reader: &mut NotedReader<R>,
+    writer: &mut NotedWriter<W>,
+    faults: &mut NotedWriter<F>,
 ) -> u8
     // The words come to an outcome; this is its status, and its line is told.
-    ensures ends { (r : Outcome) × Comes (map S.text words.now) (R.remaining reader.old)
-        (W.contents writer.old) (W.contents writer.new) r
-        × (result ≡ status_after r) × Tells r (F.contents faults.old) (F.contents faults.new) }
+    ensures ends { (r : Outcome) × Comes (map S.text words.now)
+        (streams (bytes_left R.remaining reader.old) (bytes_held W.contents writer.old)
+        (bytes_held W.contents writer.new) (read_failed reader.new) (write_failed writer.new)) r
+        × (result ≡ status_after r) × Tells r (bytes_held F.contents faults.old)
+        (bytes_held F.contents faults.new) (write_failed faults.new) }
     ensures most { result ≤ 5 }
 {
     match run_words(rt, alloc, words, reader, writer) {
         Ok(()) => 0,
         Err(fault) => {
-            let _ = fault.tell(alloc, faults);
+            fault.tell(faults);
             fault.status()
         }
     }

@@ -1,6 +1,7 @@
 //! Streams that answer while their input is open: what was written is on its way before a read
 //! waits for more.
 
+use crew_session::{NotedReader, NotedWriter};
 use std::alloc::Global;
 use std::cell::RefCell;
 use std::io::{self, BufWriter, Read, Write};
@@ -59,16 +60,16 @@ impl<W: Write + Drop> Outlet<W> {
     }
 
     /// The end that is written to. No clause, for the same reason.
-    pub fn writer(&self) -> OutletWriter<'_, W> {
-        OutletWriter { outlet: self }
+    pub fn writer(&self) -> NotedWriter<OutletWriter<'_, W>> {
+        NotedWriter::new(OutletWriter { outlet: self })
     }
 
     /// The reader, which now sends what is held back before it reads. No clause, for the same reason.
-    pub fn before<R: Read>(&self, reader: R) -> SendingReader<'_, R, W> {
-        SendingReader {
+    pub fn before<R: Read + Drop>(&self, reader: R) -> NotedReader<SendingReader<'_, R, W>> {
+        NotedReader::new(SendingReader {
             reader,
             outlet: self,
-        }
+        })
     }
 
     fn write_all(&self, text: &[u8]) -> io::Result<()> {

@@ -8,7 +8,7 @@
 ghost use Rattle.std.specs.Prelude.{◌≡◌, ◌≢◌};
 ghost use Rattle.std.specs.IoError.{error_kind};
 
-use crew_command::{Fault, Outlet, command};
+use crew_command::{Fault, NotedWriter, Outlet, command};
 use std::io::ErrorKind;
 use std::process::ExitCode;
 use std::rt::Env;
@@ -35,16 +35,17 @@ fn fault_in_words(error: &io::Error) -> Fault
 }
 
 fn main(rt: HostRuntime) -> ExitCode {
+    let mut faults = NotedWriter::new(rt.stderr());
     let words = match words_of(&rt) {
         Ok(words) => words,
         Err(error) => {
             let fault = fault_in_words(&error);
-            let _ = fault.tell(rt.alloc(), &mut rt.stderr());
+            fault.tell(&mut faults);
             return ExitCode::from(fault.status());
         }
     };
     let Ok(outlet) = Outlet::new(rt.alloc(), io::writer(&rt)) else {
-        let _ = Fault::Memory.tell(rt.alloc(), &mut rt.stderr());
+        Fault::Memory.tell(&mut faults);
         return ExitCode::from(Fault::Memory.status());
     };
     let status = command(
@@ -53,7 +54,7 @@ fn main(rt: HostRuntime) -> ExitCode {
         words.as_slice(),
         &mut outlet.before(rt.reader()),
         &mut outlet.writer(),
-        &mut rt.stderr(),
+        &mut faults,
     );
     ExitCode::from(status)
 }

@@ -3,7 +3,7 @@
 use crate::runs::Case;
 use crew_flights::{Code, Edit, Verdict};
 use crew_rules::Settings;
-use crew_session::{Engine, EngineFault, Plain, SessionFault, run};
+use crew_session::{Engine, EngineFault, NotedReader, NotedWriter, Plain, SessionFault, run};
 use crew_version::Version;
 use std::alloc::{AllocError, Global};
 use std::io::{self, ErrorKind, Print};
@@ -112,8 +112,8 @@ pub fn play_copies<R: Print + Threads + Sync>(
 ) -> io::Result<()> {
     let settings = Settings::standard();
     let mut engine = Plain::new(alloc, &settings);
-    let mut source = case.source(rt);
-    let mut answers = case.answers(rt, "");
+    let mut source = NotedReader::new(case.source(rt));
+    let mut answers = NotedWriter::new(case.answers(rt, ""));
     let ended = run(rt, alloc, &mut source, &mut answers, &settings, &mut engine);
     tell_end(rt, alloc, ended, engine.version())
 }

@@ -2,7 +2,7 @@
 
 use crate::streams::{Shown, Source};
 use crate::ways::Ways;
-use crew_command::{Outlet, command};
+use crew_command::{NotedReader, NotedWriter, Outlet, command};
 use std::alloc::Global;
 use std::io::{self, Print, Read, Write};
 use std::thread::Threads;
@@ -65,26 +65,32 @@ fn run_plain<R: Print + Threads + Sync>(
     words: &[&str],
     case: &Case<'_>,
 ) -> io::Result<()> {
-    let mut source = case.source(rt);
     let mut answers = case.answers(rt, "");
-    let mut faults = case.faults(rt);
-    let status = command(rt, alloc, words, &mut source, &mut answers, &mut faults);
+    let status = command(
+        rt,
+        alloc,
+        words,
+        &mut NotedReader::new(case.source(rt)),
+        &mut NotedWriter::new(&mut answers),
+        &mut NotedWriter::new(case.faults(rt)),
+    );
     answers.show_count()?;
     show_status(rt, status)
 }
 
 // Runs the program over an outlet.
-fn run_over<T: Threads + Sync, R: Read, W: Write + Drop, F: Write>(
+fn run_over<T: Threads + Sync, R: Read, W: Write + Drop, F: Write + Drop>(
     rt: &T,
     alloc: Global,
     words: &[&str],
     reader: &mut R,
     outlet: &Outlet<W>,
-    faults: &mut F,
+    faults: F,
 ) -> u8 {
     let mut reader = outlet.before(reader);
     let mut writer = outlet.writer();
-    command(rt, alloc, words, &mut reader, &mut writer, faults)
+    let mut faults = NotedWriter::new(faults);
+    command(rt, alloc, words, &mut reader, &mut writer, &mut faults)
 }
 
 // Runs the program over an outlet, which answers while the input is open, and shows its status.
@@ -96,9 +102,8 @@ fn run_open<'a, R: Print + Threads + Sync>(
 ) -> io::Result<()> {
     let echo = Shown::new(rt, Some("> "), usize::MAX, 0);
     let mut source = Source::new(&case.ways, case.input, echo);
-    let mut faults = case.faults(rt);
     let outlet = Outlet::new(alloc, case.answers(rt, "< "))?;
-    let status = run_over(rt, alloc, words, &mut source, &outlet, &mut faults);
+    let status = run_over(rt, alloc, words, &mut source, &outlet, case.faults(rt));
     show_status(rt, status)
 }
 

@@ -4,7 +4,7 @@ ghost use Rattle.std.specs.Prelude.{true};
 
 use crew_flights::Edit;
 use crew_rules::Settings;
-use crew_session::{Engine, EngineFault, Plain, SessionFault, run};
+use crew_session::{Engine, EngineFault, NotedReader, NotedWriter, Plain, SessionFault, run};
 use crew_version::Version;
 use std::alloc::Global;
 use std::io::{self, Print};
@@ -66,8 +66,8 @@ fn ended<R: Threads + Sync>(rt: &R, alloc: Global, trick: Trick) -> Result<(), S
         plain: Plain::new(alloc, &settings),
         trick,
     };
-    let mut reader = b"base,JFK,0\nsettle\n".as_slice();
-    let mut out = Vec::new(alloc);
+    let mut reader = NotedReader::new(b"base,JFK,0\nsettle\n".as_slice());
+    let mut out = NotedWriter::new(Vec::new(alloc));
     run(rt, alloc, &mut reader, &mut out, &settings, &mut engine)
 }
 
