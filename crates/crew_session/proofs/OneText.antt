@@ -8,7 +8,7 @@ use Rattle.crew_rules.specs.declared.settings.Settings.{Settings}
 use Rattle.crew_flights.specs.Codes.{code_cmp_total}
 use Rattle.crew_flights.specs.Timetable.{Timetable, IsSound}
 use Rattle.crew_flights.specs.declared.entries.Entry.{Entry}
-use Rattle.crew_resource.specs.Members.{Each, Member}
+use Rattle.crew_resource.specs.Members.{Member}
 use Rattle.crew_pairing.proofs.Tree.{Each-member}
 use Rattle.crew_resource.proofs.Rising.{Rising, same-rising}
 use Rattle.crew_pairing.specs.Duties.{RiseByKey, HasFew, HasTooMany, flights_of}
@@ -21,12 +21,11 @@ use Rattle.crew_pairing.proofs.InOrder.{all-duties}
 use Rattle.crew_pairing.proofs.Timetables.{flights-of-timetable}
 use Rattle.crew_duty.proofs.Unique.{unique}
 use Rattle.crew_vector.specs.Bests.{IsBest}
-use Rattle.crew_vector.specs.declared.priced.PricedPairing.{PricedPairing}
 use Rattle.crew_vector.proofs.OneBest.{one-best}
 use Rattle.crew_vector.proofs.Unique.{same-listed}
-use Rattle.crew_vector.specs.Fronts.{IsFrontAt, RiseByVector}
+use Rattle.crew_vector.specs.Fronts.{IsFrontAt}
 use Rattle.crew_solve.proofs.OneList.{one-list}
-use Rattle.crew_audit.specs.Partials.{ArePartials, HasMoreThan, Rise, partial_cmp}
+use Rattle.crew_audit.specs.Partials.{ArePartials, Rise, partial_cmp}
 use Rattle.crew_audit.specs.Tallies.{IsLeast, IsTally}
 use Rattle.crew_audit.specs.declared.partial.Partial.{Partial}
 use Rattle.crew_audit.specs.declared.tally.Tally.{Tally}

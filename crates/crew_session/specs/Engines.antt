@@ -4,7 +4,6 @@ use Rattle.crew_flights.specs.declared.entries.Entry.{Entry}
 use Rattle.crew_pairing.specs.Duties.{HasTooMany}
 use Rattle.crew_version.specs.Versions.{Snapshot, timetable_of}
 use Rattle.crew_version.specs.declared.fault.VersionFault.{VersionFault}
-use Rattle.crew_version.specs.declared.fault.VersionFault.TheVariants as VersionFault
 use Rattle.crew_session.specs.declared.engine_fault.EngineFault.{EngineFault}
 use Rattle.crew_session.specs.declared.engine_fault.EngineFault.TheVariants.{TooManyDuties, LastVersion, SeatFull, Gap, OtherLog, NoView, Memory}
 

@@ -1,5 +1,5 @@
 -- Whether streams have failed.
-use Rattle.std.specs.Prelude.{ℕ, nat_lt, ◌&&◌, ◌||◌, Bool, true, false, List, length, Option, Result, Ok, Err}
+use Rattle.std.specs.Prelude.{ℕ, nat_lt, ◌&&◌, Bool, true, false, List, length, Option, Result, Ok, Err}
 use Rattle.crew_session.specs.declared.noted.NotedReader.{NotedReader}
 use Rattle.crew_session.specs.declared.noted.NotedWriter.{NotedWriter}
 

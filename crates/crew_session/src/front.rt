@@ -3,16 +3,16 @@
 ghost use Rattle.std.specs.Prelude.{◌≡◌, ◌++◌, List, ℕ, IfErr, IfOk, None, OnErr, OnOk, Some, codes, decimal, length};
 ghost use Rattle.std.specs.Io.KnownBytes.{Appends};
 ghost use Rattle.std.specs.List.{flat_map};
-ghost use Rattle.std.specs.Option.{option_map};
 ghost use Rattle.crew_session.specs.Faults.{IsLineFault};
 ghost use Rattle.crew_session.specs.Fronts.{ShowsFront};
 ghost use Rattle.crew_session.specs.Lines as Spec;
 ghost use Rattle.crew_session.specs.Texts.{AppendsBeginning, BeginsOne};
 
 use crate::fault::SessionFault;
-use crate::lines::{put_key, put_number, put_signed, put_walk, write_line};
+use crate::lines::{put_key, put_number, put_signed, write_line};
 use crew_flights::Code;
-use crew_pairing::{Key, PairingVector, Walk};
+use crew_pairing::{Key, PairingVector};
+use crew_solve::{FrontView, WalkView};
 use crew_version::Version;
 use std::alloc::{AllocError, Global};
 use std::io::Write;
@@ -43,8 +43,30 @@ fn put_totals(line: &mut Vec<u8>, vector: &PairingVector) -> Result<(), AllocErr
     put_part(line, vector.duties)
 }
 
+// Appends a walk that a front lends.
+fn put_lent_walk(line: &mut Vec<u8>, walk: &WalkView<'_>) -> Result<(), AllocError>
+    ensures { OnOk result (line.new.items ≡ line.old.items ++ Spec.walk_text walk.now) }
+{
+    let Some(first) = walk.key(0) else {
+        return Ok(());
+    };
+    put_key(line, first)?;
+    for place in 1..walk.len() {
+        let Some(key) = walk.key(place) else {
+            unreachable!();
+        };
+        line.push(b' ')?;
+        put_key(line, key)?;
+    }
+    Ok(())
+}
+
 // The line of an entry.
-fn entry_line(alloc: Global, vector: &PairingVector, walk: &Walk) -> Result<Vec<u8>, AllocError>
+fn entry_line(
+    alloc: Global,
+    vector: &PairingVector,
+    walk: &WalkView<'_>,
+) -> Result<Vec<u8>, AllocError>
     ensures { IfOk result (λ line. line.items ≡ Spec.entry_line (vector.now, walk.now)) }
 {
     let mut line = Vec::new(alloc);
@@ -53,7 +75,7 @@ fn entry_line(alloc: Global, vector: &PairingVector, walk: &Walk) -> Result<Vec<
     put_totals(&mut line, vector)?;
     put_part(&mut line, vector.away)?;
     line.push(b' ')?;
-    put_walk(&mut line, walk)?;
+    put_lent_walk(&mut line, walk)?;
     line.push(b'\n')?;
     Ok(line)
 }
@@ -62,17 +84,17 @@ fn entry_line(alloc: Global, vector: &PairingVector, walk: &Walk) -> Result<Vec<
 fn write_entries<W: Write>(
     alloc: Global,
     writer: &mut W,
-    entries: &[(PairingVector, Walk)],
+    front: &FrontView<'_>,
 ) -> Result<(), SessionFault>
     ensures written { OnOk result (Appends (W.contents writer.old) (W.contents writer.new)
-        (flat_map Spec.entry_line entries.now)) }
+        (flat_map Spec.entry_line front.now)) }
     ensures begun { OnErr result
         (AppendsBeginning (W.contents writer.old) (W.contents writer.new)
-        (flat_map Spec.entry_line entries.now)) }
+        (flat_map Spec.entry_line front.now)) }
     ensures fault { IfErr result IsLineFault }
 {
-    for entry in entries {
-        write_line(writer, &entry_line(alloc, &entry.0, &entry.1)?)?;
+    for (vector, walk) in front.iter() {
+        write_line(writer, &entry_line(alloc, &vector, &walk)?)?;
     }
     Ok(())
 }
@@ -104,15 +126,15 @@ fn count_line(
     alloc: Global,
     base: Code,
     key: &Key,
-    entries: &[(PairingVector, Walk)],
+    front: &FrontView<'_>,
 ) -> Result<Vec<u8>, AllocError>
     ensures { IfOk result (λ line. line.items
         ≡ codes "front " ++ base ++ codes " " ++ Spec.key_text key.now
-        ++ codes " entries " ++ decimal (length entries.now) ++ codes "\n") }
+        ++ codes " entries " ++ decimal (length front.now) ++ codes "\n") }
 {
     let mut line = node_text(alloc, base, key)?;
     line.extend_from_slice(b" entries ")?;
-    put_number(&mut line, entries.len())?;
+    put_number(&mut line, front.len())?;
     line.push(b'\n')?;
     Ok(line)
 }
@@ -123,16 +145,16 @@ fn write_listed<W: Write>(
     writer: &mut W,
     base: Code,
     key: &Key,
-    entries: &[(PairingVector, Walk)],
+    front: &FrontView<'_>,
 ) -> Result<(), SessionFault>
     ensures written { OnOk result (Appends (W.contents writer.old) (W.contents writer.new)
-        (Spec.front_lines base key.now (Some entries.now))) }
+        (Spec.front_lines base key.now (Some front.now))) }
     ensures begun { OnErr result (AppendsBeginning (W.contents writer.old) (W.contents writer.new)
-        (Spec.front_lines base key.now (Some entries.now))) }
+        (Spec.front_lines base key.now (Some front.now))) }
     ensures fault { IfErr result IsLineFault }
 {
-    write_line(writer, &count_line(alloc, base, key, entries)?)?;
-    write_entries(alloc, writer, entries)
+    write_line(writer, &count_line(alloc, base, key, front)?)?;
+    write_entries(alloc, writer, front)
 }
 
 // Writes a front, or that there is none.
@@ -141,18 +163,18 @@ fn write_front<W: Write>(
     writer: &mut W,
     base: Code,
     key: &Key,
-    front: Option<Vec<(PairingVector, Walk)>>,
+    front: Option<FrontView<'_>>,
 ) -> Result<(), SessionFault>
     ensures written { OnOk result (Appends (W.contents writer.old) (W.contents writer.new)
-        (Spec.front_lines base key.now (option_map (λ v. v.items) front))) }
+        (Spec.front_lines base key.now front.entry)) }
     ensures begun { OnErr result
         (AppendsBeginning (W.contents writer.old) (W.contents writer.new)
-        (Spec.front_lines base key.now (option_map (λ v. v.items) front))) }
+        (Spec.front_lines base key.now front.entry)) }
     ensures fault { IfErr result IsLineFault }
 {
     match front {
         None => write_line(writer, &none_line(alloc, base, key)?),
-        Some(entries) => write_listed(alloc, writer, base, key, &entries),
+        Some(front) => write_listed(alloc, writer, base, key, &front),
     }
 }
 
@@ -171,6 +193,5 @@ pub(crate) fn answer_front<W: Write>(
         (ShowsFront base key.now version.now)) }
     ensures fault { IfErr result IsLineFault }
 {
-    let front = version.front(alloc, base, key)?;
-    write_front(alloc, writer, base, key, front)
+    write_front(alloc, writer, base, key, version.front(base, key))
 }
