@@ -1,2 +1,3 @@
 pub mod CommandFacts
+pub mod HelpFacts
 pub mod OptionFacts

@@ -1,2 +1,3 @@
+pub mod Help
 pub mod Options
 pub mod Words

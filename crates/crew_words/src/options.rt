@@ -1,7 +1,8 @@
 //! The options of `run`: one for each setting, with its help.
 
-ghost use Rattle.std.specs.Prelude.{◌≡◌, ◌+◌, IfOk, vec_len};
+ghost use Rattle.std.specs.Prelude.{◌≡◌, ◌≤◌, IfOk, length, map, string_bytes};
 ghost use Rattle.clap.specs.Words.{found_of, one_of, rows_of};
+ghost use Rattle.crew_words.specs.Help as Spec;
 ghost use Rattle.crew_words.specs.Options.{number_in, settings_in};
 
 use clap::ArgMatches;
@@ -14,12 +15,12 @@ pub struct SettingOption {
     pub name: &'static str,
     /// What its number counts.
     pub unit: &'static str,
-    // What the setting is.
-    meaning: &'static str,
-    // The numbers that it may have.
-    range: &'static str,
-    // What else there is to know of it.
-    note: &'static str,
+    /// What the setting is.
+    pub meaning: &'static str,
+    /// The numbers that it may have.
+    pub range: &'static str,
+    /// What else there is to know of it.
+    pub note: &'static str,
 }
 
 /// The options, in the order of the numbers of their settings.
@@ -125,7 +126,9 @@ pub static OPTIONS: [SettingOption; 14] = [
 ];
 
 // The defaults, in the order of the numbers.
-fn defaults() -> [u32; 14] {
+fn defaults() -> [u32; 14]
+    ensures { result ≡ Spec.defaults }
+{
     let standard = Settings::standard();
     [
         standard.lead,
@@ -151,7 +154,9 @@ fn help_text(
     number: usize,
     option: &SettingOption,
     default: u32,
-) -> Result<String, AllocError> {
+) -> Result<String, AllocError>
+    ensures { IfOk result (λ text. string_bytes text ≡ Spec.help_text number option.now default) }
+{
     let (meaning, range, note) = (option.meaning, option.range, option.note);
     match format!(in alloc; "Setting {number}. {meaning}: {range}, {default} unless given{note}") {
         Ok(text) => Ok(text),
@@ -159,13 +164,15 @@ fn help_text(
     }
 }
 
-/// What `--help` says of each option.
-pub fn help_texts(alloc: Global) -> Result<Vec<String>, AllocError>
-    ensures { IfOk result (λ texts. vec_len texts ≡ 14) }
+/// What `--help` says of each option: the number of its setting, what it is, the numbers that it may
+/// have, its default and what else there is to know of it.
+pub fn help_texts(alloc: Global, options: &[SettingOption]) -> Result<Vec<String>, AllocError>
+    requires { length options.now ≤ 14 }
+    ensures { IfOk result (λ texts. map string_bytes texts.items ≡ Spec.help_of options.now) }
 {
     let defaults = defaults();
     let mut texts = Vec::new(alloc);
-    for (i, option) in OPTIONS.iter().enumerate() {
+    for (i, option) in options.iter().enumerate() {
         texts.push(help_text(alloc, i + 1, option, defaults[i])?)?;
     }
     Ok(texts)

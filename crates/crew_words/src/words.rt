@@ -116,6 +116,6 @@ pub fn read_words<S: AsStr>(alloc: Global, words: &[S]) -> Result<Settings, Erro
     ensures settings { IfOk result (λ s. s ≡ Spec.settings_of (map S.text words.now)) }
     ensures fails { FailsBy (Spec.faults_in (map S.text words.now)) result }
 {
-    let texts = help_texts(alloc)?;
+    let texts = help_texts(alloc, &OPTIONS)?;
     read_with(alloc, words, &texts)
 }

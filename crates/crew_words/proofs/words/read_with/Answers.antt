@@ -1,4 +1,4 @@
-use Rattle.std.proofs.Common.{◌≡◌, ◌∙◌, [], List, true, map, ap, refl, sym, subst, inl, Ok, Err, Result}
+use Rattle.std.proofs.Common.{◌≡◌, ◌∙◌, [], List, true, map, ap, refl, sym, subst, Ok, Err, Result}
 use Rattle.std.specs.Result.{IsErrAnd}
 use Rattle.std.specs.Option.{option_map_or}
 use Rattle.clap.specs.Faults.{fault_of, is_simple_and_free}
