@@ -1,22 +1,22 @@
 pub mod Alike
 pub mod Boards
-mod Cells
+pub mod Cells
 pub mod Chosen
-mod Claimed
+pub mod Claimed
 mod Counts
 pub mod CrewLaws
-mod Decided
-mod Finish
-mod Least
-mod Logged
-mod Marked
-mod NodeList
-mod OwnJobs
-mod Progress
+pub mod Decided
+pub mod Finish
+pub mod Least
+pub mod Logged
+pub mod Marked
+pub mod NodeList
+pub mod OwnJobs
+pub mod Progress
 mod Published
-mod Reached
-mod Replies
+pub mod Reached
+pub mod Replies
 pub mod Reuse
 pub mod Runs
-mod Served
-mod Sorted
+pub mod Served
+pub mod Sorted

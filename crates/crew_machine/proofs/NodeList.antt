@@ -15,7 +15,7 @@ use Rattle.crew_flights.specs.Codes.{code_cmp, code_cmp_total}
 use Rattle.crew_flights.specs.Timetable.{Timetable}
 use Rattle.crew_machine.specs.Crew.{DutyNode, IsNodeOf, RiseByNode, crew, node_cmp}
 use Rattle.crew_machine.specs.Worlds.{AreNodes}
-use Rattle.crew_pairing.specs.Duties.{HasFew, RiseByKey}
+use Rattle.crew_pairing.specs.Duties.{AreDuties, HasFew, RiseByKey}
 use Rattle.crew_pairing.specs.Keys.{key_cmp}
 use Rattle.crew_pairing.specs.declared.duty.Duty.{Duty}
 use Rattle.crew_resource.proofs.Members.{Member-flat_map_in, Member-flat_map_out, Member-map_in, Member-map_out, list_any_false, list_any_true}
@@ -95,7 +95,7 @@ append-rises : (xs ys : List DutyNode) → RiseByNode xs → RiseByNode ys → (
 append-rises [] ys h k f = k
 append-rises (x ∷ xs) ys h k f = (each-append (λ m. node_cmp x m ≡ Less) xs ys h.0 (λ y m. f x y (inl refl) m), append-rises xs ys h.1 k (λ z y m n. f z y (inr m) n))
 
-abbrev node-of : List ℕ → Duty → DutyNode
+abbrev pub node-of : List ℕ → Duty → DutyNode
 node-of base d = record { base = base; duty = d }
 
 at-one-base : (b : List ℕ) (o : Ordering) → ordering_then (code_cmp b b) o ≡ o
@@ -109,7 +109,7 @@ own-rises : (b : List ℕ) (ds : List Duty) → RiseByKey ds → RiseByNode (map
 own-rises b [] h = tt
 own-rises b (d ∷ ds) h = (own-each b d ds h.0, own-rises b ds h.1)
 
-abbrev listed : List (List ℕ) → List Duty → List DutyNode
+abbrev pub listed : List (List ℕ) → List Duty → List DutyNode
 listed bases ds = flat_map (λ b. map (node-of b) ds) bases
 
 listed-rises : (bases : List (List ℕ)) (ds : List Duty) → RiseByCode bases → RiseByKey ds → RiseByNode (listed bases ds)
@@ -125,10 +125,9 @@ listed-rises (b ∷ bases) ds h k =
     let here : node_cmp (node-of b d.0) (node-of f.0 e.0) ≡ Less = ap (λ z. ordering_then z (key_cmp d.0.key e.0.key)) less in
     subst (λ (z : DutyNode). node_cmp z y ≡ Less) d.2 (subst (λ (z : DutyNode). node_cmp (node-of b d.0) z ≡ Less) e.2 here)))
 
-pub some-nodes : (s : Settings) (t : Timetable) → HasFew s t → (nodes : List DutyNode) × AreNodes (crew s) t nodes
-some-nodes s t few =
-    let ds = few.0 in
-    let are = few.1 in
+-- each base of a timetable with each of its legal duties
+pub listed-nodes : (s : Settings) (t : Timetable) (ds : List Duty) → AreDuties s t ds → AreNodes (crew s) t (listed (fin.keys t.bases) ds)
+listed-nodes s t ds are =
     let bases = fin.keys t.bases in
     let from : (n : DutyNode) → Member (listed bases ds) n → IsNodeOf s t n = λ n m.
     (
@@ -141,4 +140,7 @@ some-nodes s t few =
     (
     let duty : Member ds n.duty = subst (Member ds) (sym is.legal.3) (are.every is.legal.0 is.legal.1 is.legal.2) in
     Member-flat_map_in (λ c. map (node-of c) ds) bases n.base n (is-base t n.base is.price is.based) (Member-map_in (node-of n.base) ds n.duty duty)) in
-    (listed bases ds, record { rise = listed-rises bases ds (bases-rise t) are.rising; exact = λ n. (from n, to n) })
+    record { rise = listed-rises bases ds (bases-rise t) are.rising; exact = λ n. (from n, to n) }
+
+pub some-nodes : (s : Settings) (t : Timetable) → HasFew s t → (nodes : List DutyNode) × AreNodes (crew s) t nodes
+some-nodes s t few = (listed (fin.keys t.bases) few.0, listed-nodes s t few.0 few.1)
