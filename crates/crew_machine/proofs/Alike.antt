@@ -24,7 +24,7 @@ rising [] h = tt
 rising (n ∷ ns) h = (h.0, rising ns h.1)
 
 module _ (s : Settings) (checked : IsChecked s) where
-  same-nodes : (t : Timetable) (ns ms : List DutyNode) → AreNodes (crew s) t ns → AreNodes (crew s) t ms → ns ≡ ms
+  pub same-nodes : (t : Timetable) (ns ms : List DutyNode) → AreNodes (crew s) t ns → AreNodes (crew s) t ms → ns ≡ ms
   same-nodes t ns ms h k =
       same-rising node_cmp node-total ns ms (rising ns h.rise) (rising ms k.rise) (λ n m. (k.exact n).1 ((h.exact n).0 m)) (λ n m. (h.exact n).1 ((k.exact n).0 m))
 

@@ -42,7 +42,7 @@ true-of : (b : Bool) → T b → b ≡ true
 true-of true h = refl
 true-of false h = absurd h
 
-abbrev RiseByCode : List (List ℕ) → Type 0
+abbrev pub RiseByCode : List (List ℕ) → Type 0
 RiseByCode [] = Unit {0}
 RiseByCode (b ∷ bs) = Each (λ c. code_cmp b c ≡ Less) bs × RiseByCode bs
 
@@ -54,7 +54,7 @@ rises : (es : List (List ℕ × ℤ)) → is_sorted code_cmp es ≡ true → Ris
 rises [] s = tt
 rises (h ∷ es) s = (each-below h.0 es (both-first _ _ s), rises es (both-second _ _ s))
 
-bases-rise : (t : Timetable) → RiseByCode (fin.keys t.bases)
+pub bases-rise : (t : Timetable) → RiseByCode (fin.keys t.bases)
 bases-rise t = rises (fin.entries t.bases) (true-of (is_sorted code_cmp (fin.entries t.bases)) (fin.entries_sorted t.bases))
 
 some-of : (o : Option ℤ) → is_some o ≡ true → (p : ℤ) × (o ≡ Some p)
@@ -64,7 +64,7 @@ some-of (Some p) e = (p, refl)
 never-both : {A : Type 0} (b : Bool) → b ≡ true → b ≡ false → A
 never-both b t f = absurd (let e : true ≡ false = sym t ∙ f in let q : ⊥ = (cc) in q)
 
-has-price : (t : Timetable) (base : List ℕ) → Member (fin.keys t.bases) base → (p : ℤ) × (fin.get t.bases base ≡ Some p)
+pub has-price : (t : Timetable) (base : List ℕ) → Member (fin.keys t.bases) base → (p : ℤ) × (fin.get t.bases base ≡ Some p)
 has-price t base m =
     some-of (fin.get t.bases base)
     (fin.contains_key-keys t.bases base
@@ -73,7 +73,7 @@ has-price t base m =
     (λ f. never-both (eq_by_cmp code_cmp base base) (code-itself base base refl) (list_any_false (eq_by_cmp code_cmp base) (fin.keys t.bases) f base m))
     (cases_Bool (list_any (eq_by_cmp code_cmp base) (fin.keys t.bases))))
 
-is-base : (t : Timetable) (base : List ℕ) (p : ℤ) → fin.get t.bases base ≡ Some p → Member (fin.keys t.bases) base
+pub is-base : (t : Timetable) (base : List ℕ) (p : ℤ) → fin.get t.bases base ≡ Some p → Member (fin.keys t.bases) base
 is-base t base p e =
     let any : list_any (eq_by_cmp code_cmp base) (fin.keys t.bases) ≡ true = sym (fin.contains_key-keys t.bases base) ∙ ap is_some e in
     let x = list_any_true (eq_by_cmp code_cmp base) (fin.keys t.bases) any in
