@@ -3,8 +3,7 @@ ghost use Rattle.std.specs.Prelude.{◌≡◌, IsTrue, ◌↔◌, slice_get};
 ghost use mathlib.Core.List.{IsPrefix};
 ghost use Rattle.crew_publish.specs.Chain.{Follows};
 
-use crate::same::is_entry;
-use crew_version::Version;
+use crew_version::{Version, is_entry};
 
 // Whether the entry at a place of both versions is one.
 fn is_same_at(earlier: &Version, later: &Version, place: usize) -> bool

@@ -10,7 +10,6 @@ mod fault;
 mod follow;
 mod note;
 mod publisher;
-mod same;
 mod shown;
 mod viewer;
 

@@ -1,5 +1,5 @@
--- The duty of a node in the sweep of its base.
-use Rattle.std.proofs.Common.{◌≡◌, ℕ, List, Some, subst, length, arith}
+-- Where a duty's departure stands.
+use Rattle.std.proofs.Common.{◌≡◌, Some, subst, length, arith}
 use Rattle.std.specs.Prelude.{slice_get}
 use Rattle.std.specs.List.{range_with_len}
 use Rattle.std.proofs.lemmas.List.FromFn.{get_or-range_with_len, length-range_with_len}
@@ -8,15 +8,12 @@ use Rattle.crew_net.specs.Events.{AreEvents, departure_cmp}
 use Rattle.crew_net.specs.Nets.{AreByReport, Net}
 use Rattle.crew_pairing.specs.Events.{departure_of}
 use Rattle.crew_pairing.specs.declared.duty.Duty.{Duty}
-use Rattle.crew_pairing.proofs.Tree.{Each-member}
 use Rattle.crew_resource.proofs.Members.{Member-get_or, Member-map_in}
 use Rattle.crew_resource.specs.Members.{Member}
 use Rattle.crew_solve.proofs.Departing.{get-by, member-at}
-use Rattle.crew_solve.specs.Machinery.Homes.{IsFit}
-use Rattle.crew_solve.specs.Machinery.Solved.{IsSolved, IsSweepOf}
 use Rattle.crew_sweep.proofs.Numbers.{at-departure, get-within}
 use Rattle.crew_sweep.specs.Machinery.Numbered.{departure_place}
-use Rattle.crew_sweep.specs.Sweeps.{BaseSweep, departure_at, in_order}
+use Rattle.crew_sweep.specs.Sweeps.{departure_at, in_order}
 
 -- a duty's departure stands at its place
 pub stands : (net : Net) (d : Duty) → AreEvents departure_of departure_cmp net.duties net.departures → AreByReport net.departures net.by_report → Member net.duties d
@@ -32,16 +29,3 @@ stands net d events order m =
     let placed = Member-shuffled all net.by_report k.0 order.all among in
     let held = Member-map_in (departure_at net.departures) net.by_report k.0 placed in
     at-departure (in_order net) g (subst (Member (in_order net)) (get-by net.departures k.0 _ g k.1) held)
-
--- the sweep found is one of the network, and fit
-pub record IsOwn (net : Net) (b : BaseSweep) : Type 0 where
-  pub net-is : b.net ≡ net
-  pub fit : IsFit b
-
-pub own-of : (net : Net) (sweeps seen : List BaseSweep) (base : List ℕ) (b : BaseSweep) → IsSolved net sweeps → seen ≡ sweeps → IsSweepOf seen base b → IsOwn net b
-own-of net sweeps seen base b solved same found =
-    let m = subst (λ (l : List BaseSweep). Member l b) same found.among in
-    record {
-      net-is = Each-member (λ (x : BaseSweep). x.net ≡ net) sweeps b solved.nets m;
-      fit = Each-member IsFit sweeps b solved.fit m;
-    }

@@ -1,5 +1,5 @@
 -- What comes home is what the fronts show.
-use Rattle.std.proofs.Common.{◌≡◌, ◌∙◌, ◌≤◌, ◌<◌, ◌+◌, ℕ, zero, suc, true, false, cond, List, [], Option, Some, Bool, inl, inr, refl, sym, ap, subst, arith, length, get_or}
+use Rattle.std.proofs.Common.{◌≡◌, ◌∙◌, ◌<◌, ◌+◌, ℕ, zero, suc, true, false, cond, List, [], Option, Some, Bool, inl, inr, refl, sym, ap, subst, arith, length, get_or}
 use Rattle.std.specs.Prelude.{slice_get}
 use Rattle.std.specs.FinMap as fin
 use Rattle.std.specs.List.{flat_map, range_with_len}
@@ -11,7 +11,7 @@ use Rattle.crew_anchor.proofs.Shifting.{anchored-shown, shown-anchored}
 use Rattle.crew_anchor.specs.Machinery.Bounds.{fits_in, is_ready}
 use Rattle.crew_pairing.proofs.Shuffled.{Member-shuffled}
 use Rattle.crew_flights.specs.Codes.{code_cmp}
-use Rattle.crew_flights.specs.Timetable.{IsSound, Timetable}
+use Rattle.crew_flights.specs.Timetable.{Timetable}
 use Rattle.crew_net.specs.Events.{leaves_at}
 use Rattle.crew_net.specs.Nets.{AreByReport, IsNetOf, Net}
 use Rattle.crew_pairing.specs.Duties.{AreDuties, flights_of}
@@ -24,8 +24,8 @@ use Rattle.crew_pairing.specs.declared.vector.PairingVector.{PairingVector}
 use Rattle.crew_resource.proofs.Members.{Member-flat_map_in, Member-flat_map_out, Member-map_in, Member-map_out}
 use Rattle.crew_resource.specs.Machinery.Uses.{HasRoom}
 use Rattle.crew_resource.specs.Members.{Member}
-use Rattle.crew_rules.specs.Settings.{IsChecked}
 use Rattle.crew_solve.specs.Machinery.Homes.{HasPay, IsFit, boarding, ended_by, home_at, home_by, home_from, home_of, leaving, priced, resource_of}
+use Rattle.crew_solve.specs.Machinery.Planned.{IsOver}
 use Rattle.crew_solve.proofs.Departing.{departs, distinct-in-order, get-by, leaves-own, map-within, member-at, own-leaves, rank-in, rank-out}
 use Rattle.crew_solve.proofs.Reach.{vector-pay, vector-room}
 use Rattle.crew_sweep.proofs.Numbers.{at-departure, get-member, get-within, place-departure}
@@ -33,14 +33,6 @@ use Rattle.crew_sweep.specs.Machinery.Numbered.{departure_place}
 use Rattle.crew_sweep.specs.Sweeps.{BaseSweep, ShowsFronts, departure_at, front_at, in_order}
 use Rattle.crew_vector.proofs.Orders.{code-itself, same-code}
 use Rattle.crew_vector.specs.declared.priced.PricedPairing.{PricedPairing}
-
--- what is known of a network
-pub record IsOver (t : Timetable) (net : Net) : Type 0 where
-  pub checked : IsChecked net.settings
-  pub sound : IsSound t
-  pub built : IsNetOf net.settings t net.duties net
-  pub duties : AreDuties net.settings t net.duties
-  pub few : length net.duties ≤ 200_000
 
 -- a duty's departure stands in order at its place
 range-has : (from n i : ℕ) → i < n → Member (range_with_len from n) (from + i)

@@ -10,10 +10,12 @@ pub mod Reach
 pub mod Least
 pub mod Homing
 pub mod Solving
+pub mod Solved
 pub mod Shown
 pub mod Lent
 pub mod Entered
 pub mod Swept
+pub mod OneNet
 pub mod Keeping
 pub mod Cheapest
 pub mod OneList

@@ -1,6 +1,7 @@
 -- Lists that are gone through from their first item on.
-use Rattle.std.proofs.Common.{◌≡◌, ◌∙◌, ◌<◌, ◌+◌, ℕ, zero, suc, List, [], ◌∷◌, ◌++◌, append-nil, append_assoc, length, refl, sym, ap, arith, take, get_or}
+use Rattle.std.proofs.Common.{◌≡◌, ◌∙◌, ◌<◌, ◌+◌, ℕ, zero, suc, List, [], ◌∷◌, ◌++◌, append-nil, append_assoc, length, map, refl, sym, ap, arith, take, get_or}
 use Rattle.std.specs.List.{flat_map, range_with_len}
+use Rattle.std.proofs.lemmas.List.{map-append}
 use Rattle.crew_resource.specs.Members.{Each}
 
 pub flat-append : {X Y : Type 0} (f : X → List Y) (xs ys : List X) → flat_map f (xs ++ ys) ≡ flat_map f xs ++ flat_map f ys
@@ -17,6 +18,13 @@ take-more {X} (x ∷ xs) (suc k) d h =
 
 pub flat-more : {X Y : Type 0} (f : X → List Y) (xs : List X) (k : ℕ) (d : X) → k < length xs → flat_map f (take (k + 1) xs) ≡ flat_map f (take k xs) ++ f (get_or xs k d)
 flat-more f xs k d h = ap (flat_map f) (take-more xs k d h) ∙ (flat-append f (take k xs) (get_or xs k d ∷ []) ∙ ap (λ l. flat_map f (take k xs) ++ l) (append-nil (f (get_or xs k d))))
+
+-- the same of what items stand for
+pub flat-more-of : {A X Y : Type 0} (g : A → X) (f : X → List Y) (xs : List A) (k : ℕ) (d : A) → k < length xs → flat_map f (map g (take (k + 1) xs)) ≡ flat_map f (map g (take k xs)) ++ f (g (get_or xs k d))
+flat-more-of g f xs k d h =
+    let one = get_or xs k d in
+    ap (λ l. flat_map f (map g l)) (take-more xs k d h)
+    ∙ (ap (flat_map f) (map-append g (take k xs) (one ∷ [])) ∙ (flat-append f (map g (take k xs)) (g one ∷ []) ∙ ap (λ l. flat_map f (map g (take k xs)) ++ l) (append-nil (f (g one)))))
 
 range-more : (from n : ℕ) → range_with_len from (n + 1) ≡ range_with_len from n ++ (from + n) ∷ []
 range-more from zero = let e : from + 0 ≡ from = omega arith in rw e refl

@@ -1,5 +1,5 @@
 -- The entries of a front, in order of vector.
-use Rattle.std.proofs.Common.{◌≡◌, ◌∙◌, ◌≤◌, ◌+◌, ℕ, zero, suc, ℤ, Bool, true, false, cond, List, [], ◌∷◌, Some, refl, sym, ap, inl, inr, length, take, arith, pos, ◌*ℤ◌}
+use Rattle.std.proofs.Common.{◌≡◌, ◌∙◌, ◌≤◌, ◌+◌, ℕ, zero, suc, ℤ, Bool, true, false, cond, List, [], ◌∷◌, Some, refl, sym, ap, inl, inr, length, map, take, arith, pos, ◌*ℤ◌}
 use Rattle.std.specs.Prelude.{slice_get}
 use Rattle.std.specs.Ordering.{eq_by_cmp, int_cmp, ordering_then}
 use Rattle.crew_anchor.specs.Anchors.{shown}
@@ -34,21 +34,22 @@ place-here p (y ∷ ys) (suc i) x e h f =
     let k = place-split (p y) (place_of p (take i ys)) i h in
     ap (λ b. cond b 0 (suc (place_of p ys))) k.0 ∙ ap suc (place-here p ys i x e k.1 f)
 
--- the sweep of a base
-pub among-at : (sweeps : List BaseSweep) (i : ℕ) (b : BaseSweep) (base : List ℕ) → slice_get sweeps i ≡ Some b → Each (λ (x : BaseSweep). eq_by_cmp code_cmp x.base base ≡ false) (take i sweeps)
-    → eq_by_cmp code_cmp b.base base ≡ true → (d : Duty) → front_among sweeps base d ≡ front_at b d
-among-at [] i b base e h t d = absurd (let q : ⊥ = (cc) in q)
-among-at (x ∷ xs) zero b base e h t d =
-    let q : x ≡ b = (cc) in
-    ap (λ k. cond k (front_at x d) (front_among xs base d)) (ap (λ (y : BaseSweep). eq_by_cmp code_cmp y.base base) q ∙ t) ∙ ap (λ y. front_at y d) q
-among-at (x ∷ xs) (suc i) b base e h t d = ap (λ k. cond k (front_at x d) (front_among xs base d)) h.0 ∙ among-at xs i b base e h.1 t d
+-- the sweep of a base, among those that stand for others
+module _ {A : Type 0} (f : A → BaseSweep) where
+  pub among-at : (xs : List A) (i : ℕ) (a : A) (base : List ℕ) → slice_get xs i ≡ Some a → Each (λ x. eq_by_cmp code_cmp (f x).base base ≡ false) (take i xs)
+      → eq_by_cmp code_cmp (f a).base base ≡ true → (d : Duty) → front_among (map f xs) base d ≡ front_at (f a) d
+  among-at [] i a base e h t d = absurd (let q : ⊥ = (cc) in q)
+  among-at (x ∷ xs) zero a base e h t d =
+      let q : x ≡ a = (cc) in
+      ap (λ k. cond k (front_at (f x) d) (front_among (map f xs) base d)) (ap (λ y. eq_by_cmp code_cmp (f y).base base) q ∙ t) ∙ ap (λ y. front_at (f y) d) q
+  among-at (x ∷ xs) (suc i) a base e h t d = ap (λ k. cond k (front_at (f x) d) (front_among (map f xs) base d)) h.0 ∙ among-at xs i a base e h.1 t d
 
-pub none-at : (sweeps : List BaseSweep) (i : ℕ) (base : List ℕ) → length sweeps ≤ i → Each (λ (x : BaseSweep). eq_by_cmp code_cmp x.base base ≡ false) (take i sweeps)
-    → (b : BaseSweep) → Member sweeps b → b.base ≡ base → ⊥
-none-at [] i base h e b m own = absurd m
-none-at (x ∷ xs) zero base h e b m own = absurd (omega (arith, h))
-none-at (x ∷ xs) (suc i) base h e b (inl q) own = let t = code-itself x.base base (ap (λ (y : BaseSweep). y.base) q ∙ own) in let both = sym t ∙ e.0 in let z : ⊥ = (cc) in z
-none-at (x ∷ xs) (suc i) base h e b (inr m) own = none-at xs i base (omega (arith, h)) e.1 b m own
+  pub none-at : (xs : List A) (i : ℕ) (base : List ℕ) → length xs ≤ i → Each (λ x. eq_by_cmp code_cmp (f x).base base ≡ false) (take i xs)
+      → (b : BaseSweep) → Member (map f xs) b → b.base ≡ base → ⊥
+  none-at [] i base h e b m own = absurd m
+  none-at (x ∷ xs) zero base h e b m own = absurd (omega (arith, h))
+  none-at (x ∷ xs) (suc i) base h e b (inl q) own = let t = code-itself (f x).base base (ap (λ (y : BaseSweep). y.base) q ∙ own) in let both = sym t ∙ e.0 in let z : ⊥ = (cc) in z
+  none-at (x ∷ xs) (suc i) base h e b (inr m) own = none-at xs i base (omega (arith, h)) e.1 b m own
 
 -- vectors shown as of a minute compare as they did
 pub shown-listed : (rate : ℕ) (minute : ℤ) (u v : PairingVector) → vector_cmp (shown rate minute u) (shown rate minute v) ≡ vector_cmp u v

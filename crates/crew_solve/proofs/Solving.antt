@@ -13,16 +13,16 @@ use Rattle.crew_pairing.specs.declared.duty.Duty.{Duty}
 use Rattle.crew_pairing.specs.declared.vector.PairingVector.{PairingVector}
 use Rattle.crew_pairing.proofs.Tree.{Each-member}
 use Rattle.crew_resource.proofs.Members.{Member-flat_map_in, Member-flat_map_out, Member-map_in, Member-map_out}
-use Rattle.crew_resource.specs.Members.{Each, Member}
-use Rattle.crew_solve.specs.Machinery.Homes.{IsFit, home_of, least_of, priced}
-use Rattle.crew_solve.specs.Machinery.Solved.{AreSweeps, IsSolved}
+use Rattle.crew_resource.specs.Members.{Member}
+use Rattle.crew_solve.specs.Machinery.Homes.{home_of, least_of, priced}
+use Rattle.crew_solve.specs.Machinery.Solved.{AreSweeps}
 use Rattle.crew_solve.specs.Solutions.{front_among}
 use Rattle.crew_solve.proofs.Bases.{entry-of, price-of}
-use Rattle.crew_solve.proofs.Homing.{IsOver, fit, home-in, home-out}
+use Rattle.crew_solve.specs.Machinery.Planned.{IsOver}
+use Rattle.crew_solve.proofs.Homing.{home-in, home-out}
 use Rattle.crew_solve.proofs.Least.{none-least, some-least}
 use Rattle.crew_sweep.specs.Sweeps.{BaseSweep, ShowsFronts, front_at}
 use Rattle.crew_vector.proofs.Cheapest.{entry-pairing, least-entry, no-entry}
-use Rattle.crew_vector.proofs.Cuts.{each-of}
 use Rattle.crew_vector.proofs.Orders.{code-itself, same-code}
 use Rattle.crew_vector.proofs.Unique.{same-front}
 use Rattle.crew_vector.specs.Bests.{AreFronts, IsBest, IsCleanPairing, IsHomeEntry}
@@ -73,10 +73,6 @@ module _ (t : Timetable) (net : Net) (sweeps : List BaseSweep) (over : IsOver t 
 
   based-of : (b : BaseSweep) → Member sweeps b → fin.get t.bases b.base ≡ Some b.price
   based-of b m = price-of t (pair b) (subst (λ (es : List (List ℕ × ℤ)). Member es (pair b)) are.bases (Member-map_in pair sweeps b m))
-
-  -- each can be shown
-  pub all-fit : Each IsFit sweeps
-  all-fit = each-of IsFit sweeps (λ b m. fit t b (over-of b m) (shows-of b m) (based-of b m))
 
   sweep-of : (base : List ℕ) (price : ℤ) → fin.get t.bases base ≡ Some price → IsFound sweeps base
   sweep-of base price h =
@@ -146,15 +142,6 @@ module _ (t : Timetable) (net : Net) (sweeps : List BaseSweep) (over : IsOver t 
   pub least-is-best : IsBest net.settings t (least_of None all)
   least-is-best = best-of (least_of None all) refl
 
-  base-keys : (ss : List BaseSweep) → map (λ (b : BaseSweep). b.base) ss ≡ map (λ (e : List ℕ × ℤ). e.0) (map pair ss)
-  base-keys [] = refl
-  base-keys (b ∷ ss) = ap (λ l. b.base ∷ l) (base-keys ss)
-
-  pub solved : IsSolved net sweeps
-  solved = record {
-    bases = base-keys sweeps ∙ (ap (map (λ (e : List ℕ × ℤ). e.0)) are.bases ∙ sym over.built.bases);
-    nets = are.nets;
-    fit = all-fit;
-    departures = over.built.departures;
-    by_report = over.built.by_report;
-  }
+pub base-keys : (ss : List BaseSweep) → map (λ (b : BaseSweep). b.base) ss ≡ map (λ (e : List ℕ × ℤ). e.0) (map (λ (b : BaseSweep). (b.base, b.price)) ss)
+base-keys [] = refl
+base-keys (b ∷ ss) = ap (λ l. b.base ∷ l) (base-keys ss)

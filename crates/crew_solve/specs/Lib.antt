@@ -1,3 +1,4 @@
 pub mod Solutions
+pub mod Plans
 pub mod Cheapest
 pub mod Machinery

@@ -3,4 +3,5 @@ pub mod Floors
 pub mod Homes
 pub mod Keeps
 pub mod Lent
+pub mod Planned
 pub mod Solved

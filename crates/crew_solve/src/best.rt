@@ -1,5 +1,6 @@
 //! The least pairings of all that comes home.
-ghost use Rattle.std.specs.Prelude.{◌≡◌, ◌<◌, ◌≤◌, ℕ, IfOk, None, OnOk, Some, [], get_or, length, slice_get};
+ghost use Rattle.std.specs.Prelude.{◌≡◌, ◌<◌, ◌≤◌, ℕ, IfOk, None, OnOk, Some, [], get_or, length, map, slice_get};
+ghost use Rattle.std.specs.Arc.{arc_value};
 ghost use Rattle.std.specs.List.{flat_map};
 ghost use Rattle.crew_pairing.specs.Events.{IsSound, departure_of};
 ghost use Rattle.crew_pairing.specs.declared.duty.Duty.{Duty};
@@ -13,6 +14,7 @@ ghost use Rattle.crew_solve.specs.Machinery.Keeps.{keep, keep_all};
 ghost use Rattle.crew_solve.specs.Machinery.Homes.{HasPay, IsFit, IsShowable};
 ghost use Rattle.crew_sweep.specs.Sweeps.{in_order};
 
+use crate::base_fronts::BaseFronts;
 use crate::kept::Kept;
 use crew_flights::Code;
 use crew_pairing::{Duty, PairingVector, Walk};
@@ -20,6 +22,7 @@ use crew_pool::{LabelWalk, View};
 use crew_sweep::Sweep;
 use crew_vector::PricedPairing;
 use std::alloc::{AllocError, Global};
+use std::sync::Arc;
 
 // The pairing of a vector and a walk that come home to a base.
 fn priced(trip_rig: u32, base: Code, vector: &PairingVector, walk: Walk) -> PricedPairing
@@ -259,16 +262,16 @@ fn keep_of(alloc: Global, sweep: &Sweep, trip_rig: u32, kept: &mut Kept) -> Resu
 /// Keeps the least of all that comes home to its base.
 pub(crate) fn keep_home(
     alloc: Global,
-    sweeps: &[Sweep],
+    fronts: &[Arc<BaseFronts, Global>],
     trip_rig: u32,
     kept: &mut Kept,
 ) -> Result<(), AllocError>
-    requires rate { Each (λ b. trip_rig ≡ b.net.settings.trip_rig) sweeps.now }
-    requires fit { Each IsFit sweeps.now }
-    ensures { OnOk result (kept.new ≡ keep_all kept.old (flat_map Spec.home_of sweeps.now)) }
+    requires { Each (λ b. trip_rig ≡ b.net.settings.trip_rig) (map arc_value fronts.now) }
+    ensures { OnOk result
+        (kept.new ≡ keep_all kept.old (flat_map Spec.home_of (map arc_value fronts.now))) }
 {
-    for sweep in sweeps {
-        keep_of(alloc, sweep, trip_rig, kept)?;
+    for base in fronts {
+        keep_of(alloc, base.sweep(), trip_rig, kept)?;
     }
     Ok(())
 }
@@ -276,15 +279,14 @@ pub(crate) fn keep_home(
 /// The least of all that comes home to its base.
 pub(crate) fn best_of(
     alloc: Global,
-    sweeps: &[Sweep],
+    fronts: &[Arc<BaseFronts, Global>],
     trip_rig: u32,
 ) -> Result<Option<PricedPairing>, AllocError>
-    requires rate { Each (λ b. trip_rig ≡ b.net.settings.trip_rig) sweeps.now }
-    requires fit { Each IsFit sweeps.now }
+    requires { Each (λ b. trip_rig ≡ b.net.settings.trip_rig) (map arc_value fronts.now) }
     ensures { IfOk result (λ best. best
-        ≡ Spec.least_of None (flat_map Spec.home_of sweeps.now)) }
+        ≡ Spec.least_of None (flat_map Spec.home_of (map arc_value fronts.now))) }
 {
     let mut kept = Kept::new(alloc, 1);
-    keep_home(alloc, sweeps, trip_rig, &mut kept)?;
+    keep_home(alloc, fronts, trip_rig, &mut kept)?;
     Ok(kept.into_first())
 }

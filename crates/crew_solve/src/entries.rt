@@ -1,16 +1,20 @@
 //! Where the node of a base and a duty stands.
-ghost use Rattle.std.specs.Prelude.{◌≡◌, IfSome, None};
-ghost use Rattle.crew_net.specs.Events.{leaves_at};
+ghost use Rattle.std.specs.Prelude.{◌≡◌, IfSome, None, map};
+ghost use Rattle.std.specs.Arc.{arc_value};
+ghost use Rattle.crew_net.specs.Events.{AreEvents, departure_cmp, leaves_at};
+ghost use Rattle.crew_net.specs.Nets.{AreByReport};
 ghost use Rattle.crew_pairing.specs.Events.{departure_of};
 ghost use Rattle.crew_resource.specs.Members.{Member};
 ghost use Rattle.crew_solve.specs.Machinery.Solved.{IsSweepOf};
 ghost use Rattle.crew_sweep.specs.Machinery.Numbered.{departure_place};
 ghost use Rattle.crew_sweep.specs.Sweeps.{BaseSweep, in_order};
 
+use crate::base_fronts::BaseFronts;
 use crew_flights::Code;
 use crew_net::Net;
 use crew_pairing::{Departure, Duty};
-use crew_sweep::Sweep;
+use std::alloc::Global;
+use std::sync::Arc;
 
 // Whether a duty leaves at a departure.
 fn is_left_by(departure: &Departure, duty: &Duty) -> bool
@@ -21,7 +25,9 @@ fn is_left_by(departure: &Departure, duty: &Duty) -> bool
 
 /// The place of a duty's departure in order of report.
 pub(crate) fn place_of(net: &Net, duty: &Duty) -> usize
-    ensures { result ≡ departure_place (in_order net.now) (departure_of duty.now) }
+    ensures events { AreEvents departure_of departure_cmp net.now.duties net.now.departures }
+    ensures order { AreByReport net.now.departures net.now.by_report }
+    ensures place { result ≡ departure_place (in_order net.now) (departure_of duty.now) }
 {
     let places = net.by_report();
     let departures = net.departures();
@@ -33,14 +39,19 @@ pub(crate) fn place_of(net: &Net, duty: &Duty) -> usize
     places.len()
 }
 
-/// The sweep of a base.
-pub(crate) fn sweep_of(sweeps: &[Sweep], base: Code) -> Option<&Sweep>
-    ensures found { IfSome result (λ sweep. IsSweepOf sweeps.now base sweep.now) }
-    ensures none { result ≡ None → (b : BaseSweep) → Member sweeps.now b → b.base ≡ base → ⊥ }
+/// The fronts of a base.
+pub(crate) fn fronts_of(
+    fronts: &[Arc<BaseFronts, Global>],
+    base: Code,
+) -> Option<&Arc<BaseFronts, Global>>
+    ensures found { IfSome result
+        (λ found. IsSweepOf (map arc_value fronts.now) base (arc_value found.now)) }
+    ensures none { result ≡ None
+        → (b : BaseSweep) → Member (map arc_value fronts.now) b → b.base ≡ base → ⊥ }
 {
-    for sweep in sweeps {
-        if sweep.base() == base {
-            return Some(sweep);
+    for found in fronts {
+        if found.base() == base {
+            return Some(found);
         }
     }
     None

@@ -1,21 +1,28 @@
 //! All fronts and the best pairing of a timetable: a pass over the network for each base, and the
 //! least of what comes home; and the pairings that cost least. `solve_next` does so beside an earlier
-//! solution, from which it takes what is as it was, and gives what is given from scratch. `laws` has
-//! that the pairings that cost least are one list.
+//! solution, from which it takes what is as it was, and gives what is given from scratch. A `Plan`
+//! has what the passes share, so that threads can make the fronts of one base each, in any order, and
+//! promises that these are what the whole gives. `laws` has that the pairings that cost least are one
+//! list.
 #![tactic(auto)]
 
+mod alike;
+mod base_fronts;
 mod best;
 mod entries;
 mod front_view;
 mod kept;
 pub mod laws;
 mod past;
+mod plan;
 mod scratch;
 mod solution;
 mod sweeps;
 mod walk_view;
 
+pub use base_fronts::BaseFronts;
 pub use front_view::{FrontEntries, FrontView};
+pub use plan::Plan;
 pub use scratch::{solve, solve_listed, solve_next, solve_with};
 pub use solution::Solution;
 pub use walk_view::WalkView;

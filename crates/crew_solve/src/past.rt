@@ -1,53 +1,92 @@
 //! What an earlier solution has for a network.
-ghost use Rattle.std.specs.Prelude.{◌≡◌, IfOk, IfSome};
+ghost use Rattle.std.specs.Prelude.{◌≡◌, IfOk, IfSome, map};
 ghost use Rattle.std.specs.Arc.{arc_value};
 ghost use Rattle.crew_flights.specs.Timetable.{IsBasePrice};
 ghost use Rattle.crew_resource.specs.Members.{Member};
-ghost use Rattle.crew_solve.specs.Machinery.Solved.{IsPast, IsSweepable, IsSwept};
+ghost use Rattle.crew_solve.specs.Machinery.Planned.{IsFromPast, IsPast, IsSweepable};
+ghost use Rattle.crew_solve.specs.Plans.{IsSwept};
 
-use crate::entries::sweep_of;
+use crate::alike::are_one;
+use crate::base_fronts::BaseFronts;
+use crate::entries::fronts_of;
+use crate::solution::Solution;
 use crew_carry::Twins;
 use crew_flights::Code;
-use crew_net::Net;
-use crew_sweep::{Sweep, renew};
+use crew_net::{Net, arrival_places};
+use crew_sweep::{Sweep, departure_turns, renew};
 use std::alloc::{AllocError, Global};
 use std::sync::Arc;
 
-/// The sweeps of an earlier network, the turns of its duties, what it has alike with the network
-/// now, and where the duties of that one arrive.
+/// The fronts of an earlier network's bases, the turns of its duties, what it has alike with the
+/// network now, where the duties of that one arrive, and whether the two are one.
 #[derive(Drop)]
-pub(crate) struct Past<'a> {
-    pub(crate) sweeps: &'a [Sweep],
-    pub(crate) turns: &'a [u32],
-    pub(crate) twins: &'a Twins,
-    pub(crate) places: &'a [u32],
+pub(crate) struct Past {
+    pub(crate) fronts: Vec<Arc<BaseFronts, Global>>,
+    pub(crate) turns: Vec<u32>,
+    pub(crate) twins: Twins,
+    pub(crate) places: Vec<u32>,
+    pub(crate) is_same: bool,
 }
 
-impl Past<'_> {
-    /// The earlier sweep of a base, where it was made at this price.
-    pub(crate) fn sweep_at(&self, base: Code, price: i64) -> Option<&Sweep>
-        ensures { IfSome result (λ sweep. Member self.now.sweeps.now sweep.now
-            × (sweep.now.base ≡ base) × (sweep.now.price ≡ price)) }
+// The fronts of all bases, shared.
+fn shared(
+    alloc: Global,
+    fronts: &[Arc<BaseFronts, Global>],
+) -> Result<Vec<Arc<BaseFronts, Global>>, AllocError>
+    ensures { IfOk result (λ all. map arc_value all.items ≡ map arc_value fronts.now) }
+{
+    let mut all = Vec::with_capacity(alloc, fronts.len())?;
+    for base in fronts {
+        all.push(Arc::try_clone(base)?)?;
+    }
+    Ok(all)
+}
+
+impl Past {
+    /// What an earlier solution has for a network under the same settings.
+    pub(crate) fn of(alloc: Global, earlier: &Solution, net: &Net) -> Result<Past, AllocError>
+        requires { earlier.now.net.settings ≡ net.now.settings }
+        ensures { IfOk result (IsPast net.now) }
     {
-        let sweep = sweep_of(self.sweeps, base)?;
-        if sweep.price() == price {
-            Some(sweep)
+        let before = earlier.net();
+        let turns = departure_turns(alloc, before)?;
+        let twins = Twins::of(alloc, before, net)?;
+        let places = arrival_places(alloc, net)?;
+        let is_same = are_one(before, net, &twins);
+        let fronts = shared(alloc, earlier.fronts())?;
+        Ok(Past {
+            fronts,
+            turns,
+            twins,
+            places,
+            is_same,
+        })
+    }
+
+    /// The earlier fronts of a base, where they were made at this price.
+    pub(crate) fn fronts_at(&self, base: Code, price: i64) -> Option<&Arc<BaseFronts, Global>>
+        ensures { IfSome result
+            (λ fronts. IsFromPast self.now base price (arc_value fronts.now)) }
+    {
+        let fronts = fronts_of(&self.fronts, base)?;
+        if fronts.sweep().price() == price {
+            Some(fronts)
         } else {
             None
         }
     }
 
-    /// The sweep of an earlier one's base, at its price, over the network now.
+    /// The sweep of earlier fronts' base, at its price, over the network now.
     pub(crate) fn renew(
         &self,
         alloc: Global,
         net: &Arc<Net, Global>,
         turns: &[u32],
-        earlier: &Sweep,
+        earlier: &BaseFronts,
     ) -> Result<Sweep, AllocError>
         requires past { IsPast (arc_value net.now) self.now }
         requires sweepable { IsSweepable (arc_value net.now) turns.now }
-        requires among { Member self.now.sweeps.now earlier.now }
+        requires among { Member (map arc_value self.now.fronts.items) earlier.now }
         requires price { IsBasePrice earlier.now.price }
         ensures { IfOk result (IsSwept (arc_value net.now)
             (earlier.now.base, earlier.now.price)) }
@@ -55,12 +94,12 @@ impl Past<'_> {
         let net = Arc::try_clone(net)?;
         renew(
             alloc,
-            earlier,
-            self.turns,
-            self.twins,
+            earlier.sweep(),
+            &self.turns,
+            &self.twins,
             net,
             turns,
-            self.places,
+            &self.places,
         )
     }
 }

@@ -1,24 +1,25 @@
 //! What a timetable gives.
 ghost use Rattle.std.specs.Arc.{arc_value};
 ghost use Rattle.std.specs.Option.{option_copied};
-ghost use Rattle.std.specs.Prelude.{◌≡◌, IfOk};
+ghost use Rattle.std.specs.Prelude.{◌≡◌, IfOk, map};
 ghost use Rattle.crew_resource.specs.Members.{Each};
-ghost use Rattle.crew_solve.specs.Machinery.Solved.{IsSolved};
 ghost use Rattle.crew_flights.specs.Timetable.{IsSound, Timetable};
 ghost use Rattle.crew_rules.specs.Settings.{IsChecked};
 ghost use Rattle.crew_rules.specs.declared.settings.Settings.{Settings};
 ghost use Rattle.crew_solve.specs.Cheapest.{AreCheapest};
+ghost use Rattle.crew_solve.specs.Plans.{AreSweepsIn, IsSolutionIn};
 ghost use Rattle.crew_solve.specs.Solutions.{HasNetOf, IsFrontOf, front_of};
 ghost use Rattle.crew_vector.specs.Bests.{AreFronts};
 
-use crate::best::keep_home;
-use crate::entries::{place_of, sweep_of};
+use crate::base_fronts::BaseFronts;
+use crate::best::{best_of, keep_home};
+use crate::entries::fronts_of;
 use crate::front_view::FrontView;
 use crate::kept::Kept;
+use crate::plan::Plan;
 use crew_flights::Code;
 use crew_net::{Net, Node};
 use crew_pairing::Key;
-use crew_sweep::Sweep;
 use crew_vector::PricedPairing;
 use std::alloc::{AllocError, Global};
 use std::marker::Model;
@@ -30,33 +31,41 @@ use std::sync::Arc;
 #[derive(Drop)]
 pub struct Solution {
     net: Arc<Net, Global>,
-    sweeps: Vec<Sweep>,
+    fronts: Vec<Arc<BaseFronts, Global>>,
     best: Option<PricedPairing>,
 }
 
 impl Model for Solution {
+    ghost use Rattle.std.specs.Prelude.{map};
     ghost use Rattle.crew_solve.specs.Solutions as Spec;
 
     ghost Value = { Spec.Solution };
 
-    ghost view = { λ s. record { net = s.net.value; sweeps = s.sweeps.items; best = s.best } };
+    ghost view = { λ s. record {
+      net = s.net.value;
+      sweeps = map (λ a. a.value) s.fronts.items;
+      best = s.best;
+    } };
 
     ghost use Rattle.crew_solve.specs.Machinery.Solved.{IsSolved};
 
-    ghost invariant = { λ s. IsSolved s.net.value s.sweeps.items };
+    ghost invariant = { λ s. IsSolved s.net.value (map (λ a. a.value) s.fronts.items) };
 }
 
 impl Solution {
-    // What a timetable gives.
-    pub(crate) fn new(
-        net: Arc<Net, Global>,
-        sweeps: Vec<Sweep>,
-        best: Option<PricedPairing>,
-    ) -> Self
-        requires { IsSolved (arc_value net) sweeps.items }
-        ensures { result ≡ record { net = arc_value net; sweeps = sweeps.items; best = best } }
+    /// The solution of a plan, given the fronts of each of its bases in order.
+    pub fn of(
+        alloc: Global,
+        plan: &Plan,
+        fronts: Vec<Arc<BaseFronts, Global>>,
+    ) -> Result<Solution, AllocError>
+        requires { AreSweepsIn plan.now (map arc_value fronts.items) }
+        ensures { IfOk result (IsSolutionIn plan.now) }
     {
-        Solution { net, sweeps, best }
+        let trip_rig = plan.net().settings().trip_rig;
+        let best = best_of(alloc, &fronts, trip_rig)?;
+        let net = plan.shared_net()?;
+        Ok(Solution { net, fronts, best })
     }
 
     /// The network.
@@ -66,12 +75,12 @@ impl Solution {
         &self.net
     }
 
-    // The sweeps of all bases.
-    pub(crate) fn sweeps(&self) -> &[Sweep]
-        ensures all { result.now ≡ self.now.sweeps }
+    // The fronts of all bases.
+    pub(crate) fn fronts(&self) -> &[Arc<BaseFronts, Global>]
+        ensures all { map arc_value result.now ≡ self.now.sweeps }
         ensures nets { Each (λ b. b.net ≡ self.now.net) self.now.sweeps }
     {
-        &self.sweeps
+        &self.fronts
     }
 
     /// The best pairing, if there is one.
@@ -98,7 +107,7 @@ impl Solution {
     {
         let mut kept = Kept::new(alloc, limit);
         let trip_rig = self.net.settings().trip_rig;
-        keep_home(alloc, &self.sweeps, trip_rig, &mut kept)?;
+        keep_home(alloc, &self.fronts, trip_rig, &mut kept)?;
         Ok(kept.into_vec(alloc)?)
     }
 
@@ -112,9 +121,7 @@ impl Solution {
             key: key.copy(),
         };
         let rank = self.net.rank(&node)?;
-        let sweep = sweep_of(&self.sweeps, base)?;
-        let duty = &sweep.net().duties().as_slice()[rank];
-        let index = place_of(sweep.net(), duty);
-        Some(FrontView::new(sweep, index, rank as u32, duty))
+        let fronts = fronts_of(&self.fronts, base)?;
+        Some(fronts.front(rank))
     }
 }

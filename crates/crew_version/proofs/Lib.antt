@@ -1,3 +1,4 @@
+pub mod Places
 pub mod Chunked
 pub mod OpeningFacts
 pub mod SolutionFacts

@@ -1,5 +1,5 @@
 -- What a solution says of a timetable.
-use Rattle.std.proofs.Common.{◌≡◌, ℕ, ℤ, Bool, true, false, cond, List, [], ◌∷◌, Option, Some, None, refl, sym, ap, subst, ◌∙◌, inl, inr, ◌||◌, ◌++◌, reverse, arith}
+use Rattle.std.proofs.Common.{◌≡◌, ℕ, ℤ, Bool, true, false, cond, List, [], ◌∷◌, Option, Some, None, refl, sym, ap, subst, ◌∙◌, inl, inr, ◌||◌, reverse, arith}
 use Rattle.std.specs.Prelude.{◌↔◌, ◌≤ℤ◌, IfSome, IsNone, is_some}
 use Rattle.std.proofs.lemmas.Bool.{false≢true}
 use Rattle.std.specs.Borrow.{Bor}
@@ -14,23 +14,21 @@ use Rattle.std.proofs.lemmas.List.Sorted.{IsPermutation-sym}
 use Rattle.crew_flights.specs.Codes.{code_cmp, code_cmp_total}
 use Rattle.crew_flights.proofs.Soundness.{changed_sound, empty_sound}
 use Rattle.crew_flights.specs.Edits.{applied, apply_of, refusal_of}
-use Rattle.crew_flights.specs.Fold.{HasTaken, Standing, data_after, is_in_turn}
+use Rattle.crew_flights.specs.Fold.{data_after, is_in_turn}
 use Rattle.crew_flights.specs.Timetable.{IsSound, Timetable, empty_timetable}
 use Rattle.crew_flights.specs.declared.edit.Edit.{Edit}
 use Rattle.crew_flights.specs.declared.edit.Refusal.{Refusal}
-use Rattle.crew_flights.specs.declared.edit.Verdict.{Verdict}
 use Rattle.crew_flights.specs.declared.entries.Entry.{Entry}
-use Rattle.crew_pairing.specs.Duties.{HasFew}
 use Rattle.crew_pairing.specs.Legs.{Leg}
 use Rattle.crew_pairing.specs.declared.duty.Duty.{Duty}
 use Rattle.crew_pairing.specs.declared.vector.PairingVector.{PairingVector}
 use Rattle.crew_pool.proofs.Permuted.{Member-permuted}
 use Rattle.crew_resource.specs.Members.{Member}
 use Rattle.crew_rules.specs.declared.settings.Settings.{Settings}
+use Rattle.crew_version.specs.Drafts.{IsSolutionOf}
 use Rattle.crew_version.specs.Fronts.{IsFrontByKey}
-use Rattle.crew_version.specs.Versions.{IsRight, timetable_of, verdicts_of}
-use Rattle.crew_version.specs.Machinery.Kept.{IsAhead, IsKept, IsSolutionOf, IsSolved, best_of}
-use Rattle.crew_version.specs.declared.version.Ahead.{Ahead}
+use Rattle.crew_version.specs.Versions.{timetable_of}
+use Rattle.crew_version.specs.Machinery.Kept.{IsSolved, best_of}
 use Rattle.crew_rules.specs.Settings.{IsChecked}
 use Rattle.crew_solve.specs.Cheapest.{AreCheapest}
 use Rattle.crew_solve.specs.Solutions.{IsFrontOf, Solution, front_of}
@@ -140,28 +138,6 @@ no-pairing-at-start s t limit e = rw e (record {
 pub best-right : (s : Settings) (t : Timetable) (solution : Option Solution) → IsSolved s t solution → IsBest s t (best_of solution)
 best-right s t None e = rw e (λ p pairing. no-base p.base pairing.price pairing.based)
 best-right s t (Some solution) h = h.scratch.best_is
-
--- what lies ahead, after more entries
-pub ahead-of : (s : Settings) (old more : List Entry) (before added after : List Verdict) (x y : Standing) (z : Option Solution) (t : Timetable) (ahead : Ahead)
-    → IsKept s old before x z → HasTaken (old ++ more) y × (verdicts_of (old ++ more) ≡ verdicts_of old ++ added) → after ≡ before ++ added → t ≡ y.timetable
-    → ahead.verdicts ≡ after → ahead.fold ≡ y → HasFew s t → IsSolutionOf s t ahead.solution.value → IsAhead s (old ++ more) ahead
-ahead-of s old more before added after x y z t ahead kept folded judged at verdicts fold few solved =
-    let come : t ≡ timetable_of (old ++ more) = at ∙ folded.0.timetable in
-    record {
-      judged = verdicts ∙ judged ∙ ap (λ (vs : List Verdict). vs ++ added) kept.judged ∙ sym folded.1;
-      taken = subst (λ (f : Standing). HasTaken (old ++ more) f) (sym fold) folded.0;
-      few = subst (λ (u : Timetable). HasFew s u) come few;
-      solved = subst (λ (u : Timetable). IsSolutionOf s u ahead.solution.value) come solved;
-    }
-
--- what lies ahead is kept
-pub kept-ahead : (s : Settings) (old more : List Entry) (ahead : Ahead) → IsChecked s → IsAhead s (old ++ more) ahead → IsKept s (old ++ more) ahead.verdicts ahead.fold (Some ahead.solution.value)
-kept-ahead s old more ahead checked h = record { checked = checked; judged = h.judged; taken = h.taken; few = h.few; solved = h.solved }
-
--- a version of what is kept is right
-pub right-of : (number : ℕ) (s : Settings) (entries : List Entry) (verdicts : List Verdict) (standing : Standing) (solution : Option Solution) → IsKept s entries verdicts standing solution
-    → IsRight (record { number = number; settings = s; entries = entries; best = best_of solution })
-right-of number s entries verdicts standing solution kept = record { few = kept.few; least = best-right s _ solution kept.solved }
 
 -- ---- what the best says, where it is lent
 

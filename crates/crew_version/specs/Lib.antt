@@ -1,4 +1,5 @@
 pub mod Versions
+pub mod Drafts
 pub mod Faults
 pub mod Fronts
 pub mod Machinery

@@ -1,5 +1,5 @@
 //! Lists that share their items.
-ghost use Rattle.std.specs.Prelude.{◌≡◌, ◌≤◌, ◌+◌, ◌++◌, ◌∷◌, [], IfOk, IfErr, length, map, slice_get, vec_capacity, vec_len};
+ghost use Rattle.std.specs.Prelude.{◌≡◌, ◌≤◌, ◌+◌, ◌++◌, ◌∷◌, [], IfOk, length, map, slice_get, vec_capacity, vec_len};
 ghost use Rattle.std.specs.Arc.{arc_value};
 ghost use Rattle.crew_version.specs.Machinery.Chunks.{all_of};
 
@@ -76,33 +76,6 @@ fn joined<T: Copy + Drop>(
     Ok(all)
 }
 
-// One chunk of some chunks and then items; they come to so many. The items come back where there is
-// no memory.
-fn last_chunk<T: Copy + Drop>(
-    alloc: Global,
-    chunks: &[Arc<Vec<T>, Global>],
-    items: Vec<T>,
-    count: usize,
-) -> Result<Arc<Vec<T>, Global>, Vec<T>>
-    ensures ok { IfOk result (λ chunk. (arc_value chunk).items
-        ≡ all_of (map arc_value chunks.now) ++ items.items) }
-    ensures err { IfErr result (λ back. back ≡ items) }
-{
-    if chunks.is_empty() {
-        return match Arc::new(alloc, items) {
-            Ok(chunk) => Ok(chunk),
-            Err(failed) => Err(failed.value),
-        };
-    }
-    match joined(alloc, chunks, &items, count) {
-        Ok(all) => match Arc::new(alloc, all) {
-            Ok(chunk) => Ok(chunk),
-            Err(_) => Err(items),
-        },
-        Err(_) => Err(items),
-    }
-}
-
 // Appends a chunk for which there is room.
 fn append<T: Drop>(chunks: &mut Vec<Arc<Vec<T>, Global>>, chunk: Arc<Vec<T>, Global>)
     requires { vec_len chunks.old + 1 ≤ vec_capacity chunks.old }
@@ -166,21 +139,18 @@ impl<T: Copy + Drop> Chunks<T> {
         item_at(&self.chunks, place)
     }
 
-    /// These items and then others, which come back where there is no memory.
-    pub(crate) fn with(&self, alloc: Global, items: Vec<T>) -> Result<Chunks<T>, Vec<T>>
-        ensures ok { IfOk result (λ longer. longer ≡ self.now ++ items.items) }
-        ensures err { IfErr result (λ back. back ≡ items) }
+    /// These items and then others.
+    pub(crate) fn with(&self, alloc: Global, items: &[T]) -> Result<Chunks<T>, AllocError>
+        ensures { IfOk result (λ longer. longer ≡ self.now ++ items.now) }
     {
         let Some(len) = self.len.checked_add(items.len()) else {
-            return Err(items);
+            return Err(AllocError);
         };
         let (stay, count) = joining(&self.chunks, items.len());
         let (staying, ending) = self.chunks.split_at(stay);
-        let Ok(mut chunks) = shared(alloc, staying) else {
-            return Err(items);
-        };
-        let chunk = last_chunk(alloc, ending, items, count)?;
-        append(&mut chunks, chunk);
+        let mut chunks = shared(alloc, staying)?;
+        let last = joined(alloc, ending, items, count)?;
+        append(&mut chunks, Arc::new(alloc, last)?);
         Ok(Chunks { chunks, len })
     }
 }

@@ -3,14 +3,19 @@
 //! legal duties, that its fronts and its best pairing are those from scratch, and that the version
 //! after it is refused exactly where there are more duties, where no greater number is left, or for
 //! want of memory. A version never changes, and shares with the next one what both hold: entries,
-//! verdicts, and all fronts where the timetable is as it was.
+//! verdicts, and all fronts where the timetable is as it was. A `Draft` is a version whose fronts are
+//! still to be made, by whoever likes; closed by its solution it is that version.
 #![tactic(auto)]
 
 mod chunks;
+mod draft;
+mod entry;
 mod fault;
 mod same;
 mod search;
 mod version;
 
+pub use draft::Draft;
+pub use entry::is_entry;
 pub use fault::VersionFault;
 pub use version::Version;

@@ -1,18 +1,22 @@
 //! The fronts and the best pairing of a timetable, beside those of the version before.
 
-ghost use Rattle.std.specs.Prelude.{◌≡◌, Err, IfErr, IfOk, IfSome, OnOk};
+ghost use Rattle.std.specs.Prelude.{◌≡◌, ◌≤◌, Err, IfErr, IfOk, IfSome, OnOk, length};
 ghost use Rattle.std.specs.Arc.{arc_value};
-ghost use Rattle.crew_pairing.specs.Duties.{HasFew, HasTooMany};
+ghost use Rattle.crew_flights.specs.Timetable.{IsSound};
+ghost use Rattle.crew_pairing.specs.Duties.{AreDuties, HasFew, HasTooMany};
 ghost use Rattle.crew_rules.specs.Settings.{IsChecked};
+ghost use Rattle.crew_solve.specs.Plans.{IsPlanOf, IsSolutionIn};
+ghost use Rattle.crew_version.specs.Drafts.{IsSolutionOf};
 ghost use Rattle.crew_version.specs.Faults.{IsSearchFault};
-ghost use Rattle.crew_version.specs.Machinery.Kept.{IsRightEarlier, IsSolutionOf};
+ghost use Rattle.crew_version.specs.Machinery.Kept.{IsRightEarlier};
 
 use crate::fault::VersionFault;
 use crate::same::are_same;
-use crew_duty::{DutyFault, list_next};
+use crew_duty::{DutyFault, list_duties, list_next};
 use crew_flights::Timetable;
+use crew_pairing::Duties;
 use crew_rules::Settings;
-use crew_solve::{Solution, solve_listed, solve_with};
+use crew_solve::{Plan, Solution};
 use rayon::current_num_threads;
 use std::alloc::{AllocError, Global};
 use std::sync::Arc;
@@ -25,41 +29,84 @@ pub(crate) struct Earlier<'a> {
     pub(crate) solution: &'a Arc<Solution, Global>,
 }
 
-// The solution of a timetable, beside an earlier one, if there is one, by as many workers as there
-// are processors for.
-fn solution_of<R: Threads + Sync>(
+// The legal duties of a timetable, beside those of an earlier one, if there is one.
+fn duties_of<R: Threads + Sync>(
     rt: &R,
     alloc: Global,
     settings: &Settings,
     timetable: &Timetable,
     earlier: Option<&Earlier>,
-) -> Result<Solution, DutyFault>
+) -> Result<Duties, DutyFault>
     requires checked { IsChecked settings.now }
     requires earlier { IfSome earlier (λ e. IsRightEarlier settings.now e.now) }
-    ensures ok { IfOk result (IsSolutionOf settings.now timetable.now) }
-    ensures few { OnOk result (HasFew settings.now timetable.now) }
+    ensures listed { IfOk result (λ duties. AreDuties settings.now timetable.now duties) }
+    ensures few { IfOk result (λ duties. length duties ≤ 200_000) }
     ensures too_many { result ≡ Err DutyFault.TooManyDuties
         → HasTooMany settings.now timetable.now }
 {
-    let workers = current_num_threads(rt);
     let Some(earlier) = earlier else {
-        return solve_with(rt, alloc, settings, timetable, workers);
+        return list_duties(rt, alloc, settings, timetable);
     };
-    let solution = earlier.solution;
-    let before = solution.net().duties();
-    let duties = list_next(rt, alloc, settings, earlier.timetable, before, timetable)?;
-    Ok(solve_listed(
-        rt,
-        alloc,
-        settings,
-        timetable,
-        duties,
-        Some(solution),
-        workers,
-    )?)
+    let before = earlier.solution.net().duties();
+    list_next(rt, alloc, settings, earlier.timetable, before, timetable)
 }
 
-// The solution of a timetable found and put where versions share it.
+// The same, with what a version's caller is told where there are too many.
+fn few_duties<R: Threads + Sync>(
+    rt: &R,
+    alloc: Global,
+    settings: &Settings,
+    timetable: &Timetable,
+    earlier: Option<&Earlier>,
+) -> Result<Duties, VersionFault>
+    requires checked { IsChecked settings.now }
+    requires earlier { IfSome earlier (λ e. IsRightEarlier settings.now e.now) }
+    ensures listed { IfOk result (λ duties. AreDuties settings.now timetable.now duties) }
+    ensures few { IfOk result (λ duties. length duties ≤ 200_000) }
+    ensures fault { IfErr result (IsSearchFault settings.now timetable.now) }
+{
+    match duties_of(rt, alloc, settings, timetable, earlier) {
+        Ok(duties) => Ok(duties),
+        Err(DutyFault::TooManyDuties) => Err(VersionFault::TooManyDuties),
+        Err(DutyFault::Memory) => Err(VersionFault::Memory),
+    }
+}
+
+/// What is to be made for a timetable, beside an earlier one with its own fronts, if there is one.
+/// `TooManyDuties` exactly where there are more than 200,000 legal duties, or `Memory`.
+pub(crate) fn plan_of<R: Threads + Sync>(
+    rt: &R,
+    alloc: Global,
+    settings: &Settings,
+    timetable: &Timetable,
+    earlier: Option<&Earlier>,
+) -> Result<Plan, VersionFault>
+    requires checked { IsChecked settings.now }
+    requires earlier { IfSome earlier (λ e. IsRightEarlier settings.now e.now) }
+    ensures plan { IfOk result (IsPlanOf settings.now timetable.now) }
+    ensures sound { OnOk result (IsSound timetable.now) }
+    ensures few { OnOk result (HasFew settings.now timetable.now) }
+    ensures fault { IfErr result (IsSearchFault settings.now timetable.now) }
+{
+    let duties = few_duties(rt, alloc, settings, timetable, earlier)?;
+    let solution = earlier.map(|earlier| &**earlier.solution);
+    Ok(Plan::of(alloc, settings, timetable, duties, solution)?)
+}
+
+// The solution of a plan, made by as many workers as there are processors for, and put where
+// versions share it.
+fn made<R: Threads + Sync>(
+    rt: &R,
+    alloc: Global,
+    plan: &Plan,
+) -> Result<Arc<Solution, Global>, AllocError>
+    ensures { IfOk result (λ solution. IsSolutionIn plan.now (arc_value solution)) }
+{
+    let solution = plan.solve(rt, alloc, current_num_threads(rt))?;
+    Ok(Arc::new(alloc, solution)?)
+}
+
+// The solution of a timetable, beside an earlier one, if there is one.
 fn found<R: Threads + Sync>(
     rt: &R,
     alloc: Global,
@@ -74,11 +121,8 @@ fn found<R: Threads + Sync>(
     ensures few { OnOk result (HasFew settings.now timetable.now) }
     ensures fault { IfErr result (IsSearchFault settings.now timetable.now) }
 {
-    match solution_of(rt, alloc, settings, timetable, earlier) {
-        Ok(solution) => Arc::new(alloc, solution).map_err(|_| VersionFault::Memory),
-        Err(DutyFault::TooManyDuties) => Err(VersionFault::TooManyDuties),
-        Err(DutyFault::Memory) => Err(VersionFault::Memory),
-    }
+    let plan = plan_of(rt, alloc, settings, timetable, earlier)?;
+    Ok(made(rt, alloc, &plan)?)
 }
 
 // An earlier solution, where it is that of this timetable too.

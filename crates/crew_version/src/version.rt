@@ -1,22 +1,27 @@
 //! Versions.
 
-ghost use Rattle.std.specs.Prelude.{◌≡◌, ◌↔◌, ◌≤ℤ◌, ◌+◌, ◌++◌, [], IfOk, IfErr, IfSome, IsNone, None, length, slice_get};
+ghost use Rattle.std.specs.Prelude.{◌≡◌, ◌↔◌, ◌≤ℤ◌, ◌+◌, ◌++◌, Err, IfOk, IfErr, IfSome, IsNone, IsTrue, None, length, slice_get};
+ghost use Rattle.std.specs.Arc.{arc_value};
 ghost use Rattle.std.specs.Option.{option_copied};
 ghost use Rattle.std.specs.FinMap as map;
+ghost use mathlib.Core.List.{IsPrefix};
+ghost use Rattle.crew_pairing.specs.Duties.{HasFew};
 ghost use Rattle.crew_rules.specs.Settings.{IsChecked};
 ghost use Rattle.crew_flights.specs.Timetable.{empty_timetable};
 ghost use Rattle.crew_solve.specs.Cheapest.{AreCheapest};
 ghost use Rattle.crew_solve.specs.Solutions.{HasNetOf, front_of};
 ghost use Rattle.crew_vector.specs.Bests.{IsPairing, IsScratch};
 ghost use Rattle.crew_vector.specs.declared.priced.PricedPairing.{PricedPairing as Pairing};
-ghost use Rattle.crew_version.specs.Faults.{IsNextFault, IsSearchFault};
+ghost use Rattle.crew_version.specs.Drafts.{IsDraftFault, IsDraftOf, IsSolutionOf, closed};
+ghost use Rattle.crew_version.specs.Faults.{IsNextFault};
 ghost use Rattle.crew_version.specs.Fronts.{IsFrontByKey};
-ghost use Rattle.crew_version.specs.Machinery.Kept.{FoldsOn, IsAhead, IsRightEarlier};
+ghost use Rattle.crew_version.specs.Machinery.Kept.{IsRightEarlier};
 
-use crate::chunks::Chunks;
+use crate::draft::Draft;
+use crate::entry::is_entry;
 use crate::fault::VersionFault;
 use crate::search::{Earlier, find_solution};
-use crew_flights::{Code, Entry, Folding, Timetable, Verdict};
+use crew_flights::{Code, Entry, Timetable, Verdict};
 use crew_pairing::Key;
 use crew_rules::Settings;
 use crew_solve::{FrontView, Solution};
@@ -33,11 +38,7 @@ use std::thread::Threads;
 /// that timetable.
 #[derive(Drop)]
 pub struct Version {
-    number: u64,
-    settings: Settings,
-    entries: Chunks<Entry>,
-    verdicts: Chunks<Verdict>,
-    fold: Folding,
+    draft: Draft,
     solution: Option<Arc<Solution, Global>>,
 }
 
@@ -49,38 +50,24 @@ impl Model for Version {
     ghost Value = { Snapshot };
 
     ghost view = { λ v. record {
-      number = v.number;
-      settings = v.settings;
-      entries = v.entries;
+      number = v.draft.number;
+      settings = v.draft.settings;
+      entries = v.draft.entries;
       best = best_of (option_map (λ a. a.value) v.solution);
     } };
 
-    ghost invariant = { λ v. IsKept v.settings v.entries v.verdicts v.fold
-        (option_map (λ a. a.value) v.solution) };
+    ghost invariant = { λ v. IsKept v.draft (option_map (λ a. a.value) v.solution) };
 }
 
-/// What a version's entries and some more come to.
-#[derive(Drop)]
-pub(crate) struct Ahead {
-    fold: Folding,
-    verdicts: Chunks<Verdict>,
-    solution: Arc<Solution, Global>,
-}
-
-// The fold gone on with these entries, and their verdicts.
-fn fold_on(
-    alloc: Global,
-    fold: &Folding,
-    entries: &[Entry],
-) -> Result<(Folding, Vec<Verdict>), AllocError>
-    ensures { IfOk result (FoldsOn fold.now entries.now) }
+// Whether two entries are one, or none is there.
+fn is_same(one: Option<Entry>, other: Option<Entry>) -> bool
+    ensures { IsTrue result ↔ (one ≡ other) }
 {
-    let mut fold = fold.copy(alloc)?;
-    let mut verdicts = Vec::with_capacity(alloc, entries.len())?;
-    for entry in entries {
-        verdicts.push(fold.take(entry)?)?;
+    match (one, other) {
+        (Some(one), Some(other)) => is_entry(&one, &other),
+        (None, None) => true,
+        _ => false,
     }
-    Ok((fold, verdicts))
 }
 
 impl Version {
@@ -93,12 +80,23 @@ impl Version {
         ensures { result ≡ Spec.opening settings.now }
     {
         Version {
-            number: 0,
-            settings: *settings,
-            entries: Chunks::new(alloc),
-            verdicts: Chunks::new(alloc),
-            fold: Folding::new(alloc),
+            draft: Draft::blank(alloc, settings),
             solution: None,
+        }
+    }
+
+    // The version of a draft, given all fronts and the best pairing of its timetable.
+    pub(crate) fn of(draft: Draft, solution: Arc<Solution, Global>) -> Version
+        requires checked { IsChecked draft.settings }
+        requires few { HasFew draft.settings (Spec.timetable_of draft.entries) }
+        requires solution { IsSolutionOf draft.settings (Spec.timetable_of draft.entries)
+            (arc_value solution) }
+        ensures version { result ≡ closed draft (arc_value solution) }
+        ensures right { IsRight result }
+    {
+        Version {
+            draft,
+            solution: Some(solution),
         }
     }
 
@@ -107,7 +105,7 @@ impl Version {
         ensures value { result ≡ self.now.number }
         ensures right { IsRight self.now }
     {
-        self.number
+        self.draft.number()
     }
 
     /// The settings.
@@ -115,42 +113,42 @@ impl Version {
         ensures value { result.now ≡ self.now.settings }
         ensures checked { IsChecked self.now.settings }
     {
-        &self.settings
+        self.draft.settings()
     }
 
     /// How many entries there are.
     pub fn count(&self) -> usize
         ensures { result ≡ length self.now.entries }
     {
-        self.entries.len()
+        self.draft.count()
     }
 
     /// The entry at a place, if there is one.
     pub fn entry(&self, place: usize) -> Option<Entry>
         ensures { result ≡ slice_get self.now.entries place }
     {
-        self.entries.get(place)
+        self.draft.entry(place)
     }
 
     /// The verdict on the entry at a place, if there is one.
     pub fn verdict(&self, place: usize) -> Option<Verdict>
         ensures { result ≡ slice_get (Spec.verdicts_of self.now.entries) place }
     {
-        self.verdicts.get(place)
+        self.draft.verdict(place)
     }
 
     /// How many flights its timetable holds.
     pub fn flights(&self) -> usize
         ensures { result ≡ map.len (Spec.timetable_of self.now.entries).flights }
     {
-        self.fold.timetable().flight_count()
+        self.draft.timetable().flight_count()
     }
 
     /// Its timetable.
     pub fn timetable(&self) -> &Timetable
         ensures { result.now ≡ Spec.timetable_of self.now.entries }
     {
-        self.fold.timetable()
+        self.draft.timetable()
     }
 
     /// All fronts and the best pairing of its timetable. None is there only where the timetable is
@@ -216,8 +214,7 @@ impl Version {
         ensures { IfOk result
             (λ timetable. timetable ≡ Spec.timetable_of (self.now.entries ++ entries.now)) }
     {
-        let (fold, _) = fold_on(alloc, &self.fold, entries)?;
-        Ok(fold.into_timetable())
+        self.draft.timetable_with(alloc, entries)
     }
 
     /// An equal version, which shares what this one holds.
@@ -229,50 +226,64 @@ impl Version {
             None => None,
         };
         Ok(Version {
-            number: self.number,
-            settings: self.settings,
-            entries: self.entries.copy(alloc)?,
-            verdicts: self.verdicts.copy(alloc)?,
-            fold: self.fold.copy(alloc)?,
+            draft: self.draft.copy(alloc)?,
             solution,
         })
     }
 
+    /// Whether these entries begin with its own.
+    pub fn begins(&self, entries: &[Entry]) -> bool
+        ensures { IsTrue result ↔ IsPrefix self.now.entries entries.now }
+    {
+        for place in 0..self.count() {
+            if !is_same(self.entry(place), entries.get(place).copied()) {
+                return false;
+            }
+        }
+        true
+    }
+
+    /// The draft of the next version: its entries and these. `LastVersion` exactly where the number
+    /// is the greatest, or `Memory`.
+    pub fn draft(&self, alloc: Global, entries: &[Entry]) -> Result<Draft, VersionFault>
+        ensures ok { IfOk result (IsDraftOf self.now entries.now) }
+        ensures last { self.now.number ≡ 18_446_744_073_709_551_615
+            → result ≡ Err VersionFault.LastVersion }
+        ensures fault { IfErr result (IsDraftFault self.now) }
+    {
+        let Some(number) = self.draft.number().checked_add(1) else {
+            return Err(VersionFault::LastVersion);
+        };
+        Ok(self.draft.with(alloc, number, entries)?)
+    }
+
     // What there is of its own timetable, once it has one.
-    fn earlier(&self) -> Option<Earlier<'_>>
+    pub(crate) fn earlier(&self) -> Option<Earlier<'_>>
         ensures { IfSome result (IsRightEarlier self.now.settings) }
     {
         let solution = self.solution.as_ref()?;
         Some(Earlier {
-            timetable: self.fold.timetable(),
+            timetable: self.draft.timetable(),
             solution,
         })
     }
 
-    // What its entries and these come to.
-    fn look_ahead<R: Threads + Sync>(
+    // The next version, over these entries more.
+    fn followed<R: Threads + Sync>(
         &self,
         rt: &R,
         alloc: Global,
         entries: &[Entry],
-    ) -> Result<Ahead, VersionFault>
-        ensures ok { IfOk result (IsAhead self.now.settings (self.now.entries ++ entries.now)) }
-        ensures fault { IfErr result
-            (IsSearchFault self.now.settings
-            (Spec.timetable_of (self.now.entries ++ entries.now))) }
+    ) -> Result<Version, VersionFault>
+        ensures ok { IfOk result (IsNext self.now entries.now) }
+        ensures right { IfOk result IsRight }
+        ensures fault { IfErr result (IsNextFault self.now (self.now.entries ++ entries.now)) }
     {
-        let (fold, verdicts) = fold_on(alloc, &self.fold, entries)?;
+        let draft = self.draft(alloc, entries)?;
         let earlier = self.earlier();
-        let timetable = fold.timetable();
-        let solution = find_solution(rt, alloc, &self.settings, timetable, earlier.as_ref())?;
-        let Ok(verdicts) = self.verdicts.with(alloc, verdicts) else {
-            return Err(VersionFault::Memory);
-        };
-        Ok(Ahead {
-            fold,
-            verdicts,
-            solution,
-        })
+        let (settings, timetable) = (draft.settings(), draft.timetable());
+        let solution = find_solution(rt, alloc, settings, timetable, earlier.as_ref())?;
+        Ok(Version::of(draft, solution))
     }
 
     /// The next version: its entries and these. `LastVersion` where the number is the greatest,
@@ -290,23 +301,9 @@ impl Version {
         ensures fault { IfErr result (λ failed. IsNextFault self.now
             (self.now.entries ++ entries.items) failed.1) }
     {
-        let Some(number) = self.number.checked_add(1) else {
-            return Err((entries, VersionFault::LastVersion));
-        };
-        let ahead = match self.look_ahead(rt, alloc, &entries) {
-            Ok(ahead) => ahead,
-            Err(fault) => return Err((entries, fault)),
-        };
-        match self.entries.with(alloc, entries) {
-            Ok(all) => Ok(Version {
-                number,
-                settings: self.settings,
-                entries: all,
-                verdicts: ahead.verdicts,
-                fold: ahead.fold,
-                solution: Some(ahead.solution),
-            }),
-            Err(entries) => Err((entries, VersionFault::Memory)),
+        match self.followed(rt, alloc, &entries) {
+            Ok(version) => Ok(version),
+            Err(fault) => Err((entries, fault)),
         }
     }
 }

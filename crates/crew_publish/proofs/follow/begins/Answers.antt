@@ -1,5 +1,5 @@
 use Rattle.std.proofs.Common.{arith}
-use Rattle.crew_publish.proofs.Places.{prefix-from}
+use Rattle.crew_version.proofs.Places.{prefix-from}
 use Rattle.crew_publish.proofs.follow.begins.Goals as goal
 
 pub returns : goal.returns

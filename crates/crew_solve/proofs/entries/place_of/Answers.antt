@@ -16,8 +16,8 @@ bounds-departures-places c =
     let d = departs net index c.by_report-places.ensures.exact h in
     omega (arith, d.within, ap (λ l. get_or l index 0) c.by_report-places.ensures.places, ap length c.departures-departures.ensures.events)
 
-pub returns-then-is_left_by : goal.returns-then-is_left_by
-returns-then-is_left_by c =
+pub returns-then-is_left_by-clause-place : goal.returns-then-is_left_by-clause-place
+returns-then-is_left_by-clause-place c =
     let net = c.args.net.now in
     let g = departure_of c.args.duty.now in
     let index = c.loop-index.index in

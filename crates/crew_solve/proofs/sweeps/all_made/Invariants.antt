@@ -2,4 +2,4 @@ use Rattle.std.proofs.Common.{◌≡◌, Some, map}
 use Rattle.crew_solve.proofs.sweeps.all_made.Given as goal
 
 abbrev pub invariant-loop-made : goal.invariant-loop-made
-invariant-loop-made l = map Some l.sweeps.items ≡ l.yielded
+invariant-loop-made l = map Some l.fronts.items ≡ l.yielded

@@ -3,7 +3,8 @@ use Rattle.std.proofs.lemmas.Int.{ints}
 use Rattle.std.specs.Arc.{arc_value}
 use Rattle.crew_net.specs.Nets.{Net}
 use Rattle.crew_pairing.specs.Duties.{AreDuties}
-use Rattle.crew_solve.specs.Machinery.Solved.{IsSweepable, IsSwept}
+use Rattle.crew_solve.specs.Machinery.Planned.{IsSweepable}
+use Rattle.crew_solve.specs.Plans.{IsSwept}
 use Rattle.crew_solve.proofs.sweeps.sweep_anew.Goals as goal
 
 pub sweep-requires-clause-sound : goal.sweep-requires-clause-sound

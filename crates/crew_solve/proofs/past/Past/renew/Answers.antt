@@ -1,4 +1,4 @@
-use Rattle.std.proofs.Common.{◌≡◌, ◌∙◌, ap, subst, sym}
+use Rattle.std.proofs.Common.{◌≡◌, ◌∙◌, ap, map, subst, sym}
 use Rattle.std.specs.Arc.{arc_value}
 use Rattle.crew_carry.specs.Twins.{AreTwins}
 use Rattle.crew_net.specs.Nets.{Net}
@@ -9,17 +9,20 @@ use Rattle.crew_solve.proofs.past.Past.renew.Goals as goal
 pub renew-requires-clause-settings : goal.renew-requires-clause-settings
 renew-requires-clause-settings c =
     let p = c.requires.past in
-    let own = Each-member (λ (b : BaseSweep). b.net ≡ p.earlier) c.args.self.now.sweeps.now c.args.earlier.now p.nets c.requires.among in
-    ap (λ (n : Net). n.settings) own ∙ (p.settings ∙ ap (λ (n : Net). n.settings) (sym c.in_ok-net.ensures))
+    let own = Each-member (λ (b : BaseSweep). b.net ≡ p.earlier) (map arc_value c.args.self.now.fronts.items) c.args.earlier.now p.nets c.requires.among in
+    let is = ap (λ (b : BaseSweep). b.net) c.sweep.ensures.sweep ∙ own in
+    ap (λ (n : Net). n.settings) is ∙ (p.settings ∙ ap (λ (n : Net). n.settings) (sym c.in_ok-net.ensures))
 
 pub renew-requires-clause-earlier_turns : goal.renew-requires-clause-earlier_turns
 renew-requires-clause-earlier_turns c =
     let p = c.requires.past in
-    let own = Each-member (λ (b : BaseSweep). b.net ≡ p.earlier) c.args.self.now.sweeps.now c.args.earlier.now p.nets c.requires.among in
-    subst (λ (n : Net). AreTurns n c.args.self.now.turns.now) (sym own) p.turns
+    let own = Each-member (λ (b : BaseSweep). b.net ≡ p.earlier) (map arc_value c.args.self.now.fronts.items) c.args.earlier.now p.nets c.requires.among in
+    let is = ap (λ (b : BaseSweep). b.net) c.sweep.ensures.sweep ∙ own in
+    subst (λ (n : Net). AreTurns n c.deref.result.now) (sym is) (subst (AreTurns p.earlier) (sym c.deref.ensures.value) p.turns)
 
 pub renew-requires-clause-twins : goal.renew-requires-clause-twins
 renew-requires-clause-twins c =
     let p = c.requires.past in
-    let own = Each-member (λ (b : BaseSweep). b.net ≡ p.earlier) c.args.self.now.sweeps.now c.args.earlier.now p.nets c.requires.among in
-    subst (λ (n : Net). AreTwins c.args.earlier.now.net n c.args.self.now.twins.now) (sym c.in_ok-net.ensures) (subst (λ (n : Net). AreTwins n (arc_value c.args.net.now) c.args.self.now.twins.now) (sym own) p.twins)
+    let own = Each-member (λ (b : BaseSweep). b.net ≡ p.earlier) (map arc_value c.args.self.now.fronts.items) c.args.earlier.now p.nets c.requires.among in
+    let is = ap (λ (b : BaseSweep). b.net) c.sweep.ensures.sweep ∙ own in
+    subst (λ (n : Net). AreTwins c.sweep.result.now.net n c.args.self.now.twins) (sym c.in_ok-net.ensures) (subst (λ (n : Net). AreTwins n (arc_value c.args.net.now) c.args.self.now.twins) (sym is) p.twins)

@@ -1,4 +1,5 @@
-use Rattle.std.proofs.Common.{◌∙◌, List, ap, sym, subst}
+use Rattle.std.proofs.Common.{◌∙◌, ap, map, sym, subst}
+use Rattle.std.specs.Arc.{arc_value}
 use Rattle.std.specs.List.{flat_map}
 use Rattle.crew_solve.proofs.Cheapest.{are-cheapest}
 use Rattle.crew_solve.specs.Cheapest.{AreCheapest}
@@ -12,9 +13,9 @@ use Rattle.crew_solve.proofs.solution.Solution.cheapest.Goals as goal
 pub returns : goal.returns
 returns c = λ s t checked sound.
     let net = c.self.inside.net.value in
-    let sweeps = c.self.inside.sweeps.items in
+    let sweeps = map arc_value c.self.inside.fronts.items in
     let n = c.args.limit in
-    let all = c.in_ok-keep_home.ensures ∙ (ap (λ (l : List BaseSweep). keep_all c.new-kept.result (flat_map home_of l)) c.deref-2.ensures.value ∙ ap (λ k. keep_all k (flat_map home_of sweeps)) c.new-kept.ensures) in
+    let all = c.in_ok-keep_home.ensures ∙ (ap (λ l. keep_all c.new-kept.result (flat_map home_of (map (arc_value {X = BaseSweep}) l))) c.deref-2.ensures.value ∙ ap (λ k. keep_all k (flat_map home_of sweeps)) c.new-kept.ensures) in
     let kept = c.in_ok-into_vec.ensures ∙ ap (λ (k : Kept). k.pairings) all in
     subst (λ (x : Solution). HasNetOf s t x → AreFronts s t (front_of x) → AreCheapest s t n c.in_ok-into_vec.field-0.items) c.self.view_is
     (λ has fronts. subst (AreCheapest s t n) (sym kept) (are-cheapest s t checked sound has.0 net sweeps c.self.invariant has.1 has.2 fronts n))
