@@ -1,0 +1,11 @@
+pub mod Lists
+pub mod Places
+pub mod Tallies
+pub mod Grown
+pub mod Due
+pub mod Lined
+pub mod Counting
+pub mod Told
+pub mod Marked
+pub mod Begun
+pub mod Reused
