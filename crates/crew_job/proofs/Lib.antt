@@ -1,0 +1,12 @@
+pub mod Alongside
+pub mod BaseSweeps
+pub mod Comparing
+pub mod FoundDuties
+pub mod GroundNodes
+pub mod JobNodes
+pub mod NodePlaces
+pub mod OwnPlaces
+pub mod Planned
+pub mod SealedNodes
+pub mod Standing
+pub mod Works

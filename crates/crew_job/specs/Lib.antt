@@ -1,0 +1,4 @@
+pub mod Grounds
+pub mod Jobs
+pub mod Shown
+pub mod Machinery

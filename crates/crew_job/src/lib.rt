@@ -1,0 +1,28 @@
+//! What a board of jobs hands out and takes back. A `Ground` is what a round stands on: the version
+//! that was sealed last, the entries that the round is over, and the plan of what they come to. A
+//! `Job` is a node of a ground, and stands for one piece of work: the node's own inputs, and each
+//! node just before it with its front. `work` does it, under no lock, and what is `Done` shows a front
+//! that is local to that work. `is_own` tells exactly, and by value, whether the work is that of a
+//! node in another ground: whoever made a result and when, it is taken for what its job holds. No
+//! comparison takes memory, and where settings and timetables are equal none looks at a front.
+#![tactic(auto)]
+
+mod before;
+mod done;
+mod fault;
+mod fronts;
+mod ground;
+mod job;
+mod kept;
+pub mod laws;
+mod own;
+mod places;
+mod shown;
+mod timetables;
+
+pub use before::may_follow;
+pub use done::{Done, work};
+pub use fault::GroundFault;
+pub use ground::Ground;
+pub use job::Job;
+pub use own::{is_own, is_own_by_data};

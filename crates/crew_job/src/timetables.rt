@@ -1,0 +1,39 @@
+//! Whether two timetables are one.
+ghost use Rattle.std.specs.Prelude.{◌≡◌, ◌↔◌, IsTrue};
+ghost use Rattle.std.specs.FinMap as fin;
+ghost use Rattle.crew_flights.specs.Timetable.{IsSound};
+ghost use Rattle.crew_pairing.specs.Duties.{flights_of};
+
+use crew_flights::Timetable;
+use crew_rules::Settings;
+
+// Whether two timetables hold the same flights.
+fn have_same_flights(one: &Timetable, other: &Timetable) -> bool
+    ensures same { IsTrue result ↔ (flights_of one.now ≡ flights_of other.now) }
+    ensures sound { IsSound one.now }
+{
+    one.flights().eq(other.flights())
+}
+
+// Whether two timetables hold the same bases at the same prices.
+fn have_same_bases(one: &Timetable, other: &Timetable) -> bool
+    ensures same { IsTrue result ↔ (fin.entries one.now.bases ≡ fin.entries other.now.bases) }
+    ensures sound { IsSound other.now }
+{
+    one.bases().eq(other.bases())
+}
+
+/// Whether two timetables hold the same flights, and the same bases at the same prices. It takes no
+/// memory.
+pub(crate) fn are_same_timetables(one: &Timetable, other: &Timetable) -> bool
+    ensures { IsTrue result ↔ (one.now ≡ other.now) }
+{
+    have_same_flights(one, other) && have_same_bases(one, other)
+}
+
+/// Whether two settings are equal.
+pub(crate) fn are_same_settings(one: &Settings, other: &Settings) -> bool
+    ensures { IsTrue result ↔ (one.now ≡ other.now) }
+{
+    one == other
+}
