@@ -1,0 +1,6 @@
+use Rattle.std.proofs.Common.{◌≡◌, length}
+use Rattle.crew_board.specs.Machinery.Held.{AllNone}
+use Rattle.crew_board.proofs.round.nothing_noted.Given as goal
+
+abbrev pub invariant-loop : goal.invariant-loop
+invariant-loop l = (length l.noted.items ≡ l.counter) × AllNone l.noted.items

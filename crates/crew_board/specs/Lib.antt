@@ -1,0 +1,4 @@
+pub mod Cells
+pub mod Boards
+pub mod Calls
+pub mod Machinery

@@ -1,0 +1,15 @@
+//! A board of jobs: the version that was sealed last, and at most one round of work on the nodes of
+//! what comes after it. It promises that each call is one step of `crew_machine`'s board, with the
+//! product's choices: `claim` hands out the least ready node, `bring` takes a result in by what its
+//! job holds, whoever made it and when, and then marks equal jobs done until none is left. So what
+//! is done is right whatever the order of calls, and a worker needn't be trusted. It stands under a
+//! lock: no call works out a front but where a job's own sweep can't be had otherwise.
+#![tactic(auto)]
+
+mod board;
+mod fault;
+mod plans;
+mod round;
+
+pub use board::Board;
+pub use fault::{BeginFault, SealFault};

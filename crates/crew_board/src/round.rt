@@ -1,0 +1,383 @@
+//! A round: its ground, what is known of its nodes, and what shows the fronts of those that are done.
+ghost use Rattle.std.specs.Prelude.{◌≡◌, ◌↔◌, ◌⊎◌, ◌+◌, ◌<◌, ◌≤◌, ℕ, IfOk, IfSome, IsTrue, MatchOption, None, OnErr, Some, filter, get_or, length, map, replicate, slice_get, slice_set, true};
+ghost use Rattle.std.specs.Arc.{arc_value};
+ghost use Rattle.std.specs.Option.{option_map};
+ghost use Rattle.crew_board.specs.Machinery.Held.{AllNone, IsBegun, IsMarkedOver};
+ghost use Rattle.crew_board.specs.Machinery.Turns.{AllSameBefore, HasBrought, HasClaimed, HasGivenBack, IsFirstNode, IsNowhere, IsOwnPlace, IsReadableFrom, IsSameIfBefore, IsStored};
+ghost use Rattle.crew_job.specs.Grounds.{IsGround, nodes_in};
+ghost use Rattle.crew_job.specs.Jobs.{IsPlaced, job_node};
+ghost use Rattle.crew_job.specs.Shown.{IsAsSealed};
+ghost use Rattle.crew_machine.specs.Crew.{DutyNode};
+ghost use Rattle.crew_round.specs.Marks.{AllDone, AreSameBefore, IsFirstUndone, IsMarked, IsReady, IsUndone, node_count};
+ghost use Rattle.crew_round.specs.Marks as Spec;
+ghost use Rattle.crew_round.specs.declared.mark.Mark.TheVariants.{Done as DoneMark, Out as OutMark};
+ghost use Rattle.crew_version.specs.Versions.{IsRight};
+ghost use Rattle.crew_solve.specs.Plans.{AreSweepsIn, IsSweepIn};
+
+use crate::plans::have_one_plan;
+use crew_job::{Done, Ground, Job, is_own, may_follow};
+use crew_machine::Brought;
+use crew_net::{Net, Node};
+use crew_pairing::Duty;
+use crew_round::{Mark, Marks, Progress};
+use crew_solve::BaseFronts;
+use crew_version::Version;
+use std::alloc::{AllocError, Global};
+use std::marker::Model;
+use std::sync::Arc;
+
+/// A round over a ground.
+///
+/// A contract sees the ground, and the marks of its nodes. The front of a node that is done is
+/// shown by a sweep at its place, or, without one, by the version before the round.
+#[derive(Drop)]
+pub(crate) struct Round {
+    ground: Arc<Ground, Global>,
+    marks: Marks,
+    shown: Vec<Option<Arc<BaseFronts, Global>>>,
+    // By base the place of a node that a sweep of the ground's own plan shows.
+    swept: Vec<Option<usize>>,
+}
+
+impl Model for Round {
+    ghost use Rattle.std.specs.Prelude.{map};
+    ghost use Rattle.std.specs.Option.{option_map};
+    ghost use Rattle.crew_board.specs.Machinery.Held.{IsHeld, Marked};
+
+    ghost Value = { Marked };
+
+    ghost view = { λ r. record { ground = r.ground.value; marks = r.marks } };
+
+    ghost invariant = { λ r. IsHeld (record { ground = r.ground.value; marks = r.marks })
+        (map (option_map (λ a. a.value)) r.shown.items) r.swept.items };
+}
+
+// Places for so many sweeps, with none.
+fn nothing_shown(
+    alloc: Global,
+    count: usize,
+) -> Result<Vec<Option<Arc<BaseFronts, Global>>>, AllocError>
+    ensures long { IfOk result (λ shown. length shown.items ≡ count) }
+    ensures none { IfOk result (λ shown. AllNone shown.items) }
+{
+    let mut shown = Vec::with_capacity(alloc, count)?;
+    for _ in 0..count {
+        shown.push(None)?;
+    }
+    Ok(shown)
+}
+
+// Places by base for so many bases, with none.
+fn nothing_noted(alloc: Global, count: usize) -> Result<Vec<Option<usize>>, AllocError>
+    ensures long { IfOk result (λ noted. length noted.items ≡ count) }
+    ensures none { IfOk result (λ noted. AllNone noted.items) }
+{
+    let mut noted = Vec::with_capacity(alloc, count)?;
+    for _ in 0..count {
+        noted.push(None)?;
+    }
+    Ok(noted)
+}
+
+// Whether a mark is that of a node that is done.
+fn is_done(mark: Option<Mark>) -> bool
+    ensures { IsTrue result ↔ (mark ≡ Some DoneMark) }
+{
+    matches!(mark, Some(Mark::Done))
+}
+
+// Whether a mark is that of a node whose job is handed out.
+fn is_out(mark: Option<Mark>) -> bool
+    ensures { IsTrue result ↔ (mark ≡ Some OutMark) }
+{
+    matches!(mark, Some(Mark::Out))
+}
+
+// Puts what shows a node's front at its place.
+fn show(shown: &mut [Option<Arc<BaseFronts, Global>>], place: usize, sweep: Arc<BaseFronts, Global>)
+    requires { place < length shown.old }
+    ensures { shown.new ≡ slice_set shown.old place (Some sweep) }
+{
+    shown[place] = Some(sweep);
+}
+
+// Notes a place for a base, where there is none and it is told to.
+fn note(swept: &mut [Option<usize>], told: bool, base: usize, place: usize)
+    requires { IsTrue told → base < length swept.old }
+    ensures long { length swept.new ≡ length swept.old }
+    ensures noted { (k p : ℕ) → slice_get swept.new k ≡ Some (Some p)
+        → (slice_get swept.old k ≡ Some (Some p))
+        ⊎ ((k ≡ base) × (p ≡ place) × IsTrue told) }
+{
+    if told && swept[base].is_none() {
+        swept[base] = Some(place);
+    }
+}
+
+// A ground that threads share.
+fn shared(alloc: Global, ground: Ground) -> Result<Arc<Ground, Global>, AllocError>
+    ensures { IfOk result (λ shared. arc_value shared ≡ ground) }
+{
+    Arc::new(alloc, ground).map_err(|_| AllocError)
+}
+
+// Whether the node of a rank has the front of the version before the round, if its duty may stand just
+// before one. The nodes of its base stand from a place on.
+fn is_same_if_before(marks: &Marks, net: &Net, duty: &Duty, first: usize, rank: usize) -> bool
+    requires rank { rank < length net.now.duties }
+    requires first { first + rank ≤ 18_446_744_073_709_551_615 }
+    ensures { IsTrue result ↔ IsSameIfBefore marks.now.same net.now duty.now first rank }
+{
+    let before = &net.duties().as_slice()[rank];
+    !may_follow(net.settings(), before, duty) || marks.is_same(first + rank)
+}
+
+// Whether each node of a base that may stand just before a duty has the front of the version before
+// the round. The nodes of the base stand from a place on.
+fn are_same_before(marks: &Marks, net: &Net, duty: &Duty, first: usize) -> bool
+    requires { first + length net.now.duties ≤ 18_446_744_073_709_551_615 }
+    ensures { IsTrue result ↔ AllSameBefore marks.now.same net.now duty.now first }
+{
+    for rank in 0..net.duty_count() {
+        if !is_same_if_before(marks, net, duty, first, rank) {
+            return false;
+        }
+    }
+    true
+}
+
+impl Round {
+    /// A round as it begins: the nodes that no change reaches are done, and the others wait.
+    pub(crate) fn begin(alloc: Global, ground: Ground) -> Result<Round, AllocError>
+        ensures ground { IfOk result (λ round. round.ground ≡ ground) }
+        ensures begun { IfOk result IsBegun }
+    {
+        let carried = ground.carried(alloc)?;
+        let net = ground.shared_net()?;
+        let shown = nothing_shown(alloc, net.len())?;
+        let swept = nothing_noted(alloc, ground.base_count())?;
+        let marks = Marks::begin(alloc, net, carried)?;
+        let ground = shared(alloc, ground)?;
+        Ok(Round {
+            ground,
+            marks,
+            shown,
+            swept,
+        })
+    }
+
+    /// The ground.
+    pub(crate) fn ground(&self) -> &Ground
+        ensures ground { result.now ≡ self.now.ground }
+        ensures over { IsMarkedOver self.now }
+    {
+        &self.ground
+    }
+
+    /// How many nodes there are, are done, and are out.
+    pub(crate) fn progress(&self) -> Progress
+        ensures nodes { result.nodes ≡ length self.now.marks.marks }
+        ensures done { result.done ≡ length (filter Spec.is_done self.now.marks.marks) }
+        ensures out { result.out ≡ length (filter Spec.is_out self.now.marks.marks) }
+    {
+        self.marks.progress()
+    }
+
+    /// Hands out the job of the least ready node, which is out then.
+    pub(crate) fn claim(&mut self, alloc: Global) -> Result<Option<Job>, AllocError>
+        ensures ok { IfOk result (λ claimed. HasClaimed self.old claimed self.new) }
+        ensures err { OnErr result (self.new ≡ self.old) }
+    {
+        let Some(place) = self.marks.first_ready() else {
+            return Ok(None);
+        };
+        let job = self.job_at(alloc, place)?;
+        self.marks.claim(place);
+        Ok(Some(job))
+    }
+
+    // The job of the node at a place that is ready.
+    fn job_at(&self, alloc: Global, place: usize) -> Result<Job, AllocError>
+        requires { IsReady self.now.marks place }
+        ensures ground { IfOk result (λ job. job.ground ≡ self.now.ground) }
+        ensures node { IfOk result (λ job. slice_get (nodes_in self.now.ground.plan.net) place
+            ≡ job_node job) }
+    {
+        let count = self.ground.net().duty_count();
+        let base = place / count;
+        let sweep = self.sweep_for(alloc, place, base)?;
+        let ground = Arc::try_clone(&self.ground)?;
+        Ok(Job::new(ground, base, place % count, sweep))
+    }
+
+    // The sweep from which a ready node's job reads the fronts before it: where one of its base
+    // stands that, none where the version before the round has all of these fronts, and else a new
+    // one.
+    fn sweep_for(
+        &self,
+        alloc: Global,
+        place: usize,
+        base: usize,
+    ) -> Result<Option<Arc<BaseFronts, Global>>, AllocError>
+        requires place { place < length self.now.marks.marks }
+        requires base { base < length self.now.ground.plan.prices }
+        ensures { IfOk result (λ sweep. IsReadableFrom self.now place base
+            (option_map arc_value sweep)) }
+    {
+        if let Some(sweep) = self.sweep_of(base)? {
+            return Ok(Some(sweep));
+        }
+        if self.is_same_before(place) {
+            return Ok(None);
+        }
+        Ok(Some(self.ground.sweep(alloc, base)?))
+    }
+
+    // Whether each node just before a place has the front of the version before the round.
+    fn is_same_before(&self, place: usize) -> bool
+        requires { place < length self.now.marks.marks }
+        ensures { IsTrue result ↔ AreSameBefore self.now.marks place }
+    {
+        let _nodes = self.marks.len();
+        let net = self.ground.net();
+        let rank = place % net.duty_count();
+        let duty = &net.duties().as_slice()[rank];
+        are_same_before(&self.marks, net, duty, place - rank)
+    }
+
+    // The sweep of a base over the ground's plan, where one stands.
+    fn sweep_of(&self, base: usize) -> Result<Option<Arc<BaseFronts, Global>>, AllocError>
+        requires { base < length self.now.ground.plan.prices }
+        ensures { IfOk result (λ sweep. IfSome sweep (λ b.
+            IsSweepIn self.now.ground.plan base (arc_value b))) }
+    {
+        let Some(place) = self.swept[base] else {
+            return Ok(None);
+        };
+        match &self.shown[place] {
+            Some(sweep) => Ok(Some(Arc::try_clone(sweep)?)),
+            None => Ok(None),
+        }
+    }
+
+    // The place of the node whose own job this is now.
+    fn own_place(&self, job: &Job) -> Option<usize>
+        ensures own { MatchOption result (IsNowhere self.now job.now)
+            (IsOwnPlace self.now job.now) }
+        ensures low { IfSome result (λ place. place < length self.now.marks.marks) }
+        ensures once { IfSome result (λ place. (k : ℕ) → IsOwnPlace self.now job.now k → place ≡ k) }
+        ensures ground { IsGround job.now.ground }
+        ensures placed { IsPlaced job.now }
+    {
+        let _ground = job.ground();
+        let Some(place) = self.ground.place_of(job) else {
+            return None;
+        };
+        if !self.marks.is_clear(place) {
+            return None;
+        }
+        let own = is_own(job, &self.ground, place, &self.shown);
+        if own { Some(place) } else { None }
+    }
+
+    /// Takes a result in by what its job holds, and marks what is unchanged with it.
+    pub(crate) fn bring(&mut self, done: Done) -> Brought
+        ensures brought { HasBrought self.old done result self.new }
+        ensures ground { IsGround done.ground }
+        ensures placed { IsPlaced done }
+    {
+        let Some(place) = self.own_place(done.job()) else {
+            return Brought::Stale;
+        };
+        let was_done = is_done(self.marks.mark(place));
+        if was_done {
+            return Brought::Again;
+        }
+        let same = self.is_as_sealed(place, &done);
+        self.store(place, same, done);
+        Brought::Stored
+    }
+
+    // Whether the version before the round has the node at a place with the front that is done.
+    fn is_as_sealed(&self, place: usize, done: &Done) -> bool
+        requires { IsOwnPlace self.now done.now place }
+        ensures { (n : DutyNode) → slice_get (nodes_in self.now.ground.plan.net) place ≡ Some n
+            → (IsTrue result ↔ IsAsSealed self.now.ground n) }
+    {
+        let _ground = done.job().ground();
+        let front = done.front();
+        self.ground.has_kept(place, &front)
+    }
+
+    // Marks a node done whose own job is done, and what is unchanged with it.
+    fn store(&mut self, place: usize, same: bool, done: Done)
+        requires own { IsOwnPlace self.old done place }
+        requires undone { IsUndone self.old.marks place }
+        requires told { (n : DutyNode) → slice_get (nodes_in self.old.ground.plan.net) place ≡ Some n
+            → (same ≡ true) ↔ IsAsSealed self.old.ground n }
+        ensures { IsStored self.old place same self.new }
+    {
+        let own = have_one_plan(done.job().ground(), &self.ground);
+        let base = done.job().base();
+        show(&mut self.shown, place, done.into_sweep());
+        self.marks.store(place, same);
+        note(&mut self.swept, own, base, place);
+    }
+
+    /// Takes a job back that isn't done: its node waits again, where it is out and the job is its own.
+    pub(crate) fn give_back(&mut self, job: &Job) -> bool
+        ensures given_back { HasGivenBack self.old job.now result self.new }
+        ensures ground { IsGround job.now.ground }
+    {
+        let Some(place) = self.own_place(job) else {
+            return false;
+        };
+        let out = is_out(self.marks.mark(place));
+        if !out {
+            return false;
+        }
+        self.marks.free(place);
+        true
+    }
+
+    /// The least node that isn't done.
+    pub(crate) fn first_undone(&self) -> Option<Node>
+        ensures { MatchOption result (AllDone self.now.marks) (IsFirstNode self.now) }
+    {
+        let place = self.marks.first_undone()?;
+        self.ground.net().node(place)
+    }
+
+    /// The version that the round comes to: the fronts of each base are those that stand, or are made.
+    pub(crate) fn close(&self, alloc: Global) -> Result<Arc<Version, Global>, AllocError>
+        ensures number { IfOk result
+            (λ version. (arc_value version).number ≡ self.now.ground.number) }
+        ensures settings { IfOk result
+            (λ version. (arc_value version).settings ≡ self.now.ground.settings) }
+        ensures entries { IfOk result
+            (λ version. (arc_value version).entries ≡ self.now.ground.entries) }
+        ensures right { IfOk result (λ version. IsRight (arc_value version)) }
+    {
+        let count = self.ground.base_count();
+        let mut sweeps = Vec::with_capacity(alloc, count)?;
+        for base in 0..count {
+            sweeps.push(self.swept_or_made(alloc, base)?)?;
+        }
+        self.ground.close(alloc, sweeps)
+    }
+
+    // The sweep of a base over the ground's plan: that which stands, or a new one.
+    fn swept_or_made(
+        &self,
+        alloc: Global,
+        base: usize,
+    ) -> Result<Arc<BaseFronts, Global>, AllocError>
+        requires { base < length self.now.ground.plan.prices }
+        ensures { IfOk result (λ sweep. IsSweepIn self.now.ground.plan base (arc_value sweep)) }
+    {
+        match self.sweep_of(base)? {
+            Some(sweep) => Ok(sweep),
+            None => self.ground.sweep(alloc, base),
+        }
+    }
+}
