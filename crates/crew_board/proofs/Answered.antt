@@ -8,7 +8,7 @@ use Rattle.crew_board.proofs.Begins.{marked-begun, opened-after}
 use Rattle.crew_board.proofs.Existence.{some-idle, some-open}
 use Rattle.crew_board.proofs.Keeping.{marked-with, stored-over}
 use Rattle.crew_board.proofs.Reuse.{round_of}
-use Rattle.crew_board.proofs.Seals.{first-undone, sealed}
+use Rattle.crew_board.proofs.Seals.{all-done, first-undone, sealed}
 use Rattle.crew_board.proofs.Steps.{again-step, closed, freed, handed, kept, none-ready, not-freed, open_board, opened, stale-step}
 use Rattle.crew_board.proofs.Works.{one-work-of}
 use Rattle.crew_board.specs.Boards.{IsBoardOf, ShownBoard, ShownRound, shown_board, shown_round, shown_version}
@@ -29,9 +29,10 @@ use Rattle.crew_machine.proofs.CrewLaws.{crew-laws}
 use Rattle.crew_machine.specs.Choices.{BringsAll, ClaimsLeast}
 use Rattle.crew_machine.specs.Crew.{CrewBoard, CrewRound, CrewVersion, DutyNode, DutyWork, Entries, IsLocalOf, crew}
 use Rattle.crew_machine.specs.Machinery.Sound.{IsStanding}
-use Rattle.crew_machine.specs.Rounds.{Abandons, ComesToTooMany, GivesBack, HasNoNumber, IsFirstUndone, IsShorter, NoneReady, Opens, Seals, last_number}
+use Rattle.crew_machine.specs.Rounds.{Abandons, ComesToTooMany, GivesBack, HasNoNumber, IsFirstUndone, IsShorter, IsUndone, NoneReady, Opens, Seals, last_number}
 use Rattle.crew_machine.specs.declared.rounds.Brought.{Brought}
 use Rattle.crew_machine.specs.declared.rounds.Brought.TheVariants.{Stale, Again, Stored}
+use Rattle.crew_machine.specs.declared.rounds.Cell.{Cell}
 use Rattle.crew_net.specs.declared.node.Node.{Node}
 use Rattle.crew_round.specs.Marks as Marks
 use Rattle.crew_round.specs.Marks.{AllDone}
@@ -114,6 +115,15 @@ module _ (r : Marked) (over : IsMarkedOver r) where
       let n = first-undone r over b (opened r over b is) first.place first.first in
       (n.0, under (λ z. IsFirstUndone (crew z) b n.0) n.2, first.named n.0 n.1)
 
+  all-here : AllDone r.marks → (b : CrewBoard) → IsBoardOf (open_board r) b → Calls.HasAllDone b
+  all-here all b is =
+      let o = opened r over b is in
+      record {
+        round = round_of r.ground.entries o.cells;
+        is_open = o.is;
+        done = λ place n c at u. (let d = all-done r over b o all place n c at in subst (λ (z : Cell Entries). IsUndone z) d.1 u);
+      }
+
   abandoned-here : (b : CrewBoard) → IsBoardOf (open_board r) b → Calls.HasAbandoned (open_board r) b true (board_of r.ground.sealed None)
   abandoned-here b is =
       let o = opened r over b is in
@@ -152,6 +162,9 @@ module _ (s : Snapshot) (r : Marked) (k : IsRoundOver s r) where
 
   pub not-done : (node : Node) → IsFirstNode r node → (b : CrewBoard) → IsBoardOf old b → Calls.IsSealFault old b (Seal.NotDone node)
   not-done node first b = opens-same (λ z. IsBoardOf (board_of z (Some r)) b → Calls.IsSealFault (board_of z (Some r)) b (Seal.NotDone node)) (undone-here r k.over node first b)
+
+  pub no-memory : AllDone r.marks → (b : CrewBoard) → IsBoardOf old b → Calls.IsSealFault old b Seal.Memory
+  no-memory all b = opens-same (λ z. IsBoardOf (board_of z (Some r)) b → Calls.HasAllDone b) (all-here r k.over all b)
 
   pub abandoned : (b : CrewBoard) → IsBoardOf old b → Calls.HasAbandoned old b true (board_of s None)
   abandoned b = opens-same (λ z. IsBoardOf (board_of z (Some r)) b → Calls.HasAbandoned (board_of z (Some r)) b true (board_of z None)) (abandoned-here r k.over b)
@@ -261,7 +274,11 @@ module _ (s : Snapshot) where
     number_left = subst (λ n. n < last_number) (sym (ap (λ (z : Snapshot). z.number) (sealed-is b None is))) h.1;
     too_large = h.2;
   }
-  ground-refused entries Ground.Memory h b is = none-open b is
+  ground-refused entries Ground.Memory h b is = record {
+    none_open = none-open b is;
+    begins = subst (λ (es : List Entry). IsPrefix es entries) (sym (ap (λ (z : Snapshot). z.entries) (sealed-is b None is))) h.0;
+    number_left = subst (λ n. n < last_number) (sym (ap (λ (z : Snapshot). z.number) (sealed-is b None is))) h.1;
+  }
 
 -- ---- begin
 

@@ -59,7 +59,7 @@ module _ (r : Marked) (over : IsMarkedOver r) (b : CrewBoard) (o : IsOpen r b) w
   abbrev t : Timetable
   t = data_of r.ground
 
-  all-done : Marks.AllDone r.marks → AreDone o.cells
+  pub all-done : Marks.AllDone r.marks → AreDone o.cells
   all-done all i n c at =
       let m = mark-at s t r.marks.net r.marks.marks o.cells (cells-over r over b o).marked i n c at in
       is-done c (Some-same (mark_of c) MarkedAs.Done (sym m ∙ all i (slice_get_within r.marks.marks i (mark_of c) m)))

@@ -1,5 +1,6 @@
 -- What each call of a board does: a step of the machine's board for which it stands.
-use Rattle.std.specs.Prelude.{◌≡◌, ℕ, Bool, List, Option, Some, None, length, slice_get}
+use Rattle.std.specs.Prelude.{◌≡◌, ◌<◌, ℕ, Bool, List, Option, Some, None, slice_get}
+use mathlib.Core.List.{IsPrefix}
 use Rattle.crew_board.specs.Boards.{IsBoardOf, ShownBoard, ShownRound, shown_version}
 use Rattle.crew_board.specs.declared.fault.BeginFault.{BeginFault}
 use Rattle.crew_board.specs.declared.fault.BeginFault.TheVariants.{Busy, Ground}
@@ -10,9 +11,10 @@ use Rattle.crew_job.specs.Grounds.{ground_number}
 use Rattle.crew_job.specs.Jobs.{IsJobOf, Job}
 use Rattle.crew_job.specs.declared.fault.GroundFault.TheVariants as NoGround
 use Rattle.crew_machine.specs.Choices.{BringsAll, ClaimsLeast}
-use Rattle.crew_machine.specs.Crew.{CrewBoard, CrewVersion, DutyNode, DutyWork, Entries, IsLocalOf, crew}
-use Rattle.crew_machine.specs.Rounds.{Abandons, ComesToTooMany, GivesBack, HasNoNumber, IsBusy, IsFirstUndone, IsShorter, NoneReady, Opens, Seals}
+use Rattle.crew_machine.specs.Crew.{CrewBoard, CrewRound, CrewVersion, DutyNode, DutyWork, Entries, IsLocalOf, crew}
+use Rattle.crew_machine.specs.Rounds.{Abandons, ComesToTooMany, GivesBack, HasNoNumber, IsBusy, IsFirstUndone, IsShorter, IsUndone, NoneReady, Opens, Seals, last_number}
 use Rattle.crew_machine.specs.declared.rounds.Brought.{Brought}
+use Rattle.crew_machine.specs.declared.rounds.Cell.{Cell}
 use Rattle.crew_version.specs.Versions.{Snapshot}
 
 -- begin: a round is open over these entries
@@ -22,7 +24,14 @@ pub record HasBegun (old : ShownBoard) (b : CrewBoard) (entries : List Entry) (n
   pub opens : Opens (crew old.sealed.settings) b entries after
   pub shows : IsBoardOf new after
 
--- .. or why it isn't, the first that applies; want of memory is told by no step
+-- none is open, the entries begin with the sealed version's, and there is a number after its
+pub record MayBegin (b : CrewBoard) (entries : List Entry) : Type 0 where
+  pub none_open : b.round ≡ None
+  pub begins : IsPrefix b.sealed.entries entries
+  pub number_left : b.sealed.number < last_number
+
+-- .. or why it isn't, the first that applies; want of memory, which no step tells, only where no
+-- other cause is found before
 abbrev pub IsBeginFault : ShownBoard → CrewBoard → List Entry → BeginFault → Type 0
 IsBeginFault old b entries Busy = IsBusy (crew old.sealed.settings) b
 IsBeginFault old b entries (Ground NoGround.ShorterLog) = IsShorter (crew old.sealed.settings) b
@@ -31,7 +40,7 @@ IsBeginFault old b entries (Ground NoGround.LastVersion) = HasNoNumber (crew old
     entries
 IsBeginFault old b entries (Ground NoGround.TooManyDuties) =
     ComesToTooMany (crew old.sealed.settings) b entries
-IsBeginFault old b entries (Ground NoGround.Memory) = b.round ≡ None
+IsBeginFault old b entries (Ground NoGround.Memory) = MayBegin b entries
 
 -- claim: the least ready node is out, and its job is handed out
 pub record HasHandedOut (old : ShownBoard) (b : CrewBoard) (job : Job) (new : ShownBoard) : Type
@@ -77,13 +86,20 @@ pub record HasSealed (old : ShownBoard) (b : CrewBoard) (sealed : Snapshot) (new
   pub seals : Seals (crew old.sealed.settings) b version after
   pub shows : IsBoardOf new after
 
--- .. or why it isn't: the node is the least that isn't done
+-- a round is open, and all its nodes are done
+pub record HasAllDone (b : CrewBoard) : Type 0 where
+  pub round : CrewRound
+  pub is_open : b.round ≡ Some round
+  pub done : (place : ℕ) (n : DutyNode) (c : Cell Entries)
+      → slice_get round.cells place ≡ Some (n, c) → IsUndone c → ⊥
+
+-- .. or why it isn't, want of memory only where it might have been: the node is the least that isn't done
 abbrev pub IsSealFault : ShownBoard → CrewBoard → SealFault → Type 0
 IsSealFault old b Seal.NoRound = b.round ≡ None
 IsSealFault old b (Seal.NotDone node) = (n : DutyNode)
     × IsFirstUndone (crew old.sealed.settings) b n
     × (node ≡ record { base = n.base; key = n.duty.key })
-IsSealFault old b Seal.Memory = Unit {0}
+IsSealFault old b Seal.Memory = HasAllDone b
 
 -- the numbers of refusals
 abbrev pub begin_number : BeginFault → Option ℕ

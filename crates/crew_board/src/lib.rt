@@ -3,7 +3,8 @@
 //! product's choices: `claim` hands out the least ready node, `bring` takes a result in by what its
 //! job holds, whoever made it and when, and then marks equal jobs done until none is left. So what
 //! is done is right whatever the order of calls, and a worker needn't be trusted. It stands under a
-//! lock: no call works out a front but where a job's own sweep can't be had otherwise.
+//! lock: no call works out fronts but `claim`, where those before its job can't be read otherwise, and
+//! `seal`, of a base that has no sweep.
 #![tactic(auto)]
 
 mod board;

@@ -1,8 +1,8 @@
 //! A round: its ground, what is known of its nodes, and what shows the fronts of those that are done.
-ghost use Rattle.std.specs.Prelude.{◌≡◌, ◌↔◌, ◌⊎◌, ◌+◌, ◌<◌, ◌≤◌, ℕ, IfOk, IfSome, IsTrue, MatchOption, None, OnErr, Some, filter, get_or, length, map, replicate, slice_get, slice_set, true};
+ghost use Rattle.std.specs.Prelude.{◌≡◌, ◌↔◌, ◌⊎◌, ◌+◌, ◌<◌, ◌≤◌, ℕ, IfOk, IfSome, IsTrue, MatchOption, None, OnErr, Some, filter, get_or, length, map, slice_get, slice_set, true};
 ghost use Rattle.std.specs.Arc.{arc_value};
 ghost use Rattle.std.specs.Option.{option_map};
-ghost use Rattle.crew_board.specs.Machinery.Held.{AllNone, IsBegun, IsMarkedOver};
+ghost use Rattle.crew_board.specs.Machinery.Held.{AllNone, IsBegun};
 ghost use Rattle.crew_board.specs.Machinery.Turns.{AllSameBefore, HasBrought, HasClaimed, HasGivenBack, IsFirstNode, IsNowhere, IsOwnPlace, IsReadableFrom, IsSameIfBefore, IsStored};
 ghost use Rattle.crew_job.specs.Grounds.{IsGround, nodes_in};
 ghost use Rattle.crew_job.specs.Jobs.{IsPlaced, job_node};
@@ -164,14 +164,6 @@ impl Round {
             shown,
             swept,
         })
-    }
-
-    /// The ground.
-    pub(crate) fn ground(&self) -> &Ground
-        ensures ground { result.now ≡ self.now.ground }
-        ensures over { IsMarkedOver self.now }
-    {
-        &self.ground
     }
 
     /// How many nodes there are, are done, and are out.

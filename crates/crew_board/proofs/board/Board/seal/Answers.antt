@@ -32,3 +32,21 @@ returns-clause-ok c =
     let answers = from.sealed-as s m k c.in_default-first_undone.ensures v e.number e.settings e.entries e.right in
     subst (λ (z : ShownBoard). (b : CrewBoard) → IsBoardOf z b → HasSealed z b v (board_of (arc_value c.in_ok-self-inside.field-0) None)) view
     (subst (λ (x : Snapshot). (b : CrewBoard) → IsBoardOf (board_of s (Some m)) b → HasSealed (board_of s (Some m)) b v (board_of x None)) (sym c.in_ok-self-inside.ensures) answers)
+
+pub returns-in_err-version-clause-fault : goal.returns-in_err-version-clause-fault
+returns-in_err-version-clause-fault c =
+    let s = c.self.inside.sealed.value in
+    let m = c.in-Some.round in
+    let k : IsRoundOver s m = subst (λ (o : Option Marked). IfSome o (IsRoundOver s)) c.in-Some.is c.self.invariant.held in
+    let view : board_of s (Some m) ≡ c.args.self.now = ap (board_of s) (sym c.in-Some.is) ∙ c.self.view_is in
+    let none = subst (λ (z : ShownBoard). (b : CrewBoard) → IsBoardOf z b → IsSealFault z b Seal.Memory) view (from.no-memory s m k c.in_default-first_undone.ensures) in
+    from.refused-as (λ f. (b : CrewBoard) → IsBoardOf c.args.self.now b → IsSealFault c.args.self.now b f) c.from_residual.result Seal.Memory c.from_residual.ensures.1 none
+
+pub returns-in_err-self-inside-clause-fault : goal.returns-in_err-self-inside-clause-fault
+returns-in_err-self-inside-clause-fault c =
+    let s = c.self.inside.sealed.value in
+    let m = c.in-Some.round in
+    let k : IsRoundOver s m = subst (λ (o : Option Marked). IfSome o (IsRoundOver s)) c.in-Some.is c.self.invariant.held in
+    let view : board_of s (Some m) ≡ c.args.self.now = ap (board_of s) (sym c.in-Some.is) ∙ c.self.view_is in
+    let none = subst (λ (z : ShownBoard). (b : CrewBoard) → IsBoardOf z b → IsSealFault z b Seal.Memory) view (from.no-memory s m k c.in_default-first_undone.ensures) in
+    from.refused-as (λ f. (b : CrewBoard) → IsBoardOf c.args.self.now b → IsSealFault c.args.self.now b f) c.from_residual-in_err-self-inside.result Seal.Memory c.from_residual-in_err-self-inside.ensures.1 none
