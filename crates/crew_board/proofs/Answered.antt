@@ -5,11 +5,12 @@ use Rattle.std.specs.Result.{IsErrAnd}
 use Rattle.std.specs.Prelude.{slice_get}
 use mathlib.Core.List.{IsPrefix}
 use Rattle.crew_board.proofs.Begins.{marked-begun, opened-after}
+use Rattle.crew_board.proofs.Cells.{ready-in}
 use Rattle.crew_board.proofs.Existence.{some-idle, some-open}
 use Rattle.crew_board.proofs.Keeping.{marked-with, stored-over}
 use Rattle.crew_board.proofs.Reuse.{round_of}
 use Rattle.crew_board.proofs.Seals.{all-done, first-undone, sealed}
-use Rattle.crew_board.proofs.Steps.{again-step, closed, freed, handed, kept, none-ready, not-freed, open_board, opened, stale-step}
+use Rattle.crew_board.proofs.Steps.{again-step, cells-over, closed, freed, handed, kept, none-ready, not-freed, open_board, opened, stale-step}
 use Rattle.crew_board.proofs.Works.{one-work-of}
 use Rattle.crew_board.specs.Boards.{IsBoardOf, ShownBoard, ShownRound, shown_board, shown_round, shown_version}
 use Rattle.crew_board.specs.Calls as Calls
@@ -20,7 +21,7 @@ use Rattle.crew_board.specs.Machinery.Turns.{HasBrought, HasClaimed, HasGivenBac
 use Rattle.crew_board.specs.declared.fault.BeginFault.TheVariants as Begin
 use Rattle.crew_board.specs.declared.fault.SealFault.TheVariants as Seal
 use Rattle.crew_flights.specs.declared.entries.Entry.{Entry}
-use Rattle.crew_job.specs.Grounds.{IsGround, IsGroundFault, nodes_in}
+use Rattle.crew_job.specs.Grounds.{IsGround, IsGroundFault, data_of, nodes_in}
 use Rattle.crew_job.specs.Jobs.{IsJobOf, IsPlaced, Job}
 use Rattle.crew_job.specs.declared.fault.GroundFault.{GroundFault}
 use Rattle.crew_job.specs.declared.fault.GroundFault.TheVariants as Ground
@@ -59,6 +60,14 @@ module _ (r : Marked) (over : IsMarkedOver r) where
         claims = under (λ z. ClaimsLeast (crew z) b h.work h.after) h.claims;
         shows = subst (λ (v : Snapshot). IsBoardOf (board_of v (Some new)) h.after) (ap (λ (z : Marked). z.ground.sealed) c.after) h.shows;
       }
+
+  ready-here : (place : ℕ) → Marks.IsReady r.marks place → (b : CrewBoard) → IsBoardOf (open_board r) b → NoneReady (crew r.ground.sealed.settings) b → ⊥
+  ready-here place ready b is =
+      let o = opened r over b is in
+      let s = r.ground.settings in
+      let h = ready-in s (data_of r.ground) r.marks o.cells (cells-over r over b o).marked place ready in
+      let all : NoneReady (crew s) b → ⊥ = λ none. none (round_of r.ground.entries o.cells) place h.0 o.is h.1 in
+      under (λ z. NoneReady (crew z) b → ⊥) all
 
   brought-here : (job : Job) → IsGround job.ground → (brought : Brought) (new : Marked) → HasBrought r job brought new → (b : CrewBoard) (work : DutyWork) (front : Entries) → IsBoardOf (open_board r) b → IsJobOf job work → IsLocalOf work front
       → Calls.HasBrought (open_board r) b work front brought (board_of r.ground.sealed (Some new))
@@ -185,6 +194,10 @@ module _ (s : Snapshot) (r : Marked) (k : IsRoundOver s r) where
   pub claimed-answers : {E : Type 0} (result : Result (Option Job) E) (new : Marked) → IfOk result (λ c. HasClaimed r c new) → IfOk result (λ c. (b : CrewBoard) → IsBoardOf old b → Calls.HasClaimed old b c (board_of s (Some new)))
   claimed-answers (Ok c) new h = λ b. claimed c new h b
   claimed-answers (Err e) new h = tt
+
+  pub some-ready : {E : Type 0} (result : Result (Option Job) E) → OnErr result ((place : ℕ) × Marks.IsReady r.marks place) → OnErr result ((b : CrewBoard) → IsBoardOf old b → NoneReady (crew s.settings) b → ⊥)
+  some-ready (Ok c) h = tt
+  some-ready (Err e) h = λ b. opens-same (λ z. IsBoardOf (board_of z (Some r)) b → NoneReady (crew z.settings) b → ⊥) (ready-here r k.over h.0 h.1 b)
 
   pub claimed-over : {E : Type 0} (result : Result (Option Job) E) (new : Marked) → IfOk result (λ c. HasClaimed r c new) → OnErr result (new ≡ r) → IsRoundOver s new
   claimed-over (Ok c) new h none = claimed-keeps c new h
@@ -331,3 +344,7 @@ none-of (Some x) told e f = let clash = sym f ∙ e in absurd (let q : ⊥ = (cc
 pub refused-as : {T E : Type 0} (P : E → Type 0) (result : Result T E) (fault : E) → IsErrAnd result (λ f. f ≡ fault) → P fault → IfErr result P
 refused-as P (Ok x) fault e h = tt
 refused-as P (Err f) fault e h = subst P (sym e) h
+
+pub told-of-err : {T E P : Type 0} (result : Result T E) → P → OnErr result P
+told-of-err (Ok x) p = tt
+told-of-err (Err e) p = p

@@ -4,7 +4,8 @@ ghost use Rattle.std.specs.Arc.{arc_value};
 ghost use Rattle.crew_board.specs.Boards.{IsBoardOf, ShownRound};
 ghost use Rattle.crew_board.specs.Calls.{HasAbandoned, HasBegun, HasBrought, HasClaimed, HasGivenBack, HasSealed, IsBeginFault, IsSealFault};
 ghost use Rattle.crew_job.specs.Jobs.{IsJobOf};
-ghost use Rattle.crew_machine.specs.Crew.{CrewBoard, DutyWork, Entries, IsLocalOf};
+ghost use Rattle.crew_machine.specs.Crew.{CrewBoard, DutyWork, Entries, IsLocalOf, crew};
+ghost use Rattle.crew_machine.specs.Rounds.{NoneReady};
 ghost use Rattle.crew_round.specs.Marks.{is_done, is_out};
 
 use crate::fault::{BeginFault, SealFault};
@@ -102,11 +103,14 @@ impl Board {
     }
 
     /// Hands out the job of the least node that waits and whose nodes before it are done; `None`
-    /// where there is none, or no round is open. With no memory nothing is handed out.
+    /// where there is none, or no round is open. With no memory for a job that there is, nothing is
+    /// handed out.
     pub fn claim(&mut self, alloc: Global) -> Result<Option<Job>, AllocError>
         ensures ok { IfOk result (λ claimed. (b : CrewBoard) → IsBoardOf self.old b
             → HasClaimed self.old b claimed self.new) }
         ensures err { OnErr result (self.new ≡ self.old) }
+        ensures some { OnErr result ((b : CrewBoard) → IsBoardOf self.old b
+            → NoneReady (crew self.old.sealed.settings) b → ⊥) }
     {
         let Some(round) = &mut self.round else {
             return Ok(None);

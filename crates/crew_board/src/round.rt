@@ -179,6 +179,7 @@ impl Round {
     pub(crate) fn claim(&mut self, alloc: Global) -> Result<Option<Job>, AllocError>
         ensures ok { IfOk result (λ claimed. HasClaimed self.old claimed self.new) }
         ensures err { OnErr result (self.new ≡ self.old) }
+        ensures some { OnErr result ((place : ℕ) × IsReady self.old.marks place) }
     {
         let Some(place) = self.marks.first_ready() else {
             return Ok(None);

@@ -7,7 +7,8 @@ use Rattle.crew_board.specs.Calls.{HasBegun, HasBrought, HasClaimed, HasGivenBac
 use Rattle.crew_board.specs.Machinery.Held.{Marked}
 use Rattle.crew_board.specs.Machinery.Settled.{IsRoundOver, IsSettled, board_of, shown_marked}
 use Rattle.crew_job.specs.Jobs.{IsJobOf, Job}
-use Rattle.crew_machine.specs.Crew.{CrewBoard, DutyWork, Entries, IsLocalOf}
+use Rattle.crew_machine.specs.Crew.{CrewBoard, DutyWork, Entries, IsLocalOf, crew}
+use Rattle.crew_machine.specs.Rounds.{NoneReady}
 use Rattle.crew_version.specs.Versions.{Snapshot}
 use Rattle.crew_board.proofs.board.Board.claim.Goals as goal
 
@@ -27,3 +28,12 @@ returns-clause-ok c =
     let view : board_of s (Some m) ≡ c.args.self.now = ap (board_of s) (sym c.in-Some.is) ∙ c.self.view_is in
     subst (λ (z : ShownBoard). IfOk c.claim.result (λ claimed. (b : CrewBoard) → IsBoardOf z b → HasClaimed z b claimed (board_of s (Some c.claim.new.self)))) view
     (from.claimed-answers s m k c.claim.result c.claim.new.self c.claim.ensures.ok)
+
+pub returns-clause-some : goal.returns-clause-some
+returns-clause-some c =
+    let s = c.self.inside.sealed.value in
+    let m = c.in-Some.round in
+    let k : IsRoundOver s m = subst (λ (o : Option Marked). IfSome o (IsRoundOver s)) c.in-Some.is c.self.invariant.held in
+    let view : board_of s (Some m) ≡ c.args.self.now = ap (board_of s) (sym c.in-Some.is) ∙ c.self.view_is in
+    subst (λ (z : ShownBoard). OnErr c.claim.result ((b : CrewBoard) → IsBoardOf z b → NoneReady (crew z.sealed.settings) b → ⊥)) view
+    (from.some-ready s m k c.claim.result c.claim.ensures.some)
