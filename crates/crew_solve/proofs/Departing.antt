@@ -102,7 +102,7 @@ pub own-leaves : (d : Duty) → leaves_at (departure_of d) d ≡ true
 own-leaves d = rw (code-itself d.from d.from refl, int-itself d.report) refl
 
 -- departures in order of report
-place-within : (gs : List Departure) (places : List ℕ) (k : ℕ) → AreByReport gs places → k < length places → get_or places k 0 < length gs
+pub place-within : (gs : List Departure) (places : List ℕ) (k : ℕ) → AreByReport gs places → k < length places → get_or places k 0 < length gs
 place-within gs places k order h =
     let x = there places k h in
     let m = Member-shuffled places (range_with_len 0 (length gs)) x.0 (IsPermutation-sym (range_with_len 0 (length gs)) places order.all) (get-member places k x.0 x.1) in

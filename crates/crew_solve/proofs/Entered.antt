@@ -108,3 +108,9 @@ are-lent b index rank d fit at kept own view is apart =
       walks = λ l m. boarder-kept b index rank d fit at kept l (subst (λ (ls : List (PairingVector × LabelWalk)). Member ls l) is m);
       apart = apart;
     }
+
+-- what is left once the first has been lent
+pub lent-rest : (b : BaseSweep) (d : Duty) (all : List (PairingVector × LabelWalk)) (l : PairingVector × LabelWalk) (rest : List (PairingVector × LabelWalk)) → all ≡ l ∷ rest → AreLent b d all → AreLent b d rest
+lent-rest b d all l rest is h =
+    let g : AreLent b d (l ∷ rest) = subst (AreLent b d) is h in
+    record { room = λ within x m. g.room within x (inr m); walks = λ x m. g.walks x (inr m); apart = g.apart.1 }

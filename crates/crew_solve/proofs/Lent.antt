@@ -16,10 +16,10 @@ use Rattle.crew_solve.specs.Machinery.Lent.{after, by_vector, is_after, is_next,
 use Rattle.crew_vector.specs.Fronts.{RiseByVector, vector_cmp}
 use Rattle.crew_vector.specs.Machinery.Named.{named_order}
 
-abbrev Entry : Type 0
+abbrev pub Entry : Type 0
 Entry = PairingVector × List (List Leg)
 
-vector-total : IsTotalOrder vector_cmp
+pub vector-total : IsTotalOrder vector_cmp
 vector-total =
     then_total (on_total (λ (v : PairingVector). v.duty_pay) int_cmp_total)
     (then_total (on_total (λ (v : PairingVector). v.trip_rig) int_cmp_total)

@@ -12,7 +12,12 @@ pub mod Homing
 pub mod Solving
 pub mod Solved
 pub mod Shown
+pub mod Early
+pub mod Backwards
 pub mod Lent
+pub mod Within
+pub mod Beside
+pub mod Found
 pub mod Entered
 pub mod Swept
 pub mod OneNet

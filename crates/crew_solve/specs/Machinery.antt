@@ -1,4 +1,5 @@
 -- The pairings that come home, and the fronts that are lent.
+pub mod Early
 pub mod Floors
 pub mod Homes
 pub mod Keeps

@@ -1,10 +1,11 @@
 //! Where the node of a base and a duty stands.
-ghost use Rattle.std.specs.Prelude.{◌≡◌, IfSome, None, map};
+ghost use Rattle.std.specs.Prelude.{◌≡◌, ◌<◌, ◌≤◌, ℕ, IfSome, None, get_or, length, map, slice_get, true};
 ghost use Rattle.std.specs.Arc.{arc_value};
 ghost use Rattle.crew_net.specs.Events.{AreEvents, departure_cmp, leaves_at};
 ghost use Rattle.crew_net.specs.Nets.{AreByReport};
 ghost use Rattle.crew_pairing.specs.Events.{departure_of};
 ghost use Rattle.crew_resource.specs.Members.{Member};
+ghost use Rattle.crew_solve.specs.Machinery.Early.{is_early};
 ghost use Rattle.crew_solve.specs.Machinery.Solved.{IsSweepOf};
 ghost use Rattle.crew_sweep.specs.Machinery.Numbered.{departure_place};
 ghost use Rattle.crew_sweep.specs.Sweeps.{BaseSweep, in_order};
@@ -23,6 +24,26 @@ fn is_left_by(departure: &Departure, duty: &Duty) -> bool
     departure.airport == duty.from && departure.report == i64::from(duty.report)
 }
 
+// Whether the departure at a place reports before an instant; where there is none it doesn't.
+fn reports_before(departures: &[Departure], place: u32, instant: i64) -> bool
+    ensures { result ≡ is_early instant (slice_get departures.now place) }
+{
+    match departures.get(place as usize) {
+        Some(departure) => departure.report < instant,
+        None => false,
+    }
+}
+
+// How many departures report before an instant, by their places in order of report.
+fn early_count(departures: &[Departure], places: &[u32], instant: i64) -> usize
+    requires { AreByReport departures.now places.now }
+    ensures within { result ≤ length places.now }
+    ensures early { (k : ℕ) → k < result
+        → is_early instant (slice_get departures.now (get_or places.now k 0)) ≡ true }
+{
+    places.partition_point(|place| reports_before(departures, *place, instant))
+}
+
 /// The place of a duty's departure in order of report.
 pub(crate) fn place_of(net: &Net, duty: &Duty) -> usize
     ensures events { AreEvents departure_of departure_cmp net.now.duties net.now.departures }
@@ -31,7 +52,8 @@ pub(crate) fn place_of(net: &Net, duty: &Duty) -> usize
 {
     let places = net.by_report();
     let departures = net.departures();
-    for index in 0..places.len() {
+    let first = early_count(departures, places, i64::from(duty.report));
+    for index in first..places.len() {
         if is_left_by(&departures[places[index] as usize], duty) {
             return index;
         }

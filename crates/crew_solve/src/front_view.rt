@@ -8,10 +8,12 @@ ghost use Rattle.crew_solve.specs.Machinery.Solved.{AreShownAt};
 ghost use Rattle.crew_sweep.specs.Sweeps.{in_order};
 ghost use Rattle.crew_vector.specs.Fronts.{RiseByVector};
 
+use crate::lookup::Lookup;
+use crate::shown_entries::ShownEntries;
 use crate::walk_view::WalkView;
 use crew_anchor::AnchoredResource;
 use crew_pairing::{Duty, PairingVector};
-use crew_pool::View;
+use crew_pool::{LabelWalk, View};
 use crew_sweep::Sweep;
 use std::marker::Model;
 
@@ -24,19 +26,21 @@ pub struct FrontView<'a> {
     sweep: &'a Sweep,
     duty: &'a Duty,
     view: View<'a, Duty, AnchoredResource>,
+    rank: u32,
+    labels: &'a [(PairingVector, LabelWalk)],
 }
 
 impl<'a> Model for FrontView<'a> {
     ghost use Rattle.std.specs.Prelude.{List, map};
     ghost use Rattle.crew_pairing.specs.Legs.{Leg};
     ghost use Rattle.crew_pairing.specs.declared.vector.PairingVector.{PairingVector as Vector};
-    ghost use Rattle.crew_solve.specs.Machinery.Lent.{AreLent, by_vector, entry_of};
+    ghost use Rattle.crew_solve.specs.Machinery.Lent.{IsLent, by_vector, entry_of};
 
     ghost Value = { List (Vector × List (List Leg)) };
 
     ghost view = { λ f. by_vector (map (entry_of f.sweep.now f.duty.now.release) f.view) };
 
-    ghost invariant = { λ f. AreLent f.sweep.now f.duty.now f.view };
+    ghost invariant = { λ f. IsLent f.sweep.now f.duty.now f.rank f.labels.now f.view };
 }
 
 /// The entries of a front that are still to come.
@@ -114,9 +118,16 @@ impl<'a> FrontView<'a> {
         requires fit { IsFit sweep.now }
         ensures { AreShownAt sweep.now index duty.now result }
     {
-        let view = View::new(sweep.resource(), sweep.pool(index), duty, rank);
+        let pool = sweep.pool(index);
+        let view = View::new(sweep.resource(), pool, duty, rank);
         let _entries = view.iter();
-        FrontView { sweep, duty, view }
+        FrontView {
+            sweep,
+            duty,
+            view,
+            rank,
+            labels: pool.as_slice(),
+        }
     }
 
     /// How many entries there are.
@@ -134,6 +145,22 @@ impl<'a> FrontView<'a> {
             front: self,
             last: None,
         }
+    }
+
+    // The entries as the labels stand.
+    pub(crate) fn shown(&self) -> ShownEntries<'a>
+        ensures entries { self.now ≡ Spec.by_vector result }
+        ensures rises { RiseByVector self.now }
+    {
+        ShownEntries::new(self.sweep, self.duty, &self.view)
+    }
+
+    // The labels, among which entries are looked for.
+    pub(crate) fn lookup(&self) -> Lookup<'a>
+        ensures entries { self.now ≡ Spec.by_vector result }
+        ensures rises { RiseByVector self.now }
+    {
+        Lookup::new(self.sweep, self.duty, self.rank, self.labels)
     }
 
     // The first entry after a vector, or the first of all.

@@ -1,5 +1,5 @@
 //! Walks that a sweep lends.
-ghost use Rattle.std.specs.Prelude.{◌≡◌, ◌<◌, ◌≤◌, length, slice_get};
+ghost use Rattle.std.specs.Prelude.{◌≡◌, ◌↔◌, ◌<◌, ◌≤◌, ◌++◌, ◌∷◌, [], IfSome, IsNone, IsTrue, length, slice_get};
 ghost use Rattle.std.specs.Option.{option_copied};
 ghost use Rattle.crew_pool.specs.Arena.{walk_at};
 ghost use Rattle.crew_pool.specs.LabelWalks.{duty_of, walk_of_label};
@@ -93,6 +93,29 @@ fn rank_of(walks: &Walks, label: LabelWalk, place: usize) -> Option<u32>
     }
 }
 
+// A label's walk without its last duty, and that duty's rank; `None` for a walk of no duty.
+fn split_label(walks: &Walks, label: LabelWalk) -> Option<(LabelWalk, u32)>
+    requires { label.walk < length walks.now }
+    ensures none { IsNone result → walk_of_label walks.now label ≡ [] }
+    ensures some { IfSome result (λ l. (l.0.walk < length walks.now)
+        × (walk_of_label walks.now label ≡ walk_of_label walks.now l.0 ++ l.1 ∷ [])) }
+{
+    let duty = NO_DUTY;
+    if label.duty != NO_DUTY {
+        let walk = label.walk;
+        return Some((LabelWalk { walk, duty }, label.duty));
+    }
+    let (walk, rank) = walks.last(label.walk)?;
+    Some((LabelWalk { walk, duty }, rank))
+}
+
+// Whether two keys are equal.
+fn is_same_key(one: &Key, other: &Key) -> bool
+    ensures { IsTrue result ↔ (one.now ≡ other.now) }
+{
+    one == other
+}
+
 impl<'a> WalkView<'a> {
     // The walk of a label.
     pub(crate) fn new(sweep: &'a Sweep, label: LabelWalk) -> WalkView<'a>
@@ -126,5 +149,34 @@ impl<'a> WalkView<'a> {
     {
         let rank = rank_of(self.walks, self.label, place)?;
         Some(&self.duties[rank as usize].key)
+    }
+
+    // The walk without its last duty, and the key of that; `None` for a walk of no duty.
+    fn split_last(&self) -> Option<(WalkView<'a>, &'a Key)>
+        ensures none { IsNone result → self.now ≡ [] }
+        ensures some { IfSome result (λ l. self.now ≡ l.0 ++ l.1.now ∷ []) }
+    {
+        let (walks, duties) = (self.walks, self.duties);
+        let (label, rank) = split_label(walks, self.label)?;
+        let key = &duties[rank as usize].key;
+        let before = WalkView {
+            walks,
+            duties,
+            label,
+        };
+        Some((before, key))
+    }
+
+    /// Whether another walk has the same keys, from the last duty back. It takes no memory.
+    pub fn is_same(&self, other: &WalkView<'_>) -> bool
+        ensures { IsTrue result ↔ (self.now ≡ other.now) }
+    {
+        let Some((before, last)) = self.split_last() else {
+            return other.split_last().is_none();
+        };
+        let Some((other_before, other_last)) = other.split_last() else {
+            return false;
+        };
+        is_same_key(last, other_last) && before.is_same(&other_before)
     }
 }

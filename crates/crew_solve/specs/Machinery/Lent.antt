@@ -1,12 +1,14 @@
 -- Fronts that are lent: their entries in order of vector.
-use Rattle.std.specs.Prelude.{◌<◌, ℤ, Bool, true, ◌&&◌, cond, List, [], ◌∷◌, Option, Some, None, filter, length}
+use Rattle.std.specs.Prelude.{◌≡◌, ◌<◌, ℕ, ℤ, Bool, true, ◌&&◌, cond, List, [], ◌∷◌, Option, Some, None, filter, length, map}
 use Rattle.std.specs.Ordering.{is_lt}
 use Rattle.crew_anchor.specs.Anchors.{shown}
-use Rattle.crew_anchor.specs.Machinery.Bounds.{fits_in, is_ready}
+use Rattle.crew_anchor.specs.Machinery.Bounds.{fits_in, is_ready, may_board}
+use Rattle.crew_anchor.specs.Stages.{anchored_board}
 use Rattle.crew_pairing.specs.Legs.{Leg}
 use Rattle.crew_pairing.specs.declared.duty.Duty.{Duty}
 use Rattle.crew_pairing.specs.declared.vector.PairingVector.{PairingVector}
 use Rattle.crew_pool.specs.Apart.{AreApart}
+use Rattle.crew_pool.specs.Counted.{boarded_labels}
 use Rattle.crew_pool.specs.LabelWalks.{walk_of_label}
 use Rattle.crew_pool.specs.Machinery.Meets.{vectors_of}
 use Rattle.crew_pool.specs.declared.label_walk.LabelWalk.{LabelWalk}
@@ -68,3 +70,30 @@ pub record AreLent (b : BaseSweep) (d : Duty) (labels : List (PairingVector × L
   pub walks : (l : PairingVector × LabelWalk) → Member labels l → (l.1.walk < length b.walks)
       × Each (λ rank. rank < length b.net.duties) (walk_of_label b.walks l.1)
   pub apart : AreApart is_at_most (vectors_of labels)
+
+-- the labels that board a duty of a rank, after it, and the entries that they show there
+abbrev pub boarding_at : BaseSweep → Duty → ℕ → List (PairingVector × LabelWalk)
+    → List (PairingVector × LabelWalk)
+boarding_at b d rank labels = boarded_labels (λ v. anchored_board (resource_of b) v d) rank labels
+
+abbrev pub shown_at : BaseSweep → Duty → ℕ → List (PairingVector × LabelWalk)
+    → List (PairingVector × List (List Leg))
+shown_at b d rank labels = map (entry_of b d.release) (boarding_at b d rank labels)
+
+-- labels that may board a duty of a rank, of which those that do can be shown there
+pub record MayBeShown (b : BaseSweep) (d : Duty) (rank : ℕ)
+    (labels : List (PairingVector × LabelWalk)) : Type 0 where
+  pub boards : (l : PairingVector × LabelWalk) → Member labels l → may_board l.0 d
+  pub room : LiesWithin 2_147_483_648 d.release → (l : PairingVector × LabelWalk)
+      → Member (boarding_at b d rank labels) l
+      → HasRoom (fits_in (resource_of b)) (is_ready (resource_of b)) l.0
+  pub walks : (l : PairingVector × LabelWalk) → Member (boarding_at b d rank labels) l
+      → (l.1.walk < length b.walks)
+      × Each (λ k. k < length b.net.duties) (walk_of_label b.walks l.1)
+
+-- what a view shows of labels that may board can be lent
+pub record IsLent (b : BaseSweep) (d : Duty) (rank : ℕ)
+    (labels view : List (PairingVector × LabelWalk)) : Type 0 where
+  pub lent : AreLent b d view
+  pub boards : (l : PairingVector × LabelWalk) → Member labels l → may_board l.0 d
+  pub same : view ≡ boarding_at b d rank labels

@@ -11,4 +11,4 @@ pub returns-clause-first : goal.returns-clause-first
 returns-clause-first c = c.least_after.ensures ∙ ap (λ (l : List (PairingVector × List (List Leg))). slice_get (after c.args.last.now l) 0) c.self.view_is
 
 pub returns-clause-rises : goal.returns-clause-rises
-returns-clause-rises c = let f = c.self.inside in subst RiseByVector c.self.view_is (entries-rise f.sweep.now f.duty.now.release f.view c.self.invariant.apart)
+returns-clause-rises c = let f = c.self.inside in subst RiseByVector c.self.view_is (entries-rise f.sweep.now f.duty.now.release f.view c.self.invariant.lent.apart)
