@@ -1,5 +1,5 @@
 -- What a round keeps after a call.
-use Rattle.std.proofs.Common.{◌≡◌, ◌∙◌, ◌∷◌, [], ℕ, true, false, List, Some, length, map, get_or, refl, sym, ap, subst}
+use Rattle.std.proofs.Common.{◌≡◌, ◌∙◌, ◌∷◌, [], ℕ, true, false, List, Some, length, get_or, sym, ap, subst}
 use Rattle.std.specs.Prelude.{◌↔◌, slice_get}
 use Rattle.crew_board.proofs.Cells.{done-at, mark-at, named}
 use Rattle.crew_board.proofs.Grounded.{as-sealed}
@@ -7,14 +7,14 @@ use Rattle.crew_board.proofs.Reuse.{IsOver}
 use Rattle.crew_board.proofs.Steps.{IsOpen}
 use Rattle.crew_board.specs.Cells.{CrewCells, mark_of}
 use Rattle.crew_board.specs.Machinery.Held.{IsMarkedOver, Marked}
-use Rattle.crew_dirty.specs.Carried.{Carried, IsCarriedOver}
+use Rattle.crew_dirty.specs.Carried.{IsCarriedOver}
 use Rattle.crew_flights.specs.Timetable.{Timetable}
 use Rattle.crew_job.specs.Grounds.{data_of, nodes_in, sealed_data_of}
 use Rattle.crew_job.specs.Shown.{IsAsSealed}
 use Rattle.crew_machine.proofs.Cells.{Some-same}
-use Rattle.crew_machine.specs.Crew.{CrewBoard, DutyNode, Entries, crew}
+use Rattle.crew_machine.specs.Crew.{CrewBoard, DutyNode, Entries}
 use Rattle.crew_machine.specs.declared.rounds.Cell.{Cell}
-use Rattle.crew_machine.specs.declared.rounds.Cell.TheVariants.{Waiting, Out, Done}
+use Rattle.crew_machine.specs.declared.rounds.Cell.TheVariants.{Done}
 use Rattle.crew_net.specs.Nets.{Net}
 use Rattle.crew_resource.proofs.Members.{Member-at}
 use Rattle.crew_resource.specs.Members.{Member}

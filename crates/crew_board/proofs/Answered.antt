@@ -1,8 +1,7 @@
 -- From what a call does to a round to what it does to the machine's board.
-use Rattle.std.proofs.Common.{◌≡◌, ◌≤◌, ◌<◌, ◌+◌, ◌∙◌, ℕ, Bool, true, false, List, Option, Some, None, Result, Ok, Err, IfErr, IfOk, IfSome, OnErr, refl, sym, ap, subst, arith}
+use Rattle.std.proofs.Common.{◌≡◌, ◌<◌, ◌∙◌, ℕ, Bool, true, false, List, Option, Some, None, Result, Ok, Err, IfErr, IfOk, OnErr, refl, sym, ap, subst, arith}
 use Rattle.std.specs.Option.{is_some, option_map}
 use Rattle.std.specs.Result.{IsErrAnd}
-use Rattle.std.specs.Prelude.{slice_get}
 use mathlib.Core.List.{IsPrefix}
 use Rattle.crew_board.proofs.Begins.{marked-begun, opened-after}
 use Rattle.crew_board.proofs.Cells.{ready-in}
@@ -17,20 +16,20 @@ use Rattle.crew_board.specs.Calls as Calls
 use Rattle.crew_board.specs.Calls.{IsBeginFault}
 use Rattle.crew_board.specs.Machinery.Held.{IsBegun, IsMarkedOver, Marked}
 use Rattle.crew_board.specs.Machinery.Settled.{IsRoundOver, IsSettled, board_of}
-use Rattle.crew_board.specs.Machinery.Turns.{HasBrought, HasClaimed, HasGivenBack, IsFirstNode, StoresAt, with_marks}
+use Rattle.crew_board.specs.Machinery.Turns.{HasBrought, HasClaimed, HasGivenBack, IsFirstNode, with_marks}
 use Rattle.crew_board.specs.declared.fault.BeginFault.TheVariants as Begin
 use Rattle.crew_board.specs.declared.fault.SealFault.TheVariants as Seal
 use Rattle.crew_flights.specs.declared.entries.Entry.{Entry}
-use Rattle.crew_job.specs.Grounds.{IsGround, IsGroundFault, data_of, nodes_in}
+use Rattle.crew_job.specs.Grounds.{IsGround, IsGroundFault, data_of}
 use Rattle.crew_job.specs.Jobs.{IsJobOf, IsPlaced, Job}
 use Rattle.crew_job.specs.declared.fault.GroundFault.{GroundFault}
 use Rattle.crew_job.specs.declared.fault.GroundFault.TheVariants as Ground
 use Rattle.crew_machine.proofs.Boards.{standing_idle}
 use Rattle.crew_machine.proofs.CrewLaws.{crew-laws}
 use Rattle.crew_machine.specs.Choices.{BringsAll, ClaimsLeast}
-use Rattle.crew_machine.specs.Crew.{CrewBoard, CrewRound, CrewVersion, DutyNode, DutyWork, Entries, IsLocalOf, crew}
+use Rattle.crew_machine.specs.Crew.{CrewBoard, CrewRound, DutyWork, Entries, IsLocalOf, crew}
 use Rattle.crew_machine.specs.Machinery.Sound.{IsStanding}
-use Rattle.crew_machine.specs.Rounds.{Abandons, ComesToTooMany, GivesBack, HasNoNumber, IsFirstUndone, IsShorter, IsUndone, NoneReady, Opens, Seals, last_number}
+use Rattle.crew_machine.specs.Rounds.{GivesBack, IsFirstUndone, IsUndone, NoneReady, Opens, Seals, last_number}
 use Rattle.crew_machine.specs.declared.rounds.Brought.{Brought}
 use Rattle.crew_machine.specs.declared.rounds.Brought.TheVariants.{Stale, Again, Stored}
 use Rattle.crew_machine.specs.declared.rounds.Cell.{Cell}
@@ -195,7 +194,7 @@ module _ (s : Snapshot) (r : Marked) (k : IsRoundOver s r) where
   claimed-answers (Ok c) new h = λ b. claimed c new h b
   claimed-answers (Err e) new h = tt
 
-  pub some-ready : {E : Type 0} (result : Result (Option Job) E) → OnErr result ((place : ℕ) × Marks.IsReady r.marks place) → OnErr result ((b : CrewBoard) → IsBoardOf old b → NoneReady (crew s.settings) b → ⊥)
+  pub some-ready : {T E : Type 0} (result : Result T E) → OnErr result ((place : ℕ) × Marks.IsReady r.marks place) → OnErr result ((b : CrewBoard) → IsBoardOf old b → NoneReady (crew s.settings) b → ⊥)
   some-ready (Ok c) h = tt
   some-ready (Err e) h = λ b. opens-same (λ z. IsBoardOf (board_of z (Some r)) b → NoneReady (crew z.settings) b → ⊥) (ready-here r k.over h.0 h.1 b)
 

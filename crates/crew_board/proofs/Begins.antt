@@ -1,5 +1,5 @@
 -- A round is begun: the cells that its marks stand for.
-use Rattle.std.proofs.Common.{◌≡◌, ◌<◌, ◌+◌, ◌/◌, ◌%◌, ◌&&◌, ◌∙◌, ◌∷◌, [], ◌⊎◌, inl, inr, ℕ, zero, suc, Bool, true, false, List, Option, Some, None, length, map, get_or, refl, sym, ap, subst, arith, ⊎_elim}
+use Rattle.std.proofs.Common.{◌≡◌, ◌<◌, ◌%◌, ◌&&◌, ◌∙◌, ◌∷◌, [], inl, inr, ℕ, suc, true, false, List, Option, Some, None, length, map, get_or, refl, sym, ap, subst, arith}
 use Rattle.std.specs.Prelude.{◌↔◌, slice_get}
 use Rattle.std.specs.FinMap as fin
 use Rattle.std.specs.Option.{option_map}
@@ -8,29 +8,28 @@ use Rattle.std.proofs.lemmas.List.{length-map}
 use Rattle.std.proofs.lemmas.Option.{slice_get_within, slice_get-map}
 use mathlib.Core.List.{IsPrefix}
 use Rattle.crew_board.proofs.Cells.{option-out}
-use Rattle.crew_board.proofs.Existence.{VersionOf, listed-length}
+use Rattle.crew_board.proofs.Existence.{listed-length}
 use Rattle.crew_board.proofs.Grounded.{plan-nodes}
 use Rattle.crew_board.proofs.Places.{at-out}
-use Rattle.crew_board.proofs.Steps.{open_board, shown_of}
+use Rattle.crew_board.proofs.Steps.{open_board}
 use Rattle.crew_board.proofs.Unreached.{unreached-world}
 use Rattle.crew_board.proofs.Untouched.{rank-of, row-of}
 use Rattle.crew_board.specs.Boards.{IsBoardOf, ShownBoard, ShownRound, shown_board, shown_round, shown_version}
 use Rattle.crew_board.specs.Cells.{CrewCells, mark_of, marks_of}
 use Rattle.crew_board.specs.Machinery.Held.{IsBegun, IsMarkedOver, Marked}
 use Rattle.crew_dirty.proofs.Nodes.{is-node, kept-at, own-duty}
-use Rattle.crew_dirty.specs.Carried.{IsCarriedOver}
-use Rattle.crew_dirty.specs.Dirty.{IsKept, IsNetOver, IsUnreached}
+use Rattle.crew_dirty.specs.Dirty.{IsKept, IsUnreached}
 use Rattle.crew_flights.specs.Timetable.{Timetable}
 use Rattle.crew_flights.specs.declared.entries.Entry.{Entry}
-use Rattle.crew_job.specs.Grounds.{Ground, IsGround, data_of, nodes_in, sealed_data_of}
+use Rattle.crew_job.specs.Grounds.{data_of, nodes_in, sealed_data_of}
 use Rattle.crew_job.specs.Shown.{IsAsSealed}
 use Rattle.crew_machine.proofs.Alike.{same-nodes}
 use Rattle.crew_machine.proofs.Boards.{opens_sound}
 use Rattle.crew_machine.proofs.CrewLaws.{crew-laws}
-use Rattle.crew_machine.proofs.NodeList.{listed, node-of}
+use Rattle.crew_machine.proofs.NodeList.{listed}
 use Rattle.crew_machine.proofs.Reached.{some-carried}
-use Rattle.crew_machine.specs.Crew.{CrewBoard, CrewRound, CrewVersion, DutyNode, Entries, IsFrontOf, IsNodeOf, crew, timetable_of}
-use Rattle.crew_machine.specs.Machinery.Sound.{IsStanding, IsVersion}
+use Rattle.crew_machine.specs.Crew.{CrewBoard, CrewRound, DutyNode, Entries, IsNodeOf, crew, timetable_of}
+use Rattle.crew_machine.specs.Machinery.Sound.{IsStanding}
 use Rattle.crew_machine.specs.Rounds.{IsCarried, Opens, last_number}
 use Rattle.crew_machine.specs.Worlds as Worlds
 use Rattle.crew_machine.specs.Worlds.{AreNodes}
@@ -38,11 +37,9 @@ use Rattle.crew_machine.specs.declared.rounds.Cell.{Cell}
 use Rattle.crew_machine.specs.declared.rounds.Cell.TheVariants.{Waiting, Out, Done}
 use Rattle.crew_net.specs.Nets.{Net}
 use Rattle.crew_net.specs.declared.node.Node.{Node}
-use Rattle.crew_pairing.specs.declared.duty.Duty.{Duty}
-use Rattle.crew_resource.proofs.Members.{Member-at, Member-map_in}
+use Rattle.crew_resource.proofs.Members.{Member-at}
 use Rattle.crew_resource.specs.Members.{Member}
-use Rattle.crew_round.specs.Marks as Marks
-use Rattle.crew_round.specs.Marks.{AreCarried, IsMarked, is_kept_at, node_count}
+use Rattle.crew_round.specs.Marks.{IsMarked, is_kept_at, node_count}
 use Rattle.crew_round.specs.declared.mark.Mark.{Mark}
 use Rattle.crew_round.specs.declared.mark.Mark.TheVariants as MarkedAs
 use Rattle.crew_rules.specs.declared.settings.Settings.{Settings}

@@ -1,5 +1,5 @@
 -- As many cells are done, and out, as marks say.
-use Rattle.std.proofs.Common.{◌≡◌, ◌∙◌, ◌∷◌, [], ℕ, suc, Bool, true, false, cond, List, length, map, refl, sym, ap}
+use Rattle.std.proofs.Common.{◌≡◌, ◌∷◌, [], suc, Bool, true, false, cond, List, length, map, refl, ap}
 use Rattle.std.specs.List.{filter}
 use Rattle.crew_board.specs.Cells.{CrewCells, mark_of, marks_of}
 use Rattle.crew_machine.specs.Crew.{DutyNode, Entries}

@@ -1,11 +1,11 @@
 -- For each round that is open there is a board of the machine.
-use Rattle.std.proofs.Common.{◌≡◌, ◌≤◌, ◌<◌, ◌+◌, ◌*◌, ◌∙◌, ◌∷◌, ◌++◌, [], inl, inr, ℕ, zero, suc, List, Some, None, length, map, refl, sym, ap, subst, arith, length-append, ⊎_elim}
+use Rattle.std.proofs.Common.{◌≡◌, ◌≤◌, ◌<◌, ◌*◌, ◌∙◌, ◌∷◌, [], inl, inr, ℕ, List, Some, None, length, map, refl, sym, ap, subst, arith, length-append, ⊎_elim}
 use Rattle.std.proofs.Math.Nat.{suc-mul}
 use Rattle.std.proofs.lemmas.List.{length-map}
 use mathlib.Core.List.{IsPrefix}
 use Rattle.crew_board.proofs.Grounded.{plan-nodes}
 use Rattle.crew_board.proofs.Reuse.{round_of}
-use Rattle.crew_board.proofs.Steps.{open_board, shown_of}
+use Rattle.crew_board.proofs.Steps.{open_board}
 use Rattle.crew_board.specs.Boards.{IsBoardOf, ShownBoard, ShownRound, shown_board, shown_version}
 use Rattle.crew_board.specs.Cells.{CrewCells, mark_of, marks_of}
 use Rattle.crew_board.specs.Machinery.Held.{IsMarkedOver, Marked}
@@ -24,7 +24,6 @@ use Rattle.crew_machine.specs.declared.rounds.Cell.{Cell}
 use Rattle.crew_machine.specs.declared.rounds.Cell.TheVariants.{Waiting, Out, Done}
 use Rattle.crew_pairing.specs.declared.duty.Duty.{Duty}
 use Rattle.crew_resource.specs.Members.{Member}
-use Rattle.crew_round.specs.Marks.{node_count}
 use Rattle.crew_round.specs.declared.mark.Mark.{Mark}
 use Rattle.crew_round.specs.declared.mark.Mark.TheVariants as MarkedAs
 use Rattle.crew_rules.specs.Settings.{IsChecked}

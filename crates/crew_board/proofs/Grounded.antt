@@ -1,5 +1,5 @@
 -- The cells of a machine's round for which a ground and its marks stand.
-use Rattle.std.proofs.Common.{◌≡◌, ◌<◌, ◌+◌, ◌*◌, ◌/◌, ◌%◌, ◌&&◌, ◌∙◌, ℕ, Bool, true, false, List, Some, length, map, get_or, refl, sym, ap, subst, arith}
+use Rattle.std.proofs.Common.{◌≡◌, ◌%◌, ◌&&◌, ◌∙◌, ℕ, true, false, List, Some, length, map, get_or, refl, sym, ap, subst}
 use Rattle.std.specs.Prelude.{◌↔◌, slice_get}
 use Rattle.std.specs.FinMap as fin
 use Rattle.crew_board.proofs.Cells.{AreMarked, done-at, mark-at, node-at, node-is}
@@ -9,10 +9,8 @@ use Rattle.crew_board.proofs.Untouched.{rank-of, row-of, untouched-world}
 use Rattle.crew_board.specs.Cells.{CrewCells, mark_of, marks_of}
 use Rattle.crew_board.specs.Machinery.Held.{IsMarkedOver, Marked}
 use Rattle.crew_dirty.proofs.Nodes.{untouched-at}
-use Rattle.crew_dirty.specs.Dirty.{IsUntouched}
 use Rattle.crew_flights.specs.Timetable.{Timetable}
-use Rattle.crew_flights.specs.declared.entries.Entry.{Entry}
-use Rattle.crew_job.specs.Grounds.{Ground, IsGround, data_of, sealed_data_of}
+use Rattle.crew_job.specs.Grounds.{data_of, sealed_data_of}
 use Rattle.crew_job.specs.Shown.{IsAsSealed}
 use Rattle.crew_machine.proofs.Alike.{same-front-of, same-nodes}
 use Rattle.crew_machine.proofs.Cells.{Some-same}
@@ -22,14 +20,13 @@ use Rattle.crew_machine.specs.Machinery.Sound.{IsRound, IsVersion}
 use Rattle.crew_machine.specs.Worlds as Worlds
 use Rattle.crew_machine.specs.Worlds.{AreNodes}
 use Rattle.crew_machine.specs.declared.rounds.Cell.{Cell}
-use Rattle.crew_machine.specs.declared.rounds.Cell.TheVariants.{Waiting, Out, Done}
+use Rattle.crew_machine.specs.declared.rounds.Cell.TheVariants.{Done}
 use Rattle.crew_net.specs.Nets.{Net, RiseByCode}
 use Rattle.crew_net.specs.declared.node.Node.{Node}
 use Rattle.crew_pairing.specs.declared.duty.Duty.{Duty}
 use Rattle.crew_resource.proofs.Members.{Member-at, Member-map_in, Member-map_out}
 use Rattle.crew_resource.specs.Members.{Member}
 use Rattle.crew_round.specs.Marks.{IsMarked, is_untouched_at}
-use Rattle.crew_round.specs.declared.mark.Mark.{Mark}
 use Rattle.crew_round.specs.declared.mark.Mark.TheVariants as MarkedAs
 use Rattle.crew_rules.specs.declared.settings.Settings.{Settings}
 use Rattle.crew_solve.specs.Plans.{IsPlanOf, Plan}

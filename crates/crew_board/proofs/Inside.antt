@@ -1,5 +1,5 @@
 -- A round's parts in memory.
-use Rattle.std.proofs.Common.{◌≡◌, List, Option, map}
+use Rattle.std.proofs.Common.{List, Option, map}
 use Rattle.std.specs.Option.{option_map}
 use Rattle.crew_board.specs.Machinery.Held.{Marked}
 use Rattle.crew_board.specs.declared.round.Round.TheInside.{Inside}

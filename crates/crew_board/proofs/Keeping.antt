@@ -1,22 +1,21 @@
 -- What a round keeps, call by call.
-use Rattle.std.proofs.Common.{◌≡◌, ◌≤◌, ◌<◌, ◌+◌, ◌-◌, ◌*◌, ◌/◌, ◌%◌, ◌∙◌, ◌∷◌, [], ◌⊎◌, inl, inr, ℕ, zero, suc, ℤ, Bool, true, false, List, Option, Some, None, length, map, get_or, replicate, slice_set, refl, sym, ap, subst, arith, ⊎_elim}
+use Rattle.std.proofs.Common.{◌≡◌, ◌≤◌, ◌<◌, ◌+◌, ◌-◌, ◌*◌, ◌/◌, ◌%◌, ◌∙◌, ◌∷◌, [], ◌⊎◌, inl, inr, ℕ, suc, Bool, true, false, List, Option, Some, None, length, get_or, slice_set, refl, sym, ap, subst, arith, ⊎_elim}
 use Rattle.std.specs.Prelude.{◌↔◌, slice_get}
 use Rattle.std.proofs.lemmas.List.{get_or-set_other, get_or-set_same, length-set}
-use Rattle.std.proofs.lemmas.Option.{get_or_from_slice_get, slice_get_within}
+use Rattle.std.proofs.lemmas.Option.{slice_get_within}
 use Rattle.crew_board.proofs.After.{marked-after, reuses-net}
 use Rattle.crew_board.proofs.Begins.{done-begun, marked-begun}
 use Rattle.crew_board.proofs.Existence.{some-open}
 use Rattle.std.proofs.Math.Nat.{mul-le-mul_right, suc-mul}
 use Rattle.crew_board.proofs.Places.{at-out}
 use Rattle.crew_board.proofs.Steps.{kept, opened}
-use Rattle.crew_board.proofs.Turned.{Found, arc-in, at-marks, found, in-marks, job-node-is, node-is-of, once, shows-own}
-use Rattle.crew_board.proofs.Works.{node-named, some-work-of}
+use Rattle.crew_board.proofs.Turned.{Found, arc-in, at-marks, found, job-node-is, shows-own}
+use Rattle.crew_board.proofs.Works.{some-work-of}
 use Rattle.crew_board.proofs.Untouched.{rank-of}
 use Rattle.crew_board.proofs.Written.{get-elsewhere, get-here, same-place}
 use Rattle.crew_board.specs.Machinery.Held.{IsBegun, IsHeld, IsMarkedOver, Marked}
-use Rattle.crew_board.specs.Machinery.Turns.{AllSameBefore, IsOwnPlace, IsReadableFrom, StoresAt, with_marks}
-use Rattle.crew_flights.specs.Timetable.{Timetable}
-use Rattle.crew_job.specs.Grounds.{Ground, IsGround, data_of, node_at, nodes_in, sealed_data_of}
+use Rattle.crew_board.specs.Machinery.Turns.{AllSameBefore, IsReadableFrom, StoresAt, with_marks}
+use Rattle.crew_job.specs.Grounds.{Ground, IsGround, data_of, nodes_in}
 use Rattle.crew_job.specs.Jobs.{IsJobOf, IsPlaced, Job, job_node}
 use Rattle.crew_job.specs.Shown.{AreReadable, AreShownBefore, IsAsSealed, IsShown, ShowsFrontOf}
 use Rattle.crew_machine.proofs.Cells.{Some-same}
@@ -24,7 +23,7 @@ use Rattle.crew_machine.proofs.Reuse.{place-of-member}
 use Rattle.crew_board.proofs.Grounded.{plan-nodes}
 use Rattle.crew_machine.proofs.Sorted.{rising-front}
 use Rattle.crew_machine.proofs.CrewLaws.{crew-laws, timetable-sound}
-use Rattle.crew_machine.specs.Crew.{DutyNode, DutyWork, Entries, IsLocalOf, MayPrecede, crew}
+use Rattle.crew_machine.specs.Crew.{DutyNode, DutyWork, Entries, IsLocalOf, crew}
 use Rattle.crew_machine.specs.Worlds.{IsBefore}
 use Rattle.crew_net.specs.Nets.{Net}
 use Rattle.crew_pairing.specs.Pairings.{may_stand_after}
@@ -34,7 +33,7 @@ use Rattle.crew_round.specs.Marks.{AreDoneBefore, AreSameBefore, IsMarked, Stand
 use Rattle.crew_round.specs.declared.mark.Mark.{Mark}
 use Rattle.crew_round.specs.declared.mark.Mark.TheVariants as MarkedAs
 use Rattle.crew_sweep.specs.Sweeps.{BaseSweep}
-use Rattle.crew_solve.specs.Plans.{IsSweepIn, Plan}
+use Rattle.crew_solve.specs.Plans.{IsSweepIn}
 
 -- ---- marks after a store
 

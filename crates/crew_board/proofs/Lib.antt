@@ -19,3 +19,6 @@ pub mod Keeping
 pub mod Nothing
 pub mod Inside
 pub mod Answered
+pub mod Arriving
+pub mod Each
+pub mod Likes

@@ -1,18 +1,16 @@
 -- A timetable has one plan, but for the order in which its departures are gone through.
-use Rattle.std.proofs.Common.{◌≡◌, ◌<◌, ◌∙◌, ◌∷◌, [], inl, inr, ℕ, zero, suc, ℤ, List, Some, length, map, refl, sym, ap, subst, arith}
+use Rattle.std.proofs.Common.{◌≡◌, ◌<◌, ◌∙◌, ◌∷◌, [], ℕ, suc, ℤ, List, Some, length, refl, sym, ap, subst, arith}
 use Rattle.std.specs.Prelude.{slice_get}
 use Rattle.std.proofs.lemmas.List.{length-map}
 use Rattle.std.specs.Cmp.{IsTotalOrder, int_cmp_total, on_total, then_total}
 use Rattle.std.specs.FinMap as fin
-use Rattle.std.specs.Ordering.{int_cmp}
 use Rattle.std.specs.declared.cmp.Ordering.{Ordering}
 use Rattle.std.specs.declared.cmp.Ordering.TheVariants.{Less}
 use Rattle.crew_duty.proofs.Unique.{unique}
-use Rattle.crew_flights.specs.Codes.{code_cmp, code_cmp_total}
+use Rattle.crew_flights.specs.Codes.{code_cmp_total}
 use Rattle.crew_flights.specs.Timetable.{Timetable}
-use Rattle.crew_machine.proofs.Reuse.{place-of-member}
 use Rattle.crew_net.specs.Events.{AreEvents, arrival_cmp, departure_cmp}
-use Rattle.crew_net.specs.Nets.{IsNetOf, Net}
+use Rattle.crew_net.specs.Nets.{Net}
 use Rattle.crew_pairing.specs.Duties.{flights_of}
 use Rattle.crew_pairing.specs.Events.{arrival_of, departure_of}
 use Rattle.crew_pairing.specs.declared.duty.Duty.{Duty}

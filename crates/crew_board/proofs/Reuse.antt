@@ -5,20 +5,20 @@ use Rattle.std.proofs.lemmas.List.{get_or-set_other, get_or-set_same, length-set
 use Rattle.std.proofs.lemmas.Option.{slice_get_within}
 use Rattle.crew_board.proofs.Cells.{AreMarked, all-in, before-in, before-out, just-before, mark-at, node-is, place-of, waiting-at}
 use Rattle.crew_board.proofs.Written.{get-elsewhere, get-here, map-set-here, same-place}
-use Rattle.crew_board.specs.Cells.{CrewCells, mark_of, marks_of}
+use Rattle.crew_board.specs.Cells.{CrewCells, mark_of}
 use Rattle.crew_flights.specs.Timetable.{Timetable}
 use Rattle.crew_flights.specs.declared.entries.Entry.{Entry}
 use Rattle.crew_machine.proofs.Boards.{reusable_local, store_sound}
 use Rattle.crew_machine.proofs.Cells.{Some-same, map-slice_set_same}
 use Rattle.crew_machine.proofs.CrewLaws.{crew-laws}
 use Rattle.crew_machine.proofs.OwnJobs.{one-cell, ready-work}
-use Rattle.crew_machine.specs.Crew.{CrewRound, CrewVersion, DutyNode, DutyWork, Entries, MayPrecede, crew, timetable_of}
+use Rattle.crew_machine.specs.Crew.{CrewRound, CrewVersion, DutyNode, DutyWork, Entries, crew, timetable_of}
 use Rattle.crew_machine.specs.Machinery.Sound.{IsRound, IsVersion}
 use Rattle.crew_machine.specs.Rounds as Rounds
 use Rattle.crew_machine.specs.Rounds.{IsDone, IsOwn}
 use Rattle.crew_machine.specs.Worlds.{AreNodes, IsBefore, IsUntouched, IsWorkOf}
 use Rattle.crew_machine.specs.declared.rounds.Cell.{Cell}
-use Rattle.crew_machine.specs.declared.rounds.Cell.TheVariants.{Waiting, Out, Done}
+use Rattle.crew_machine.specs.declared.rounds.Cell.TheVariants.{Waiting, Done}
 use Rattle.crew_resource.proofs.Members.{Member-at, Member-map_in, Member-map_out}
 use Rattle.crew_resource.specs.Members.{Member}
 use Rattle.crew_round.specs.Marks as Marks

@@ -1,10 +1,10 @@
 -- A round is sealed, where all of its nodes are done.
-use Rattle.std.proofs.Common.{◌≡◌, ◌<◌, ◌+◌, ◌∙◌, ◌∷◌, [], inl, inr, ℕ, suc, Bool, true, false, List, Option, Some, None, length, map, refl, sym, ap, subst, arith}
+use Rattle.std.proofs.Common.{◌≡◌, ◌<◌, ◌+◌, ◌∙◌, ◌∷◌, [], ℕ, suc, List, Some, None, length, map, refl, sym, ap, subst}
 use Rattle.std.specs.Prelude.{slice_get}
 use Rattle.std.proofs.lemmas.Option.{slice_get_within}
 use Rattle.crew_board.proofs.Cells.{cell-at, mark-at}
 use Rattle.crew_board.proofs.Reuse.{round_of}
-use Rattle.crew_board.proofs.Steps.{IsOpen, cells-over, node-of-cell, open_board}
+use Rattle.crew_board.proofs.Steps.{IsOpen, cells-over, node-of-cell}
 use Rattle.crew_board.specs.Boards.{IsBoardOf, ShownBoard, shown_board, shown_version}
 use Rattle.crew_board.specs.Cells.{CrewCells, mark_of}
 use Rattle.crew_board.specs.Machinery.Held.{IsMarkedOver, Marked}
@@ -15,8 +15,8 @@ use Rattle.crew_machine.proofs.Boards.{seals_sound}
 use Rattle.crew_machine.proofs.Cells.{Some-same, map-map_lem}
 use Rattle.crew_machine.proofs.CrewLaws.{crew-laws, timetable-sound}
 use Rattle.crew_machine.proofs.Least.{some-least}
-use Rattle.crew_machine.specs.Crew.{CrewBoard, CrewRound, CrewVersion, DutyNode, Entries, IsFrontOf, IsLeastOf, crew, timetable_of}
-use Rattle.crew_machine.specs.Machinery.Sound.{IsRound, IsStanding}
+use Rattle.crew_machine.specs.Crew.{CrewBoard, CrewVersion, DutyNode, Entries, IsFrontOf, IsLeastOf, crew, timetable_of}
+use Rattle.crew_machine.specs.Machinery.Sound.{IsStanding}
 use Rattle.crew_machine.specs.Rounds.{IsFirstUndone, IsUndone, Seals}
 use Rattle.crew_machine.specs.Worlds.{AreNodes}
 use Rattle.crew_machine.specs.declared.rounds.Cell.{Cell}
@@ -29,7 +29,6 @@ use Rattle.crew_round.specs.declared.mark.Mark.TheVariants as MarkedAs
 use Rattle.crew_rules.specs.declared.settings.Settings.{Settings}
 use Rattle.crew_vector.proofs.OneBest.{one-best}
 use Rattle.crew_vector.specs.Bests.{IsBest}
-use Rattle.crew_vector.specs.declared.priced.PricedPairing.{PricedPairing}
 use Rattle.crew_version.specs.Versions.{IsRight, Snapshot}
 
 abbrev AreDone : CrewCells → Type 0

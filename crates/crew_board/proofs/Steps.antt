@@ -1,38 +1,34 @@
 -- From what a call does to marks to the machine's step.
-use Rattle.std.proofs.Common.{◌≡◌, ◌<◌, ◌∙◌, ℕ, Bool, true, false, List, Option, Some, None, length, map, slice_set, refl, sym, ap, subst}
+use Rattle.std.proofs.Common.{◌≡◌, ◌∙◌, ℕ, true, false, Option, Some, None, slice_set, refl, sym, ap, subst}
 use Rattle.std.specs.Prelude.{◌↔◌, slice_get}
 use Rattle.std.specs.Option.{option_map}
-use Rattle.std.proofs.lemmas.Option.{slice_get_within}
 use Rattle.crew_board.proofs.Cells.{AreMarked, all-in, all-out, done-at, mark-at, named, node-at, node-is, out-at, ready-in, ready-out}
-use Rattle.crew_board.proofs.Grounded.{are-marked, as-sealed, over-cells}
+use Rattle.crew_board.proofs.Grounded.{as-sealed, over-cells}
 use Rattle.crew_board.proofs.Reuse.{IsOver, next-over, none-reusable, reuses-over, round_of}
 use Rattle.crew_board.proofs.Written.{map-set-here}
 use Rattle.crew_board.specs.Boards.{IsBoardOf, ShownBoard, ShownRound, shown_board, shown_round, shown_version}
 use Rattle.crew_board.specs.Cells.{CrewCells, mark_of, marks_of}
 use Rattle.crew_board.specs.Machinery.Held.{IsMarkedOver, Marked}
-use Rattle.crew_board.specs.Machinery.Turns.{ClaimsAt, HasBrought, HasClaimed, HasGivenBack, IsNowhere, IsOwnPlace, StoresAt}
+use Rattle.crew_board.specs.Machinery.Turns.{ClaimsAt, IsNowhere, IsOwnPlace, StoresAt}
 use Rattle.crew_flights.specs.Timetable.{Timetable}
-use Rattle.crew_job.specs.Grounds.{Ground, IsGround, data_of, nodes_in, sealed_data_of}
-use Rattle.crew_job.specs.Jobs.{IsJobOf, IsOwnAt, IsOwnWork, Job, job_node}
-use Rattle.crew_job.specs.Shown.{IsAsSealed}
-use Rattle.crew_machine.proofs.Boards.{IsWorkOf-weaker, brings_sound, claims_sound, gives_back_sound, store_sound}
+use Rattle.crew_job.specs.Grounds.{Ground, data_of, nodes_in}
+use Rattle.crew_job.specs.Jobs.{IsJobOf, IsOwnAt, IsOwnWork, Job}
+use Rattle.crew_machine.proofs.Boards.{brings_sound, claims_sound, gives_back_sound, store_sound}
 use Rattle.crew_machine.proofs.Cells.{Some-same}
 use Rattle.crew_machine.proofs.CrewLaws.{crew-laws}
-use Rattle.crew_machine.proofs.OwnJobs.{one-cell, ready-work, right-work}
+use Rattle.crew_machine.proofs.OwnJobs.{ready-work, right-work}
 use Rattle.crew_machine.proofs.Alike.{same-front-of}
-use Rattle.crew_machine.specs.Choices.{BringsAll, ClaimsLeast, StoresAll}
-use Rattle.crew_machine.specs.Crew.{CrewBoard, CrewRound, CrewVersion, DutyNode, DutyWork, Entries, IsFrontOf, IsLocalOf, IsNodeOf, crew, timetable_of}
+use Rattle.crew_machine.specs.Choices.{ClaimsLeast, StoresAll}
+use Rattle.crew_machine.specs.Crew.{CrewBoard, CrewRound, DutyNode, DutyWork, Entries, IsFrontOf, IsLocalOf, crew, timetable_of}
 use Rattle.crew_machine.specs.Machinery.Sound.{IsRound, IsStanding, IsVersion}
 use Rattle.crew_machine.specs.Rounds.{Brings, Claims, Frees, GivesBack, IsDone, IsOwn, IsReady, IsUndone, NoneReady, Stores, with_cells}
 use Rattle.crew_machine.specs.Worlds.{IsBefore, IsWorkOf}
-use Rattle.crew_machine.specs.declared.rounds.Brought.{Brought}
 use Rattle.crew_machine.specs.declared.rounds.Brought.TheVariants.{Stale, Again, Stored}
 use Rattle.crew_machine.specs.declared.rounds.Cell.{Cell}
 use Rattle.crew_machine.specs.declared.rounds.Cell.TheVariants.{Waiting, Out, Done}
-use Rattle.crew_resource.proofs.Members.{Member-at, Member-map_in, Member-map_out}
+use Rattle.crew_resource.proofs.Members.{Member-map_in, Member-map_out}
 use Rattle.crew_resource.specs.Members.{Member}
 use Rattle.crew_round.specs.Marks as Marks
-use Rattle.crew_round.specs.declared.mark.Mark.{Mark}
 use Rattle.crew_round.specs.declared.mark.Mark.TheVariants as MarkedAs
 use Rattle.crew_rules.specs.declared.settings.Settings.{Settings}
 use Rattle.crew_version.specs.Versions.{Snapshot}

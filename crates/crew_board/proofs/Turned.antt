@@ -1,44 +1,34 @@
 -- What a round keeps, and what its parts tell of jobs.
-use Rattle.std.proofs.Common.{◌≡◌, ◌≤◌, ◌<◌, ◌+◌, ◌*◌, ◌/◌, ◌%◌, ◌∙◌, ◌∷◌, [], ◌⊎◌, inl, inr, ℕ, zero, suc, ℤ, Bool, true, false, List, Option, Some, None, length, map, get_or, replicate, slice_set, refl, sym, ap, subst, arith, ⊎_elim}
+use Rattle.std.proofs.Common.{◌≡◌, ◌<◌, ◌+◌, ◌*◌, ◌/◌, ◌%◌, ◌∙◌, ℕ, true, List, Option, Some, length, sym, ap, subst, arith}
 use Rattle.std.specs.Prelude.{◌↔◌, slice_get}
-use Rattle.std.proofs.lemmas.List.{get_or-set_other, get_or-set_same, length-set}
-use Rattle.std.proofs.lemmas.Option.{get_or_from_slice_get, slice_get_within}
-use Rattle.crew_board.proofs.After.{marked-after, reuses-net}
-use Rattle.crew_board.proofs.Begins.{marked-begun}
-use Rattle.crew_board.proofs.Existence.{listed-length, some-open}
+use Rattle.std.proofs.lemmas.Option.{slice_get_within}
+use Rattle.crew_board.proofs.Existence.{listed-length}
 use Rattle.crew_board.proofs.Grounded.{plan-nodes, plan-rises}
 use Rattle.crew_board.proofs.OnePlan.{as-many}
-use Rattle.crew_board.proofs.Places.{at-out, just-before-in, listed-found, listed-there, one-place}
-use Rattle.crew_board.proofs.Steps.{Kept, kept, opened}
+use Rattle.crew_board.proofs.Places.{at-out, just-before-in, listed-there, one-place}
 use Rattle.crew_board.proofs.Untouched.{rank-of, row-of}
-use Rattle.crew_board.proofs.Works.{node-named, one-work-of, some-work-of}
-use Rattle.crew_board.proofs.Written.{get-elsewhere, get-here, same-place}
-use Rattle.crew_board.specs.Machinery.Held.{IsBegun, IsHeld, IsMarkedOver, Marked}
-use Rattle.crew_board.specs.Machinery.Turns.{IsNowhere, IsOwnPlace, IsReadableFrom, StoresAt, with_marks}
-use Rattle.crew_flights.specs.Timetable.{Timetable}
+use Rattle.crew_board.proofs.Works.{node-named, some-work-of}
+use Rattle.crew_board.specs.Machinery.Held.{IsMarkedOver, Marked}
+use Rattle.crew_board.specs.Machinery.Turns.{IsNowhere, IsOwnPlace}
 use Rattle.crew_job.specs.Grounds.{Ground, IsGround, data_of, node_at, node_of, nodes_in, sealed_data_of}
-use Rattle.crew_job.specs.Jobs.{IsJobOf, IsKeptAt, IsOwnAt, IsOwnWork, IsPlaced, Job, job_node}
-use Rattle.crew_job.specs.Shown.{AreReadable, AreShownBefore, IsAsSealed, IsShown, ShowsFrontOf}
+use Rattle.crew_job.specs.Jobs.{IsJobOf, IsKeptAt, IsOwnAt, IsPlaced, Job, job_node}
+use Rattle.crew_job.specs.Shown.{IsAsSealed, ShowsFrontOf}
 use Rattle.crew_machine.proofs.Alike.{same-front-of}
 use Rattle.crew_machine.proofs.Cells.{Some-same}
 use Rattle.crew_machine.proofs.CrewLaws.{crew-laws, timetable-sound}
-use Rattle.crew_machine.proofs.NodeList.{listed, node-of}
-use Rattle.crew_machine.proofs.Reuse.{place-of-member}
+use Rattle.crew_machine.proofs.NodeList.{node-of}
 use Rattle.crew_machine.proofs.Sorted.{rising-front}
 use Rattle.crew_machine.specs.Crew.{DutyNode, DutyWork, Entries, IsFrontOf, IsLocalOf, IsNodeOf, MayPrecede, crew}
-use Rattle.crew_machine.specs.Worlds.{AreNodes, IsBefore}
+use Rattle.crew_machine.specs.Worlds.{AreNodes}
 use Rattle.crew_net.proofs.InTime.{item-at}
 use Rattle.crew_net.specs.Nets.{Net}
 use Rattle.crew_pairing.specs.Pairings.{may_stand_after}
 use Rattle.crew_resource.proofs.Members.{Member-at}
 use Rattle.crew_round.specs.Marks as Marks
 use Rattle.crew_round.specs.Marks.{AreDoneBefore, AreSameBefore, IsMarked, node_count, with_mark}
-use Rattle.crew_round.specs.declared.mark.Mark.{Mark}
-use Rattle.crew_round.specs.declared.mark.Mark.TheVariants as MarkedAs
 use Rattle.crew_rules.specs.declared.settings.Settings.{Settings}
 use Rattle.crew_sweep.specs.Sweeps.{BaseSweep, front_at}
 use Rattle.crew_vector.specs.Fronts.{RiseByVector}
-use Rattle.crew_solve.specs.Plans.{IsSweepIn, Plan}
 use Rattle.std.specs.Prelude.{IsPermutation}
 
 -- ---- jobs

@@ -1,5 +1,5 @@
 -- Which nodes a change reaches, by the arcs of a network and by the machine's.
-use Rattle.std.proofs.Common.{◌≡◌, ◌∙◌, ◌∷◌, [], ℕ, ℤ, true, List, Option, map, refl, sym, ap, subst}
+use Rattle.std.proofs.Common.{◌≡◌, ◌∙◌, ◌∷◌, [], ℕ, List, map, refl, sym, ap, subst}
 use Rattle.std.specs.Prelude.{◌↔◌}
 use Rattle.std.specs.FinMap as fin
 use Rattle.crew_board.proofs.Untouched.{duty-in, duty-out, untouched-world}
@@ -12,7 +12,7 @@ use Rattle.crew_machine.specs.Worlds as Worlds
 use Rattle.crew_machine.specs.Worlds.{IsBefore, Leads}
 use Rattle.crew_net.specs.Layers.{IsPath}
 use Rattle.crew_net.specs.Nets.{Net}
-use Rattle.crew_pairing.specs.Pairings.{last_duty, may_stand_after}
+use Rattle.crew_pairing.specs.Pairings.{may_stand_after}
 use Rattle.crew_pairing.specs.declared.duty.Duty.{Duty}
 use Rattle.crew_resource.specs.Members.{Member}
 use Rattle.crew_rules.specs.declared.settings.Settings.{Settings}

@@ -1,22 +1,18 @@
 -- What the flags of a network tell of the machine's nodes.
-use Rattle.std.proofs.Common.{◌≡◌, ◌<◌, ◌+◌, ◌*◌, ◌/◌, ◌%◌, ◌&&◌, ◌∙◌, ℕ, ℤ, Bool, true, false, List, Option, Some, length, get_or, refl, sym, ap, subst}
-use Rattle.std.specs.Prelude.{◌↔◌, slice_get}
+use Rattle.std.proofs.Common.{◌≡◌, ◌/◌, ◌%◌, ◌∙◌, ℕ, ℤ, true, List, Option, length, refl, sym, ap, subst}
+use Rattle.std.specs.Prelude.{◌↔◌}
 use Rattle.std.specs.FinMap as fin
 use Rattle.std.proofs.lemmas.Nat.{div-mul-add, mod-mul-add}
 use Rattle.std.proofs.lemmas.Option.{slice_get_within}
-use Rattle.crew_dirty.proofs.Nodes.{untouched-at}
 use Rattle.crew_dirty.proofs.Priced.{has-price, is-base}
-use Rattle.crew_dirty.specs.Carried.{IsCarriedOver}
 use Rattle.crew_dirty.specs.Dirty.{IsNetOver, IsSameBase, IsSameDuty, IsUntouched}
 use Rattle.crew_flights.specs.Timetable.{Timetable}
 use Rattle.crew_machine.specs.Crew.{DutyNode, Inputs, IsNodeOf, MayPrecede, crew}
 use Rattle.crew_machine.specs.Worlds as Worlds
 use Rattle.crew_net.specs.Nets.{Net}
-use Rattle.crew_net.specs.declared.node.Node.{Node}
-use Rattle.crew_pairing.specs.Duties.{AreDuties, flights_of}
+use Rattle.crew_pairing.specs.Duties.{flights_of}
 use Rattle.crew_pairing.specs.Pairings.{IsDuty, may_stand_after}
 use Rattle.crew_pairing.specs.declared.duty.Duty.{Duty}
-use Rattle.crew_resource.proofs.Members.{Member-at}
 use Rattle.crew_resource.specs.Members.{Member}
 use Rattle.crew_round.specs.Marks.{StandsAt}
 use Rattle.crew_rules.specs.declared.settings.Settings.{Settings}

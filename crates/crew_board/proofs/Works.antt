@@ -1,25 +1,23 @@
 -- A job stands for one piece of work.
-use Rattle.std.proofs.Common.{◌≡◌, ◌∙◌, ◌∷◌, [], ℕ, List, Option, Some, None, map, refl, sym, ap, subst}
+use Rattle.std.proofs.Common.{◌≡◌, ◌∙◌, ℕ, List, Option, Some, map, refl, sym, ap, subst}
 use Rattle.std.specs.Prelude.{slice_get}
 use Rattle.crew_board.proofs.Existence.{fronts-over}
 use Rattle.crew_board.proofs.Grounded.{plan-nodes}
 use Rattle.crew_board.specs.Cells.{CrewCells}
-use Rattle.crew_flights.specs.Timetable.{Timetable}
-use Rattle.crew_job.specs.Grounds.{Ground, IsGround, data_of, node_at, node_of}
-use Rattle.crew_job.specs.Jobs.{IsJobOf, IsOwnWork, IsPlaced, Job, job_node}
+use Rattle.crew_job.specs.Grounds.{IsGround, data_of, node_of}
+use Rattle.crew_job.specs.Jobs.{IsJobOf, IsPlaced, Job, job_node}
 use Rattle.crew_machine.proofs.Cells.{Some-same, map-map_lem}
 use Rattle.crew_machine.proofs.CrewLaws.{timetable-sound}
 use Rattle.crew_machine.proofs.NodeList.{listed, node-of}
 use Rattle.crew_machine.proofs.OwnJobs.{one-job, right-work}
 use Rattle.crew_machine.proofs.Progress.{own-job}
-use Rattle.crew_machine.specs.Crew.{DutyNode, DutyWork, Entries, IsFrontOf, IsNodeOf, MayPrecede, crew}
+use Rattle.crew_machine.specs.Crew.{DutyNode, DutyWork, Entries, IsFrontOf, MayPrecede, crew}
 use Rattle.crew_machine.specs.Worlds.{AreNodes}
 use Rattle.crew_machine.specs.declared.rounds.Cell.{Cell}
-use Rattle.crew_machine.specs.declared.rounds.Cell.TheVariants.{Waiting, Out, Done}
+use Rattle.crew_machine.specs.declared.rounds.Cell.TheVariants.{Done}
 use Rattle.crew_net.proofs.InTime.{item-at}
 use Rattle.crew_resource.proofs.Members.{Member-map_out}
 use Rattle.crew_resource.specs.Members.{Member}
-use Rattle.crew_rules.specs.declared.settings.Settings.{Settings}
 
 pub node-named : (job : Job) → IsPlaced job → (n : DutyNode) × (job_node job ≡ Some n)
 node-named job placed =

@@ -1,7 +1,7 @@
 -- What each call of a board does: a step of the machine's board for which it stands.
 use Rattle.std.specs.Prelude.{◌≡◌, ◌<◌, ℕ, Bool, List, Option, Some, None, slice_get}
 use mathlib.Core.List.{IsPrefix}
-use Rattle.crew_board.specs.Boards.{IsBoardOf, ShownBoard, ShownRound, shown_version}
+use Rattle.crew_board.specs.Boards.{IsBoardOf, ShownBoard, shown_version}
 use Rattle.crew_board.specs.declared.fault.BeginFault.{BeginFault}
 use Rattle.crew_board.specs.declared.fault.BeginFault.TheVariants.{Busy, Ground}
 use Rattle.crew_board.specs.declared.fault.SealFault.{SealFault}
@@ -11,7 +11,7 @@ use Rattle.crew_job.specs.Grounds.{ground_number}
 use Rattle.crew_job.specs.Jobs.{IsJobOf, Job}
 use Rattle.crew_job.specs.declared.fault.GroundFault.TheVariants as NoGround
 use Rattle.crew_machine.specs.Choices.{BringsAll, ClaimsLeast}
-use Rattle.crew_machine.specs.Crew.{CrewBoard, CrewRound, CrewVersion, DutyNode, DutyWork, Entries, IsLocalOf, crew}
+use Rattle.crew_machine.specs.Crew.{CrewBoard, CrewRound, CrewVersion, DutyNode, DutyWork, Entries, crew}
 use Rattle.crew_machine.specs.Rounds.{Abandons, ComesToTooMany, GivesBack, HasNoNumber, IsBusy, IsFirstUndone, IsShorter, IsUndone, NoneReady, Opens, Seals, last_number}
 use Rattle.crew_machine.specs.declared.rounds.Brought.{Brought}
 use Rattle.crew_machine.specs.declared.rounds.Cell.{Cell}

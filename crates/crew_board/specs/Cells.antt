@@ -1,5 +1,5 @@
 -- The cells of a round of the machine, and the marks that stand for them.
-use Rattle.std.specs.Prelude.{◌≡◌, List, map}
+use Rattle.std.specs.Prelude.{List, map}
 use Rattle.crew_machine.specs.Crew.{DutyNode, Entries}
 use Rattle.crew_machine.specs.declared.rounds.Cell.{Cell}
 use Rattle.crew_machine.specs.declared.rounds.Cell.TheVariants.{Waiting, Out, Done}

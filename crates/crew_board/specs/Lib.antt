@@ -1,4 +1,5 @@
 pub mod Cells
 pub mod Boards
 pub mod Calls
+pub mod Lots
 pub mod Machinery

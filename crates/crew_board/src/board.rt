@@ -1,8 +1,9 @@
 //! The board: the version that was sealed last, and the round that is open.
-ghost use Rattle.std.specs.Prelude.{◌≡◌, ℕ, IfErr, IfOk, MatchOption, None, OnErr, OnOk, Some, filter, length};
+ghost use Rattle.std.specs.Prelude.{◌≡◌, ℕ, IfErr, IfOk, List, MatchOption, None, OnErr, OnOk, Some, filter, length};
 ghost use Rattle.std.specs.Arc.{arc_value};
 ghost use Rattle.crew_board.specs.Boards.{IsBoardOf, ShownRound};
 ghost use Rattle.crew_board.specs.Calls.{HasAbandoned, HasBegun, HasBrought, HasClaimed, HasGivenBack, HasSealed, IsBeginFault, IsSealFault};
+ghost use Rattle.crew_board.specs.Lots.{AreResultsOf, AreWorksOf, HasBroughtLot, HasClaimedLot, HasGivenBackLot};
 ghost use Rattle.crew_job.specs.Jobs.{IsJobOf};
 ghost use Rattle.crew_machine.specs.Crew.{CrewBoard, DutyWork, Entries, IsLocalOf, crew};
 ghost use Rattle.crew_machine.specs.Rounds.{NoneReady};
@@ -10,8 +11,9 @@ ghost use Rattle.crew_round.specs.Marks.{is_done, is_out};
 
 use crate::fault::{BeginFault, SealFault};
 use crate::round::Round;
+use crate::tally::{Tally, all_stale};
 use crew_flights::Entry;
-use crew_job::{Done, Ground, Job};
+use crew_job::{Done, DoneLot, Ground, Job, Lot};
 use crew_machine::Brought;
 use crew_round::Progress;
 use crew_version::Version;
@@ -92,6 +94,7 @@ impl Board {
         ensures fault { IfErr result (λ fault. (b : CrewBoard) → IsBoardOf self.old b
             → IsBeginFault self.old b entries.now fault) }
         ensures err { OnErr result (self.new ≡ self.old) }
+        ensures sealed { self.new.sealed ≡ self.old.sealed }
     {
         if self.round.is_some() {
             return Err(BeginFault::Busy);
@@ -111,6 +114,7 @@ impl Board {
         ensures err { OnErr result (self.new ≡ self.old) }
         ensures some { OnErr result ((b : CrewBoard) → IsBoardOf self.old b
             → NoneReady (crew self.old.sealed.settings) b → ⊥) }
+        ensures sealed { self.new.sealed ≡ self.old.sealed }
     {
         let Some(round) = &mut self.round else {
             return Ok(None);
@@ -122,9 +126,10 @@ impl Board {
     /// node's own job now, `Again` where the node is done, and else it is stored, and all whose job
     /// is the sealed version's are done with it. Takes no memory.
     pub fn bring(&mut self, done: Done) -> Brought
-        ensures { (b : CrewBoard) (work : DutyWork) (front : Entries) → IsBoardOf self.old b
+        ensures brought { (b : CrewBoard) (work : DutyWork) (front : Entries) → IsBoardOf self.old b
             → IsJobOf done work → IsLocalOf work front
             → HasBrought self.old b work front result self.new }
+        ensures sealed { self.new.sealed ≡ self.old.sealed }
     {
         let Some(round) = &mut self.round else {
             return Brought::Stale;
@@ -132,11 +137,55 @@ impl Board {
         round.bring(done)
     }
 
+    /// Hands out the jobs of so many nodes at most, one after another, each that of the least node
+    /// that is ready then. It ends where none is ready, or where there is no memory for the next job;
+    /// and is refused only where that is the first: then nothing is handed out.
+    pub fn claim_lot(&mut self, alloc: Global, most: usize) -> Result<Lot, AllocError>
+        ensures ok { IfOk result (λ lot. (b : CrewBoard) → IsBoardOf self.old b
+            → HasClaimedLot self.old b most lot self.new) }
+        ensures err { OnErr result (self.new ≡ self.old) }
+        ensures some { OnErr result ((b : CrewBoard) → IsBoardOf self.old b
+            → NoneReady (crew self.old.sealed.settings) b → ⊥) }
+        ensures sealed { self.new.sealed ≡ self.old.sealed }
+    {
+        let Some(round) = &mut self.round else {
+            return Ok(Lot::new(alloc));
+        };
+        round.claim_lot(alloc, most)
+    }
+
+    /// Takes the results of a lot in, in order, each as `bring` does, and tells how many came to what.
+    /// Their ground is compared with the round's once. Takes no memory.
+    pub fn bring_lot(&mut self, done: DoneLot) -> Tally
+        ensures brought { (b : CrewBoard) (results : List (DutyWork × Entries)) → IsBoardOf self.old b
+            → AreResultsOf done results → HasBroughtLot self.old b results result self.new }
+        ensures sealed { self.new.sealed ≡ self.old.sealed }
+    {
+        let Some(round) = &mut self.round else {
+            return all_stale(&done);
+        };
+        round.bring_lot(done)
+    }
+
+    /// Takes the jobs of a lot back that aren't done, in order, each as `give_back` does. Tells how many
+    /// nodes wait again.
+    pub fn give_back_lot(&mut self, lot: &Lot) -> usize
+        ensures given_back { (b : CrewBoard) (works : List DutyWork) → IsBoardOf self.old b
+            → AreWorksOf lot.now works → HasGivenBackLot self.old b works result self.new }
+        ensures sealed { self.new.sealed ≡ self.old.sealed }
+    {
+        let Some(round) = &mut self.round else {
+            return 0;
+        };
+        round.give_back_lot(lot)
+    }
+
     /// Takes a job back that isn't done. Tells whether its node waits again: it was out, and the
     /// job is its own now.
     pub fn give_back(&mut self, job: &Job) -> bool
-        ensures { (b : CrewBoard) (work : DutyWork) → IsBoardOf self.old b
+        ensures given_back { (b : CrewBoard) (work : DutyWork) → IsBoardOf self.old b
             → IsJobOf job.now work → HasGivenBack self.old b work result self.new }
+        ensures sealed { self.new.sealed ≡ self.old.sealed }
     {
         let Some(round) = &mut self.round else {
             return false;
@@ -146,8 +195,9 @@ impl Board {
 
     /// Drops the round that is open. Tells whether one was.
     pub fn abandon(&mut self) -> bool
-        ensures { (b : CrewBoard) → IsBoardOf self.old b
+        ensures abandoned { (b : CrewBoard) → IsBoardOf self.old b
             → HasAbandoned self.old b result self.new }
+        ensures sealed { self.new.sealed ≡ self.old.sealed }
     {
         if self.round.is_none() {
             return false;
@@ -164,6 +214,7 @@ impl Board {
         ensures fault { IfErr result (λ fault. (b : CrewBoard) → IsBoardOf self.old b
             → IsSealFault self.old b fault) }
         ensures err { OnErr result (self.new ≡ self.old) }
+        ensures sealed { IfOk result (λ version. self.new.sealed ≡ arc_value version) }
     {
         let Some(round) = &self.round else {
             return Err(SealFault::NoRound);

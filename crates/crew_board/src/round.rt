@@ -1,24 +1,29 @@
 //! A round: its ground, what is known of its nodes, and what shows the fronts of those that are done.
-ghost use Rattle.std.specs.Prelude.{◌≡◌, ◌↔◌, ◌⊎◌, ◌+◌, ◌<◌, ◌≤◌, ℕ, IfOk, IfSome, IsTrue, MatchOption, None, OnErr, Some, filter, get_or, length, map, slice_get, slice_set, true};
+ghost use Rattle.std.specs.Prelude.{◌≡◌, ◌↔◌, ◌⊎◌, ◌+◌, ◌<◌, ◌≤◌, [], ℕ, Bool, IfOk, IfSome, IsTrue, List, MatchOption, None, OnErr, Some, filter, get_or, length, map, slice_get, slice_set, true};
 ghost use Rattle.std.specs.Arc.{arc_value};
 ghost use Rattle.std.specs.Option.{option_map};
-ghost use Rattle.crew_board.specs.Machinery.Held.{AllNone, IsBegun};
-ghost use Rattle.crew_board.specs.Machinery.Turns.{AllSameBefore, HasBrought, HasClaimed, HasGivenBack, IsFirstNode, IsNowhere, IsOwnPlace, IsReadableFrom, IsSameIfBefore, IsStored};
+ghost use Rattle.crew_board.specs.Lots.{freed_of, tally_of};
+ghost use Rattle.crew_board.specs.Machinery.Held.{AllNone, IsBegun, Marked};
+ghost use Rattle.crew_board.specs.Machinery.Likes.{AreLike};
+ghost use Rattle.crew_board.specs.Machinery.Turns.{ClaimsEach, HasAdded, HasClaimed, IsFirstNode, IsNowhere, IsOwnPlace, IsReadableFrom, IsStored, TakesBack, TakesBackEach, TakesIn, TakesInEach};
 ghost use Rattle.crew_job.specs.Grounds.{IsGround, nodes_in};
-ghost use Rattle.crew_job.specs.Jobs.{IsPlaced, job_node};
+ghost use Rattle.crew_job.specs.Jobs.{IsJobOf, IsOwnAt, IsPlaced, job_node};
+ghost use Rattle.crew_job.specs.Lots.{StandOn};
 ghost use Rattle.crew_job.specs.Shown.{IsAsSealed};
-ghost use Rattle.crew_machine.specs.Crew.{DutyNode};
-ghost use Rattle.crew_round.specs.Marks.{AllDone, AreSameBefore, IsFirstUndone, IsMarked, IsReady, IsUndone, node_count};
+ghost use Rattle.crew_machine.specs.Crew.{DutyNode, DutyWork};
+ghost use Rattle.crew_machine.specs.declared.rounds.Brought.{Brought};
+ghost use Rattle.crew_round.specs.Marks.{AllDone, AreDoneBefore, AreSameBefore, IsFirstUndone, IsMarked, IsReady, IsUndone, NoneReady, node_count};
 ghost use Rattle.crew_round.specs.Marks as Spec;
 ghost use Rattle.crew_round.specs.declared.mark.Mark.TheVariants.{Done as DoneMark, Out as OutMark};
 ghost use Rattle.crew_version.specs.Versions.{IsRight};
 ghost use Rattle.crew_solve.specs.Plans.{AreSweepsIn, IsSweepIn};
 
-use crate::plans::have_one_plan;
-use crew_job::{Done, Ground, Job, is_own, may_follow};
+use crate::alike::{Likeness, is_same_plan, is_unknown, likeness_of};
+use crate::before::are_same_before;
+use crate::tally::{Tally, count, count_if, none_counted};
+use crew_job::{Done, DoneLot, Ground, Job, Lot, is_own_by_work};
 use crew_machine::Brought;
-use crew_net::{Net, Node};
-use crew_pairing::Duty;
+use crew_net::Node;
 use crew_round::{Mark, Marks, Progress};
 use crew_solve::BaseFronts;
 use crew_version::Version;
@@ -121,31 +126,6 @@ fn shared(alloc: Global, ground: Ground) -> Result<Arc<Ground, Global>, AllocErr
     Arc::new(alloc, ground).map_err(|_| AllocError)
 }
 
-// Whether the node of a rank has the front of the version before the round, if its duty may stand just
-// before one. The nodes of its base stand from a place on.
-fn is_same_if_before(marks: &Marks, net: &Net, duty: &Duty, first: usize, rank: usize) -> bool
-    requires rank { rank < length net.now.duties }
-    requires first { first + rank ≤ 18_446_744_073_709_551_615 }
-    ensures { IsTrue result ↔ IsSameIfBefore marks.now.same net.now duty.now first rank }
-{
-    let before = &net.duties().as_slice()[rank];
-    !may_follow(net.settings(), before, duty) || marks.is_same(first + rank)
-}
-
-// Whether each node of a base that may stand just before a duty has the front of the version before
-// the round. The nodes of the base stand from a place on.
-fn are_same_before(marks: &Marks, net: &Net, duty: &Duty, first: usize) -> bool
-    requires { first + length net.now.duties ≤ 18_446_744_073_709_551_615 }
-    ensures { IsTrue result ↔ AllSameBefore marks.now.same net.now duty.now first }
-{
-    for rank in 0..net.duty_count() {
-        if !is_same_if_before(marks, net, duty, first, rank) {
-            return false;
-        }
-    }
-    true
-}
-
 impl Round {
     /// A round as it begins: the nodes that no change reaches are done, and the others wait.
     pub(crate) fn begin(alloc: Global, ground: Ground) -> Result<Round, AllocError>
@@ -187,6 +167,60 @@ impl Round {
         let job = self.job_at(alloc, place)?;
         self.marks.claim(place);
         Ok(Some(job))
+    }
+
+    /// Hands out the jobs of the least ready nodes, one after another, so many at most. With no
+    /// memory for a job it ends there, and is refused only where that was the first.
+    pub(crate) fn claim_lot(&mut self, alloc: Global, most: usize) -> Result<Lot, AllocError>
+        ensures each { IfOk result (λ lot. ClaimsEach self.old lot self.new) }
+        ensures most { IfOk result (λ lot. length lot ≤ most) }
+        ensures some { IfOk result (λ lot. lot ≡ [] → 0 < most → NoneReady self.old.marks) }
+        ensures err { OnErr result (self.new ≡ self.old) }
+        ensures ready { OnErr result ((place : ℕ) × IsReady self.old.marks place) }
+    {
+        let mut lot = Lot::new(alloc);
+        if most == 0 {
+            return Ok(lot);
+        }
+        self.claim_into(alloc, &mut lot)?;
+        self.fill(alloc, most, &mut lot);
+        Ok(lot)
+    }
+
+    // Hands out the job of the least ready node into a lot of the round's. Tells whether there is
+    // one.
+    fn claim_into(&mut self, alloc: Global, lot: &mut Lot) -> Result<bool, AllocError>
+        requires { StandOn self.old.ground lot.old }
+        ensures ok { IfOk result (λ added. HasAdded self.old lot.old added self.new lot.new) }
+        ensures err { OnErr result (self.new ≡ self.old) }
+        ensures left { OnErr result (lot.new ≡ lot.old) }
+        ensures ready { OnErr result ((place : ℕ) × IsReady self.old.marks place) }
+    {
+        let Some(first) = self.marks.first_ready() else {
+            return Ok(false);
+        };
+        let job = self.job_at(alloc, first)?;
+        lot.push(job)?;
+        self.marks.claim(first);
+        Ok(true)
+    }
+
+    // Hands out jobs into a lot of the round's until it has so many, or no node is ready, or there
+    // is no memory for the next.
+    fn fill(&mut self, alloc: Global, most: usize, lot: &mut Lot)
+        requires lot { StandOn self.old.ground lot.old }
+        requires most { length lot.old ≤ most }
+        ensures each { (start : Marked) → ClaimsEach start lot.old self.old
+            → ClaimsEach start lot.new self.new }
+        ensures more { length lot.old ≤ length lot.new }
+        ensures most { length lot.new ≤ most }
+    {
+        while lot.len() < most {
+            let added = self.claim_into(alloc, lot).unwrap_or(false);
+            if !added {
+                return;
+            }
+        }
     }
 
     // The job of the node at a place that is ready.
@@ -253,8 +287,39 @@ impl Round {
         }
     }
 
-    // The place of the node whose own job this is now.
-    fn own_place(&self, job: &Job) -> Option<usize>
+    // The place of a job's node, whose ground is so like the round's.
+    fn place_of(&self, job: &Job, like: Likeness) -> Option<usize>
+        requires { AreLike like job.now.ground self.now.ground }
+        ensures { MatchOption result (IsNowhere self.now job.now)
+            (λ place. slice_get (nodes_in self.now.ground.plan.net) place ≡ job_node job.now) }
+    {
+        let _ground = job.ground();
+        if is_same_plan(like) {
+            Some(job.place())
+        } else {
+            self.ground.place_of(job)
+        }
+    }
+
+    // Whether a job, whose ground is so like the round's, is the own one of its node at a place, before
+    // which all is done. Where the data are the same it is, since the node is.
+    fn is_own_at(&self, job: &Job, like: Likeness, place: usize) -> bool
+        requires like { AreLike like job.now.ground self.now.ground }
+        requires stands { slice_get (nodes_in self.now.ground.plan.net) place ≡ job_node job.now }
+        requires before { AreDoneBefore self.now.marks place }
+        ensures { IsTrue result ↔ ((work : DutyWork) → IsJobOf job.now work
+            → IsOwnAt self.now.ground place work) }
+    {
+        if is_unknown(like) {
+            is_own_by_work(job, &self.ground, place, &self.shown)
+        } else {
+            true
+        }
+    }
+
+    // The place of the node whose own job this is now; the job's ground is so like the round's.
+    fn own_place(&self, job: &Job, like: Likeness) -> Option<usize>
+        requires { AreLike like job.now.ground self.now.ground }
         ensures own { MatchOption result (IsNowhere self.now job.now)
             (IsOwnPlace self.now job.now) }
         ensures low { IfSome result (λ place. place < length self.now.marks.marks) }
@@ -263,23 +328,54 @@ impl Round {
         ensures placed { IsPlaced job.now }
     {
         let _ground = job.ground();
-        let Some(place) = self.ground.place_of(job) else {
+        let Some(place) = self.place_of(job, like) else {
             return None;
         };
         if !self.marks.is_clear(place) {
             return None;
         }
-        let own = is_own(job, &self.ground, place, &self.shown);
+        let own = self.is_own_at(job, like, place);
         if own { Some(place) } else { None }
+    }
+
+    // How like a ground is to the round's; nothing is known where there is none.
+    fn likeness_to(&self, ground: Option<&Ground>) -> Likeness
+        ensures { IfSome ground.entry (λ g. AreLike result g.now self.now.ground) }
+    {
+        match ground {
+            Some(ground) => likeness_of(ground, &self.ground),
+            None => Likeness::Unknown,
+        }
     }
 
     /// Takes a result in by what its job holds, and marks what is unchanged with it.
     pub(crate) fn bring(&mut self, done: Done) -> Brought
-        ensures brought { HasBrought self.old done result self.new }
-        ensures ground { IsGround done.ground }
-        ensures placed { IsPlaced done }
+        ensures { TakesIn self.old done result self.new }
     {
-        let Some(place) = self.own_place(done.job()) else {
+        let like = likeness_of(done.job().ground(), &self.ground);
+        self.take_in(done, like)
+    }
+
+    /// Takes the results of a lot in, in order, and tells how many came to what.
+    pub(crate) fn bring_lot(&mut self, done: DoneLot) -> Tally
+        ensures { (brought : List Brought) × TakesInEach self.old done brought self.new
+            × (result ≡ tally_of brought) }
+    {
+        let like = self.likeness_to(done.ground());
+        let _count = done.len();
+        let mut tally = none_counted();
+        for one in done.into_results() {
+            tally = count(self.take_in(one, like), tally);
+        }
+        tally
+    }
+
+    // Takes a result in, whose job's ground is so like the round's.
+    fn take_in(&mut self, done: Done, like: Likeness) -> Brought
+        requires { AreLike like done.ground self.old.ground }
+        ensures { TakesIn self.old done result self.new }
+    {
+        let Some(place) = self.own_place(done.job(), like) else {
             return Brought::Stale;
         };
         let was_done = is_done(self.marks.mark(place));
@@ -287,7 +383,7 @@ impl Round {
             return Brought::Again;
         }
         let same = self.is_as_sealed(place, &done);
-        self.store(place, same, done);
+        self.store(place, same, done, like);
         Brought::Stored
     }
 
@@ -302,15 +398,18 @@ impl Round {
         self.ground.has_kept(place, &front)
     }
 
-    // Marks a node done whose own job is done, and what is unchanged with it.
-    fn store(&mut self, place: usize, same: bool, done: Done)
+    // Marks a node done whose own job is done, and what is unchanged with it. Its sweep is one of the
+    // round's where the plans are the same.
+    fn store(&mut self, place: usize, same: bool, done: Done, like: Likeness)
+        requires like { AreLike like done.ground self.old.ground }
         requires own { IsOwnPlace self.old done place }
         requires undone { IsUndone self.old.marks place }
         requires told { (n : DutyNode) → slice_get (nodes_in self.old.ground.plan.net) place ≡ Some n
             → (same ≡ true) ↔ IsAsSealed self.old.ground n }
         ensures { IsStored self.old place same self.new }
     {
-        let own = have_one_plan(done.job().ground(), &self.ground);
+        let own = is_same_plan(like);
+        let _ground = done.job().ground();
         let base = done.job().base();
         show(&mut self.shown, place, done.into_sweep());
         self.marks.store(place, same);
@@ -319,10 +418,31 @@ impl Round {
 
     /// Takes a job back that isn't done: its node waits again, where it is out and the job is its own.
     pub(crate) fn give_back(&mut self, job: &Job) -> bool
-        ensures given_back { HasGivenBack self.old job.now result self.new }
-        ensures ground { IsGround job.now.ground }
+        ensures { TakesBack self.old job.now result self.new }
     {
-        let Some(place) = self.own_place(job) else {
+        let like = likeness_of(job.ground(), &self.ground);
+        self.take_back(job, like)
+    }
+
+    /// Takes the jobs of a lot back that aren't done, in order, and tells how many nodes wait again.
+    pub(crate) fn give_back_lot(&mut self, lot: &Lot) -> usize
+        ensures { (freed : List Bool) × TakesBackEach self.old lot.now freed self.new
+            × (result ≡ freed_of freed) }
+    {
+        let like = self.likeness_to(lot.ground());
+        let mut count = 0;
+        for job in lot.jobs() {
+            count = count_if(self.take_back(job, like), count);
+        }
+        count
+    }
+
+    // Takes a job back, whose ground is so like the round's.
+    fn take_back(&mut self, job: &Job, like: Likeness) -> bool
+        requires { AreLike like job.now.ground self.old.ground }
+        ensures { TakesBack self.old job.now result self.new }
+    {
+        let Some(place) = self.own_place(job, like) else {
             return false;
         };
         let out = is_out(self.marks.mark(place));

@@ -1,29 +1,15 @@
 -- Two lists that are gone over side by side.
-use Rattle.std.proofs.Common.{◌≡◌, ◌<◌, ◌+◌, ℕ, suc, Bool, true, false, List, [], ◌∷◌, ◌++◌, Option, Some, None, length, map, refl, sym, ap, ◌∙◌, arith, true≢false}
-use Rattle.std.specs.Prelude.{slice_get, IfSome, MatchOption}
+use Rattle.std.proofs.Common.{◌≡◌, Bool, true, false, List, [], ◌∷◌, ◌++◌, Option, Some, None, map, refl, sym, ap, ◌∙◌, true≢false}
+use Rattle.std.specs.Prelude.{IfSome, MatchOption}
 use Rattle.std.specs.Bool.{Decides}
-use Rattle.std.specs.Iterator.{ComparesItemsByEq, Yields, YieldsFirst, YieldsFirstBy}
+use Rattle.std.specs.Iterator.{ComparesItemsByEq, Yields, YieldsFirstBy}
 use Rattle.std.specs.List.{AllZip}
-use Rattle.std.proofs.lemmas.List.{append_cancel_left, length-append}
-use borrow.Author.Count.{below_more}
+use Rattle.std.proofs.lemmas.List.{append_cancel_left}
 
 -- what an iterator has left
 pub left-by : {S A B : Type 0} (v : A → B) (rest : S → List B) (s : S) (xs : List A) (t : S) → Yields (YieldsFirstBy v rest) s xs t → rest s ≡ map v xs ++ rest t
 left-by v rest s [] t y = ap rest y
 left-by {B = B} v rest s (x ∷ xs) t y = y.1 ∙ ap (λ (l : List B). v x ∷ l) (left-by v rest y.0 xs t y.2)
-
-pub left-first : {S A : Type 0} (rest : S → List A) (s : S) (xs : List A) (t : S) → Yields (YieldsFirst rest) s xs t → rest s ≡ xs ++ rest t
-left-first rest s [] t y = ap rest y
-left-first {A = A} rest s (x ∷ xs) t y = y.1 ∙ ap (λ (l : List A). x ∷ l) (left-first rest y.0 xs t y.2)
-
--- lists with the same beginning, of which one goes on
-pub not-longer : {A : Type 0} (zs : List A) (y : A) (ys : List A) → zs ≡ zs ++ y ∷ ys → ⊥
-not-longer [] y ys e = (let q : ⊥ = (cc) in q)
-not-longer (z ∷ zs) y ys e = not-longer zs y ys (let q : zs ≡ zs ++ y ∷ ys = (cc) in q)
-
--- .. or of which both do
-pub next-same : {A : Type 0} (zs : List A) (x y : A) (xs ys : List A) → zs ++ x ∷ xs ≡ zs ++ y ∷ ys → x ≡ y
-next-same zs x y xs ys e = (let q = append_cancel_left zs (x ∷ xs) (y ∷ ys) e in let r : x ≡ y = (cc) in r)
 
 module _ {S T U A B : Type 0} (v : A → B) (rest : S → List B) (others : T → List B) (becomes : U → T → Type 0) (eq : A → A → Bool) (exact : (x y : A) → Decides (eq x y) (v x ≡ v y)) where
   zip-same : (xs ys : List A) → AllZip (λ x y. eq x y ≡ true) xs ys → map v xs ≡ map v ys
@@ -60,33 +46,3 @@ module _ {S T U A B : Type 0} (v : A → B) (rest : S → List B) (others : T �
       let a : as' ≡ map v c.1 ++ rest ours.0 = sym start ∙ left-by v rest s c.1 ours.0 ours.1 in
       let b : bs ≡ map v c.1 ++ others theirs.0 = sym (opens c.0 c.7) ∙ (left-by v others c.0 c.2 theirs.0 theirs.1 ∙ ap (λ (z : List B). z ++ others theirs.0) (sym same)) in
       finish r as' bs (map v c.1) ours.0 c.5 theirs.0 c.6 a b c.3 c.4 ours.2 theirs.2 c.11
-
--- lists with the same at each place are one
-pub same-places : {A : Type 0} (xs ys : List A) → length xs ≡ length ys → ((k : ℕ) → k < length xs → slice_get xs k ≡ slice_get ys k) → xs ≡ ys
-same-places [] [] e h = refl
-same-places [] (y ∷ ys) e h = absurd (let n : 0 ≡ suc (length ys) = e in omega (arith, n))
-same-places (x ∷ xs) [] e h = absurd (let n : suc (length xs) ≡ 0 = e in omega (arith, n))
-same-places {A} (x ∷ xs) (y ∷ ys) e h =
-    let head : Some x ≡ Some y = h 0 (omega arith) in
-    let first : x ≡ y = (cc) in
-    let long : length xs ≡ length ys = omega (arith, e) in
-    ap (λ (z : A). z ∷ xs) first ∙ ap (λ (zs : List A). y ∷ zs) (same-places xs ys long (λ k l. h (suc k) (omega (arith, l))))
-
--- one place more
-pub places-more : {A : Type 0} (xs ys : List A) (n : ℕ) → ((k : ℕ) → k < n → slice_get xs k ≡ slice_get ys k) → slice_get xs n ≡ slice_get ys n → (k : ℕ) → k < n + 1 → slice_get xs k ≡ slice_get ys k
-places-more xs ys n h e k l = below_more (λ (i : ℕ). slice_get xs i ≡ slice_get ys i) n h e k l
-
--- lists of one length, of which one has ended where the other goes on
-pub ends-alike : {A : Type 0} (xs ys zs rest others : List A) → xs ≡ zs ++ rest → rest ≡ [] → ys ≡ zs ++ others → length xs ≡ length ys → xs ≡ ys
-ends-alike {A} xs ys zs rest others e n f long =
-    let a = length-append zs rest in
-    let b = length-append zs others in
-    let c : length xs ≡ length zs + length rest = ap length e ∙ a in
-    let d : length ys ≡ length zs + length others = ap length f ∙ b in
-    let z : length rest ≡ 0 = ap length n in
-    let none : others ≡ [] = empty others (omega (arith, c, d, z, long)) in
-    e ∙ (ap (λ (l : List A). zs ++ l) (n ∙ sym none) ∙ sym f)
-  where
-    empty : (l : List A) → length l ≡ 0 → l ≡ []
-    empty [] e = refl
-    empty (x ∷ l) e = absurd (let m : suc (length l) ≡ 0 = e in omega (arith, m))

@@ -4,6 +4,7 @@ pub mod Comparing
 pub mod FoundDuties
 pub mod GroundNodes
 pub mod JobNodes
+pub mod Lots
 pub mod NodePlaces
 pub mod OwnPlaces
 pub mod Planned

@@ -14,7 +14,7 @@ use Rattle.crew_job.specs.Shown.{IsAsSealed}
 use Rattle.crew_machine.proofs.Alike.{same-front-of}
 use Rattle.crew_machine.proofs.CrewLaws.{crew-laws}
 use Rattle.crew_machine.proofs.NodeList.{has-price}
-use Rattle.crew_machine.specs.Crew.{DutyNode, DutyWork, Entries, Inputs, IsFrontOf, IsNodeOf, MayPrecede, crew}
+use Rattle.crew_machine.specs.Crew.{DutyNode, Entries, Inputs, IsFrontOf, IsNodeOf, MayPrecede, crew}
 use Rattle.crew_machine.specs.Worlds.{IsBefore, IsUnreached, IsUntouched}
 use Rattle.crew_net.specs.Nets.{Net}
 use Rattle.crew_pairing.specs.Duties.{AreDuties, HasFew, flights_of}

@@ -1,4 +1,5 @@
 pub mod Grounds
 pub mod Jobs
+pub mod Lots
 pub mod Shown
 pub mod Machinery

@@ -39,6 +39,14 @@ pub fn work(alloc: Global, job: &Job) -> Result<Done, AllocError>
     ensures { IfOk result (λ done. done ≡ job.now) }
 {
     let sweep = job.sweep_of(alloc)?;
+    done_by(job, sweep)
+}
+
+// What is done of a job by its base's sweep.
+pub(crate) fn done_by(job: &Job, sweep: Arc<BaseFronts, Global>) -> Result<Done, AllocError>
+    requires { IsSweepIn job.now.ground.plan job.now.base (arc_value sweep) }
+    ensures { IfOk result (λ done. done ≡ job.now) }
+{
     let job = job.copy()?;
     Ok(Done { job, sweep })
 }

@@ -2,11 +2,13 @@
 ghost use Rattle.std.specs.Arc.{arc_value};
 ghost use Rattle.std.specs.Option.{option_copied, option_map};
 ghost use Rattle.std.specs.Prelude.{◌≡◌, ◌<◌, IfOk, IfSome, Some, length, slice_get};
-ghost use Rattle.crew_job.specs.Grounds.{data_of, node_at};
+ghost use Rattle.crew_job.specs.Grounds.{data_of, node_at, nodes_in};
+ghost use Rattle.crew_job.specs.Jobs.{job_node};
 ghost use Rattle.crew_job.specs.Shown.{AreReadable};
 ghost use Rattle.crew_solve.specs.Plans.{IsSweepIn};
 
 use crate::ground::Ground;
+use crate::places::place_in;
 use crew_flights::Code;
 use crew_pairing::Duty;
 use crew_solve::BaseFronts;
@@ -109,6 +111,14 @@ impl Job {
         ensures placed { IsPlaced self.now }
     {
         &self.ground.net().duties().as_slice()[self.rank]
+    }
+
+    /// The place of the node in the ground's network, in node order.
+    pub fn place(&self) -> usize
+        ensures place { slice_get (nodes_in self.now.ground.plan.net) result ≡ job_node self.now }
+        ensures placed { IsPlaced self.now }
+    {
+        place_in(self.ground.net(), self.base, self.rank)
     }
 
     // The sweep of the base: the job's, or where it has none a new one.

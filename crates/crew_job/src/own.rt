@@ -143,9 +143,6 @@ fn is_same_work(
 {
     let own = job.ground();
     let settings = ground.settings();
-    if own.is_same_data(ground) {
-        return true;
-    }
     if !have_same_inputs(own, ground, code) {
         return false;
     }
@@ -185,6 +182,25 @@ fn is_own_at(
 /// are looked at. It takes no memory, and where the settings and the timetables are equal it looks
 /// at no front.
 pub fn is_own(
+    job: &Job,
+    ground: &Ground,
+    place: usize,
+    shown: &[Option<Arc<BaseFronts, Global>>],
+) -> bool
+    requires { AreShownBefore ground.now place (map (option_map arc_value) shown.now) }
+    ensures { IsTrue result ↔ ((work : DutyWork) → IsJobOf job.now work
+        → IsOwnAt ground.now place work) }
+{
+    let own = job.ground();
+    if own.is_same_data(ground) {
+        return is_own_by_data(job, ground, place);
+    }
+    is_own_by_work(job, ground, place, shown)
+}
+
+/// The same, without a look at the whole timetables: by the node's base and duty, its own inputs, the
+/// nodes just before it and their fronts. It answers as `is_own` does whatever the timetables are.
+pub fn is_own_by_work(
     job: &Job,
     ground: &Ground,
     place: usize,

@@ -1,15 +1,20 @@
 -- What each call does to a round, in terms of its marks.
-use Rattle.std.specs.Prelude.{◌≡◌, ◌↔◌, ◌+◌, ℕ, Bool, true, false, List, Option, Some, None, get_or, slice_get}
+use Rattle.std.specs.Prelude.{◌≡◌, ◌↔◌, ◌+◌, ◌++◌, ◌∷◌, [], ℕ, Bool, true, false, List, Option, Some, None, get_or, slice_get}
 use Rattle.crew_board.specs.Machinery.Held.{Marked}
-use Rattle.crew_job.specs.Grounds.{nodes_in}
-use Rattle.crew_job.specs.Jobs.{IsJobOf, IsOwnAt, Job, job_node}
+use Rattle.crew_job.specs.Grounds.{IsGround, nodes_in}
+use Rattle.crew_job.specs.Jobs.{IsJobOf, IsOwnAt, IsPlaced, Job, job_node}
 use Rattle.crew_job.specs.Shown.{IsAsSealed}
 use Rattle.crew_machine.specs.Crew.{DutyNode, DutyWork}
 use Rattle.crew_machine.specs.declared.rounds.Brought.{Brought}
+use Rattle.crew_net.specs.Events.{arrives_at}
 use Rattle.crew_net.specs.Nets.{Net}
+use Rattle.crew_net.specs.Ranks.{ranks_where}
 use Rattle.crew_net.specs.declared.node.Node.{Node}
+use Rattle.crew_pairing.specs.Events.{departure_of, may_wait}
 use Rattle.crew_pairing.specs.Pairings.{may_stand_after}
 use Rattle.crew_pairing.specs.declared.duty.Duty.{Duty}
+use Rattle.crew_pairing.specs.declared.events.Arrival.{Arrival}
+use Rattle.crew_resource.specs.Members.{Member}
 use Rattle.crew_machine.specs.declared.rounds.Brought.TheVariants.{Stale, Again, Stored}
 use Rattle.crew_round.specs.Marks.{AreDoneBefore, IsFirstReady, IsFirstUndone, IsMarked, AreSameBefore, IsUndone, Marks, NoneReady, Stores, with_mark}
 use Rattle.crew_sweep.specs.Sweeps.{BaseSweep}
@@ -19,14 +24,16 @@ use Rattle.crew_round.specs.declared.mark.Mark.TheVariants.{Waiting, Out, Done}
 abbrev pub with_marks : Marked → Marks → Marked
 with_marks r marks = record { ground = r.ground; marks = marks }
 
--- the nodes of a base stand from a place on: that of a rank has its flag if it may stand just before
--- a duty, and so has each of them
-abbrev pub IsSameIfBefore : List Bool → Net → Duty → ℕ → ℕ → Type 0
-IsSameIfBefore same net duty first rank = (e : Duty) → slice_get net.duties rank ≡ Some e
+-- the nodes of a base stand from a place on: each that may stand just before a duty has its flag
+abbrev pub AllSameBefore : List Bool → Net → Duty → ℕ → Type 0
+AllSameBefore same net duty first = (rank : ℕ) (e : Duty) → slice_get net.duties rank ≡ Some e
     → may_stand_after net.settings e duty ≡ true → get_or same (first + rank) false ≡ true
 
-abbrev pub AllSameBefore : List Bool → Net → Duty → ℕ → Type 0
-AllSameBefore same net duty first = (rank : ℕ) → IsSameIfBefore same net duty first rank
+-- .. each that comes in at an arrival, if that may stand just before the duty
+abbrev pub AreSameIfBefore : List Bool → Net → Duty → ℕ → ℕ → Type 0
+AreSameIfBefore same net duty first arrival = (x : Arrival) → slice_get net.arrivals arrival ≡ Some x
+    → may_wait net.settings x (departure_of duty) ≡ true → (rank : ℕ)
+    → Member (ranks_where (arrives_at x) net.duties) rank → get_or same (first + rank) false ≡ true
 
 -- what a job's fronts before it are read from: its base's sweep, or, without one, the version before
 -- the round, which has all of them
@@ -83,6 +90,41 @@ HasGivenBack old job true new = (place : ℕ) × IsOwnPlace old job place
     × IsMarked old.marks place Out × (new ≡ with_marks old (with_mark old.marks place Waiting))
 HasGivenBack old job false new = ((place : ℕ) → IsOwnPlace old job place
     → IsMarked old.marks place Out → ⊥) × (new ≡ old)
+
+-- the jobs of the least ready nodes are handed out, one after another
+abbrev pub ClaimsEach : Marked → List Job → Marked → Type 0
+ClaimsEach old [] new = new ≡ old
+ClaimsEach old (job ∷ jobs) new = (mid : Marked) × ClaimsAt old job mid × ClaimsEach mid jobs new
+
+-- a lot has one job more, or no node is ready
+abbrev pub HasAdded : Marked → List Job → Bool → Marked → List Job → Type 0
+HasAdded old jobs true new more = (job : Job) × ClaimsAt old job new × (more ≡ jobs ++ job ∷ [])
+HasAdded old jobs false new more = NoneReady old.marks × (new ≡ old) × (more ≡ jobs)
+
+-- the result of a job is taken in, whose ground and node are there
+pub record TakesIn (old : Marked) (job : Job) (brought : Brought) (new : Marked) : Type 0 where
+  pub ground : IsGround job.ground
+  pub placed : IsPlaced job
+  pub turn : HasBrought old job brought new
+
+abbrev pub TakesInEach : Marked → List Job → List Brought → Marked → Type 0
+TakesInEach old [] [] new = new ≡ old
+TakesInEach old [] (brought ∷ others) new = ⊥
+TakesInEach old (job ∷ jobs) [] new = ⊥
+TakesInEach old (job ∷ jobs) (brought ∷ others) new = (mid : Marked) × TakesIn old job brought mid
+    × TakesInEach mid jobs others new
+
+-- a job is taken back
+pub record TakesBack (old : Marked) (job : Job) (freed : Bool) (new : Marked) : Type 0 where
+  pub ground : IsGround job.ground
+  pub turn : HasGivenBack old job freed new
+
+abbrev pub TakesBackEach : Marked → List Job → List Bool → Marked → Type 0
+TakesBackEach old [] [] new = new ≡ old
+TakesBackEach old [] (freed ∷ others) new = ⊥
+TakesBackEach old (job ∷ jobs) [] new = ⊥
+TakesBackEach old (job ∷ jobs) (freed ∷ others) new = (mid : Marked) × TakesBack old job freed mid
+    × TakesBackEach mid jobs others new
 
 -- the node at the least place that isn't done
 pub record IsFirstNode (r : Marked) (node : Node) : Type 0 where

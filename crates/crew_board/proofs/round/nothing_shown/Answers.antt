@@ -1,4 +1,4 @@
-use Rattle.std.proofs.Common.{◌≡◌, ◌∷◌, ◌++◌, [], None, length, length-append, sym, ap, subst, arith}
+use Rattle.std.proofs.Common.{◌∷◌, [], None, length, length-append, sym, ap, subst, arith}
 use Rattle.crew_board.proofs.Nothing.{none-push}
 use Rattle.crew_board.specs.Machinery.Held.{AllNone}
 use Rattle.crew_board.proofs.round.nothing_shown.Goals as goal

@@ -1,9 +1,9 @@
-use Rattle.std.proofs.Common.{◌≡◌, ◌∙◌, ◌<◌, ◌+◌, ◌*◌, ℕ, Some, None, ap, length, sym, subst, true≢false}
+use Rattle.std.proofs.Common.{◌≡◌, ◌∙◌, ◌<◌, ◌+◌, ◌*◌, None, ap, length, sym, subst, true≢false}
 use Rattle.std.specs.Prelude.{slice_get}
 use Rattle.crew_job.proofs.Comparing.{own-by-data}
 use Rattle.crew_job.proofs.NodePlaces.{node-place}
 use Rattle.crew_job.proofs.OwnPlaces.{own-in, own-somewhere, own-stands}
-use Rattle.crew_job.specs.Grounds.{node_at, nodes_in}
+use Rattle.crew_job.specs.Grounds.{nodes_in}
 use Rattle.crew_net.specs.Nets.{Net}
 use Rattle.crew_job.proofs.own.is_own_by_data.Goals as goal
 

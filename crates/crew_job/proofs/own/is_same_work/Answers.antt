@@ -1,14 +1,8 @@
-use Rattle.std.proofs.Common.{◌∙◌, ap, refl, sym, true≢false}
+use Rattle.std.proofs.Common.{◌∙◌, ap, sym, true≢false}
 use Rattle.std.specs.FinMap as fin
-use Rattle.crew_job.proofs.Comparing.{moved-before, own-by-data, own-before, own-prices, own-same-fronts, own-settings, work-own}
+use Rattle.crew_job.proofs.Comparing.{moved-before, own-before, own-prices, own-same-fronts, own-settings, work-own}
 use Rattle.crew_job.specs.Grounds.{Ground, data_of}
 use Rattle.crew_job.proofs.own.is_same_work.Goals as goal
-
-pub returns-then-is_same_data : goal.returns-then-is_same_data
-returns-then-is_same_data c =
-    let same = c.is_same_data.ensures.0 c.if-is_same_data.true in
-    let value = c.ground-own.ensures.value in
-    (λ _ work of. own-by-data c.args.job.now.ground c.args.ground.now work (ap (λ (g : Ground). g.settings) (sym value) ∙ same.0) (ap (λ (g : Ground). data_of g) (sym value) ∙ same.1) of.own, λ _. refl)
 
 pub returns-then-not-have_same_inputs : goal.returns-then-not-have_same_inputs
 returns-then-not-have_same_inputs c =

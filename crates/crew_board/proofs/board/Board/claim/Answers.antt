@@ -1,15 +1,11 @@
-use Rattle.std.proofs.Common.{◌≡◌, ◌∙◌, ℕ, Bool, List, Option, Some, None, IfErr, IfOk, IfSome, OnErr, Result, refl, sym, ap, subst}
-use Rattle.std.specs.Arc.{arc_value}
-use Rattle.std.specs.Option.{option_map}
+use Rattle.std.proofs.Common.{◌≡◌, ◌∙◌, Option, Some, IfOk, IfSome, OnErr, sym, ap, subst}
 use Rattle.crew_board.proofs.Answered as from
-use Rattle.crew_board.specs.Boards.{IsBoardOf, ShownBoard, ShownRound}
-use Rattle.crew_board.specs.Calls.{HasBegun, HasBrought, HasClaimed, HasGivenBack, HasSealed, IsBeginFault, IsSealFault}
+use Rattle.crew_board.specs.Boards.{IsBoardOf, ShownBoard}
+use Rattle.crew_board.specs.Calls.{HasClaimed}
 use Rattle.crew_board.specs.Machinery.Held.{Marked}
-use Rattle.crew_board.specs.Machinery.Settled.{IsRoundOver, IsSettled, board_of, shown_marked}
-use Rattle.crew_job.specs.Jobs.{IsJobOf, Job}
-use Rattle.crew_machine.specs.Crew.{CrewBoard, DutyWork, Entries, IsLocalOf, crew}
+use Rattle.crew_board.specs.Machinery.Settled.{IsRoundOver, IsSettled, board_of}
+use Rattle.crew_machine.specs.Crew.{CrewBoard, crew}
 use Rattle.crew_machine.specs.Rounds.{NoneReady}
-use Rattle.crew_version.specs.Versions.{Snapshot}
 use Rattle.crew_board.proofs.board.Board.claim.Goals as goal
 
 pub invariant_of-self-2 : goal.invariant_of-self-2

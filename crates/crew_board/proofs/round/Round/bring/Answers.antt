@@ -1,46 +1,13 @@
-use Rattle.std.proofs.Common.{◌≡◌, ◌∙◌, ℕ, Bool, true, false, Some, refl, sym, ap, subst}
-use Rattle.crew_board.proofs.Inside.{marked_of}
+use Rattle.std.proofs.Common.{◌∙◌, ap, subst}
 use Rattle.crew_board.specs.Machinery.Held.{Marked}
-use Rattle.crew_board.specs.Machinery.Turns.{IsNowhere, IsOwnPlace, StoresAt}
+use Rattle.crew_board.specs.Machinery.Likes.{AreLike}
+use Rattle.crew_job.specs.Grounds.{Ground}
 use Rattle.crew_job.specs.Jobs.{Job}
-use Rattle.crew_round.specs.Marks.{IsMarked, IsUndone}
-use Rattle.crew_round.specs.declared.mark.Mark.TheVariants.{Done}
 use Rattle.crew_board.proofs.round.Round.bring.Goals as goal
 
-pub returns-in_default-clause-brought : goal.returns-in_default-clause-brought
-returns-in_default-clause-brought c = (subst (λ (j : Job). IsNowhere c.args.self.now j) c.job.ensures c.in_default.ensures.own, refl)
-
-pub store-requires-clause-undone : goal.store-requires-clause-undone
-store-requires-clause-undone c = (
-  c.in-Some.ensures.low,
-  λ d. (
-      let marked = subst (λ (z : Marked). IsMarked z.marks c.in-Some.place Done) (sym c.self.view_is) d in
-      let on = c.is_done-was_done.ensures.1 (c.mark.ensures ∙ marked) in
-      let off = c.if-was_done.false in
-      let clash = sym off ∙ on in
-      let q : ⊥ = (cc) in q),
-)
-
-pub returns-clause-brought : goal.returns-clause-brought
-returns-clause-brought c =
-    let place = c.in-Some.place in
-    let undone : IsUndone c.args.self.now.marks place = (
-      c.in-Some.ensures.low,
-      λ d. (
-          let marked = subst (λ (z : Marked). IsMarked z.marks place Done) (sym c.self.view_is) d in
-          let on = c.is_done-was_done.ensures.1 (c.mark.ensures ∙ marked) in
-          let off = c.if-was_done.false in
-          let clash = sym off ∙ on in
-          let q : ⊥ = (cc) in q),
-    ) in
-    let here : StoresAt c.args.self.now c.job.result.now c.store.new.self = record {
-      place = place;
-      own = c.in-Some.ensures.own;
-      undone = undone;
-      same = c.is_as_sealed-same.result;
-      told = c.is_as_sealed-same.ensures;
-      marks = c.store.ensures.marks;
-      stores = c.store.ensures.stores;
-      after = c.store.ensures.after;
-    } in
-    subst (λ (j : Job). StoresAt c.args.self.now j c.store.new.self) c.job.ensures here
+pub take_in-requires : goal.take_in-requires
+take_in-requires c =
+    let like = c.likeness_of-like.result in
+    let value = c.ground.ensures.value ∙ ap (λ (j : Job). j.ground) c.job.ensures in
+    let own = c.deref.ensures ∙ ap (λ (z : Marked). z.ground) c.self.view_is in
+    subst (λ (g : Ground). AreLike like c.args.done.ground g) own (subst (λ (g : Ground). AreLike like g c.deref.result.now) value c.likeness_of-like.ensures)

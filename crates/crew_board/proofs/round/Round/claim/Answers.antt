@@ -1,11 +1,11 @@
-use Rattle.std.proofs.Common.{◌≡◌, ◌∙◌, ℕ, Some, sym, ap, subst}
+use Rattle.std.proofs.Common.{sym, subst}
 use Rattle.crew_board.proofs.Answered.{told-of-err}
 use Rattle.crew_board.proofs.Inside.{marked_of, shown_of}
 use Rattle.crew_board.proofs.Keeping.{held-with}
 use Rattle.crew_board.specs.Machinery.Held.{IsHeld, Marked}
 use Rattle.crew_board.specs.Machinery.Turns.{with_marks}
 use Rattle.crew_round.specs.Marks.{IsReady, Marks}
-use Rattle.crew_round.specs.declared.mark.Mark.TheVariants.{Done, Out, Waiting}
+use Rattle.crew_round.specs.declared.mark.Mark.TheVariants.{Out, Waiting}
 use Rattle.crew_board.proofs.round.Round.claim.Goals as goal
 
 pub invariant_of-self : goal.invariant_of-self

@@ -1,12 +1,10 @@
-use Rattle.std.proofs.Common.{◌≡◌, ◌∙◌, ◌∷◌, ◌++◌, [], ◌+◌, ◌≤◌, ◌<◌, ℕ, List, Some, length, map, sym, ap, subst, arith}
+use Rattle.std.proofs.Common.{◌≡◌, ◌∙◌, ◌∷◌, [], length, map, sym, ap, subst, arith}
 use Rattle.std.specs.Prelude.{slice_get}
 use Rattle.std.specs.Arc.{arc_value}
 use Rattle.std.proofs.lemmas.List.{length-append, length-map}
 use Rattle.crew_board.proofs.Gathered.{each-pushed}
-use Rattle.crew_board.proofs.Inside.{marked_of}
 use Rattle.crew_board.specs.Machinery.Held.{Marked}
 use Rattle.crew_job.specs.Grounds.{Ground}
-use Rattle.crew_sweep.specs.Sweeps.{BaseSweep}
 use Rattle.crew_solve.specs.Plans.{AreSweepsIn, IsSweepIn}
 use Rattle.crew_board.proofs.round.Round.close.Goals as goal
 

@@ -1,4 +1,4 @@
-use Rattle.std.proofs.Common.{◌≡◌, ◌∙◌, ℕ, List, Option, Some, MatchOption, sym, ap, subst}
+use Rattle.std.proofs.Common.{◌≡◌, ◌∙◌, Option, Some, MatchOption, sym, ap, subst}
 use Rattle.std.specs.Prelude.{slice_get}
 use Rattle.crew_board.proofs.Inside.{marked_of}
 use Rattle.crew_board.proofs.Keeping.{found-here}

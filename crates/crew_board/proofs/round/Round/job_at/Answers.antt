@@ -1,4 +1,4 @@
-use Rattle.std.proofs.Common.{◌≡◌, ◌∙◌, ◌<◌, ◌/◌, ◌%◌, ℕ, List, Option, Some, length, map, sym, ap, subst}
+use Rattle.std.proofs.Common.{◌≡◌, ◌∙◌, ◌<◌, ◌/◌, ◌%◌, length, sym, ap, subst}
 use Rattle.std.specs.Prelude.{slice_get}
 use Rattle.std.specs.Arc.{arc_value}
 use Rattle.std.specs.Option.{option_map}
@@ -8,7 +8,7 @@ use Rattle.crew_board.proofs.Keeping.{found-here, readable}
 use Rattle.crew_board.specs.Machinery.Held.{Marked}
 use Rattle.crew_board.specs.Machinery.Turns.{IsReadableFrom}
 use Rattle.crew_job.specs.Grounds.{Ground, node_at, nodes_in}
-use Rattle.crew_job.specs.Jobs.{Job, job_node}
+use Rattle.crew_job.specs.Jobs.{job_node}
 use Rattle.crew_job.specs.Shown.{AreReadable}
 use Rattle.crew_net.specs.Nets.{Net}
 use Rattle.crew_round.specs.Marks.{IsReady}

@@ -1,4 +1,4 @@
-use Rattle.std.proofs.Common.{◌≡◌, ◌<◌, ◌⊎◌, ◌∙◌, ◌++◌, inl, inr, ℕ, Bool, true, List, Option, Some, None, drop, length, map, refl, slice_set, sym, ap, subst, arith, take, ⊎_elim}
+use Rattle.std.proofs.Common.{◌≡◌, ◌⊎◌, ◌∙◌, ◌++◌, inl, inr, ℕ, true, List, Option, Some, drop, length, map, refl, slice_set, sym, ap, subst, arith, take, ⊎_elim}
 use Rattle.std.specs.Prelude.{◌↔◌, slice_get}
 use Rattle.std.specs.Arc.{arc_value}
 use Rattle.std.specs.Option.{option_map}
@@ -6,11 +6,13 @@ use Rattle.std.proofs.lemmas.List.{length-set}
 use Rattle.crew_board.proofs.Gathered.{written-back}
 use Rattle.crew_board.proofs.Inside.{marked_of, shown_of}
 use Rattle.crew_board.proofs.Keeping.{held-stored}
+use Rattle.crew_board.proofs.Likes.{like-plan}
 use Rattle.crew_board.proofs.OnePlan.{as-many}
 use Rattle.crew_board.proofs.Written.{map-set-here}
 use Rattle.crew_board.specs.Machinery.Held.{IsHeld, Marked}
+use Rattle.crew_board.specs.Machinery.Likes.{AreLike}
 use Rattle.crew_board.specs.Machinery.Turns.{IsOwnPlace, StoresAt, with_marks}
-use Rattle.crew_job.specs.Grounds.{Ground, IsGround, data_of, nodes_in}
+use Rattle.crew_job.specs.Grounds.{IsGround, data_of, nodes_in}
 use Rattle.crew_job.specs.Jobs.{IsPlaced, Job}
 use Rattle.crew_job.specs.Shown.{IsAsSealed}
 use Rattle.crew_machine.specs.Crew.{DutyNode}
@@ -23,10 +25,10 @@ pub note-requires : goal.note-requires
 note-requires c told =
     let r = marked_of c.self.inside in
     let job = c.args.done in
-    let placed = subst IsPlaced c.job.ensures c.ground.ensures.placed in
-    let ground = subst (λ (j : Job). IsGround j.ground) c.job.ensures c.ground.ensures.ground in
-    let own = c.ground.ensures.value ∙ ap (λ (j : Job). j.ground) c.job.ensures in
-    let plan : job.ground.plan ≡ r.ground.plan = sym (ap (λ (g : Ground). g.plan) own) ∙ (c.have_one_plan-own.ensures told ∙ ap (λ (g : Ground). g.plan) c.deref.ensures) in
+    let placed = subst IsPlaced c.job.ensures c.ground-ground.ensures.placed in
+    let ground = subst (λ (j : Job). IsGround j.ground) c.job.ensures c.ground-ground.ensures.ground in
+    let like = subst (λ (z : Marked). AreLike c.args.like job.ground z.ground) (sym c.self.view_is) c.requires.like in
+    let plan : job.ground.plan ≡ r.ground.plan = like-plan c.args.like job.ground r.ground (c.is_same_plan-own.ensures.0 told) like in
     let base = c.base-base.ensures.value ∙ ap (λ (j : Job). j.base) c.job-2.ensures in
     let low = placed.base in
     let many = as-many job.ground.settings (data_of job.ground) job.ground.plan ground.planned in
@@ -42,9 +44,9 @@ invariant_of-self c =
     let h = c.self.invariant in
     let place = c.args.place in
     let job = c.args.done in
-    let placed = subst IsPlaced c.job.ensures c.ground.ensures.placed in
-    let ground = subst (λ (j : Job). IsGround j.ground) c.job.ensures c.ground.ensures.ground in
-    let own = c.ground.ensures.value ∙ ap (λ (j : Job). j.ground) c.job.ensures in
+    let placed = subst IsPlaced c.job.ensures c.ground-ground.ensures.placed in
+    let ground = subst (λ (j : Job). IsGround j.ground) c.job.ensures c.ground-ground.ensures.ground in
+    let like = subst (λ (z : Marked). AreLike c.args.like job.ground z.ground) (sym c.self.view_is) c.requires.like in
     let base = c.base-base.ensures.value ∙ ap (λ (j : Job). j.base) c.job-2.ensures in
     let new : Marked = with_marks r c.store.new.self in
     let st : StoresAt r job new = record {
@@ -58,9 +60,9 @@ invariant_of-self c =
       after = refl;
     } in
     let b = arc_value c.into_sweep.result in
-    let sweep : (k : ℕ) → k ≡ c.base-base.result → c.have_one_plan-own.result ≡ true → IsSweepIn r.ground.plan k b = λ k e told.
+    let sweep : (k : ℕ) → k ≡ c.base-base.result → c.is_same_plan-own.result ≡ true → IsSweepIn r.ground.plan k b = λ k e told.
     (
-    let plan : job.ground.plan ≡ r.ground.plan = sym (ap (λ (g : Ground). g.plan) own) ∙ (c.have_one_plan-own.ensures told ∙ ap (λ (g : Ground). g.plan) c.deref.ensures) in
+    let plan : job.ground.plan ≡ r.ground.plan = like-plan c.args.like job.ground r.ground (c.is_same_plan-own.ensures.0 told) like in
     subst (λ j. IsSweepIn r.ground.plan j b) (sym (e ∙ base)) (subst (λ (p : Plan). IsSweepIn p job.base b) plan c.into_sweep.ensures.swept)) in
     let swept = c.note.new.swept in
     let long = c.note.ensures.long ∙ ap length c.deref_mut-2.ensures.value in

@@ -1,11 +1,10 @@
-use Rattle.std.proofs.Common.{◌≡◌, ◌∙◌, ◌<◌, ℕ, List, Some, length, sym, ap, subst, arith}
+use Rattle.std.proofs.Common.{◌≡◌, Some, length, sym, ap, subst, arith}
 use Rattle.std.specs.Arc.{arc_value}
 use Rattle.crew_board.proofs.Nothing.{option-at, read-at, some-within}
 use Rattle.crew_board.proofs.Inside.{marked_of, shown_of}
 use Rattle.crew_board.proofs.Keeping.{swept-there}
 use Rattle.crew_board.specs.Machinery.Held.{Marked}
 use Rattle.crew_solve.specs.Plans.{IsSweepIn}
-use Rattle.crew_sweep.specs.Sweeps.{BaseSweep}
 use Rattle.crew_board.proofs.round.Round.sweep_of.Goals as goal
 
 pub returns-in_ok-try_clone-in-Some-index : goal.returns-in_ok-try_clone-in-Some-index

@@ -1,0 +1,34 @@
+-- What is known of two grounds that are so like.
+use Rattle.std.proofs.Common.{◌≡◌, ◌∙◌, [], ℕ, List, Option, Some, None, IfSome, MatchOption, refl, sym, subst}
+use Rattle.std.specs.Prelude.{slice_get}
+use Rattle.crew_board.specs.Machinery.Likes.{AreLike, HaveSameData}
+use Rattle.crew_board.specs.declared.alike.Likeness.{Likeness}
+use Rattle.crew_board.specs.declared.alike.Likeness.TheVariants.{Unknown, SameData, SamePlan}
+use Rattle.crew_job.proofs.Comparing.{own-by-data}
+use Rattle.crew_job.specs.Grounds.{Ground, nodes_in}
+use Rattle.crew_job.specs.Jobs.{IsJobOf, IsOwnAt, Job, job_node}
+use Rattle.crew_job.specs.Lots.{StandOn}
+use Rattle.crew_machine.specs.Crew.{DutyWork}
+use Rattle.crew_resource.specs.Members.{Member}
+
+pub like-plan : (like : Likeness) (one other : Ground) → like ≡ SamePlan → AreLike like one other → one.plan ≡ other.plan
+like-plan like one other e h = (subst (λ (l : Likeness). AreLike l one other) e h).1
+
+pub like-data : (like : Likeness) (one other : Ground) → (like ≡ Unknown → ⊥) → AreLike like one other → HaveSameData one other
+like-data Unknown one other known h = absurd (known refl)
+like-data SameData one other known h = h
+like-data SamePlan one other known h = h.0
+
+-- a job whose ground has the same data is the own one of its node
+pub own-alike : (job : Job) (g : Ground) → HaveSameData job.ground g → (place : ℕ) → slice_get (nodes_in g.plan.net) place ≡ job_node job → (work : DutyWork) → IsJobOf job work → IsOwnAt g place work
+own-alike job g same place stands work of = record { node = stands ∙ of.node; own = own-by-data job.ground g work same.settings same.timetable of.own }
+
+-- a ground is so like, and so is that of each job that stands on it
+pub like-each : {X : Type 0} (o : Option X) (now : X → Ground) (like : Likeness) (jobs : List Job) (own : Ground) → MatchOption o (jobs ≡ []) (λ x. StandOn (now x) jobs) → IfSome o (λ x. AreLike like (now x) own) → (job : Job) → Member jobs job → AreLike like job.ground own
+like-each None now like jobs own none h job m = absurd (subst (λ (l : List Job). Member l job) none m)
+like-each (Some x) now like jobs own stand h job m = subst (λ (g : Ground). AreLike like g own) (sym (stand job m)) h
+
+-- what is told of an option, told otherwise
+pub told-as : {X : Type 0} (o : Option X) (A B : Type 0) (P Q : X → Type 0) → (A → B) → ((x : X) → P x → Q x) → MatchOption o A P → MatchOption o B Q
+told-as None A B P Q f g h = f h
+told-as (Some x) A B P Q f g h = g x h
