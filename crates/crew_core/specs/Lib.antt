@@ -1,0 +1,4 @@
+pub mod Machines
+pub mod Replies
+pub mod Plays
+pub mod Machinery
