@@ -7,8 +7,9 @@ use Rattle.clap.specs.declared.error.Error.{Error}
 use Rattle.clap.specs.declared.error.kind.ErrorKind.{ErrorKind}
 use Rattle.clap.specs.declared.error.kind.ErrorKind.TheVariants as kind
 use Rattle.crew_rules.specs.Settings.{check_of}
-use Rattle.crew_rules.specs.declared.settings.Settings.{Settings}
 use Rattle.crew_rules.specs.declared.settings.BadSetting.{BadSetting}
+use Rattle.crew_records.specs.Fields.{Fields}
+use Rattle.crew_session.specs.Replay.{IsReplayText, ReplayBegins}
 use Rattle.crew_session.specs.Rows.{records_of}
 use Rattle.crew_session.specs.Session.{Begins, IsSessionText, start}
 use Rattle.crew_session.specs.Stops.{IsSessionFault}
@@ -17,7 +18,9 @@ use Rattle.crew_session.specs.declared.fault.SessionFault.{SessionFault}
 use Rattle.crew_command.specs.Faults.{fault_of, line_of, status_of}
 use Rattle.crew_command.specs.declared.fault.Fault.{Fault}
 use Rattle.crew_command.specs.declared.fault.Fault.TheVariants.{Read, Write, Usage, Word, Memory, Setting, Strange}
-use Rattle.crew_words.specs.Words.{faults_in, settings_of}
+use Rattle.crew_words.specs.Words.{faults_in, settings_of, task_of}
+use Rattle.crew_words.specs.declared.task.Task.{Task}
+use Rattle.crew_words.specs.declared.task.Task.TheVariants.{Run, Replay}
 
 -- what a run comes to
 abbrev pub Outcome : Type 0
@@ -60,33 +63,43 @@ Answers kind.DisplayHelp error before after writer r = Shows writer r
 Answers kind.DisplayVersion error before after writer r = Shows writer r
 Answers other error before after writer r = (r ≡ Err (Usage error)) × Keeps before after
 
--- what a session comes to: it wrote what a session of the bytes writes, or it failed, for the
--- reader, the writer or want of memory, and wrote a beginning of the text of the first records; this
--- program's engine is never strange
-abbrev pub Played : Settings → Streams → Outcome → Type 0
-Played s io (Ok done) = IfSome io.input
-    (λ bytes. (text : List ℕ) × Appends io.before io.after text × IsSessionText s bytes text)
-Played s io (Err fault) =
-    (f : SessionFault) × IsSessionFault false io.input io.reader io.writer f × (fault ≡ fault_of f)
-    × IfSome io.input (λ bytes. Begins s (start s) (records_of bytes) io.before io.after)
+-- what a session or a schedule wrote: the text of one of the bytes, or it failed, for the reader, the
+-- writer or want of memory, and wrote a beginning of the text of the first records; this program's
+-- engine is never strange
+abbrev pub Wrote : (List ℕ → List ℕ → Type 0) → (List Fields → Option (List ℕ) → Option (List ℕ)
+    → Type 0) → Streams → Result (Unit {0}) SessionFault → Type 0
+Wrote IsText IsBegun io (Ok done) = IfSome io.input
+    (λ bytes. (text : List ℕ) × Appends io.before io.after text × IsText bytes text)
+Wrote IsText IsBegun io (Err fault) =
+    IsSessionFault false io.input io.reader io.writer fault
+    × IfSome io.input (λ bytes. IsBegun (records_of bytes) io.before io.after)
 
--- a session: settings out of their ranges are refused and nothing is written
-abbrev pub Plays : Settings → Result (Unit {0}) BadSetting → Streams → Outcome → Type 0
-Plays s (Err bad) io r = (r ≡ Err (Setting bad)) × Keeps io.before io.after
-Plays s (Ok checked) io r = Played s io r
+abbrev pub WroteOf : Task → Streams → Result (Unit {0}) SessionFault → Type 0
+WroteOf (Run s) io r = Wrote (IsSessionText s) (Begins s (start s)) io r
+WroteOf (Replay s) io r = Wrote (IsReplayText s) (ReplayBegins s) io r
 
--- what a run comes to by the kinds of fault in its words, the settings that they ask for, and the
--- streams: a session where there is no fault, and else what is answered to an error of one of these
+-- what a task comes to
+abbrev pub Played : Task → Streams → Outcome → Type 0
+Played task io (Ok done) = WroteOf task io (Ok done)
+Played task io (Err fault) = (f : SessionFault) × (fault ≡ fault_of f) × WroteOf task io (Err f)
+
+-- the same, where settings out of their ranges are refused and nothing is written
+abbrev pub Plays : Task → Result (Unit {0}) BadSetting → Streams → Outcome → Type 0
+Plays task (Err bad) io r = (r ≡ Err (Setting bad)) × Keeps io.before io.after
+Plays task (Ok checked) io r = Played task io r
+
+-- what a run comes to by the kinds of fault in its words, the task that they ask for, and the
+-- streams: the task where there is no fault, and else what is answered to an error of one of these
 -- kinds
-abbrev pub ComesBy : Kinds → Settings → Streams → Outcome → Type 0
-ComesBy [] s io r = Plays s (check_of s) io r
-ComesBy (k ∷ ks) s io r = (error : Error) × IsAmong (kind_of error) (k ∷ ks)
+abbrev pub ComesBy : Kinds → Task → Streams → Outcome → Type 0
+ComesBy [] task io r = Plays task (check_of (settings_of task)) io r
+ComesBy (k ∷ ks) task io r = (error : Error) × IsAmong (kind_of error) (k ∷ ks)
     × Answers (kind_of error) error io.before io.after io.writer r
 
 -- what a run comes to by its words, or there was no memory to read them
 abbrev pub Comes : List Text → Streams → Outcome → Type 0
 Comes words io r = ((r ≡ Err Memory) × Keeps io.before io.after)
-    ⊎ ComesBy (faults_in words) (settings_of words) io r
+    ⊎ ComesBy (faults_in words) (task_of words) io r
 
 -- a line goes out whole, or the writer failed after a beginning of it
 abbrev pub TellsLine : Option (List ℕ) → Option (List ℕ) → Bool → List ℕ → Type 0

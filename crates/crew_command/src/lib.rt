@@ -1,7 +1,7 @@
-//! A run of the program, over any reader and writers: from its words to a session or a fault, the
-//! line of the fault, and its status. `command` promises what is written, what is told where faults
-//! go, and the status after it, by the words and the bytes that there are to read; an `Outlet` is
-//! what answers while its input is open.
+//! A run of the program, over any reader and writers: from its words to a session, a schedule or a
+//! fault, the line of the fault, and its status. `command` promises what is written, what is told
+//! where faults go, and the status after it, by the words and the bytes that there are to read; an
+//! `Outlet` is what answers while its input is open.
 #![tactic(auto)]
 
 mod fault;

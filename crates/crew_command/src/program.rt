@@ -2,15 +2,15 @@
 
 ghost use Rattle.std.specs.Prelude.{◌≡◌, ◌≤◌, map};
 ghost use Rattle.clap.specs.Words.{kind_of};
-ghost use Rattle.crew_rules.specs.Settings.{check_of};
+ghost use Rattle.crew_rules.specs.Settings.{IsChecked, check_of};
 ghost use Rattle.crew_session.specs.Streams.{bytes_held, bytes_left, read_failed, write_failed};
-ghost use Rattle.crew_command.specs.Program.{Answers, Comes, Outcome, Plays, Shows, Tells, status_after, streams};
+ghost use Rattle.crew_command.specs.Program.{Answers, Comes, Outcome, Plays, Shows, Tells, WroteOf, status_after, streams};
+ghost use Rattle.crew_words.specs.Words.{settings_of};
 
 use crate::fault::Fault;
 use clap::error::ErrorKind;
-use crew_rules::Settings;
-use crew_session::{NotedReader, NotedWriter, Plain, run};
-use crew_words::read_words;
+use crew_session::{NotedReader, NotedWriter, Plain, SessionFault, replay, run};
+use crew_words::{Task, read_words};
 use std::alloc::Global;
 use std::convert::AsStr;
 use std::io;
@@ -52,24 +52,45 @@ fn answer<W: Write + Drop>(error: clap::Error, writer: &mut NotedWriter<W>) -> R
     }
 }
 
-// Runs a session under these settings.
-fn run_session<T: Threads + Sync, R: Read + Drop, W: Write + Drop>(
+// Does a task whose settings are in their ranges.
+fn play<T: Threads + Sync, R: Read + Drop, W: Write + Drop>(
     rt: &T,
     alloc: Global,
-    settings: &Settings,
+    task: Task,
+    reader: &mut NotedReader<R>,
+    writer: &mut NotedWriter<W>,
+) -> Result<(), SessionFault>
+    requires { IsChecked (settings_of task) }
+    ensures { WroteOf task (streams (bytes_left R.remaining reader.old)
+        (bytes_held W.contents writer.old) (bytes_held W.contents writer.new)
+        (read_failed reader.new) (write_failed writer.new)) result }
+{
+    match task {
+        Task::Run(settings) => {
+            let mut engine = Plain::new(alloc, &settings);
+            run(rt, alloc, reader, writer, &settings, &mut engine)
+        }
+        Task::Replay(settings) => replay(rt, alloc, reader, writer, &settings),
+    }
+}
+
+// Does a task, or refuses its settings.
+fn run_task<T: Threads + Sync, R: Read + Drop, W: Write + Drop>(
+    rt: &T,
+    alloc: Global,
+    task: Task,
     reader: &mut NotedReader<R>,
     writer: &mut NotedWriter<W>,
 ) -> Result<(), Fault>
-    ensures { Plays settings.now (check_of settings.now)
+    ensures { Plays task (check_of (settings_of task))
         (streams (bytes_left R.remaining reader.old) (bytes_held W.contents writer.old)
         (bytes_held W.contents writer.new) (read_failed reader.new) (write_failed writer.new))
         result }
 {
-    if let Err(bad) = settings.check() {
+    if let Err(bad) = task.settings().check() {
         return Err(Fault::Setting(bad));
     }
-    let mut engine = Plain::new(alloc, settings);
-    match run(rt, alloc, reader, writer, settings, &mut engine) {
+    match play(rt, alloc, task, reader, writer) {
         Ok(()) => Ok(()),
         Err(fault) => Err(Fault::of_session(fault)),
     }
@@ -88,7 +109,7 @@ fn run_words<T: Threads + Sync, S: AsStr, R: Read + Drop, W: Write + Drop>(
         (read_failed reader.new) (write_failed writer.new)) result }
 {
     match read_words(alloc, words) {
-        Ok(settings) => run_session(rt, alloc, &settings, reader, writer),
+        Ok(task) => run_task(rt, alloc, task, reader, writer),
         Err(error) => answer(error, writer),
     }
 }

@@ -2,6 +2,10 @@ pub mod AuditFacts
 pub mod BeginFacts
 pub mod LineFacts
 pub mod OneText
+pub mod PlayerFacts
+pub mod RecordFacts
+pub mod ReplyFacts
 pub mod RowFacts
+pub mod RunFacts
 pub mod SessionFacts
 pub mod ZoneFacts

@@ -1,28 +1,23 @@
--- How a session goes on by a record.
-use Rattle.std.proofs.Common.{◌≡◌, ◌≤◌, ◌<◌, ◌+◌, ◌∙◌, ℕ, zero, suc, Bool, false, List, [], ◌∷◌, ◌++◌, length, drop, take, Option, Some, None, Result, Ok, Err, refl, sym, ap, subst, arith, option_map, if◌then◌else◌, append_assoc, length-append, inl, inr}
-use Rattle.std.specs.Prelude.{IfSome, OnErr, OnOk, nat_le, nat_lt, true}
+-- What a session does with a record.
+use Rattle.std.proofs.Common.{◌≡◌, ◌+◌, ◌∙◌, ℕ, zero, suc, Bool, false, List, [], ◌∷◌, ◌++◌, length, drop, Option, Some, Result, Ok, Err, refl, sym, ap, subst, arith, if◌then◌else◌, append_assoc, length-append, inl, inr}
+use Rattle.std.specs.Prelude.{OnErr, OnOk, nat_lt, true}
 use Rattle.std.proofs.lemmas.Bool.Decides.{nat_tests}
 use Rattle.std.specs.FinMap as map
-use Rattle.std.specs.Io.KnownBytes.{Appends, Keeps}
-use Rattle.std.proofs.lemmas.List.{append-nil, take_all}
-use Rattle.csv.specs.Reading.{default_config, records_from, strip_bom}
-use Rattle.csv.specs.declared.parser.State.TheVariants as st
+use Rattle.std.specs.Io.KnownBytes.{Appends}
+use Rattle.std.proofs.lemmas.List.{append-nil}
 use Rattle.crew_rules.specs.declared.settings.Settings.{Settings}
-use Rattle.crew_records.specs.Commands.{command_of}
-use Rattle.crew_records.specs.Fields.{Fields}
-use Rattle.crew_session.specs.Rows.{HasNoRow, TakesRow, records_of}
 use Rattle.crew_flights.specs.declared.edit.Edit.{Edit}
 use Rattle.crew_flights.specs.declared.entries.Entry.{Entry}
 use Rattle.crew_session.specs.Engines.{AreTooMany, BeginsWith, IsSubmitFault, engine_number}
 use Rattle.crew_session.specs.declared.engine_fault.EngineFault.{EngineFault}
 use Rattle.crew_session.specs.declared.engine_fault.EngineFault.TheVariants.{TooManyDuties, LastVersion, SeatFull, Gap, OtherLog, NoView, Memory}
-use Rattle.crew_session.specs.Machinery.Journals.{Came, HasEnded, IsInStep, IsRefusal, since, state_of, zone_fault, zones_of}
+use Rattle.crew_session.specs.Machinery.Journals.{Came, IsInStep, IsRefusal, since, state_of, zones_of}
 use Rattle.crew_session.specs.Lines.{refused_line, refused_lines, version_line}
-use Rattle.crew_session.specs.Session.{Begins, Does, Obeys, Publishes, Settles, State, Writes, add_zone, entry_count, refuse, start, submit, submit_at, with_entry, with_zone}
+use Rattle.crew_session.specs.Session.{Does, Obeys, Publishes, Settles, State, add_zone, entry_count, refuse, start, submit, submit_at, with_entry, zone_or_refuse}
+use Rattle.crew_session.specs.Zones.{zone_fault}
 use Rattle.crew_version.specs.Versions.{IsRight, Snapshot, opening, timetable_of, verdicts_of}
 use Rattle.crew_pairing.specs.Duties.{HasTooMany}
 use Rattle.crew_session.specs.declared.journal.Journal.{Journal}
-use Rattle.crew_session.specs.declared.session.Ending.TheVariants.{AtEnd, TooManyRecords}
 use Rattle.crew_session.specs.Audits.{Audits}
 use Rattle.crew_session.specs.Fronts.{ShowsFront}
 use Rattle.crew_session.specs.Pairings.{ShowsCheapest}
@@ -32,154 +27,13 @@ use Rattle.crew_records.specs.declared.command.Command.TheVariants.{Audit, Cheap
 use Rattle.jiff_tz.specs.PosixText.{TzText}
 use Rattle.crew_records.specs.Faults.{record_number}
 use Rattle.crew_records.specs.declared.fault.RecordFault.{RecordFault}
-use Rattle.crew_records.specs.declared.fault.RecordFault.TheVariants.{ZoneExists, TooManyZones}
 use Rattle.crew_session.specs.Faults.{IsPlayFault, cause_of}
-use Rattle.crew_session.specs.Stops.{HasTooManyRecords, IsSessionFault}
+use Rattle.crew_session.specs.Stops.{IsSessionFault}
 use Rattle.crew_session.specs.declared.fault.SessionFault.{SessionFault}
 use Rattle.crew_session.specs.declared.fault.SessionFault.TheVariants.{Read, Strange, Write}
 use Rattle.crew_session.specs.declared.fault.SessionFault.TheVariants as fault
-use Rattle.crew_session.specs.declared.session.Ending.{Ending}
 use Rattle.crew_session.specs.Texts.{AppendsBeginning, BeginsOne}
-use Rattle.crew_session.proofs.BeginFacts.{begins-then, begins-whole, begun-as}
-use Rattle.crew_session.proofs.LineFacts.{appends-both, appends-none}
-
--- a session has come this far: what it wrote, with what the records that are left write, is what all write
-abbrev pub HasWritten : Settings → Option (List Fields) → Option (List Fields) → Option (List ℕ) → Option (List ℕ) → ℕ → State → State → Type 0
-HasWritten s None left old new number first now = Unit {0}
-HasWritten s (Some all) None old new number first now = ⊥
-HasWritten s (Some all) (Some left) old new number first now =
-    (done : List ℕ) × Appends old new done × ((rest : List ℕ) → Writes s number now left rest → Writes s 0 first all (done ++ rest)) × (length left + number ≡ length all)
-    × ((k : ℕ) (rest : List ℕ) → Writes s number now (take k left) rest → Writes s 0 first (take (number + k) all) (done ++ rest))
-
--- nothing was written yet
-pub written-start : (s : Settings) (all : Option (List Fields)) (w : Option (List ℕ)) (a : State) → HasWritten s all all w w 0 a a
-written-start s None w a = tt
-written-start s (Some rows) w a = ([], appends-none w, λ rest h. h, omega arith, λ k rest h. subst (λ (n : ℕ). Writes s 0 a (take n rows) rest) (first-so-many k) h)
-  where
-    first-so-many : (k : ℕ) → k ≡ 0 + k
-    first-so-many k = omega arith
-
--- a record was obeyed
-pub written-more : (s : Settings) (all before left : Option (List Fields)) (old mid new : Option (List ℕ)) (number : ℕ) (first a b : State) (row : Fields) (command : Command) (line : List ℕ)
-    → HasWritten s all before old mid number first a → TakesRow before left row → command ≡ command_of row → Appends mid new line → Obeys s (number + 1) command a b line
-    → HasWritten s all left old new (number + 1) first b
-written-more s None before left old mid new number first a b row command line h r e w o = tt
-written-more s (Some all) None left old mid new number first a b row command line h r e w o = absurd h
-written-more s (Some all) (Some rows) None old mid new number first a b row command line h r e w o = absurd r
-written-more s (Some all) (Some rows) (Some rest) old mid new number first a b row command line h r e w o =
-    let count : length rest + (number + 1) ≡ length all = omega (arith, ap length r, h.3) in (
-      h.0 ++ line,
-      appends-both old mid new h.0 line h.1 w,
-      λ text more. subst (Writes s 0 first all) (sym (append_assoc h.0 line text)) (h.2 (line ++ text) (subst (λ (xs : List Fields). Writes s number a xs (line ++ text)) (sym r) (b, line, text, subst (λ (c : Command). Obeys s (number + 1) c a b line) e o, more, refl))),
-      count,
-      λ k text more.
-          let placed : number + suc k ≡ (number + 1) + k = omega arith in
-          let shifted = subst (Writes s 0 first (take (number + suc k) all)) (sym (append_assoc h.0 line text))
-          (h.4 (suc k) (line ++ text) (subst (λ (xs : List Fields). Writes s number a (take (suc k) xs) (line ++ text)) (sym r) (b, line, text, subst (λ (c : Command). Obeys s (number + 1) c a b line) e o, more, refl))) in
-          subst (λ (n : ℕ). Writes s 0 first (take n all) ((h.0 ++ line) ++ text)) placed shifted,
-    )
-
--- what was written by now is the text of the first records
-text-so-far : (s : Settings) (number : ℕ) (first : State) (all : List Fields) (done : List ℕ) → Writes s 0 first (take (number + 0) all) (done ++ []) → Writes s 0 first (take number all) done
-text-so-far s number first all done w =
-    let same : number + 0 ≡ number = omega arith in
-    subst (λ (n : ℕ). Writes s 0 first (take n all) done) same (subst (Writes s 0 first (take (number + 0) all)) (append-nil done) w)
-
--- it stops between two records
-pub stopped-between : (s : Settings) (all left : Option (List Fields)) (old new : Option (List ℕ)) (number : ℕ) (first a : State)
-    → HasWritten s all left old new number first a → number ≤ 2_000_000 → IfSome all (λ rows. Begins s first rows old new)
-stopped-between s None left old new number first a h small = tt
-stopped-between s (Some all) None old new number first a h small = absurd h
-stopped-between s (Some all) (Some rows) old new number first a h small =
-    record { count = number; few = small; text = h.0; first = text-so-far s number first all h.0 (h.4 0 [] refl); begun = begins-whole old new h.0 h.1 }
-
--- it stops in a record
-stopped-by : (s : Settings) (all rows rest : List Fields) (old mid new : Option (List ℕ)) (number : ℕ) (first a : State) (row : Fields) (command : Command)
-    → HasWritten s (Some all) (Some rows) old mid number first a → rows ≡ row ∷ rest → command ≡ command_of row
-    → BeginsOne mid new (λ text. (b : State) × Obeys s (number + 1) command a b text) → number < 2_000_000 → Begins s first all old new
-stopped-by s all rows rest old mid new number first a row command h r e (inl none) small =
-    record {
-      count = number;
-      few = omega arith;
-      text = h.0;
-      first = text-so-far s number first all h.0 (h.4 0 [] refl);
-      begun = begins-whole old new h.0 (subst (Appends old new) (append-nil h.0) (appends-both old mid new h.0 [] h.1 none));
-    }
-stopped-by s all rows rest old mid new number first a row command h r e (inr told) small =
-    record {
-      count = number + 1;
-      few = omega arith;
-      text = h.0 ++ told.0;
-      first = h.4 1 told.0 (subst (λ (xs : List Fields). Writes s number a (take 1 xs) told.0) (sym r) (told.1.0, told.0, [], subst (λ (c : Command). Obeys s (number + 1) c a told.1.0 told.0) e told.1.1, refl, sym (append-nil told.0)));
-      begun = begins-then old mid new h.0 told.0 h.1 told.2;
-    }
-
-pub stopped-in : (s : Settings) (all before left : Option (List Fields)) (old mid new : Option (List ℕ)) (number : ℕ) (first a : State) (row : Fields) (command : Command)
-    → HasWritten s all before old mid number first a → TakesRow before left row → command ≡ command_of row
-    → BeginsOne mid new (λ text. (b : State) × Obeys s (number + 1) command a b text) → number < 2_000_000 → IfSome all (λ rows. Begins s first rows old new)
-stopped-in s None before left old mid new number first a row command h r e told small = tt
-stopped-in s (Some all) None left old mid new number first a row command h r e told small = absurd h
-stopped-in s (Some all) (Some rows) None old mid new number first a row command h r e told small = absurd r
-stopped-in s (Some all) (Some rows) (Some rest) old mid new number first a row command h r e told small =
-    stopped-by s all rows rest old mid new number first a row command h r e told small
-
--- all records were obeyed
-pub begun-by-all : (s : Settings) (a : State) (rows : List Fields) (old new : Option (List ℕ)) → HasEnded s a rows old new AtEnd → Begins s a rows old new
-begun-by-all s a rows old new h =
-    record { count = length rows; few = h.1; text = h.0.0; first = subst (λ (xs : List Fields). Writes s 0 a xs h.0.0) (sym (take_all (length rows) rows (omega arith))) h.0.2; begun = begins-whole old new h.0.0 h.0.1 }
-
--- no record is left
-pub written-ended : (s : Settings) (all left : Option (List Fields)) (old new : Option (List ℕ)) (number : ℕ) (first a : State)
-    → HasWritten s all left old new number first a → HasNoRow left → number ≤ 2_000_000 → IfSome all (λ rows. HasEnded s first rows old new AtEnd)
-written-ended s None left old new number first a h e small = tt
-written-ended s (Some all) None old new number first a h e small = absurd h
-written-ended s (Some all) (Some rows) old new number first a h e small =
-    let few : length all ≤ 2_000_000 = omega (arith, ap length e, h.3) in
-    ((h.0, h.1, subst (Writes s 0 first all) (append-nil h.0) (h.2 [] (subst (λ (xs : List Fields). Writes s number a xs []) (sym e) refl))), few)
-
--- a record is left after 2,000,000
-pub written-over : (s : Settings) (all before left : Option (List Fields)) (row : Fields) (old new : Option (List ℕ)) (number : ℕ) (first a : State)
-    → HasWritten s all before old new number first a → TakesRow before left row → number ≡ 2_000_000 → IfSome all (λ rows. HasEnded s first rows old new TooManyRecords)
-written-over s None before left row old new number first a h r many = tt
-written-over s (Some all) None left row old new number first a h r many = absurd h
-written-over s (Some all) (Some rows) None row old new number first a h r many = absurd r
-written-over s (Some all) (Some rows) (Some rest) row old new number first a h r many =
-    (stopped-between s (Some all) (Some rows) old new number first a h (omega arith), omega (arith, ap length r, h.3))
-
-appends-kept : (a b c : Option (List ℕ)) (text : List ℕ) → Appends a b text → Keeps b c → Appends a c text
-appends-kept None b c text w k = tt
-appends-kept (Some x) None c text w k = absurd w
-appends-kept (Some x) (Some y) None text w k = absurd k
-appends-kept (Some x) (Some y) (Some z) text w k = k ∙ w
-
--- all that was written has gone out
-pub ended-kept : (s : Settings) (a : State) (known : Option (List ℕ)) (old mid new : Option (List ℕ)) (ending : Ending) → IfSome known (λ bytes. HasEnded s a (records_of bytes) old mid ending) → ending ≡ AtEnd → Keeps mid new
-    → IfSome known (λ bytes. HasEnded s a (records_of bytes) old new AtEnd)
-ended-kept s a None old mid new ending h e k = tt
-ended-kept s a (Some bytes) old mid new ending h e k =
-    let all = subst (HasEnded s a (records_of bytes) old mid) e h in
-    ((all.0.0, appends-kept old mid new all.0.0 all.0.1 k, all.0.2), all.1)
-
-pub ended-begun : (s : Settings) (a : State) (known : Option (List ℕ)) (old mid new : Option (List ℕ)) (ending : Ending) → IfSome known (λ bytes. HasEnded s a (records_of bytes) old mid ending) → ending ≡ AtEnd → Keeps mid new
-    → IfSome known (λ bytes. Begins s a (records_of bytes) old new)
-ended-begun s a None old mid new ending h e k = tt
-ended-begun s a (Some bytes) old mid new ending h e k = begun-by-all s a (records_of bytes) old new (ended-kept s a (Some bytes) old mid new ending h e k)
-
--- there were too many records
-pub over-begun : (s : Settings) (a : State) (known : Option (List ℕ)) (old new : Option (List ℕ)) (ending : Ending) → IfSome known (λ bytes. HasEnded s a (records_of bytes) old new ending) → ending ≡ TooManyRecords
-    → IfSome known (λ bytes. Begins s a (records_of bytes) old new)
-over-begun s a None old new ending h e = tt
-over-begun s a (Some bytes) old new ending h e = (subst (HasEnded s a (records_of bytes) old new) e h).0
-
-pub over-many : (s : Settings) (a : State) (known : Option (List ℕ)) (old new : Option (List ℕ)) (ending : Ending) → IfSome known (λ bytes. HasEnded s a (records_of bytes) old new ending) → ending ≡ TooManyRecords → HasTooManyRecords known
-over-many s a None old new ending h e = tt
-over-many s a (Some bytes) old new ending h e = (subst (HasEnded s a (records_of bytes) old new) e h).1
-
--- a reader at the start of known bytes has all of their records left
-pub rows-at-start : (known source : Option (List ℕ)) (P : List Fields → Type 0) → source ≡ option_map strip_bom known
-    → IfSome (option_map (λ xs. records_from default_config (length xs + 1) st.StartRecord xs) source) P → IfSome known (λ bytes. P (records_of bytes))
-rows-at-start None source P e h = tt
-rows-at-start (Some bytes) source P e h = rw e at h
+use Rattle.crew_session.proofs.BeginFacts.{begun-as}
 
 -- a state and a text that came of a record are what the record does
 pub did : {F : Type 0} (r : Result (Unit {0}) F) (old new : Option (List ℕ)) (s : Settings) (number : ℕ) (command kind : Command) (a b : State) (p q : State × List ℕ)
@@ -241,17 +95,11 @@ text-by number a b c false = refl
 pub submit-text : (number : ℕ) (e f : Edit) (a : State) → (submit number e a).1 ≡ (submit number f a).1
 submit-text number e f a = text-by number a (with_entry number e a) (with_entry number f a) (nat_lt (entry_count a) 1_000_000)
 
--- the line of a zone that is refused
-zone-line : (number : ℕ) (a w : State) (there many : Bool) (fault : RecordFault) → (if there then Some ZoneExists else (if many then Some TooManyZones else None)) ≡ Some fault
-    → refused_line number (record_number fault) ≡ (if there then refuse number 74 a else (if many then refuse number 75 a else (w, []))).1
-zone-line number a w true many fault e = let is : fault ≡ ZoneExists = cc in ap (λ (f : RecordFault). refused_line number (record_number f)) is
-zone-line number a w false true fault e = let is : fault ≡ TooManyZones = cc in ap (λ (f : RecordFault). refused_line number (record_number f)) is
-zone-line number a w false false fault e = cc
-
+-- a beginning of the line of a zone that is refused
 pub zone-begin : {F : Type 0} (r : Result (Unit {0}) F) (old new : Option (List ℕ)) (number : ℕ) (code : List ℕ) (zone : TzText) (j : Journal) (v : Snapshot) (taken : List Entry) (fault : RecordFault)
     → zone_fault (zones_of j.zones) code ≡ Some fault → OnErr r (AppendsBeginning old new (refused_line number (record_number fault))) → OnErr r (AppendsBeginning old new (add_zone number code zone (state_of j v taken)).1)
 zone-begin r old new number code zone j v taken fault e begun =
-    begun-as r old new _ _ (zone-line number (state_of j v taken) (with_zone code zone (state_of j v taken)) (map.contains_key (zones_of j.zones) code) (nat_le 2_000 (map.len (zones_of j.zones))) fault e) begun
+    begun-as r old new _ _ (ap (λ (o : Option RecordFault). (zone_or_refuse o number code zone (state_of j v taken)).1) (sym e)) begun
 
 -- texts of one kind are of another
 pub begins-of : {F : Type 0} (r : Result (Unit {0}) F) (old new : Option (List ℕ)) (Is Was : List ℕ → Type 0) → ((text : List ℕ) → Is text → Was text) → OnErr r (BeginsOne old new Is) → OnErr r (BeginsOne old new Was)

@@ -3,8 +3,7 @@ use Rattle.std.proofs.Common.{◌≡◌, ◌<◌, ◌≤◌, ℕ, true, false, L
 use Rattle.std.specs.Prelude.{nat_le}
 use Rattle.std.specs.FinMap as map
 use Rattle.std.proofs.lemmas.Bool.Decides.{nat_tests}
-use Rattle.crew_session.specs.Machinery.Journals.{zone_fault}
-use Rattle.crew_session.specs.Session.{Zones}
+use Rattle.crew_session.specs.Zones.{Zones, zone_fault}
 use Rattle.crew_records.specs.declared.fault.RecordFault.TheVariants.{ZoneExists, TooManyZones}
 
 pub fault-exists : (z : Zones) (code : List ℕ) → map.contains_key z code ≡ true → zone_fault z code ≡ Some ZoneExists

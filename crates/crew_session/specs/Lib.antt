@@ -5,10 +5,15 @@ pub mod Faults
 pub mod Fronts
 pub mod Lines
 pub mod Pairings
+pub mod Replay
+pub mod Replies
+pub mod ReplyLines
 pub mod Rows
 pub mod Session
 pub mod Stops
 pub mod Streams
 pub mod Texts
 pub mod Verdicts
+pub mod Writes
+pub mod Zones
 pub mod Machinery

@@ -1,10 +1,8 @@
 -- What a session writes.
-use Rattle.std.specs.Prelude.{◌≡◌, ◌⊎◌, ◌+◌, ◌-ℤ◌, ◌≤◌, ℕ, ℤ, pos, nat_le, nat_lt, List, [], ◌∷◌, ◌++◌, length, drop, take, Option, Some, None, option_map, if◌then◌else◌}
+use Rattle.std.specs.Prelude.{◌≡◌, ◌⊎◌, ◌+◌, ℕ, nat_lt, List, [], ◌∷◌, ◌++◌, length, drop, Option, Some, None, if◌then◌else◌}
 use Rattle.std.specs.FinMap as map
 use Rattle.jiff_tz.specs.PosixText.{TzText}
-use Rattle.crew_clocks.specs.Zone.{clock_of}
 use Rattle.crew_rules.specs.declared.settings.Settings.{Settings}
-use Rattle.crew_flights.specs.Codes.{code_cmp}
 use Rattle.crew_flights.specs.declared.edit.Edit.{Edit}
 use Rattle.crew_flights.specs.declared.edit.Edit.TheVariants as edit
 use Rattle.crew_flights.specs.declared.entries.Entry.{Entry}
@@ -18,14 +16,12 @@ use Rattle.crew_records.specs.Fields.{Fields}
 use Rattle.crew_session.specs.Pairings.{ShowsCheapest}
 use Rattle.crew_session.specs.Rows.{records_of}
 use Rattle.crew_session.specs.Entries.{entry_of}
-use Rattle.crew_session.specs.Texts.{AppendsBeginning}
+use Rattle.crew_session.specs.Writes.{BeginsBy, WritesBy}
+use Rattle.crew_session.specs.Zones.{Zones, clock_at, flight_with, zone_fault}
 use Rattle.crew_version.specs.Versions.{IsNext, IsRight, Snapshot, opening, timetable_of, verdicts_of}
 use Rattle.crew_records.specs.declared.command.Command.{Command}
 use Rattle.crew_records.specs.declared.command.Command.TheVariants.{AddZone, Submit, AddFlight, Retime, Settle, Best, ShowFront, Cheapest, Audit, Refuse}
-
--- the zones of airports
-abbrev pub Zones : Type 0
-Zones = map.FinMap code_cmp TzText
+use Rattle.crew_records.specs.declared.fault.RecordFault.{RecordFault}
 
 -- where a session stands: the zones, the last version, the entries since, and the records of these
 pub record State : Type 0 where
@@ -57,39 +53,21 @@ abbrev pub submit : ℕ → Edit → State → State × List ℕ
 submit number e a =
     if nat_lt (entry_count a) 1_000_000 then (with_entry number e a, []) else refuse number 61 a
 
--- an airport has one zone, and 2,000 airports have one
+-- a zone is taken, or refused
 abbrev pub with_zone : List ℕ → TzText → State → State
 with_zone code zone a = record a { zones = map.insert a.zones code zone }
 
+abbrev pub zone_or_refuse : Option RecordFault → ℕ → List ℕ → TzText → State → State × List ℕ
+zone_or_refuse None number code zone a = (with_zone code zone a, [])
+zone_or_refuse (Some fault) number code zone a = refuse number (record_number fault) a
+
 abbrev pub add_zone : ℕ → List ℕ → TzText → State → State × List ℕ
-add_zone number code zone a =
-    if map.contains_key a.zones code then refuse number 74 a
-    else (if nat_le 2_000 (map.len a.zones) then refuse number 75 a
-    else (with_zone code zone a, []))
-
--- the clock, in a zone, at the report of a duty that begins with this departure
-abbrev pub report_clock : Settings → ℤ → TzText → ℕ
-report_clock s dep zone = clock_of zone (dep -ℤ pos s.lead)
-
--- the same at an airport, if it has a zone
-abbrev pub clock_at : Settings → Zones → List ℕ → ℤ → Option ℕ
-clock_at s zones from dep = option_map (report_clock s dep) (map.get zones from)
+add_zone number code zone a = zone_or_refuse (zone_fault a.zones code) number code zone a
 
 -- an edit that needs a report clock
 abbrev pub submit_at : Option ℕ → (ℕ → Edit) → ℕ → State → State × List ℕ
 submit_at None e number a = refuse number 73 a
 submit_at (Some clock) e number a = submit number (e clock) a
-
-abbrev pub flight_with : ℕ → List ℕ → List ℕ → ℤ → ℤ → ℤ → ℕ → Edit
-flight_with id from to dep arr price clock = edit.AddFlight (record {
-  id = id;
-  from = from;
-  to = to;
-  dep = dep;
-  arr = arr;
-  report_clock = clock;
-  price = price;
-})
 
 -- ---- what a settle does
 
@@ -132,23 +110,18 @@ Obeys s number (Cheapest limit) a b text = (b ≡ a) × ShowsCheapest limit a.ve
 Obeys s number (Audit limit) a b text = (b ≡ a) × Audits limit number a.version text
 Obeys s number (Refuse fault) a b text = Does b text (refuse number (record_number fault) a)
 
+-- the record of a number
+abbrev pub ObeysRow : Settings → ℕ → Fields → State → State → List ℕ → Type 0
+ObeysRow s number row a b text = Obeys s number (command_of row) a b text
+
 -- what records write, one after another, where so many came before them
 abbrev pub Writes : Settings → ℕ → State → List Fields → List ℕ → Type 0
-Writes s number a [] text = text ≡ []
-Writes s number a (row ∷ rows) text =
-    (b : State) × (line : List ℕ) × (rest : List ℕ)
-    × Obeys s (number + 1) (command_of row) a b line
-    × Writes s (number + 1) b rows rest × (text ≡ line ++ rest)
+Writes s number a rows text = WritesBy (ObeysRow s) number a rows text
 
 -- what was written of these records, obeyed from a state on, is a beginning of the text of the first
 -- so many, which are 2,000,000 at most
-pub record Begins (s : Settings) (a : State) (rows : List Fields)
-    (before after : Option (List ℕ)) : Type 0 where
-  pub count : ℕ
-  pub few : count ≤ 2_000_000
-  pub text : List ℕ
-  pub first : Writes s 0 a (take count rows) text
-  pub begun : AppendsBeginning before after text
+abbrev pub Begins : Settings → State → List Fields → Option (List ℕ) → Option (List ℕ) → Type 0
+Begins s a rows before after = BeginsBy (ObeysRow s) a rows before after
 
 -- what a session of these bytes writes
 abbrev pub IsSessionText : Settings → List ℕ → List ℕ → Type 0

@@ -6,9 +6,16 @@
 //! is the best pairing of its timetable, whatever its length, the pairings that it lists are the
 //! cheapest that fronts show, and an audit counts the partial pairings of its timetable by their
 //! definition. Where it ends otherwise, only an engine that may be strange is called strange.
+//!
+//! Schedules: steps of the engine in, a record each in the order in which they happen, and the lines
+//! of their replies out. What `replay` writes is told by a run of the machine of `crew_machine` over
+//! the records' steps, with the product's choices.
 #![tactic(auto)]
 
 mod audit;
+mod clocks;
+mod demand;
+mod ending;
 mod engine;
 mod engine_fault;
 mod entry;
@@ -20,7 +27,10 @@ mod lines;
 mod noted;
 mod pairings;
 mod plain;
+mod player;
+mod replies;
 mod rows;
+mod schedule;
 mod session;
 mod text;
 mod zones;
@@ -30,5 +40,6 @@ pub use engine_fault::EngineFault;
 pub use fault::SessionFault;
 pub use noted::{NotedReader, NotedWriter};
 pub use plain::Plain;
+pub use schedule::replay;
 pub use session::run;
 pub use text::write_text;

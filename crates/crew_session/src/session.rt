@@ -3,7 +3,6 @@
 ghost use Rattle.std.specs.Prelude.{◌≡◌, ◌⊎◌, ◌↔◌, ◌+◌, ◌++◌, ◌<◌, ◌≤◌, ◌-ℤ◌, [], ℕ, List, IsTrue, false, pos, true, drop, length, IfErr, IfOk, IfSome, OnErr, OnOk, Some};
 ghost use Rattle.std.specs.Io.KnownBytes.{Appends, IsAtEnd, Keeps};
 ghost use Rattle.csv.specs.Records.{fields_of};
-ghost use Rattle.crew_time.specs.Instant.{IsInYears};
 ghost use Rattle.crew_flights.specs.declared.entries.Entry.{Entry as EntryOf};
 ghost use Rattle.crew_rules.specs.Settings.{IsChecked};
 ghost use Rattle.crew_records.specs.Commands.{IsDated};
@@ -21,6 +20,8 @@ ghost use Rattle.crew_session.specs.Texts.{AppendsBeginning, BeginsOne};
 ghost use Rattle.crew_version.specs.Versions.{Snapshot, opening, timetable_of, verdicts_of};
 
 use crate::audit::answer_audit;
+use crate::clocks::clock_at;
+use crate::ending::{Ending, RECORDS, cause, check_all};
 use crate::engine::Engine;
 use crate::engine_fault::EngineFault;
 use crate::fault::{SessionFault, stop};
@@ -30,45 +31,16 @@ use crate::lines::{write_best, write_refusals, write_refused, write_version};
 use crate::noted::{NotedReader, NotedWriter};
 use crate::pairings::answer_cheapest;
 use crate::rows::next_row;
-use crate::zones::Zones;
 use crew_clocks::Zone;
 use crew_duty::{DutyFault, list_duties};
 use crew_flights::{Code, Edit, Entry, Flight};
 use crew_records::{Command, RecordFault, read_command};
 use crew_rules::Settings;
-use crew_time::{ClockMinute, Minute};
 use crew_version::Version;
 use csv::{ByteRecord, Reader, ReaderBuilder};
 use std::alloc::{AllocError, Global};
 use std::io::{Read, Write};
 use std::thread::Threads;
-
-// The most records that a session takes.
-const RECORDS: u32 = 2_000_000;
-
-// What a clock in the zone shows `lead` minutes before a departure.
-fn report_clock(settings: &Settings, zone: &Zone, dep: Minute) -> ClockMinute
-    requires checked { IsChecked settings.now }
-    requires dated { IsInYears dep }
-    ensures { result ≡ Spec.report_clock settings.now dep zone.now }
-{
-    let Some(report) = Minute::new(dep.get() - i64::from(settings.lead)) else {
-        unreachable!();
-    };
-    zone.clock(report)
-}
-
-// The same of an airport, if it has a zone.
-fn clock_at(settings: &Settings, zones: &Zones, from: Code, dep: Minute) -> Option<ClockMinute>
-    requires checked { IsChecked settings.now }
-    requires dated { IsInYears dep }
-    ensures { result ≡ Spec.clock_at settings.now (zones_of zones.now) from dep }
-{
-    match zones.get(from) {
-        None => None,
-        Some(zone) => Some(report_clock(settings, zone, dep)),
-    }
-}
 
 // Writes the refusal of an engine, or stops for want of memory.
 fn refuse<W: Write>(
@@ -348,15 +320,6 @@ fn obey<R: Threads + Sync, W: Write, E: Engine>(
     }
 }
 
-// How the reading of records ends.
-#[derive(Clone, Copy)]
-enum Ending {
-    // The reader is at its end.
-    AtEnd,
-    // There are more than 2,000,000 records.
-    TooManyRecords,
-}
-
 // Obeys each record that the reader has left.
 fn obey_all<T: Threads + Sync, R: Read, W: Write, E: Engine>(
     rt: &T,
@@ -442,35 +405,6 @@ fn read_all<T: Threads + Sync, R: Read + Drop, W: Write, E: Engine>(
     )
 }
 
-// That the reader is at its end.
-fn check_end<R: Read>(reader: &mut R) -> Result<(), SessionFault>
-    ensures end { OnOk result (IsAtEnd (R.remaining reader.new)) }
-    ensures fault { IfErr result (λ why. why ≡ SessionFault.Read) }
-{
-    let Ok(0) = reader.read(&mut [0]) else {
-        return Err(SessionFault::Read);
-    };
-    Ok(())
-}
-
-// That all that was written has gone out.
-fn check_written<W: Write>(writer: &mut W) -> Result<(), SessionFault>
-    ensures kept { Keeps (W.contents writer.old) (W.contents writer.new) }
-    ensures fault { IfErr result (λ why. why ≡ SessionFault.Write) }
-{
-    writer.flush().map_err(|_| SessionFault::Write)
-}
-
-// That the input is at its end, and that all that was written has gone out.
-fn check_all<R: Read, W: Write>(reader: &mut R, writer: &mut W) -> Result<(), SessionFault>
-    ensures end { OnOk result (IsAtEnd (R.remaining reader.new)) }
-    ensures kept { Keeps (W.contents writer.old) (W.contents writer.new) }
-    ensures fault { IfErr result (IsPlayFault false) }
-{
-    check_end(reader)?;
-    check_written(writer)
-}
-
 // Plays a session over any reader and writer.
 fn play<T: Threads + Sync, R: Read, W: Write, E: Engine>(
     rt: &T,
@@ -498,29 +432,6 @@ fn play<T: Threads + Sync, R: Read, W: Write, E: Engine>(
         check_all(reader, writer)?;
     }
     Ok(ending)
-}
-
-// Why a session stops, by what has failed: the reader, the writer, or neither, and then there was
-// no memory.
-fn cause<R: Read + Drop, W: Write + Drop>(
-    fault: SessionFault,
-    reader: &NotedReader<R>,
-    writer: &NotedWriter<W>,
-) -> SessionFault
-    ensures { result ≡ cause_of fault (read_failed reader.now) (write_failed writer.now) }
-{
-    match fault {
-        SessionFault::Strange(number) => SessionFault::Strange(number),
-        _ => {
-            if reader.has_failed() {
-                SessionFault::Read
-            } else if writer.has_failed() {
-                SessionFault::Write
-            } else {
-                SessionFault::Memory
-            }
-        }
-    }
 }
 
 /// Plays a session: reads records to the end of the input, and writes a line for each refusal,

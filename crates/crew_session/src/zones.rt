@@ -24,7 +24,8 @@ pub(crate) struct Zones {
 
 impl Zones {
     ghost use Rattle.std.specs.FinMap as map;
-    ghost use Rattle.crew_session.specs.Machinery.Journals.{zone_fault, zones_of};
+    ghost use Rattle.crew_session.specs.Machinery.Journals.{zones_of};
+    ghost use Rattle.crew_session.specs.Zones.{zone_fault};
 
     // No zones.
     pub(crate) fn new(alloc: Global) -> Self

@@ -1,4 +1,4 @@
--- What the options of `run` stand for.
+-- What the options of a subcommand stand for.
 use Rattle.std.specs.Prelude.{ℕ, ◌^◌, ◌&&◌, Bool, nat_lt, List, length, Option, Some, None, codes, if◌then◌else◌}
 use Rattle.std.specs.Char.{digit_value}
 use Rattle.std.specs.List.{list_all}

@@ -1,14 +1,18 @@
--- The command line: `crewprice run` with an option for each setting, `--help` and `--version`.
-use Rattle.std.specs.Prelude.{pos, true, false, List, [], ◌∷◌, map, take, ℕ, Some, codes}
-use Rattle.std.specs.Option.{option_map_or}
+-- The command line: `crewprice run` and `crewprice replay`, each with an option for each setting,
+-- `--help` and `--version`.
+use Rattle.std.specs.Prelude.{pos, true, false, List, [], ◌∷◌, map, take, ℕ, Option, Some, None, codes, if◌then◌else◌}
+use Rattle.std.specs.Str.{bytes_eq}
 use Rattle.clap.specs.Faults.{fault_of}
 use Rattle.clap.specs.Kinds.{Kinds}
 use Rattle.clap.specs.Words.{App, Row, Rule, Text, new_rule, subcommand_of}
 use Rattle.clap.specs.Simple.{new_shape}
 use Rattle.clap.specs.declared.builder.action.ArgAction.TheVariants.{Set}
 use Rattle.clap.specs.declared.builder.value_parser.ValueParser.TheVariants as parser
+use Rattle.crew_rules.specs.Settings.{standard}
 use Rattle.crew_rules.specs.declared.settings.Settings.{Settings}
 use Rattle.crew_words.specs.Options.{settings_in}
+use Rattle.crew_words.specs.declared.task.Task.{Task}
+use Rattle.crew_words.specs.declared.task.Task.TheVariants.{Run, Replay}
 
 -- the options, in the order of the numbers of their settings
 abbrev pub names : List Text
@@ -27,15 +31,16 @@ option_rule name = record (new_rule name) {
   parser = Some (parser.Signed (pos 0) (pos 1_000_000));
 }
 
--- `run` with these options
-abbrev pub run_with : List Rule → App
-run_with rules = record { top = record (new_shape (codes "run")) { rules = rules }; subs = [] }
+-- a subcommand of this name with these options
+abbrev pub sub_with : Text → List Rule → App
+sub_with name rules = record { top = record (new_shape name) { rules = rules }; subs = [] }
 
--- `run` with its first options
-unfoldable pub run_up_to : ℕ → App
-run_up_to count = run_with (map option_rule (take count names))
+-- .. with the first options
+unfoldable pub sub_up_to : Text → ℕ → App
+sub_up_to name count = sub_with name (map option_rule (take count names))
 
--- the whole command line: a subcommand is wanted, `run` is the only one, and `help` is none
+-- the whole command line: a subcommand is wanted, `run` and `replay` are the only ones, and `help`
+-- is none
 unfoldable pub program : App
 program = record {
   top = record (new_shape (codes "crewprice")) {
@@ -45,7 +50,7 @@ program = record {
     has_version =
         true;
   };
-  subs = (run_up_to 14).top ∷ [];
+  subs = (sub_up_to (codes "run") 14).top ∷ (sub_up_to (codes "replay") 14).top ∷ [];
 }
 
 -- the faults of words, by kind; none where the parser takes them. The first word is the program's
@@ -53,10 +58,20 @@ program = record {
 unfoldable pub faults_in : List Text → Kinds
 faults_in words = fault_of program words
 
--- what the words after `run` give
-unfoldable pub options_in : List Text → List Row
-options_in words = option_map_or (λ p. p.1) (subcommand_of program words) []
+-- what a subcommand asks for, by its name and what the words after it give
+abbrev pub task_named : Text → List Row → Task
+task_named name rows =
+    if bytes_eq name (codes "replay") then Replay (settings_in rows) else Run (settings_in rows)
 
--- the settings that words ask for
-abbrev pub settings_of : List Text → Settings
-settings_of words = settings_in (options_in words)
+abbrev pub task_by : Option (Text × List Row) → Task
+task_by None = Run standard
+task_by (Some sub) = task_named sub.0 sub.1
+
+-- what words ask for: a session or a schedule, under the settings that they give
+unfoldable pub task_of : List Text → Task
+task_of words = task_by (subcommand_of program words)
+
+-- the settings of a task
+abbrev pub settings_of : Task → Settings
+settings_of (Run s) = s
+settings_of (Replay s) = s

@@ -1,10 +1,13 @@
-//! The words of the command line: `crewprice run` with an option for each setting, `--help` and
-//! `--version`. `read_words` promises that the settings are exactly those that the words ask for,
-//! each the number of the option of its name and the standard where it isn't given, and that it
-//! fails exactly as the parser finds the words wrong.
+//! The words of the command line: `crewprice run` and `crewprice replay`, each with an option for
+//! each setting, `--help` and `--version`. `read_words` promises that it is asked for a session or a
+//! schedule exactly as the words say, that the settings are exactly those that they ask for, each the
+//! number of the option of its name and the standard where it isn't given, and that it fails exactly
+//! as the parser finds the words wrong.
 #![tactic(auto)]
 
 mod options;
+mod task;
 mod words;
 
+pub use task::Task;
 pub use words::read_words;

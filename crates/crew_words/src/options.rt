@@ -1,4 +1,4 @@
-//! The options of `run`: one for each setting, with its help.
+//! The options of a subcommand: one for each setting, with its help.
 
 ghost use Rattle.std.specs.Prelude.{◌≡◌, ◌≤◌, IfOk, length, map, string_bytes};
 ghost use Rattle.clap.specs.Words.{found_of, one_of, rows_of};

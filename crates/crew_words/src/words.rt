@@ -1,13 +1,12 @@
 //! What the words of the command line ask for.
 
-ghost use Rattle.std.specs.Prelude.{◌≡◌, [], false, map, IfErr, IfOk, length};
-ghost use Rattle.std.specs.Option.{option_map_or};
-ghost use Rattle.clap.specs.Words.{FailsBy, app_of, kind_of, rule_of, subcommand_rows_of};
+ghost use Rattle.std.specs.Prelude.{◌≡◌, codes, false, map, IfErr, IfOk, length};
+ghost use Rattle.clap.specs.Words.{FailsBy, app_of, found_of, kind_of, rows_of, rule_of, subcommand_rows_of};
 ghost use Rattle.clap.specs.declared.builder.command.Command.TheViews.{out-Command as fields_of};
-ghost use Rattle.crew_words.specs.Options.{settings_in};
 ghost use Rattle.crew_words.specs.Words as Spec;
 
 use crate::options::{OPTIONS, SettingOption, help_texts, settings_from};
+use crate::task::Task;
 use clap::error::ErrorKind;
 use clap::{Arg, ArgAction, ArgMatches, Command, Error};
 use crew_rules::Settings;
@@ -20,6 +19,13 @@ static VERSION: &str = "1.0.0";
 // What holds of each duty whatever the settings are, what pay is counted in, and how a run ends.
 static RULES: &str =
     "A duty has at most 8 legs. By the local clock of its first airport at report, Table A limits its flight time and Table B its flight duty period, for a crew of two pilots (14 CFR 117.11, 117.13).\nPay is counted in points: a minute of flight pays 14, so 840 points are a paid hour.\nSettings are tested in the order of their numbers; 'bad setting N' names the first that is out of its range.\nStatus: 0 done, 1 read or write fault, 2 fault in these words, 3 out of memory, 4 a setting out of its range, 5 strange log.";
+
+// What `--help` says of each subcommand.
+static RUN: &str =
+    "Prices a session: reads records on standard input, one a line, and writes answers to standard output";
+
+static REPLAY: &str =
+    "Plays a schedule: reads the steps of several workers and readers on standard input, one a line in the order in which they are to happen, and writes the reply to each to standard output";
 
 // An option of a setting: a whole number from 0 to 1,000,000.
 fn arg_of<'a>(alloc: Global, option: &SettingOption, help: &'a str) -> Arg<'a>
@@ -34,48 +40,58 @@ fn arg_of<'a>(alloc: Global, option: &SettingOption, help: &'a str) -> Arg<'a>
         .value_parser(clap::value_parser!(u32).range(0..=1_000_000))
 }
 
-// `run` with these options, which have every name.
+// A subcommand with these options, which have every name.
 fn with_options<'a>(
     alloc: Global,
-    run: Command<'a>,
+    bare: Command<'a>,
     options: &[SettingOption],
     texts: &'a [String],
 ) -> Result<Command<'a>, Error>
-    requires bare { app_of run ≡ Spec.run_up_to 0 }
-    requires local { (fields_of run).has_globals ≡ false }
+    requires bare { app_of bare ≡ Spec.sub_up_to (app_of bare).top.name 0 }
+    requires local { (fields_of bare).has_globals ≡ false }
     requires named { map (λ o. o.name.now) options.now ≡ Spec.names }
     requires texts { length texts.now ≡ length options.now }
-    ensures shape { IfOk result (λ r. app_of r ≡ Spec.run_up_to (length options.now)) }
+    ensures shape { IfOk result
+        (λ r. app_of r ≡ Spec.sub_up_to (app_of bare.entry).top.name (length options.now)) }
     ensures local { IfOk result (λ r. (fields_of r).has_globals ≡ false) }
     ensures memory { IfErr result (λ e. kind_of e ≡ ErrorKind.OutOfMemory) }
 {
-    let mut command = run;
+    let mut command = bare;
     for (i, option) in options.iter().enumerate() {
         command = command.arg(arg_of(alloc, option, texts[i].as_str()))?;
     }
     Ok(command)
 }
 
-// The subcommand `run`, with each setting as an option.
-fn run_command<'a>(alloc: Global, texts: &'a [String]) -> Result<Command<'a>, Error>
+// A subcommand, with each setting as an option.
+fn subcommand<'a>(
+    alloc: Global,
+    name: &'a str,
+    about: &'a str,
+    texts: &'a [String],
+) -> Result<Command<'a>, Error>
     requires { length texts.now ≡ 14 }
-    ensures shape { IfOk result (λ r. app_of r ≡ Spec.run_up_to 14) }
+    ensures shape { IfOk result (λ r. app_of r ≡ Spec.sub_up_to name.now 14) }
     ensures local { IfOk result (λ r. (fields_of r).has_globals ≡ false) }
     ensures memory { IfErr result (λ e. kind_of e ≡ ErrorKind.OutOfMemory) }
 {
-    let run = Command::new(alloc, "run")
-        .about(
-            "Prices a session: reads records on standard input, one a line, and writes answers to standard output",
-        )
+    let bare = Command::new(alloc, name)
+        .about(about)
         .after_help(RULES)
         .next_line_help(true);
-    with_options(alloc, run, &OPTIONS, texts)
+    with_options(alloc, bare, &OPTIONS, texts)
 }
 
-// The whole command line, of which `run` is the subcommand.
-fn program<'a>(alloc: Global, run: Command<'a>) -> Result<Command<'a>, AllocError>
-    requires shape { app_of run ≡ Spec.run_up_to 14 }
+// The whole command line, of which these are the subcommands.
+fn program<'a>(
+    alloc: Global,
+    run: Command<'a>,
+    replay: Command<'a>,
+) -> Result<Command<'a>, AllocError>
+    requires run { app_of run ≡ Spec.sub_up_to (codes "run") 14 }
     requires local { (fields_of run).has_globals ≡ false }
+    requires replay { app_of replay ≡ Spec.sub_up_to (codes "replay") 14 }
+    requires local_too { (fields_of replay).has_globals ≡ false }
     ensures { IfOk result (λ r. app_of r ≡ Spec.program) }
 {
     Command::new(alloc, "crewprice")
@@ -85,35 +101,57 @@ fn program<'a>(alloc: Global, run: Command<'a>) -> Result<Command<'a>, AllocErro
         .version(VERSION)
         .subcommand_required(true)
         .disable_help_subcommand(true)
-        .subcommand(run)
+        .subcommand(run)?
+        .subcommand(replay)
 }
 
-// The settings of the subcommand that was found.
-fn settings_found(matches: &ArgMatches<'_>) -> Settings
-    ensures { result ≡ settings_in (option_map_or (λ p. p.1) (subcommand_rows_of matches.now) []) }
+// What a subcommand of this name asks for.
+fn task_named(name: &str, found: &ArgMatches<'_>) -> Task
+    ensures { result ≡ Spec.task_named name.now (rows_of (found_of found.now)) }
 {
-    match matches.subcommand() {
-        Some((_, found)) => settings_from(found),
-        None => Settings::standard(),
+    let settings = settings_from(found);
+    if name == "replay" {
+        Task::Replay(settings)
+    } else {
+        Task::Run(settings)
     }
 }
 
-// The settings that these words ask for, by a command line with these texts.
-fn read_with<S: AsStr>(alloc: Global, words: &[S], texts: &[String]) -> Result<Settings, Error>
-    requires { length texts.now ≡ 14 }
-    ensures settings { IfOk result (λ s. s ≡ Spec.settings_of (map S.text words.now)) }
-    ensures fails { FailsBy (Spec.faults_in (map S.text words.now)) result }
+// What the subcommand that was found asks for.
+fn task_found(matches: &ArgMatches<'_>) -> Task
+    ensures { result ≡ Spec.task_by (subcommand_rows_of matches.now) }
 {
-    let run = run_command(alloc, texts)?;
-    let matches = program(alloc, run)?.try_get_matches_from(words)?;
-    Ok(settings_found(&matches))
+    match matches.subcommand() {
+        Some((name, found)) => task_named(name, found),
+        None => Task::Run(Settings::standard()),
+    }
 }
 
-/// The settings that these words ask for, of which the first is the program's own name; or the
-/// parser's error, which is a fault in the words, their request for help or the version, or want of
-/// memory.
-pub fn read_words<S: AsStr>(alloc: Global, words: &[S]) -> Result<Settings, Error>
-    ensures settings { IfOk result (λ s. s ≡ Spec.settings_of (map S.text words.now)) }
+// The whole command line with these texts of the options.
+fn program_with<'a>(alloc: Global, texts: &'a [String]) -> Result<Command<'a>, Error>
+    requires { length texts.now ≡ 14 }
+    ensures shape { IfOk result (λ r. app_of r ≡ Spec.program) }
+    ensures memory { IfErr result (λ e. kind_of e ≡ ErrorKind.OutOfMemory) }
+{
+    let run = subcommand(alloc, "run", RUN, texts)?;
+    let replay = subcommand(alloc, "replay", REPLAY, texts)?;
+    Ok(program(alloc, run, replay)?)
+}
+
+// What these words ask for, by a command line with these texts.
+fn read_with<S: AsStr>(alloc: Global, words: &[S], texts: &[String]) -> Result<Task, Error>
+    requires { length texts.now ≡ 14 }
+    ensures task { IfOk result (λ task. task ≡ Spec.task_of (map S.text words.now)) }
+    ensures fails { FailsBy (Spec.faults_in (map S.text words.now)) result }
+{
+    let matches = program_with(alloc, texts)?.try_get_matches_from(words)?;
+    Ok(task_found(&matches))
+}
+
+/// What these words ask for, of which the first is the program's own name; or the parser's error,
+/// which is a fault in the words, their request for help or the version, or want of memory.
+pub fn read_words<S: AsStr>(alloc: Global, words: &[S]) -> Result<Task, Error>
+    ensures task { IfOk result (λ task. task ≡ Spec.task_of (map S.text words.now)) }
     ensures fails { FailsBy (Spec.faults_in (map S.text words.now)) result }
 {
     let texts = help_texts(alloc, &OPTIONS)?;

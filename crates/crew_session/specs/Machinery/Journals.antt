@@ -1,5 +1,5 @@
 -- Where a session in memory stands.
-use Rattle.std.specs.Prelude.{◌≡◌, ◌<◌, ◌≤◌, ◌++◌, ℕ, nat_le, Bool, true, List, drop, length, Option, Some, None, if◌then◌else◌}
+use Rattle.std.specs.Prelude.{◌≡◌, ◌≤◌, ◌++◌, ℕ, Bool, true, List, drop, length, Option, Some}
 use Rattle.std.specs.FinMap as map
 use Rattle.std.specs.Io.KnownBytes.{Appends}
 use Rattle.crew_flights.specs.declared.entries.Entry.{Entry}
@@ -8,24 +8,17 @@ use Rattle.crew_records.specs.Fields.{Fields}
 use Rattle.crew_session.specs.Engines.{engine_number}
 use Rattle.crew_session.specs.Lines.{refused_line}
 use Rattle.crew_session.specs.declared.engine_fault.EngineFault.{EngineFault}
-use Rattle.crew_session.specs.Session.{Begins, State, Writes, Zones as ZoneMap}
+use Rattle.crew_session.specs.Machinery.Endings.{HasEndedBy}
+use Rattle.crew_session.specs.Session.{ObeysRow, State}
+use Rattle.crew_session.specs.Zones.{Zones as ZoneMap}
 use Rattle.crew_version.specs.Versions.{Snapshot}
-use Rattle.crew_records.specs.declared.fault.RecordFault.{RecordFault}
-use Rattle.crew_records.specs.declared.fault.RecordFault.TheVariants.{ZoneExists, TooManyZones}
 use Rattle.crew_session.specs.declared.zones.Zones.{Zones}
 use Rattle.crew_session.specs.declared.journal.Journal.{Journal}
-use Rattle.crew_session.specs.declared.session.Ending.{Ending}
-use Rattle.crew_session.specs.declared.session.Ending.TheVariants.{AtEnd, TooManyRecords}
+use Rattle.crew_session.specs.declared.ending.Ending.{Ending}
 
 -- the zones in memory
 abbrev pub zones_of : Zones → ZoneMap
 zones_of z = map.from_sorted z.by_code.entries
-
--- why a zone for an airport is refused
-abbrev pub zone_fault : ZoneMap → List ℕ → Option RecordFault
-zone_fault zones code =
-    if map.contains_key zones code then Some ZoneExists
-    else (if nat_le 2_000 (map.len zones) then Some TooManyZones else None)
 
 -- the entries that were taken after those of a version
 abbrev pub since : Snapshot → List Entry → List Entry
@@ -49,14 +42,10 @@ pub record IsInStep (strange : Bool) (j : Journal) (version : Snapshot) (taken :
   pub few : length taken ≤ 1_000_000
   pub kept : strange ≡ true → j.entries.items ≡ since version taken
 
--- how the reading of records ended: they were obeyed and their text is written, or are too many
--- and the first 2,000,000 were
+-- how the reading of a session's records ended
 abbrev pub HasEnded :
     Settings → State → List Fields → Option (List ℕ) → Option (List ℕ) → Ending → Type 0
-HasEnded s a rows old new AtEnd =
-    ((text : List ℕ) × Appends old new text × Writes s 0 a rows text) × (length rows ≤ 2_000_000)
-HasEnded s a rows old new TooManyRecords =
-    Begins s a rows old new × (2_000_000 < length rows)
+HasEnded s a rows old new ending = HasEndedBy (ObeysRow s) a rows old new ending
 
 -- the line of an engine's refusal
 abbrev pub IsRefusal : ℕ → EngineFault → List ℕ → Type 0

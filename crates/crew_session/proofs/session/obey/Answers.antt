@@ -3,7 +3,7 @@ use Rattle.crew_session.proofs.BeginFacts.{begun-as}
 use Rattle.std.proofs.Common.{◌∙◌, None, Some, sym}
 use Rattle.crew_flights.specs.declared.edit.Edit.TheVariants as edit
 use Rattle.crew_session.specs.Machinery.Journals.{state_of, zones_of}
-use Rattle.crew_session.specs.Session.{clock_at, flight_with}
+use Rattle.crew_session.specs.Zones.{clock_at, flight_with}
 use Rattle.crew_session.proofs.SessionFacts.{audited-begin, begun-do, cheapest-begin, fronted-begin, settled-begin}
 use Rattle.std.proofs.Common.{refl}
 use Rattle.crew_session.proofs.SessionFacts.{audited, cheapest-shown, did, fronted}

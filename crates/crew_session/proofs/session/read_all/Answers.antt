@@ -1,6 +1,7 @@
 use Rattle.crew_session.proofs.BeginFacts.{on-err-weaker}
 use Rattle.std.proofs.lemmas.Result.{IfOk-weaker}
-use Rattle.crew_session.proofs.SessionFacts.{at-start, in-step-at-start, rows-at-start}
+use Rattle.crew_session.proofs.RecordFacts.{rows-at-start}
+use Rattle.crew_session.proofs.SessionFacts.{at-start, in-step-at-start}
 use Rattle.crew_session.proofs.session.read_all.Goals as goal
 
 pub obey_all-requires-clause-in_step : goal.obey_all-requires-clause-in_step

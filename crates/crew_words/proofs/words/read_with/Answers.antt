@@ -6,21 +6,20 @@ use Rattle.clap.specs.Kinds.{HasKind, Kinds}
 use Rattle.clap.specs.Words.{App, FailsBy, Row, Text, is_simple, subcommand_of}
 use Rattle.clap.specs.declared.error.Error.{Error}
 use Rattle.clap.proofs.OnLiterals.{clap_on_literals}
-use Rattle.crew_rules.specs.declared.settings.Settings.{Settings}
-use Rattle.crew_words.specs.Options.{settings_in}
-use Rattle.crew_words.specs.Words.{faults_in, option_rule, options_in, program, run_up_to}
+use Rattle.crew_words.specs.declared.task.Task.{Task}
+use Rattle.crew_words.specs.Words.{faults_in, option_rule, program, sub_up_to, task_by, task_of}
 use Rattle.crew_words.proofs.words.read_with.Goals as goal
 
 simple : is_simple program ≡ true
-unfolding program run_up_to option_rule clap_on_literals
+unfolding program sub_up_to option_rule clap_on_literals
 simple = refl
 
 free : is_simple_and_free program ≡ true
-unfolding program run_up_to option_rule clap_on_literals
+unfolding program sub_up_to option_rule clap_on_literals
 free = refl
 
 -- an error that is handed on is of the same kinds
-handed : (kinds : Kinds) (r : Result Settings Error) (e : Error) → IsErrAnd r (λ x. x ≡ e) → HasKind kinds e → FailsBy kinds r
+handed : (kinds : Kinds) (r : Result Task Error) (e : Error) → IsErrAnd r (λ x. x ≡ e) → HasKind kinds e → FailsBy kinds r
 handed kinds (Ok s) e is has = absurd is
 handed kinds (Err x) e is has = subst (HasKind kinds) (sym is) has
 
@@ -33,20 +32,20 @@ none-at : (a : App) (words : List Text) → a ≡ program → (is_simple_and_fre
 unfolding faults_in
 none-at a words is has = sym (ap (λ (b : App). fault_of b words) is) ∙ has (ap is_simple_and_free is ∙ free)
 
-options-at : (a : App) (words : List Text) → a ≡ program → option_map_or (λ (p : Text × List Row). p.1) (subcommand_of a words) [] ≡ options_in words
-unfolding options_in
-options-at a words is = ap (λ (b : App). option_map_or (λ (p : Text × List Row). p.1) (subcommand_of b words) []) is
+task-at : (a : App) (words : List Text) → a ≡ program → task_by (subcommand_of a words) ≡ task_of words
+unfolding task_of
+task-at a words is = ap (λ (b : App). task_by (subcommand_of b words)) is
 
 pub returns-in_err-matches-clause-fails : goal.returns-in_err-matches-clause-fails
 returns-in_err-matches-clause-fails g c = handed _ c.from_residual-in_err-matches.result c.in_err-matches.field-0.0 c.from_residual-in_err-matches.ensures.1
-    (kinds-at _ (map g.S.AsStr.text c.args.words.now) c.in_err-matches.field-0.0 c.in_ok-program.ensures c.in_err-matches.ensures.kinds)
+    (kinds-at _ (map g.S.AsStr.text c.args.words.now) c.in_err-matches.field-0.0 c.in_ok-program_with.ensures.shape c.in_err-matches.ensures.kinds)
 
-pub returns-clause-settings : goal.returns-clause-settings
-returns-clause-settings g c =
+pub returns-clause-task : goal.returns-clause-task
+returns-clause-task g c =
     let words = map g.S.AsStr.text c.args.words.now in
-    let is = c.in_ok-program.ensures in
-    let rows = (c.in_ok-matches.ensures.matches (ap is_simple is ∙ simple)).1 in
-    c.settings_found.ensures ∙ ap settings_in (ap (λ o. option_map_or (λ (p : Text × List Row). p.1) o []) rows ∙ options-at _ words is)
+    let is = c.in_ok-program_with.ensures.shape in
+    let sub = (c.in_ok-matches.ensures.matches (ap is_simple is ∙ simple)).1 in
+    c.task_found.ensures ∙ ap task_by sub ∙ task-at _ words is
 
 pub returns-clause-fails : goal.returns-clause-fails
-returns-clause-fails g c = none-at _ (map g.S.AsStr.text c.args.words.now) c.in_ok-program.ensures c.in_ok-matches.ensures.kinds
+returns-clause-fails g c = none-at _ (map g.S.AsStr.text c.args.words.now) c.in_ok-program_with.ensures.shape c.in_ok-matches.ensures.kinds

@@ -1,5 +1,5 @@
 use Rattle.std.proofs.Common.{rules}
-use Rattle.crew_command.proofs.program.run_session.Goals as goal
+use Rattle.crew_command.proofs.program.run_task.Goals as goal
 
 pub returns-in-Ok : goal.returns-in-Ok
 returns-in-Ok g c = search rules
