@@ -1,7 +1,9 @@
 -- What stands at a place of a list that is written to or made longer.
-use Rattle.std.proofs.Common.{Bool, true, false, not, get_or, ◌≡◌, ◌≢◌, ◌<◌, ◌≤◌, ◌+◌, ◌++◌, ◌⊎◌, ℕ, zero, suc, List, [], ◌∷◌, Option, Some, None, inl, inr, length, refl, ap, sym, ◌∙◌, arith, set}
-use Rattle.std.specs.Prelude.{slice_get, is_some}
-use Rattle.std.proofs.lemmas.Option.{same_Some, slice_get-get_or}
+use Rattle.std.proofs.Common.{get_or, ◌≡◌, ◌≢◌, ◌<◌, ◌≤◌, ◌+◌, ◌++◌, ◌⊎◌, ℕ, zero, suc, List, [], ◌∷◌, Option, Some, None, inl, inr, length, refl, ap, sym, ◌∙◌, arith, set}
+use Rattle.std.specs.Prelude.{IsSome, slice_get}
+use Rattle.std.specs.List.{AllZip}
+use Rattle.slab.specs.Slab.{IsSlotClone}
+use Rattle.std.proofs.lemmas.Option.{none-some, same_Some}
 
 pub none-below : {X : Type 0} (i : ℕ) (x : X) → slice_get [] i ≡ Some x → ⊥
 none-below zero x e = (cc)
@@ -84,10 +86,24 @@ earlier-or-later j zero = inr (omega arith)
 earlier-or-later zero (suc i) = inl (omega arith)
 earlier-or-later (suc j) (suc i) = elim (earlier-or-later j i) [ inl h ↦ inl (omega (arith, h)) | inr h ↦ inr (omega (arith, h)) ]
 
--- no item is read where there is none
-pub empty-read : (o : Option ℕ) → is_some o ≡ false → o ≡ None
-empty-read None e = λ i. None
-empty-read (Some x) e = (cc)
+pub some-there : {X : Type 0} (o : Option X) (x : X) → o ≡ Some x → IsSome o
+some-there None x e = absurd (none-some x e)
+some-there (Some y) x e = refl
 
-pub none-here : (kept : List (Option ℕ)) (i : ℕ) (b : Bool) → i < length kept → is_some (get_or kept i None) ≡ not b → b ≡ true → slice_get kept i ≡ Some None
-none-here kept i b h e t = slice_get-get_or kept i None h ∙ ap (λ (x : Option ℕ). Some x) (empty-read (get_or kept i None) (e ∙ ap not t))
+pub none-there : (o : Option ℕ) → ((x : ℕ) → o ≡ Some x → ⊥) → o ≡ None
+none-there None h = refl
+none-there (Some x) h = absurd (h x refl)
+
+pub read-there : {X : Type 0} (xs : List (Option X)) (i : ℕ) (x : X) → get_or xs i None ≡ Some x → slice_get xs i ≡ Some (Some x)
+read-there [] i x e = absurd (none-some x e)
+read-there (y ∷ xs) zero x e = ap (λ z. Some z) e
+read-there (y ∷ xs) (suc i) x e = read-there xs i x e
+
+-- a copy of slots has the same items
+pub same-slots : (slots copies : List (Option ℕ)) → AllZip (IsSlotClone (λ (x y : ℕ). y ≡ x)) slots copies → copies ≡ slots
+same-slots [] [] all = refl
+same-slots [] (c ∷ copies) all = absurd all
+same-slots (s ∷ slots) [] all = absurd all
+same-slots (None ∷ slots) (c ∷ copies) all = rw (all.0, same-slots slots copies all.1) refl
+same-slots (Some x ∷ slots) (None ∷ copies) all = absurd all.0
+same-slots (Some x ∷ slots) (Some y ∷ copies) all = rw (all.0, same-slots slots copies all.1) refl

@@ -10,6 +10,7 @@ use Rattle.std.specs.declared.cmp.Ordering.TheVariants.{Less}
 use Rattle.std.specs.Cmp.{IsTotalOrder}
 use Rattle.std.proofs.lemmas.Cmp.{tied_itself}
 use Rattle.std.proofs.lemmas.Option.{get_or_from_slice_get, same_Some, slice_get-get_or}
+use Rattle.slab.specs.Slab.{ContainsKey, SameValues, Slab, get}
 use Rattle.crew_flights.specs.Codes.{code_cmp, code_cmp_total}
 use Rattle.crew_net.proofs.Geometry.{code-equal, equal-code}
 use Rattle.crew_net.specs.Nets.{RiseByCode}
@@ -21,9 +22,9 @@ use Rattle.crew_net.specs.Nets.{IsRankOfKey}
 use Rattle.crew_resource.specs.Members.{Each, Member}
 use Rattle.crew_resource.proofs.Members.{Member-at}
 use Rattle.crew_slots.specs.Machinery.Kept.{AreKeptOf, IsFoundAt, IsKeptPlace, StayIn}
-use Rattle.crew_slots.specs.Machinery.Places.{AreKept, ArePlaces, Keeps}
+use Rattle.crew_slots.specs.Machinery.Places.{AreKept, ArePlaces, IsBelow, Keeps}
 use Rattle.crew_slots.specs.Slots.{AreDistinct}
-use Rattle.crew_slots.proofs.Gets.{none-below, one-item, one-value, pushed-cases, there, within}
+use Rattle.crew_slots.proofs.Gets.{none-below, one-value, pushed-cases, some-there, there, within}
 
 abbrev Rises : {X : Type 0} → (X → X → Ordering) → List X → Type 0
 Rises cmp [] = Unit {0}
@@ -104,25 +105,37 @@ kept-more olds news places n kept k found o long at f e is = record {
 pub kept-all : {K : Type 0} (olds news : List K) (places : List ℕ) (n : ℕ) (kept : List (Option ℕ)) → n ≡ length news → AreKeptSo olds news places n kept → AreKeptOf olds news places kept
 kept-all olds news places n kept e is = record { long = is.long ∙ e; exact = is.exact }
 
--- the places that are kept are places, and different
-pub are-kept : {K : Type 0} (olds news : List K) (places : List ℕ) (at kept : List (Option ℕ)) (count : ℕ) → AreDistinct news → ArePlaces places at → length at ≤ count → AreKeptOf olds news places kept → AreKept kept count
-are-kept {K} olds news places at kept count apart are few is = record {
-  within = λ i p h. let f = own i p h in let w = within at p (Some f.0) (are.there f.0 p f.1.1.2) in omega (arith, w, few);
-  apart = λ i j p a b.
-      let f = own i p a in
-      let g = own j p b in
-      let same = one-item (slice_get at p) f.0 g.0 (are.there f.0 p f.1.1.2) (are.there g.0 p g.1.1.2) in
-      let key = one-value (slice_get olds g.0) f.1.0 g.1.0 (ap (slice_get olds) (sym same) ∙ f.1.1.1) g.1.1.1 in
-      apart i j g.1.0 (f.1.1.0 ∙ ap (λ z. Some z) key) g.1.1.0;
-}
-  where
-    own : (i p : ℕ) → slice_get kept i ≡ Some (Some p) → (r : ℕ) × ((k : K) × ((slice_get news i ≡ Some k) × (slice_get olds r ≡ Some k) × (slice_get places r ≡ Some p)))
-    own i p h =
-        let w = within kept i (Some p) h in
-        let long = is.long in
-        let k = there news i (omega (arith, w, long)) in
-        let f = is.exact i k.0 (Some p) k.1 h in
-        (f.0, (k.0, (k.1, f.1, f.2)))
+module _ {K : Type 0} (olds news : List K) (places : List ℕ) (at : Slab ℕ) (bound : ℕ) (kept : List (Option ℕ)) where
+  -- the place that an item keeps was its own
+  own : ArePlaces places at bound → AreKeptOf olds news places kept → (i p : ℕ) → slice_get kept i ≡ Some (Some p) → (r : ℕ) × (get at p ≡ Some r) × ((k : K) × ((slice_get news i ≡ Some k) × (slice_get olds r ≡ Some k)))
+  own are is i p h =
+      let w = within kept i (Some p) h in
+      let long = is.long in
+      let k = there news i (omega (arith, w, long)) in
+      let f = is.exact i k.0 (Some p) k.1 h in
+      (f.0, are.there f.0 p f.2, (k.0, (k.1, f.1)))
+
+  -- the places that are kept are places, and different
+  pub are-kept : (count : ℕ) → AreDistinct news → ArePlaces places at bound → bound ≤ count → AreKeptOf olds news places kept → AreKept kept count
+  are-kept count apart are few is = record {
+    within = λ i p h. let f = own are is i p h in let w = are.below f.0 p f.1 in omega (arith, w, few);
+    apart = λ i j p a b.
+        let f = own are is i p a in
+        let g = own are is j p b in
+        let same = one-value (get at p) f.0 g.0 f.1 g.1 in
+        let key = one-value (slice_get olds g.0) f.2.0 g.2.0 (ap (slice_get olds) (sym same) ∙ f.2.1.1) g.2.1.1 in
+        apart i j g.2.0 (f.2.1.0 ∙ ap (λ z. Some z) key) g.2.1.0;
+  }
+
+  -- a place that is kept is a key of the slab, and of its copy
+  pub kept-there : (copy : Slab ℕ) → SameValues at copy → ArePlaces places at bound → AreKeptOf olds news places kept → (i p : ℕ) → slice_get kept i ≡ Some (Some p) → ContainsKey copy p
+  kept-there copy same are is i p h =
+      let f = own are is i p h in
+      some-there (get copy p) f.0 (same p ∙ f.1)
+
+-- what is below a bound in a slab is below a greater one in its copy
+pub copy-below : (places : List ℕ) (at copy : Slab ℕ) (bound count : ℕ) → SameValues at copy → ArePlaces places at bound → bound ≤ count → IsBelow copy count
+copy-below places at copy bound count same are few i p h = let w = are.below i p (sym (same p) ∙ h) in omega (arith, w, few)
 
 pub stay-in : {K : Type 0} (olds news : List K) (before after : List ℕ) (kept : List (Option ℕ)) → AreDistinct olds → AreKeptOf olds news before kept → Keeps kept after → StayIn olds news before after
 stay-in {K} olds news before after kept apart is keeps r i p k a b c =

@@ -1,31 +1,33 @@
 -- What slots show of what they keep.
-use Rattle.std.proofs.Common.{◌≡◌, ◌<◌, ◌+◌, ◌*◌, ◌/◌, ◌%◌, ◌∙◌, ℕ, List, Option, Some, length, ap, sym, subst, refl, arith}
+use Rattle.std.proofs.Common.{◌≡◌, ◌<◌, ◌+◌, ◌*◌, ◌/◌, ◌%◌, ◌∙◌, ℕ, List, Some, length, ap, sym, subst, refl, arith}
 use Rattle.std.specs.Prelude.{slice_get}
+use Rattle.slab.specs.Slab.{get}
 use Rattle.crew_net.specs.Nets.{IsNodeOf, IsRank, Net}
 use Rattle.crew_net.specs.declared.node.Node.{Node}
 use Rattle.crew_pairing.specs.declared.duty.Duty.{Duty}
+use Rattle.crew_slots.specs.declared.places.Places.{Places}
 use Rattle.crew_slots.specs.Machinery.Held.{IsHeld}
 use Rattle.crew_slots.specs.Machinery.Kept.{IsFoundAt, StayIn}
 use Rattle.crew_slots.specs.Slots.{AreSound, IsSlot, Slots}
-use Rattle.crew_slots.proofs.Gets.{one-item, one-value, within}
+use Rattle.crew_slots.proofs.Gets.{one-value, within}
 use Rattle.crew_slots.proofs.Keeping.{codes-distinct, get-mapped, keys-distinct, keys_of, mapped-at, member-at}
 use Rattle.crew_resource.proofs.Members.{Member-at}
 
 abbrev pub shown : Net → List ℕ → List ℕ → Slots
 shown net duty_of base_of = record { net = net; duty_places = duty_of; base_places = base_of }
 
-module _ (net : Net) (duty_of : List ℕ) (duty_at : List (Option ℕ)) (base_of : List ℕ) (base_at : List (Option ℕ)) where
-  pub rank-within : (node : Node) (rank : ℕ) → IsHeld net duty_of duty_at base_of base_at → IsRank net node (Some rank) → rank < length duty_of
+module _ (net : Net) (duties bases : Places) where
+  pub rank-within : (node : Node) (rank : ℕ) → IsHeld net duties bases → IsRank net node (Some rank) → rank < length duties.of.items
   rank-within node rank held is = let w = within net.duties rank is.0 is.2 in let l = held.all_duties in omega (arith, w, l)
 
-  pub base-within : (node : Node) (base : ℕ) → IsHeld net duty_of duty_at base_of base_at → IsFoundAt net.bases node.base (Some base) → base < length base_of
+  pub base-within : (node : Node) (base : ℕ) → IsHeld net duties bases → IsFoundAt net.bases node.base (Some base) → base < length bases.of.items
   base-within node base held is = let w = within net.bases base node.base is in let l = held.all_bases in omega (arith, w, l)
 
   -- a node's base stands among the bases
   pub base-there : (node : Node) (d : Duty) → IsNodeOf net node d → ((i : ℕ) → slice_get net.bases i ≡ Some node.base → ⊥) → ⊥
   base-there node d is none = let i = member-at net.bases node.base is.base in none i.0 i.1
 
-  pub is-slot : (node : Node) (rank base place base_place : ℕ) → IsHeld net duty_of duty_at base_of base_at → IsRank net node (Some rank) → IsFoundAt net.bases node.base (Some base) → slice_get duty_of rank ≡ Some place → slice_get base_of base ≡ Some base_place → IsSlot (shown net duty_of base_of) node (16 * place + base_place)
+  pub is-slot : (node : Node) (rank base place base_place : ℕ) → IsHeld net duties bases → IsRank net node (Some rank) → IsFoundAt net.bases node.base (Some base) → slice_get duties.of.items rank ≡ Some place → slice_get bases.of.items base ≡ Some base_place → IsSlot (shown net duties.of.items bases.of.items) node (16 * place + base_place)
   is-slot node rank base place base_place held is at p q = record {
     rank = rank;
     is_rank = is;
@@ -35,39 +37,39 @@ module _ (net : Net) (duty_of : List ℕ) (duty_at : List (Option ℕ)) (base_of
     is_base = at;
     base_place = base_place;
     is_base_place = q;
-    few_bases = (let w = within base_at base_place (Some base) (held.bases.there base base_place q) in let f = held.few_bases in omega (arith, w, f));
+    few_bases = (let w = held.base_places.below base base_place (held.base_places.there base base_place q) in let f = held.few_bases in omega (arith, w, f));
     value = refl;
   }
 
   -- the node of the items at a slot's places
-  pub node-there : (node : Node) (rank base slot : ℕ) → IsHeld net duty_of duty_at base_of base_at → slice_get (keys_of net.duties) rank ≡ Some node.key → slice_get net.bases base ≡ Some node.base → slice_get duty_at (slot / 16) ≡ Some (Some rank) → slice_get base_at (slot % 16) ≡ Some (Some base) → IsSlot (shown net duty_of base_of) node slot
+  pub node-there : (node : Node) (rank base slot : ℕ) → IsHeld net duties bases → slice_get (keys_of net.duties) rank ≡ Some node.key → slice_get net.bases base ≡ Some node.base → get duties.at (slot / 16) ≡ Some rank → get bases.at (slot % 16) ≡ Some base → IsSlot (shown net duties.of.items bases.of.items) node slot
   node-there node rank base slot held key at p q =
       let d = mapped-at (λ (x : Duty). x.key) net.duties rank node.key key in
       let is : IsRank net node (Some rank) = (d.0, record { base = Member-at net.bases base node.base at; duty = Member-at net.duties rank d.0 d.1; key = d.2 }, d.1) in
-      subst (IsSlot (shown net duty_of base_of) node) (let e : 16 * (slot / 16) + slot % 16 ≡ slot = omega arith in e) (is-slot node rank base (slot / 16) (slot % 16) held is at (held.duties.back rank (slot / 16) p) (held.bases.back base (slot % 16) q))
+      subst (IsSlot (shown net duties.of.items bases.of.items) node) (let e : 16 * (slot / 16) + slot % 16 ≡ slot = omega arith in e) (is-slot node rank base (slot / 16) (slot % 16) held is at (held.duty_places.back rank (slot / 16) p) (held.base_places.back base (slot % 16) q))
 
   -- a node's slot tells the places of its duty and its base
-  pub places-of : (node : Node) (slot : ℕ) → IsHeld net duty_of duty_at base_of base_at → IsSlot (shown net duty_of base_of) node slot → ((rank : ℕ) × (slice_get duty_at (slot / 16) ≡ Some (Some rank))) × ((base : ℕ) × (slice_get base_at (slot % 16) ≡ Some (Some base)))
+  pub places-of : (node : Node) (slot : ℕ) → IsHeld net duties bases → IsSlot (shown net duties.of.items bases.of.items) node slot → ((rank : ℕ) × (get duties.at (slot / 16) ≡ Some rank)) × ((base : ℕ) × (get bases.at (slot % 16) ≡ Some base))
   places-of node slot held is =
       let few = is.few_bases in
       let v = is.value in
       let p : is.place ≡ slot / 16 = omega (arith, few, v) in
       let q : is.base_place ≡ slot % 16 = omega (arith, few, v) in (
-        (is.rank, ap (slice_get duty_at) (sym p) ∙ held.duties.there is.rank is.place is.is_place),
-        (is.base, ap (slice_get base_at) (sym q) ∙ held.bases.there is.base is.base_place is.is_base_place),
+        (is.rank, ap (get duties.at) (sym p) ∙ held.duty_places.there is.rank is.place is.is_place),
+        (is.base, ap (get bases.at) (sym q) ∙ held.base_places.there is.base is.base_place is.is_base_place),
       )
 
-  pub below-bound : (node : Node) (slot : ℕ) → IsHeld net duty_of duty_at base_of base_at → IsSlot (shown net duty_of base_of) node slot → slot < 16 * length duty_at
+  pub below-bound : (node : Node) (slot : ℕ) → IsHeld net duties bases → IsSlot (shown net duties.of.items bases.of.items) node slot → slot < 16 * duties.bound
   below-bound node slot held is =
-      let w = within duty_at is.place (Some is.rank) (held.duties.there is.rank is.place is.is_place) in
+      let w = held.duty_places.below is.rank is.place (held.duty_places.there is.rank is.place is.is_place) in
       let b = is.few_bases in
       let v = is.value in
       omega (arith, w, b, v)
 
-  pub are-sound : IsHeld net duty_of duty_at base_of base_at → AreSound (shown net duty_of base_of)
+  pub are-sound : IsHeld net duties bases → AreSound (shown net duties.of.items bases.of.items)
   are-sound held = record {
-    duties = λ i j p a b. one-item (slice_get duty_at p) i j (held.duties.there i p a) (held.duties.there j p b);
-    bases = λ i j p a b. one-item (slice_get base_at p) i j (held.bases.there i p a) (held.bases.there j p b);
+    duties = λ i j p a b. one-value (get duties.at p) i j (held.duty_places.there i p a) (held.duty_places.there j p b);
+    bases = λ i j p a b. one-value (get bases.at p) i j (held.base_places.there i p a) (held.base_places.there j p b);
     rising = held.rising;
     rising_bases = held.rising_bases;
   }

@@ -9,7 +9,7 @@ ghost use Rattle.crew_pairing.specs.Duties.{RiseByKey};
 ghost use Rattle.crew_slots.specs.Machinery.Kept.{AreKeptOf, IsFoundAt, StayIn};
 ghost use Rattle.crew_slots.specs.Machinery.Places.{ArePlaces};
 
-use crate::places::{Places, settle};
+use crate::places::{Places, copied, settle};
 use crew_flights::Code;
 use crew_net::Net;
 use crew_pairing::Key;
@@ -108,20 +108,20 @@ pub(crate) fn next_duties(
     old: &Net,
     new: &Net,
 ) -> Result<Places, AllocError>
-    requires places { ArePlaces places.now.of.items places.now.at.items }
+    requires places { ArePlaces places.now.of.items places.now.at places.now.bound }
     requires long { length places.now.of.items ≡ length old.now.duties }
-    requires few { length places.now.at.items ≤ 200_000 }
+    requires few { places.now.bound ≤ 200_000 }
     requires rising { RiseByKey old.now.duties }
-    ensures places { IfOk result (λ next. ArePlaces next.of.items next.at.items) }
+    ensures places { IfOk result (λ next. ArePlaces next.of.items next.at next.bound) }
     ensures long { IfOk result (λ next. length next.of.items ≡ length new.now.duties) }
-    ensures few { IfOk result (λ next. length next.at.items ≤ 200_000) }
+    ensures few { IfOk result (λ next. next.bound ≤ 200_000) }
     ensures rising { RiseByKey new.now.duties }
     ensures stay { IfOk result (λ next. StayIn (map (λ d. d.key) old.now.duties)
         (map (λ d. d.key) new.now.duties) places.now.of.items next.of.items) }
 {
-    let count = places.at.len().max(new.duty_count());
+    let bound = places.bound.max(new.duty_count());
     let kept = kept_duties(alloc, &places.of, old, new)?;
-    settle(alloc, &kept, count)
+    settle(alloc, copied(&places.at)?, &kept, bound)
 }
 
 /// Places of the bases of a network: a base that another network has keeps that place.
@@ -131,18 +131,18 @@ pub(crate) fn next_bases(
     old: &Net,
     new: &Net,
 ) -> Result<Places, AllocError>
-    requires places { ArePlaces places.now.of.items places.now.at.items }
+    requires places { ArePlaces places.now.of.items places.now.at places.now.bound }
     requires long { length places.now.of.items ≡ length old.now.bases }
-    requires few { length places.now.at.items ≤ 16 }
+    requires few { places.now.bound ≤ 16 }
     requires rising { RiseByCode old.now.bases }
-    ensures places { IfOk result (λ next. ArePlaces next.of.items next.at.items) }
+    ensures places { IfOk result (λ next. ArePlaces next.of.items next.at next.bound) }
     ensures long { IfOk result (λ next. length next.of.items ≡ length new.now.bases) }
-    ensures few { IfOk result (λ next. length next.at.items ≤ 16) }
+    ensures few { IfOk result (λ next. next.bound ≤ 16) }
     ensures rising { RiseByCode new.now.bases }
     ensures stay { IfOk result (λ next. StayIn old.now.bases new.now.bases places.now.of.items
         next.of.items) }
 {
-    let count = places.at.len().max(new.base_count());
+    let bound = places.bound.max(new.base_count());
     let kept = kept_bases(alloc, &places.of, old.bases(), new.bases())?;
-    settle(alloc, &kept, count)
+    settle(alloc, copied(&places.at)?, &kept, bound)
 }

@@ -1,29 +1,36 @@
 //! Places that items keep.
-ghost use Rattle.std.specs.Prelude.{◌≡◌, ◌≤◌, ◌<◌, ◌+◌, ◌↔◌, ℕ, IfOk, None, Some, count_by, is_none, length, replicate, slice_get};
-ghost use Rattle.crew_slots.specs.Machinery.Places.{AreKept, ArePlaces, IsItemAt, Keeps};
+ghost use Rattle.std.specs.Prelude.{◌≡◌, ◌≤◌, ◌<◌, ◌↔◌, ℕ, IfOk, IfSome, None, Some, length, replicate, slice_get, slice_index_or};
+ghost use Rattle.slab.specs.Slab.{ContainsKey, SameValues, Updates, get};
+ghost use Rattle.crew_slots.specs.Machinery.Places.{AreKept, ArePlaces, IsBelow, Keeps};
 
+use slab::Slab;
 use std::alloc::{AllocError, Global};
 
 /// By item its place, and by place the item that has it.
 ///
-/// A place that went free is taken again, so that places stay below the most items that there were
-/// at once. The crate `slab` promises of a new key only that it was vacant, and no such bound.
+/// A place is a key of a slab, below a bound: an item that is new takes a vacant key, and one that
+/// goes away leaves its own vacant.
 #[derive(Drop)]
 pub(crate) struct Places {
     pub(crate) of: Vec<u32>,
-    pub(crate) at: Vec<Option<u32>>,
+    pub(crate) at: Slab<u32>,
+    pub(crate) bound: usize,
 }
 
 impl Places {
     /// The item that has a place.
     pub(crate) fn item_at(&self, place: usize) -> Option<u32>
-        ensures { IsItemAt self.now.at.items place result }
+        ensures { result ≡ get self.now.at place }
     {
-        if place < self.at.len() {
-            return self.at[place];
-        }
-        None
+        self.at.get(place).copied()
     }
+}
+
+/// A copy of a slab, with the same items under the same keys.
+pub(crate) fn copied(at: &Slab<u32>) -> Result<Slab<u32>, AllocError>
+    ensures { IfOk result (λ copy. SameValues at.now copy) }
+{
+    at.clone()
 }
 
 // So many places that are free, or items that keep none.
@@ -48,8 +55,6 @@ fn kept_items(
     ensures long { IfOk result (λ at. length at.items ≡ count) }
     ensures exact { IfOk result (λ at. (i p : ℕ) → slice_get at.items p ≡ Some (Some i)
         ↔ slice_get kept.now i ≡ Some (Some p)) }
-    ensures free { IfOk result (λ at. count_by is_none at.items + length kept.now
-        ≡ count + count_by is_none kept.now) }
 {
     let mut at = free_places(alloc, count)?;
     for item in 0..kept.len() {
@@ -60,55 +65,112 @@ fn kept_items(
     Ok(at)
 }
 
-// The first free place from one on.
-fn first_free(at: &[Option<u32>], from: usize) -> usize
-    requires { (p : ℕ) × (from ≤ p) × (slice_get at.now p ≡ Some None) }
-    ensures free { slice_get at.now result ≡ Some None }
-    ensures first { (p : ℕ) → from ≤ p → p < result → slice_get at.now p ≡ Some None → ⊥ }
+// Puts another item under a key, or leaves the key vacant.
+fn put(at: &mut Slab<u32>, key: usize, item: Option<u32>)
+    requires { IfSome item (λ _. ContainsKey at.old key) }
+    ensures { Updates at.old at.new key item }
 {
-    for place in from..at.len() {
-        if at[place].is_none() {
-            return place;
+    match item {
+        Some(item) => {
+            at.remove(key);
+            at.insert_reserved(item);
+        }
+        None => {
+            at.try_remove(key);
         }
     }
-    at.len()
 }
 
-/// Places for items, of which some keep a place of their own: each of the others takes the first
-/// place that is free.
+// Puts under each key the item that keeps that place, and leaves the other keys vacant.
+//
+// It goes from the highest key down, so that of the keys that go vacant here the slab gives out
+// the lowest first.
+fn put_all(at: &mut Slab<u32>, items: &[Option<u32>])
+    requires below { IsBelow at.old (length items.now) }
+    requires there { (i p : ℕ) → slice_get items.now p ≡ Some (Some i) → ContainsKey at.old p }
+    ensures { (p : ℕ) → get at.new p ≡ slice_index_or items.now p None }
+{
+    for place in (0..items.len()).rev() {
+        put(at, place, items[place]);
+    }
+}
+
+// Stores an item under a vacant key. A key that isn't below the bound counts as want of memory: the
+// code of `slab` gives out none while fewer items than the bound have a key, but its contract
+// doesn't say so.
+fn take(at: &mut Slab<u32>, item: u32, bound: usize) -> Result<u32, AllocError>
+    requires { bound ≤ 200_000 }
+    ensures below { IfOk result (λ place. place < bound) }
+    ensures vacant { IfOk result (λ place. get at.old place ≡ None) }
+    ensures updates { IfOk result (λ place. Updates at.old at.new place (Some item)) }
+{
+    at.reserve(1)?;
+    let key = at.insert_reserved(item);
+    if key < bound {
+        return Ok(key as u32);
+    }
+    Err(AllocError)
+}
+
+// By item its place: what keeps one has it under that key already, and each other takes a vacant
+// key.
+fn take_all(
+    alloc: Global,
+    at: &mut Slab<u32>,
+    kept: &[Option<u32>],
+    bound: usize,
+) -> Result<Vec<u32>, AllocError>
+    requires few { bound ≤ 200_000 }
+    requires room { length kept.now ≤ bound }
+    requires below { IsBelow at.old bound }
+    requires exact { (i p : ℕ) → get at.old p ≡ Some i ↔ slice_get kept.now i ≡ Some (Some p) }
+    ensures places { IfOk result (λ of. ArePlaces of.items at.new bound) }
+    ensures long { IfOk result (λ of. length of.items ≡ length kept.now) }
+    ensures keeps { IfOk result (λ of. Keeps kept.now of.items) }
+{
+    let mut of = Vec::with_capacity(alloc, kept.len())?;
+    for item in 0..kept.len() {
+        let place = match kept[item] {
+            Some(place) => place,
+            None => take(at, item as u32, bound)?,
+        };
+        of.push(place)?;
+    }
+    Ok(of)
+}
+
+/// Places below a bound for items, of which some keep a place of their own, a key of a slab: each
+/// of the others takes a vacant key.
 pub(crate) fn settle(
     alloc: Global,
+    mut at: Slab<u32>,
     kept: &[Option<u32>],
-    count: usize,
+    bound: usize,
 ) -> Result<Places, AllocError>
-    requires kept { AreKept kept.now count }
-    requires room { length kept.now ≤ count }
-    requires few { count ≤ 200_000 }
-    ensures places { IfOk result (λ places. ArePlaces places.of.items places.at.items) }
+    requires kept { AreKept kept.now bound }
+    requires there { (i p : ℕ) → slice_get kept.now i ≡ Some (Some p) → ContainsKey at p }
+    requires below { IsBelow at bound }
+    requires room { length kept.now ≤ bound }
+    requires few { bound ≤ 200_000 }
+    ensures places { IfOk result (λ places. ArePlaces places.of.items places.at places.bound) }
     ensures long { IfOk result (λ places. length places.of.items ≡ length kept.now) }
-    ensures count { IfOk result (λ places. length places.at.items ≡ count) }
+    ensures bound { IfOk result (λ places. places.bound ≡ bound) }
     ensures keeps { IfOk result (λ places. Keeps kept.now places.of.items) }
 {
-    let mut at = kept_items(alloc, kept, count)?;
-    let mut of = Vec::with_capacity(alloc, kept.len())?;
-    let mut free = 0;
-    for item in 0..kept.len() {
-        if kept[item].is_none() {
-            free = first_free(&at, free);
-            at[free] = Some(item as u32);
-        }
-        of.push(kept[item].unwrap_or(free as u32))?;
-    }
-    Ok(Places { of, at })
+    let items = kept_items(alloc, kept, bound)?;
+    put_all(&mut at, &items);
+    let of = take_all(alloc, &mut at, kept, bound)?;
+    Ok(Places { of, at, bound })
 }
 
 /// Places for so many items, none of which had one.
 pub(crate) fn new_places(alloc: Global, count: usize) -> Result<Places, AllocError>
     requires { count ≤ 200_000 }
-    ensures places { IfOk result (λ places. ArePlaces places.of.items places.at.items) }
+    ensures places { IfOk result (λ places. ArePlaces places.of.items places.at places.bound) }
     ensures long { IfOk result (λ places. length places.of.items ≡ count) }
-    ensures count { IfOk result (λ places. length places.at.items ≡ count) }
+    ensures bound { IfOk result (λ places. places.bound ≡ count) }
 {
     let kept = free_places(alloc, count)?;
-    settle(alloc, &kept, count)
+    let at = Slab::with_capacity(alloc, count)?;
+    settle(alloc, at, &kept, count)
 }

@@ -39,8 +39,7 @@ impl Model for Slots {
 
     ghost use Rattle.crew_slots.specs.Machinery.Held.{IsHeld};
 
-    ghost invariant = { λ s. IsHeld s.net.value s.duties.of.items s.duties.at.items
-        s.bases.of.items s.bases.at.items };
+    ghost invariant = { λ s. IsHeld s.net.value s.duties s.bases };
 }
 
 // The node of a duty, by rank, and a base, by place.
@@ -103,7 +102,7 @@ impl Slots {
         ensures few { result ≤ 3_200_000 }
         ensures sound { AreSound self.now }
     {
-        16 * self.duties.at.len()
+        16 * self.duties.bound
     }
 
     /// The node that has a slot, and `None` where none has it.

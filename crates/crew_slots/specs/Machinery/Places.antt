@@ -1,10 +1,16 @@
 -- Places of items.
-use Rattle.std.specs.Prelude.{◌≡◌, ◌<◌, ℕ, List, Option, Some, None, slice_get}
+use Rattle.std.specs.Prelude.{◌≡◌, ◌<◌, ℕ, List, Option, Some, slice_get}
+use Rattle.slab.specs.Slab.{Slab, get}
 
--- each item has a place, and no two have the same
-pub record ArePlaces (of : List ℕ) (at : List (Option ℕ)) : Type 0 where
-  pub there : (i p : ℕ) → slice_get of i ≡ Some p → slice_get at p ≡ Some (Some i)
-  pub back : (i p : ℕ) → slice_get at p ≡ Some (Some i) → slice_get of i ≡ Some p
+-- each item has a place below a bound, and no two have the same
+pub record ArePlaces (of : List ℕ) (at : Slab ℕ) (bound : ℕ) : Type 0 where
+  pub there : (i p : ℕ) → slice_get of i ≡ Some p → get at p ≡ Some i
+  pub back : (i p : ℕ) → get at p ≡ Some i → slice_get of i ≡ Some p
+  pub below : (i p : ℕ) → get at p ≡ Some i → p < bound
+
+-- all keys that have an item are below so many
+abbrev pub IsBelow : Slab ℕ → ℕ → Type 0
+IsBelow at count = (i p : ℕ) → get at p ≡ Some i → p < count
 
 -- the places that items keep are among so many, and no two keep the same
 pub record AreKept (kept : List (Option ℕ)) (count : ℕ) : Type 0 where
@@ -15,8 +21,3 @@ pub record AreKept (kept : List (Option ℕ)) (count : ℕ) : Type 0 where
 -- what keeps a place has it
 abbrev pub Keeps : List (Option ℕ) → List ℕ → Type 0
 Keeps kept of = (i p : ℕ) → slice_get kept i ≡ Some (Some p) → slice_get of i ≡ Some p
-
--- the item at a place, and none where the place is free or there is no such place
-abbrev pub IsItemAt : List (Option ℕ) → ℕ → Option ℕ → Type 0
-IsItemAt at p None = (i : ℕ) → slice_get at p ≡ Some (Some i) → ⊥
-IsItemAt at p (Some i) = slice_get at p ≡ Some (Some i)

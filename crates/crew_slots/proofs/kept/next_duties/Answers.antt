@@ -3,7 +3,7 @@ use Rattle.crew_net.proofs.Oks.{IfOk-from}
 use Rattle.crew_slots.specs.Machinery.Kept.{StayIn}
 use Rattle.crew_slots.specs.Machinery.Places.{Keeps}
 use Rattle.crew_slots.specs.declared.places.Places.{Places}
-use Rattle.crew_slots.proofs.Keeping.{are-kept, kept-along, keys-distinct, keys_of, stay-in}
+use Rattle.crew_slots.proofs.Keeping.{are-kept, copy-below, kept-along, kept-there, keys-distinct, keys_of, stay-in}
 use Rattle.crew_slots.proofs.kept.next_duties.Goals as goal
 
 pub kept_duties-requires : goal.kept_duties-requires
@@ -14,12 +14,27 @@ settle-requires-clause-kept c =
     let old = keys_of c.args.old.now.duties in
     let new = keys_of c.args.new.now.duties in
     let of = c.args.places.now.of.items in
-    let at = c.args.places.now.at.items in
+    let at = c.args.places.now.at in
     let kept = c.deref-2.result.now in
     let is = kept-along {olds = old} {news = new} refl refl c.deref.ensures.value (sym c.deref-2.ensures.value) c.in_ok-kept.ensures in
-    let m = c.max-count.ensures in
-    let l = c.len.ensures in
-    are-kept old new of at kept c.max-count.result (keys-distinct c.args.new.now.duties c.duty_count.ensures.rising) c.requires.places (omega (arith, m, l)) is
+    let m = c.max-bound.ensures in
+    are-kept old new of at c.args.places.now.bound kept c.max-bound.result (keys-distinct c.args.new.now.duties c.duty_count.ensures.rising) c.requires.places (omega (arith, m)) is
+
+pub settle-requires-clause-there : goal.settle-requires-clause-there
+settle-requires-clause-there c =
+    let old = keys_of c.args.old.now.duties in
+    let new = keys_of c.args.new.now.duties in
+    let of = c.args.places.now.of.items in
+    let at = c.args.places.now.at in
+    let kept = c.deref-2.result.now in
+    let is = kept-along {olds = old} {news = new} refl refl c.deref.ensures.value (sym c.deref-2.ensures.value) c.in_ok-kept.ensures in
+    kept-there old new of at c.args.places.now.bound kept c.in_ok-copied.field-0 c.in_ok-copied.ensures c.requires.places is
+
+pub settle-requires-clause-below : goal.settle-requires-clause-below
+settle-requires-clause-below c =
+    let places = c.args.places.now in
+    let m = c.max-bound.ensures in
+    copy-below places.of.items places.at c.in_ok-copied.field-0 places.bound c.max-bound.result c.in_ok-copied.ensures c.requires.places (omega (arith, m))
 
 pub returns-clause-stay : goal.returns-clause-stay
 returns-clause-stay c =

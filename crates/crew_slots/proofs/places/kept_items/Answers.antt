@@ -1,8 +1,8 @@
-use Rattle.std.proofs.Common.{◌≡◌, ◌<◌, ◌+◌, ◌∙◌, ℕ, None, Some, List, Option, ap, get_or, length, subst, sym, arith, refl, Vec, Global}
+use Rattle.std.proofs.Common.{◌≡◌, ◌<◌, ◌+◌, ◌∙◌, ℕ, None, Some, List, Option, ap, get_or, length, subst, sym, arith, Vec, Global}
 use Rattle.std.specs.Prelude.{slice_get}
 use Rattle.std.proofs.lemmas.Option.{slice_get-get_or}
 use Rattle.crew_slots.proofs.Seats.{AreSeated, seated-none, seated-put, seated-skip}
-use Rattle.crew_slots.proofs.Gets.{within}
+use Rattle.crew_slots.proofs.Gets.{none-there, within}
 use Rattle.crew_slots.proofs.places.kept_items.Goals as goal
 use Rattle.crew_slots.proofs.places.kept_items.Goals.{in-Some, in_default}
 
@@ -18,10 +18,6 @@ index_mut-requires c =
     let long = c.loop-item.invariant.long in
     omega (arith, place, long)
 
-nothing : (o : Option ℕ) → ((x : ℕ) → o ≡ Some x → ⊥) → o ≡ None
-nothing None h = refl
-nothing (Some x) h = absurd (h x refl)
-
 pub loop-item-preserved : goal.loop-item-preserved
 loop-item-preserved c =
     let kept = c.args.kept.now in
@@ -33,7 +29,7 @@ loop-item-preserved c =
           subst (λ (v : Vec (Option ℕ) Global). AreSeated kept c.args.count (i + 1) v.items) (sym w.at-is) (seated-put kept c.args.count i w.in-Some.place c.loop-item.at.items c.requires.kept at inv)
           )
       | in_default w ↦ (
-          let at = here kept i None c.loop-item-test.true (nothing (get_or kept i None) w.in_default.not-Some) in
+          let at = here kept i None c.loop-item-test.true (none-there (get_or kept i None) w.in_default.not-Some) in
           subst (λ (v : Vec (Option ℕ) Global). AreSeated kept c.args.count (i + 1) v.items) (sym w.at-is) (seated-skip kept c.args.count i c.loop-item.at.items at inv)
           )
     ]

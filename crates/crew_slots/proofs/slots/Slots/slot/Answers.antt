@@ -14,14 +14,14 @@ returns-in_err-base-clause-none c =
     let rank : IsRank s.net.value node (Some c.in_ok-rank.rank) = subst (λ (m : Net). IsRank m node (Some c.in_ok-rank.rank)) c.deref.ensures (subst (IsRank c.deref.result.now node) c.in_ok-rank.was c.rank.ensures) in
     let list = c.bases.ensures ∙ ap (λ (m : Net). m.bases) c.deref-2.ensures in
     let none = subst (λ (l : List (List ℕ)). IsFoundAt l node.base None) list (subst (IsFoundAt c.bases.result.now node.base) c.in_err-base.was (base-found c.bases.result.now node.base c.base_place.result c.base_place.ensures)) in
-    absurd (base-there s.net.value s.duties.of.items s.duties.at.items s.bases.of.items s.bases.at.items node rank.0 rank.1 none)
+    absurd (base-there s.net.value s.duties s.bases node rank.0 rank.1 none)
 
 pub index-requires : goal.index-requires
 index-requires c =
     let s = c.self.inside in
     let node = c.args.node.now in
     let rank : IsRank s.net.value node (Some c.in_ok-rank.rank) = subst (λ (m : Net). IsRank m node (Some c.in_ok-rank.rank)) c.deref.ensures (subst (IsRank c.deref.result.now node) c.in_ok-rank.was c.rank.ensures) in
-    let w = rank-within s.net.value s.duties.of.items s.duties.at.items s.bases.of.items s.bases.at.items node c.in_ok-rank.rank c.self.invariant rank in
+    let w = rank-within s.net.value s.duties s.bases node c.in_ok-rank.rank c.self.invariant rank in
     omega (arith, w)
 
 pub index-requires-2 : goal.index-requires-2
@@ -30,7 +30,7 @@ index-requires-2 c =
     let node = c.args.node.now in
     let list = c.bases.ensures ∙ ap (λ (m : Net). m.bases) c.deref-2.ensures in
     let base = subst (λ (l : List (List ℕ)). IsFoundAt l node.base (Some c.in_ok-base.base)) list (subst (IsFoundAt c.bases.result.now node.base) c.in_ok-base.was (base-found c.bases.result.now node.base c.base_place.result c.base_place.ensures)) in
-    let w = base-within s.net.value s.duties.of.items s.duties.at.items s.bases.of.items s.bases.at.items node c.in_ok-base.base c.self.invariant base in
+    let w = base-within s.net.value s.duties s.bases node c.in_ok-base.base c.self.invariant base in
     omega (arith, w)
 
 pub returns-clause-is : goal.returns-clause-is
@@ -40,15 +40,15 @@ returns-clause-is c =
     let rank : IsRank s.net.value node (Some c.in_ok-rank.rank) = subst (λ (m : Net). IsRank m node (Some c.in_ok-rank.rank)) c.deref.ensures (subst (IsRank c.deref.result.now node) c.in_ok-rank.was c.rank.ensures) in
     let list = c.bases.ensures ∙ ap (λ (m : Net). m.bases) c.deref-2.ensures in
     let base = subst (λ (l : List (List ℕ)). IsFoundAt l node.base (Some c.in_ok-base.base)) list (subst (IsFoundAt c.bases.result.now node.base) c.in_ok-base.was (base-found c.bases.result.now node.base c.base_place.result c.base_place.ensures)) in
-    let w = rank-within s.net.value s.duties.of.items s.duties.at.items s.bases.of.items s.bases.at.items node c.in_ok-rank.rank c.self.invariant rank in
-    let v = base-within s.net.value s.duties.of.items s.duties.at.items s.bases.of.items s.bases.at.items node c.in_ok-base.base c.self.invariant base in
+    let w = rank-within s.net.value s.duties s.bases node c.in_ok-rank.rank c.self.invariant rank in
+    let v = base-within s.net.value s.duties s.bases node c.in_ok-base.base c.self.invariant base in
     let place = slice_get_read s.duties.of.items (length s.duties.of.items) c.in_ok-rank.rank c.index.result.now refl w c.index.ensures in
     let base_place = slice_get_read s.bases.of.items (length s.bases.of.items) c.in_ok-base.base c.index-2.result.now refl v c.index-2.ensures in
     let slot = 16 * c.index.result.now + c.index-2.result.now in
     let own = subst (λ (t : Slots). IsSlot t node slot) c.self.view_is
-    (is-slot s.net.value s.duties.of.items s.duties.at.items s.bases.of.items s.bases.at.items node c.in_ok-rank.rank c.in_ok-base.base c.index.result.now c.index-2.result.now c.self.invariant rank base place base_place)
+    (is-slot s.net.value s.duties s.bases node c.in_ok-rank.rank c.in_ok-base.base c.index.result.now c.index-2.result.now c.self.invariant rank base place base_place)
     in
-    let sound = subst AreSound c.self.view_is (are-sound s.net.value s.duties.of.items s.duties.at.items s.bases.of.items s.bases.at.items c.self.invariant) in
+    let sound = subst AreSound c.self.view_is (are-sound s.net.value s.duties s.bases c.self.invariant) in
     λ other.
     (λ e. subst (IsSlot c.args.self.now node) (same_Some slot other e) own, λ is. ap (λ (n : ℕ). Some n) (one-slot c.args.self.now node slot other sound own is))
 
@@ -68,4 +68,4 @@ returns-in_err-base-clause-is c =
     let rank : IsRank s.net.value node (Some c.in_ok-rank.rank) = subst (λ (m : Net). IsRank m node (Some c.in_ok-rank.rank)) c.deref.ensures (subst (IsRank c.deref.result.now node) c.in_ok-rank.was c.rank.ensures) in
     let list = c.bases.ensures ∙ ap (λ (m : Net). m.bases) c.deref-2.ensures in
     let none = subst (λ (l : List (List ℕ)). IsFoundAt l node.base None) list (subst (IsFoundAt c.bases.result.now node.base) c.in_err-base.was (base-found c.bases.result.now node.base c.base_place.result c.base_place.ensures)) in
-    absurd (base-there s.net.value s.duties.of.items s.duties.at.items s.bases.of.items s.bases.at.items node rank.0 rank.1 none)
+    absurd (base-there s.net.value s.duties s.bases node rank.0 rank.1 none)
