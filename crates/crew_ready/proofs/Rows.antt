@@ -89,11 +89,8 @@ used-set [] i new = refl
 used-set (w ∷ words) zero new = refl
 used-set (w ∷ words) (suc i) new = ap (λ z. nat_lt 0 w ∷ z) (used-set words i new)
 
-pub above-set : (n : ℕ) (words : List ℕ) (upper : List Bool) (row new : ℕ) → IsAbove n words upper → IsAbove n (slice_set words row new) (slice_set upper row (nat_lt 0 new))
-above-set n words upper row new a = record {
-  is_used = ap (λ z. slice_set z row (nat_lt 0 new)) a.is_used ∙ sym (used-set words row new);
-  smaller = (let s = a.smaller in let e = length-set upper row (nat_lt 0 new) in let l = long n words in let m = long n (slice_set words row new) in omega (arith, s, e, l, m));
-}
+pub above-set : (words : List ℕ) (upper : List Bool) (row new : ℕ) → IsAbove words upper → IsAbove (slice_set words row new) (slice_set upper row (nat_lt 0 new))
+above-set words upper row new is = ap (λ z. slice_set z row (nat_lt 0 new)) is ∙ sym (used-set words row new)
 
 -- the empty set
 zeros-flag : (rows n : ℕ) → flag_in (replicate rows 0) n ≡ false
@@ -126,11 +123,8 @@ empty-used : (rows : ℕ) → used (replicate rows 0) ≡ replicate rows false
 empty-used zero = refl
 empty-used (suc rows) = ap (λ z. false ∷ z) (empty-used rows)
 
-pub empty-above : (n rows : ℕ) → rows * 64 < n + 64 → 1 < rows → IsAbove n (replicate rows 0) (replicate rows false)
-empty-above n rows k many = record {
-  is_used = sym (empty-used rows);
-  smaller = (let l = long n (replicate rows 0) in let m = length-replicate_lem rows false in omega (arith, l, m, k, many));
-}
+pub empty-above : (rows : ℕ) → IsAbove (replicate rows 0) (replicate rows false)
+empty-above rows = sym (empty-used rows)
 
 -- the least flag of the least word that has one
 not-set : (a : ℕ) → a ≡ 0 → nat_eq a 1 ≡ false
@@ -165,7 +159,7 @@ first-in n words row word r low is some small below =
 pub none-in : (n : ℕ) (words : List ℕ) → IsRow n words → ((j : ℕ) → get_or words j 0 ≡ 0) → NoneSet (flags_of n words)
 none-in n words r all k = flag-of n words k r ∙ no-flag words k (all (k / 64))
 
--- what a set above says of the words
+-- what the row above says of the words
 zero-if : (w : ℕ) → nat_lt 0 w ≡ false → w ≡ 0
 zero-if w e = grind (arith, tests, e)
 
@@ -200,10 +194,6 @@ first-answer n words seen row None r same before after none some = none-in n wor
 first-answer n words seen row (Some place) r same before after none some =
     let s = subst (λ z. (row < length z) × (0 < get_or z row 0) × (get_or z row 0 < 2 ^ 64) × (place ≡ row * 64 + trailing_zeros w64 (get_or z row 0))) same some in
     subst (IsFirst (flags_of n words)) (sym s.3) (first-in n words row (get_or words row 0) r s.0 refl s.1 s.2 before)
-
-pub lone-clear : (words : List ℕ) → length words ≤ 1 → get_or words 0 0 ≡ 0 → (j : ℕ) → get_or words j 0 ≡ 0
-lone-clear words few e zero = e
-lone-clear words few e (suc j) = get_or_past words (suc j) 0 (omega (arith, few))
 
 pub above-row : (n : ℕ) (words : List ℕ) → IsRow n words → length words ≤ 67_108_864
 above-row n words r = (let t = r.tight in let f = r.few in omega (arith, t, f))

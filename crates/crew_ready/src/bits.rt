@@ -1,5 +1,5 @@
 //! Bits of words.
-ghost use Rattle.std.specs.Prelude.{◌≡◌, ℕ, ◌+◌, ◌*◌, ◌^◌, ◌<◌, ◌≤◌, IfOk, IfSome, None, get_or, length, nat_eq, replicate};
+ghost use Rattle.std.specs.Prelude.{◌≡◌, ℕ, ◌+◌, ◌*◌, ◌^◌, ◌<◌, ◌≤◌, IfOk, IfSome, MatchOption, None, get_or, length, nat_eq, replicate};
 ghost use Rattle.std.specs.Int.{bit_at, trailing_zeros, w64};
 
 use std::alloc::{AllocError, Global};
@@ -41,6 +41,15 @@ pub(crate) fn first_in(words: &[u64], row: usize) -> Option<usize>
         return None;
     }
     Some(row * 64 + word.trailing_zeros() as usize)
+}
+
+/// The place of the least word that has a bit set.
+pub(crate) fn first_row(words: &[u64]) -> Option<usize>
+    ensures { MatchOption result ((j : ℕ) → get_or words.now j 0 ≡ 0) (λ row.
+        (row < length words.now) × (0 < get_or words.now row 0)
+        × ((j : ℕ) → j < row → get_or words.now j 0 ≡ 0)) }
+{
+    words.iter().position(|word| *word != 0)
 }
 
 /// How many words hold so many bits.

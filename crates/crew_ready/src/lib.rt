@@ -6,6 +6,7 @@
 mod bits;
 mod counts;
 mod place_set;
+mod row;
 
 pub use counts::Counts;
 pub use place_set::PlaceSet;

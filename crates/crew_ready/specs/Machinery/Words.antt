@@ -22,7 +22,6 @@ pub record IsRow (n : ℕ) (words : List ℕ) : Type 0 where
   pub few : n ≤ 4_294_967_295
   pub past : (place : ℕ) → n ≤ place → flag_in words place ≡ false
 
--- the set above: of the words that have a bit set, and smaller
-pub record IsAbove (n : ℕ) (words : List ℕ) (upper : List Bool) : Type 0 where
-  pub is_used : upper ≡ used words
-  pub smaller : length upper < length (flags_of n words)
+-- the row above words: a flag for each, whether it has a bit set
+abbrev pub IsAbove : List ℕ → List Bool → Type 0
+IsAbove words upper = upper ≡ used words
