@@ -10,9 +10,9 @@ use std::marker::Model;
 /// A set of the places below a number, with the least one at hand. Once made it takes no memory.
 ///
 /// A contract sees a list of flags, one for each place. Each place is a bit of a word, and a row
-/// above has a bit for each word, set where the word has a bit set. So a change takes two steps, and
-/// the least place is found by going over a word for each 4,096 places: of 200,000 places, over at
-/// most 49.
+/// above has a bit for each word, which is set where the word isn't nought. A change takes two
+/// steps. The least place is found by going over the words of the row above, one for each 4,096
+/// places: 49 for 200,000 places, and 782 for 3,200,000.
 #[derive(Drop)]
 pub struct PlaceSet {
     count: usize,

@@ -22,6 +22,6 @@ pub record IsRow (n : ℕ) (words : List ℕ) : Type 0 where
   pub few : n ≤ 4_294_967_295
   pub past : (place : ℕ) → n ≤ place → flag_in words place ≡ false
 
--- the row above words: a flag for each, whether it has a bit set
+-- the row above words: of each, whether a bit of it is set
 abbrev pub IsAbove : List ℕ → List Bool → Type 0
 IsAbove words upper = upper ≡ used words
