@@ -65,6 +65,17 @@ impl Board {
         &self.sealed
     }
 
+    /// The ground of the open round; `None` where none is open.
+    pub fn round(&self) -> Option<&Ground>
+        ensures { MatchOption result (self.now.round ≡ None) (λ ground. (r : ShownRound)
+            × (self.now.round ≡ Some r) × (r.entries ≡ ground.now.entries)) }
+    {
+        match &self.round {
+            Some(round) => Some(round.ground()),
+            None => None,
+        }
+    }
+
     /// How many nodes the open round has, and how many of them are done and out; `None` where none
     /// is open.
     pub fn progress(&self) -> Option<Progress>

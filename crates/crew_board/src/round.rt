@@ -31,6 +31,9 @@ use std::alloc::{AllocError, Global};
 use std::marker::Model;
 use std::sync::Arc;
 
+// How many jobs a lot has at most, once its base has a sweep.
+const LOT: usize = 256;
+
 /// A round over a ground.
 ///
 /// A contract sees the ground, and the marks of its nodes. The front of a node that is done is
@@ -146,6 +149,13 @@ impl Round {
         })
     }
 
+    /// The ground.
+    pub(crate) fn ground(&self) -> &Ground
+        ensures { result.now ≡ self.now.ground }
+    {
+        &self.ground
+    }
+
     /// How many nodes there are, are done, and are out.
     pub(crate) fn progress(&self) -> Progress
         ensures nodes { result.nodes ≡ length self.now.marks.marks }
@@ -205,8 +215,28 @@ impl Round {
         Ok(true)
     }
 
-    // Hands out jobs into a lot of the round's until it has so many, or no node is ready, or there
-    // is no memory for the next.
+    // Whether the least ready node may go with a lot: it is of the base of the lot's last job, and the
+    // lot is short or the base has no sweep yet. A lot is of one base, so that whoever works it out
+    // makes the sweep of one base at most.
+    fn goes_on(&self, lot: &Lot) -> bool {
+        let Some(last) = lot.jobs().last() else {
+            return true;
+        };
+        let Some(next) = self.marks.first_ready() else {
+            return false;
+        };
+        let base = last.base();
+        let is_one = next.checked_div(self.ground.net().duty_count()) == Some(base);
+        is_one && (lot.len() < LOT || !self.is_swept(base))
+    }
+
+    // Whether a sweep of a base over the ground's plan stands.
+    fn is_swept(&self, base: usize) -> bool {
+        matches!(self.swept.get(base), Some(Some(_)))
+    }
+
+    // Hands out jobs into a lot of the round's until it has so many, or no node is ready that may go
+    // with it, or there is no memory for the next.
     fn fill(&mut self, alloc: Global, most: usize, lot: &mut Lot)
         requires lot { StandOn self.old.ground lot.old }
         requires most { length lot.old ≤ most }
@@ -216,6 +246,9 @@ impl Round {
         ensures most { length lot.new ≤ most }
     {
         while lot.len() < most {
+            if !self.goes_on(lot) {
+                return;
+            }
             let added = self.claim_into(alloc, lot).unwrap_or(false);
             if !added {
                 return;
