@@ -1,0 +1,3 @@
+pub mod Plans
+pub mod Faults
+pub mod Machinery

@@ -1,0 +1,205 @@
+//! What the commands of a case work on.
+ghost use Rattle.std.specs.Prelude.{◌≡◌};
+ghost use Rattle.crew_log.specs.Logs.{AreOf};
+
+use crate::edits::edit_of;
+use crate::sights::{Question, all_see, ask, best_cost, count_views, held_of, hold_all, see};
+use crate::words::{Answer, code_of, count_of};
+use crew_flights::Edit;
+use crew_log::{Receipt, Seat};
+use crew_publish::{Note, View, Viewer};
+use crew_service::{Gate, Planner, Shared};
+use std::alloc::Global;
+use std::io::{self, Print};
+use std::marker::Model;
+use std::sync::Wait;
+use std::thread::Threads;
+
+/// A planner with what it shares, the seats, the receipts that weren't handed in yet, the note that
+/// came last, the viewers, and views that are held.
+#[derive(Drop)]
+pub struct Desk<'a, R: Wait, G: Gate> {
+    shared: &'a Shared,
+    planner: Planner<'a, R, G>,
+    seats: Vec<Seat>,
+    receipts: Vec<Receipt>,
+    note: Option<Note<&'a R>>,
+    viewers: Vec<Viewer>,
+    held: Vec<View>,
+}
+
+impl<'a, R: Wait, G: Gate> Model for Desk<'a, R, G> {
+    ghost use Rattle.std.specs.Prelude.{◌≡◌};
+    ghost use Rattle.crew_log.specs.Logs as Spec;
+    ghost use Rattle.crew_log.specs.Logs.{AreOf};
+
+    ghost Value = { Spec.Log };
+
+    ghost view = { λ d. d.shared.now };
+
+    ghost invariant = { λ d. (d.planner.log ≡ d.shared.now) × AreOf d.shared.now d.receipts.items };
+}
+
+impl<'a, R: Wait, G: Gate> Desk<'a, R, G> {
+    /// A desk where nothing was submitted.
+    pub fn new(
+        alloc: Global,
+        shared: &'a Shared,
+        planner: Planner<'a, R, G>,
+        seats: Vec<Seat>,
+        viewers: Vec<Viewer>,
+    ) -> Self
+        requires { planner.log ≡ shared.now }
+    {
+        Desk {
+            shared,
+            planner,
+            seats,
+            receipts: Vec::new(alloc),
+            note: None,
+            viewers,
+            held: Vec::new(alloc),
+        }
+    }
+
+    /// What it shares.
+    pub fn shared(&self) -> &'a Shared {
+        self.shared
+    }
+
+    // Submits an edit by a seat, and gives its place.
+    fn submit(&mut self, rt: &R, seat: usize, edit: Edit) -> Answer {
+        let Some(seat) = self.seats.get_mut(seat) else {
+            return Err(None);
+        };
+        if self.receipts.reserve(1).is_err() {
+            return Err(None);
+        }
+        match seat.submit(rt, self.shared.log(), edit) {
+            Ok(receipt) => {
+                let place = receipt.place() as u64;
+                self.receipts.push_reserved(receipt);
+                Ok(place)
+            }
+            Err((_, fault)) => Err(fault.number()),
+        }
+    }
+
+    // Settles all receipts, and gives the number that the note tells.
+    fn settle<S: Threads + Sync>(&mut self, rt: &S, alloc: Global) -> Answer {
+        match self.planner.settle(rt, alloc, self.shared, &self.receipts) {
+            Ok(note) => {
+                let number = note.number();
+                self.note = Some(note);
+                Ok(number)
+            }
+            Err(fault) => Err(fault.number()),
+        }
+    }
+
+    // A viewer learns of the last note.
+    fn learn(&mut self, viewer: usize) -> Answer {
+        match (self.viewers.get_mut(viewer), &self.note) {
+            (Some(viewer), Some(note)) => {
+                viewer.learn(note);
+                Ok(note.count() as u64)
+            }
+            _ => Err(None),
+        }
+    }
+
+    // What the version that a viewer sees answers.
+    fn ask(&mut self, viewer: usize, question: Question<'_>) -> Answer {
+        match self.viewers.get_mut(viewer) {
+            Some(viewer) => ask(viewer, question),
+            None => Err(None),
+        }
+    }
+
+    // How many of so many views of a viewer are of the version of this number.
+    fn count_views(&mut self, viewer: usize, number: usize, views: usize) -> Answer {
+        match self.viewers.get_mut(viewer) {
+            Some(viewer) => count_views(viewer, number as u64, views),
+            None => Err(None),
+        }
+    }
+
+    // What words ask for that a viewer answers.
+    fn look(&mut self, words: &[&str]) -> Answer {
+        match *words {
+            ["see", viewer] => self.ask(count_of(viewer), Question::Number),
+            ["count", viewer] => self.ask(count_of(viewer), Question::Count),
+            ["verdict", viewer, place] => {
+                self.ask(count_of(viewer), Question::Verdict(count_of(place)))
+            }
+            ["front", viewer, base, flight] => match code_of(base) {
+                Some(base) => self.ask(count_of(viewer), Question::Entries(base, flight)),
+                None => Err(None),
+            },
+            ["views", viewer, number, views] => {
+                self.count_views(count_of(viewer), count_of(number), count_of(views))
+            }
+            ["learn", viewer] => self.learn(count_of(viewer)),
+            ["all", number] => all_see(&mut self.viewers, count_of(number) as u64),
+            ["hold"] => hold_all(&mut self.viewers, &mut self.held),
+            ["held", number] => held_of(&self.held, count_of(number) as u64),
+            _ => Err(None),
+        }
+    }
+
+    // What words ask for.
+    fn obey<S: Threads + Sync>(
+        &mut self,
+        rt: &S,
+        wait: &R,
+        alloc: Global,
+        words: &[&str],
+    ) -> Answer {
+        match *words {
+            ["submit", seat, ref fields @ ..] => match edit_of(fields) {
+                Some(edit) => self.submit(wait, count_of(seat), edit),
+                None => Err(None),
+            },
+            ["settle"] => self.settle(rt, alloc),
+            ["kept"] => Ok(self.planner.version().number()),
+            ["open"] => match self.shared.progress(wait) {
+                Some(progress) => Ok(progress.nodes as u64),
+                None => Err(None),
+            },
+            _ => self.look(words),
+        }
+    }
+
+    // Obeys a command, and shows what it comes to.
+    fn obey_line<S: Print + Threads + Sync>(
+        &mut self,
+        rt: &S,
+        wait: &R,
+        alloc: Global,
+        line: &str,
+    ) -> io::Result<()> {
+        let words: Vec<&str> = line.split([' ', ',']).collect(alloc)?;
+        if let ["best", viewer] = *words.as_slice() {
+            let best = match self.viewers.get_mut(count_of(viewer)) {
+                Some(viewer) => best_cost(viewer),
+                None => None,
+            };
+            return println!(rt; "{line}: {best:?}");
+        }
+        println!(rt; "{line}: {:?}", self.obey(rt, wait, alloc, &words))
+    }
+
+    /// Obeys each command, and shows what it comes to.
+    pub fn obey_all<S: Print + Threads + Sync>(
+        &mut self,
+        rt: &S,
+        wait: &R,
+        alloc: Global,
+        input: &str,
+    ) -> io::Result<()> {
+        for line in input.lines() {
+            self.obey_line(rt, wait, alloc, line)?;
+        }
+        Ok(())
+    }
+}

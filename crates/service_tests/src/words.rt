@@ -1,0 +1,36 @@
+//! What the words of a command say.
+
+use crew_flights::{Code, FlightId};
+use crew_pairing::{Key, Leg};
+
+/// What a command comes to: a number, or the number of a fault, and none where memory is wanting or
+/// what it names isn't there.
+pub type Answer = Result<u64, Option<u8>>;
+
+/// A count or a place; 0 where the word is none.
+pub fn count_of(word: &str) -> usize {
+    word.parse::<usize>().unwrap_or(0)
+}
+
+/// A code of three letters.
+pub fn code_of(word: &str) -> Option<Code> {
+    let [first, second, third] = word.as_bytes() else {
+        return None;
+    };
+    Code::new([*first, *second, *third])
+}
+
+/// A number of points.
+pub fn points_of(word: &str) -> Option<i64> {
+    word.parse::<i64>().ok()
+}
+
+/// The number of a flight.
+pub fn flight_id(word: &str) -> Option<FlightId> {
+    FlightId::new(word.parse::<u32>().ok()?)
+}
+
+/// The key of a duty of one leg.
+pub fn key_of(word: &str) -> Option<Key> {
+    Some(Key::of(Leg::new(flight_id(word)?, false)))
+}
