@@ -1,11 +1,11 @@
 //! The log.
 
-ghost use Rattle.std.specs.Prelude.{◌≡◌, ◌<◌, ◌+◌, ◌^◌, IfOk, IfErr};
-ghost use Rattle.crew_log.specs.Logs.{AreOf, IsOf, IsRun, new_seat, with_seat};
+ghost use Rattle.std.specs.Prelude.{◌≡◌, ◌<◌, ◌+◌, ◌^◌, IfOk, IfErr, IfSome, IfNone, length};
+ghost use Rattle.crew_log.specs.Logs.{AreOf, HaveNone, IsOf, IsRun, new_seat, with_seat};
 ghost use Rattle.crew_log.specs.declared.fault.LogFault.TheVariants.{TooManySeats};
 
 use crate::fault::LogFault;
-use crate::receipt::Receipt;
+use crate::receipt::{Receipt, copy_at};
 use crate::seat::Seat;
 use boxcar::Vec as Row;
 use crew_flights::Entry;
@@ -60,6 +60,18 @@ impl Log {
         Ok(seat)
     }
 
+    // What shows the entry at a place: as the row shows it now, or else as one of these receipts.
+    fn receipt_at(&self, place: usize, receipts: &[Receipt]) -> Option<Receipt>
+        requires { AreOf self.now receipts.now }
+        ensures some { IfSome result (λ receipt. IsOf self.now receipt × (receipt.index ≡ place)) }
+        ensures none { IfNone result (HaveNone receipts.now place) }
+    {
+        match self.row.witness(place) {
+            Some(at) => Some(Receipt { at }),
+            None => copy_at(place, receipts),
+        }
+    }
+
     /// Receipts of the entries from a place on, up to the first place that isn't shown yet.
     ///
     /// A submit that found no memory may leave a place that is never shown; a reading from at or
@@ -68,14 +80,30 @@ impl Log {
         ensures of { IfOk result (λ receipts. AreOf self.now receipts.items) }
         ensures places { IfOk result (λ receipts. IsRun from receipts.items) }
     {
+        self.read_past(alloc, from, &[])
+    }
+
+    /// As `read_from`, by one who has receipts: what they show is shown for good, so the reading
+    /// doesn't end at the place of any of them, and goes past those that follow on one another.
+    pub fn read_past(
+        &self,
+        alloc: Global,
+        from: usize,
+        shown: &[Receipt],
+    ) -> Result<Vec<Receipt>, AllocError>
+        requires { AreOf self.now shown.now }
+        ensures of { IfOk result (λ receipts. AreOf self.now receipts.items) }
+        ensures places { IfOk result (λ receipts. IsRun from receipts.items) }
+        ensures end { IfOk result (λ receipts. HaveNone shown.now (from + length receipts.items)) }
+    {
         let mut receipts = Vec::new(alloc);
-        for place in from..usize::MAX {
-            let Some(at) = self.row.witness(place) else {
-                break;
+        for place in from..=usize::MAX {
+            let Some(receipt) = self.receipt_at(place, shown) else {
+                return Ok(receipts);
             };
-            receipts.push(Receipt { at })?;
+            receipts.push(receipt)?;
         }
-        Ok(receipts)
+        Err(AllocError)
     }
 
     /// Receipts of one place have one entry.

@@ -1,7 +1,7 @@
 //! Receipts.
 
-ghost use Rattle.std.specs.Prelude.{◌≡◌};
-ghost use Rattle.crew_log.specs.Logs.{IsOf};
+ghost use Rattle.std.specs.Prelude.{◌≡◌, IfSome, IfNone};
+ghost use Rattle.crew_log.specs.Logs.{AreOf, HaveNone, IsOf};
 
 use crate::log::Log;
 use boxcar::Pushed;
@@ -41,4 +41,20 @@ impl Receipt {
     {
         log.row.value(&self.at)
     }
+}
+
+// A copy of a receipt among these that has this place.
+pub(crate) fn copy_at(place: usize, receipts: &[Receipt]) -> Option<Receipt>
+    ensures some { (log : _) → AreOf log receipts.now
+        → IfSome result (λ receipt. IsOf log receipt × (receipt.index ≡ place)) }
+    ensures none { IfNone result (HaveNone receipts.now place) }
+{
+    for receipt in receipts {
+        if receipt.place() == place {
+            return Some(Receipt {
+                at: receipt.at.again(),
+            });
+        }
+    }
+    None
 }
