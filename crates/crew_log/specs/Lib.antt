@@ -1,2 +1,3 @@
 pub mod Logs
 pub mod Faults
+pub mod Machinery

@@ -1,5 +1,5 @@
 -- Logs, their seats, and receipts of entries.
-use Rattle.std.specs.Prelude.{◌≡◌, ◌+◌, ◌∷◌, ℕ, suc, List, [], All}
+use Rattle.std.specs.Prelude.{◌≡◌, ◌≢◌, ◌+◌, ◌∷◌, ℕ, suc, List, [], All}
 use Rattle.boxcar.specs.Table.{Shelves, Shows, Where}
 use Rattle.crew_flights.specs.declared.edit.Edit.{Edit}
 use Rattle.crew_flights.specs.declared.entries.Entry.{Entry}
@@ -47,3 +47,7 @@ AreOf log receipts = All (λ receipt. IsOf log receipt) receipts
 abbrev pub IsRun : ℕ → List (Where Entry) → Type 0
 IsRun from [] = Unit {0}
 IsRun from (r ∷ rs) = (r.index ≡ from) × IsRun (suc from) rs
+
+-- none of these receipts has this place
+abbrev pub HaveNone : List (Where Entry) → ℕ → Type 0
+HaveNone receipts place = All (λ receipt. receipt.index ≢ place) receipts

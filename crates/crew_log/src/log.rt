@@ -1,36 +1,45 @@
 //! The log.
 
-ghost use Rattle.std.specs.Prelude.{◌≡◌, ◌<◌, ◌+◌, ◌^◌, IfOk, IfErr};
-ghost use Rattle.crew_log.specs.Logs.{AreOf, IsOf, IsRun, new_seat, with_seat};
+ghost use Rattle.std.specs.Prelude.{◌≡◌, ◌<◌, ◌+◌, ◌^◌, Some, IfOk, IfErr, IfSome, IfNone, OnOk, length};
+ghost use Rattle.crew_log.specs.Logs.{AreOf, HaveNone, IsOf, IsRun, new_seat, next_entry, with_entry, with_seat};
+ghost use Rattle.crew_log.specs.Machinery.Rights.{names_of, place_of};
 ghost use Rattle.crew_log.specs.declared.fault.LogFault.TheVariants.{TooManySeats};
 
 use crate::fault::LogFault;
-use crate::receipt::Receipt;
+use crate::receipt::{Receipt, copy_at};
+use crate::rights::{InPlace, Right, Rights, Stamped, Turn, Turns};
 use crate::seat::Seat;
-use boxcar::Vec as Row;
-use crew_flights::Entry;
+use boxcar::table::Table;
+use crew_flights::{Edit, Entry};
 use std::alloc::{AllocError, Global};
 use std::marker::Model;
+use std::sync::Wait;
+use std::sync::atomic::{AtomicUsize, Ordering};
 
-/// Entries by place, 0 and up. A place that shows its entry shows it for good.
+/// Entries by place, 0 and up. A place that shows its entry shows it for good, and a number of a
+/// seat has one place.
 ///
 /// A contract sees the row of places, which tells this log from others, and how many seats were
 /// given. What the row shows at a moment no contract sees: a receipt says it of its place.
 #[derive(Drop)]
 pub struct Log {
-    pub(crate) row: Row<Entry>,
-    seats: u8,
+    pub(crate) row: Table<Stamped, InPlace, Global>,
+    rights: Rights,
+    turns: Turns,
+    // The place that is drawn next.
+    next: AtomicUsize,
 }
 
 impl Model for Log {
-    ghost use Rattle.std.specs.Prelude.{◌≤◌};
+    ghost use Rattle.std.specs.Prelude.{◌≡◌, ◌≤◌};
     ghost use Rattle.crew_log.specs.Logs as Spec;
+    ghost use Rattle.crew_log.specs.Machinery.Rights.{names_of};
 
     ghost Value = { Spec.Log };
 
-    ghost view = { λ l. record { row = l.row; seats = l.seats } };
+    ghost view = { λ l. record { row = l.row; seats = l.turns.given } };
 
-    ghost invariant = { λ l. l.seats ≤ 64 };
+    ghost invariant = { λ l. (l.turns.given ≤ 64) × (l.row.tag ≡ names_of l.rights) };
 }
 
 impl Log {
@@ -38,9 +47,12 @@ impl Log {
     pub fn new(alloc: Global) -> Result<Log, AllocError>
         ensures { IfOk result (λ log. log.seats ≡ 0) }
     {
+        let (rights, turns) = Rights::new(alloc)?;
         Ok(Log {
-            row: Row::new(alloc)?,
-            seats: 0,
+            row: Table::new(alloc, rights.tag())?,
+            rights,
+            turns,
+            next: AtomicUsize::new(0),
         })
     }
 
@@ -52,12 +64,72 @@ impl Log {
         ensures err { IfErr result (λ fault. (self.old.seats ≡ 64) × (fault ≡ TooManySeats)
             × (self.new ≡ self.old)) }
     {
-        if self.seats >= 64 {
-            return Err(LogFault::TooManySeats);
+        match self.turns.give() {
+            Some(turn) => Ok(Seat::of(turn)),
+            None => Err(LogFault::TooManySeats),
         }
-        let seat = Seat::new(self.seats);
-        self.seats += 1;
-        Ok(seat)
+    }
+
+    // A place that nobody else draws, with memory for it. It is taken only where there is some, but
+    // where others draw meanwhile, a place may be left without.
+    fn draw(&self) -> Result<usize, AllocError> {
+        self.row.reserve_at(self.next.load(Ordering::SeqCst))?;
+        let place = self.next.fetch_add(1, Ordering::SeqCst);
+        self.row.reserve_at(place)?;
+        Ok(place)
+    }
+
+    // A place that nobody else draws, with the right to it for a turn's number.
+    fn take(&self, turn: &mut Turn) -> Option<(usize, Right)>
+        requires { turn.old.made < 1_000_000 }
+        ensures some { IfSome result (λ r. (turn.new ≡ with_entry turn.old)
+            × (names_of r.1.history.book ≡ self.now.row.tag)
+            × (place_of r.1.history.log turn.old.number turn.old.made ≡ Some r.0)) }
+        ensures none { IfNone result (turn.new ≡ turn.old) }
+    {
+        if !self.rights.is_next(turn) {
+            return None;
+        }
+        let place = self.draw().ok()?;
+        let right = self.rights.take(turn, place)?;
+        Some((place, right))
+    }
+
+    // Enters an edit, as the next entry of the seat whose turn it is.
+    pub(crate) fn push<R: Wait>(&self, rt: &R, turn: &mut Turn, edit: Edit) -> Result<Receipt, Edit>
+        requires { turn.old.made < 1_000_000 }
+        ensures of { IfOk result (λ receipt. IsOf self.now receipt) }
+        ensures entry { IfOk result (λ receipt. receipt.value ≡ next_entry turn.old edit) }
+        ensures turn { OnOk result (turn.new ≡ with_entry turn.old) }
+        ensures back { IfErr result (λ back. (back ≡ edit) × (turn.new ≡ turn.old)) }
+    {
+        let entry = Entry {
+            seat: turn.seat(),
+            number: turn.made(),
+            edit,
+        };
+        let Some((place, right)) = self.take(turn) else {
+            return Err(entry.edit);
+        };
+        match self.row.set_placed(rt, place, Stamped { entry, right }) {
+            Ok(at) => Ok(Receipt { at }),
+            Err(Stamped { entry, right }) => {
+                turn.give_back(right);
+                Err(entry.edit)
+            }
+        }
+    }
+
+    // What shows the entry at a place: as the row shows it now, or else as one of these receipts.
+    fn receipt_at(&self, place: usize, receipts: &[Receipt]) -> Option<Receipt>
+        requires { AreOf self.now receipts.now }
+        ensures some { IfSome result (λ receipt. IsOf self.now receipt × (receipt.index ≡ place)) }
+        ensures none { IfNone result (HaveNone receipts.now place) }
+    {
+        match self.row.witness(place) {
+            Some(at) => Some(Receipt { at }),
+            None => copy_at(place, receipts),
+        }
     }
 
     /// Receipts of the entries from a place on, up to the first place that isn't shown yet.
@@ -68,14 +140,30 @@ impl Log {
         ensures of { IfOk result (λ receipts. AreOf self.now receipts.items) }
         ensures places { IfOk result (λ receipts. IsRun from receipts.items) }
     {
+        self.read_past(alloc, from, &[])
+    }
+
+    /// As `read_from`, by one who has receipts: what they show is shown for good, so the reading
+    /// doesn't end at the place of any of them, and goes past those that follow on one another.
+    pub fn read_past(
+        &self,
+        alloc: Global,
+        from: usize,
+        shown: &[Receipt],
+    ) -> Result<Vec<Receipt>, AllocError>
+        requires { AreOf self.now shown.now }
+        ensures of { IfOk result (λ receipts. AreOf self.now receipts.items) }
+        ensures places { IfOk result (λ receipts. IsRun from receipts.items) }
+        ensures end { IfOk result (λ receipts. HaveNone shown.now (from + length receipts.items)) }
+    {
         let mut receipts = Vec::new(alloc);
-        for place in from..usize::MAX {
-            let Some(at) = self.row.witness(place) else {
-                break;
+        for place in from..=usize::MAX {
+            let Some(receipt) = self.receipt_at(place, shown) else {
+                return Ok(receipts);
             };
-            receipts.push(Receipt { at })?;
+            receipts.push(receipt)?;
         }
-        Ok(receipts)
+        Err(AllocError)
     }
 
     /// Receipts of one place have one entry.
@@ -86,5 +174,17 @@ impl Log {
         ensures { a.now.value ≡ b.now.value }
     {
         self.row.agrees(&a.at, &b.at);
+    }
+
+    /// Receipts of one seat and number have one place.
+    pub fn agree_by_number(&self, a: &Receipt, b: &Receipt)
+        requires a { IsOf self.now a.now }
+        requires b { IsOf self.now b.now }
+        requires seat { a.now.value.seat ≡ b.now.value.seat }
+        requires number { a.now.value.number ≡ b.now.value.number }
+        ensures { a.now.index ≡ b.now.index }
+    {
+        let (one, other) = (self.row.value(&a.at), self.row.value(&b.at));
+        one.right.meet(&other.right);
     }
 }

@@ -1,11 +1,13 @@
 //! Receipts.
 
-ghost use Rattle.std.specs.Prelude.{◌≡◌};
-ghost use Rattle.crew_log.specs.Logs.{IsOf};
+ghost use Rattle.std.specs.Prelude.{◌≡◌, IfSome, IfNone};
+ghost use Rattle.crew_log.specs.Logs.{AreOf, HaveNone, IsOf};
 
 use crate::log::Log;
-use boxcar::Pushed;
+use crate::rights::{InPlace, Stamped};
+use boxcar::table::Placed;
 use crew_flights::Entry;
+use std::alloc::Global;
 use std::marker::Model;
 
 /// What shows that a place of a log has an entry, for good. It is used with the log that it came
@@ -14,7 +16,7 @@ use std::marker::Model;
 /// A contract sees the place as `index`, the entry as `value`, and what ties it to its log.
 #[derive(Drop)]
 pub struct Receipt {
-    pub(crate) at: Pushed<Entry>,
+    pub(crate) at: Placed<Stamped, InPlace, Global>,
 }
 
 impl Model for Receipt {
@@ -23,7 +25,13 @@ impl Model for Receipt {
 
     ghost Value = { Where Entry };
 
-    ghost view = { λ r. r.at };
+    ghost view = { λ r. record {
+      index = r.at.index;
+      value = r.at.value.entry;
+      bucket = r.at.bucket;
+      row = r.at.row;
+      item = r.at.item;
+    } };
 }
 
 impl Receipt {
@@ -39,6 +47,22 @@ impl Receipt {
         requires { IsOf log.now self.now }
         ensures { result.now ≡ self.now.value }
     {
-        log.row.value(&self.at)
+        &log.row.value(&self.at).entry
     }
+}
+
+// A copy of a receipt among these that has this place.
+pub(crate) fn copy_at(place: usize, receipts: &[Receipt]) -> Option<Receipt>
+    ensures some { (log : _) → AreOf log receipts.now
+        → IfSome result (λ receipt. IsOf log receipt × (receipt.index ≡ place)) }
+    ensures none { IfNone result (HaveNone receipts.now place) }
+{
+    for receipt in receipts {
+        if receipt.place() == place {
+            return Some(Receipt {
+                at: receipt.at.again(),
+            });
+        }
+    }
+    None
 }

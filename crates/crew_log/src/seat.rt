@@ -2,42 +2,40 @@
 
 ghost use Rattle.std.specs.Prelude.{◌≡◌, ◌<◌, ◌+◌, ◌^◌, IfOk, IfErr};
 ghost use Rattle.crew_log.specs.Faults.{IsSubmitFault};
-ghost use Rattle.crew_log.specs.Logs.{IsOf, next_entry, unused_seat, with_entry};
+ghost use Rattle.crew_log.specs.Logs.{IsOf, next_entry, with_entry};
 
 use crate::fault::LogFault;
 use crate::log::Log;
 use crate::receipt::Receipt;
-use crew_flights::{Edit, Entry};
+use crate::rights::Turn;
+use crew_flights::Edit;
 use std::marker::Model;
 use std::sync::Wait;
 
 /// The right to push edits to a log as one of its seats: it is used with the log that gave it. In
-/// another log its entries stand beside those of that log's seat of the same number.
+/// another log it is refused, as for want of memory, where that log's seat of the same number has
+/// made another count of entries, and else makes that seat's next one.
 ///
 /// A contract sees its number, and how many entries it has made.
 #[derive(Drop)]
 pub struct Seat {
-    number: u8,
-    made: u32,
+    turn: Turn,
 }
 
 impl Model for Seat {
-    ghost use Rattle.std.specs.Prelude.{◌≤◌, ◌<◌};
     ghost use Rattle.crew_log.specs.Logs as Spec;
 
     ghost Value = { Spec.Seat };
 
-    ghost view = { λ s. record { number = s.number; made = s.made } };
-
-    ghost invariant = { λ s. (s.number < 64) × (s.made ≤ 1_000_000) };
+    ghost view = { λ s. s.turn };
 }
 
 impl Seat {
-    pub(crate) fn new(number: u8) -> Seat
-        requires { number < 64 }
-        ensures { result ≡ unused_seat number }
+    // The seat whose turn it is.
+    pub(crate) fn of(turn: Turn) -> Seat
+        ensures { result ≡ turn }
     {
-        Seat { number, made: 0 }
+        Seat { turn }
     }
 
     /// Its number, from 0 to 63.
@@ -45,14 +43,14 @@ impl Seat {
         ensures value { result ≡ self.now.number }
         ensures few { result < 64 }
     {
-        self.number
+        self.turn.seat()
     }
 
     /// How many entries it has made.
     pub fn made(&self) -> u32
         ensures { result ≡ self.now.made }
     {
-        self.made
+        self.turn.made()
     }
 
     /// Pushes an edit as this seat's next entry, whose number is how many it has made, and gives
@@ -74,20 +72,12 @@ impl Seat {
         ensures fault { IfErr result (λ refused. IsSubmitFault self.old refused.1) }
         ensures same { IfErr result (λ _. self.new ≡ self.old) }
     {
-        if self.made >= 1_000_000 {
+        if self.turn.made() >= 1_000_000 {
             return Err((edit, LogFault::SeatFull));
         }
-        let entry = Entry {
-            seat: self.number,
-            number: self.made,
-            edit,
-        };
-        match log.row.push_shown(rt, entry) {
-            Ok(at) => {
-                self.made += 1;
-                Ok(Receipt { at })
-            }
-            Err(entry) => Err((entry.edit, LogFault::Memory)),
+        match log.push(rt, &mut self.turn, edit) {
+            Ok(receipt) => Ok(receipt),
+            Err(edit) => Err((edit, LogFault::Memory)),
         }
     }
 }

@@ -1,5 +1,5 @@
 -- Laws of chains and of beginnings.
-use Rattle.std.proofs.Common.{◌≡◌, ℕ, ◌+◌, ◌<◌, ◌≤◌, List, [], ◌∷◌, ◌++◌, length, nat_eq, true, take, drop, refl, ap, sym, ◌∙◌, subst, arith, append_assoc}
+use Rattle.std.proofs.Common.{◌≡◌, ℕ, ◌+◌, ◌<◌, ◌≤◌, List, [], ◌∷◌, ◌++◌, length, nat_eq, true, take, drop, refl, ap, sym, ◌∙◌, subst, inl, inr, ⊎_elim, false, arith, append_assoc}
 use mathlib.Core.List.{IsPrefix}
 use Rattle.std.specs.List.{starts_with}
 use lib.Pointwise.{pointwise}
@@ -7,8 +7,8 @@ use Rattle.std.proofs.lemmas.Bool.{and_parts}
 use Rattle.std.proofs.lemmas.Bool.Decides.{nat_tests}
 use Rattle.std.proofs.lemmas.List.{take-append-drop}
 use Rattle.crew_version.specs.Versions.{Snapshot}
-use Rattle.crew_publish.specs.Views.{IsViewOf}
-use Rattle.crew_publish.specs.Chain.{Follows, ChainFrom, IsChain, last_or, Ends}
+use Rattle.crew_publish.specs.Views.{IsMet, IsViewOf, Watching}
+use Rattle.crew_publish.specs.Chain.{Follows, IsSame, Extends, ChainFrom, IsChain, last_or, Ends}
 use Rattle.crew_publish.specs.Machinery.Rule.{AllBegin, seen_by}
 
 pub prefix_self : {A : Type 0} (xs : List A) → IsPrefix xs xs
@@ -89,3 +89,80 @@ all_rest (m ∷ ms) ls whole h = all_rest ms ls whole h.1
 pub first_begins : (ls : List (List Snapshot)) (whole : List Snapshot) → AllBegin ls whole → IsPrefix (seen_by ls) whole
 first_begins [] whole h = (whole, refl)
 first_begins (l ∷ ls) whole h = h.0
+
+pub prefix_trans : {A : Type 0} (xs ys zs : List A) → IsPrefix xs ys → IsPrefix ys zs → IsPrefix xs zs
+prefix_trans xs ys zs p q = (p.0 ++ q.0, sym (append_assoc xs p.0 q.0) ∙ ap (λ w. w ++ q.0) p.1 ∙ q.1)
+
+abbrev head_or : {A : Type 0} → A → List A → A
+head_or d [] = d
+head_or d (x ∷ xs) = x
+
+abbrev tail : {A : Type 0} → List A → List A
+tail [] = []
+tail (x ∷ xs) = xs
+
+-- a beginning that is as long as the whole is the whole
+pub prefix_whole : {A : Type 0} (xs ys : List A) → IsPrefix xs ys → length xs ≡ length ys → xs ≡ ys
+prefix_whole [] [] p n = refl
+prefix_whole [] (y ∷ ys) p n = absurd (omega (arith, n))
+prefix_whole (x ∷ xs) [] p n = absurd (omega (arith, n))
+prefix_whole (x ∷ xs) (y ∷ ys) p n =
+    let rest : xs ++ p.0 ≡ ys = ap tail p.1 in
+    let head : x ≡ y = ap (head_or x) p.1 in
+    ap (λ t. x ∷ t) (prefix_whole xs ys (p.0, rest) (omega (arith, n))) ∙ ap (λ h. h ∷ ys) head
+
+same_follows : (v s w : Snapshot) → IsSame v s → Follows s w → Follows v w
+same_follows v s w same f =
+    let n : v.number ≡ s.number = same.0 in
+    let r : s.number < w.number = f.rises in
+    record { rises = omega arith; begins = subst (λ e. IsPrefix e w.entries) (sym same.1) f.begins }
+
+follows_same : (v s w : Snapshot) → Follows v s → IsSame s w → Follows v w
+follows_same v s w f same =
+    let n : s.number ≡ w.number = same.0 in
+    let r : v.number < s.number = f.rises in
+    record { rises = omega arith; begins = subst (λ e. IsPrefix v.entries e) same.1 f.begins }
+
+follows_trans : (v s w : Snapshot) → Follows v s → Follows s w → Follows v w
+follows_trans v s w f g =
+    let a : v.number < s.number = f.rises in
+    let b : s.number < w.number = g.rises in
+    record { rises = omega arith; begins = prefix_trans v.entries s.entries w.entries f.begins g.begins }
+
+pub extends_trans : (v s w : Snapshot) → Extends v s → Extends s w → Extends v w
+extends_trans v s w h k =
+    ⊎_elim
+    (λ (one : IsSame v s). ⊎_elim (λ (two : IsSame s w). inl (one.0 ∙ two.0, one.1 ∙ two.1)) (λ (two : Follows s w). inr (same_follows v s w one two)) k)
+    (λ (one : Follows v s). ⊎_elim (λ (two : IsSame s w). inr (follows_same v s w one two)) (λ (two : Follows s w). inr (follows_trans v s w one two)) k)
+    h
+
+extends_last : (v : Snapshot) (vs : List Snapshot) → ChainFrom v vs → Extends v (last_or v vs)
+extends_last v [] h = inl (refl, refl)
+extends_last v (w ∷ ws) h = extends_trans v w (last_or w ws) (inr h.0) (extends_last w ws h.1)
+
+extends_from : (v : Snapshot) (vs rest : List Snapshot) → ChainFrom v (vs ++ rest) → Extends (last_or v vs) (last_or v (vs ++ rest))
+extends_from v [] rest h = extends_last v rest h
+extends_from v (w ∷ ws) rest h = extends_from w ws rest h.1
+
+-- the last of a chain extends the last of each beginning of it
+pub extends_beginning : (vs whole : List Snapshot) (last end : Snapshot) → IsPrefix vs whole → Ends vs last → IsViewOf whole end → Extends last end
+extends_beginning [] whole last end p e of = absurd e
+extends_beginning (v ∷ vs) whole last end p e of =
+    let chain : ChainFrom v (vs ++ p.0) = subst IsChain (sym p.1) of.0 in
+    let ends : last_or v (vs ++ p.0) ≡ end = subst (λ (l : List Snapshot). Ends l end) (sym p.1) of.1 in
+    subst (λ (w : Snapshot). Extends last w) ends (subst (λ (w : Snapshot). Extends w (last_or v (vs ++ p.0))) e (extends_from v vs p.0 chain))
+
+-- what a viewer was told of is extended by the end of each chain that begins with what it saw last
+pub extends_told : (viewer : Watching) (told : Snapshot) (list : List Snapshot) (end : Snapshot) → viewer.lost ≡ false → IsMet viewer told → IsPrefix viewer.seen list → IsViewOf list end → Extends told end
+extends_told viewer told list end found met p of =
+    let m = met found in
+    extends_trans told m.0 end m.2 (extends_beginning viewer.seen list m.0 end p m.1 of)
+
+-- more lists before those before
+pub longer : (new old taken more rest : List (List Snapshot)) → new ≡ more ++ old → old ≡ rest ++ taken → new ≡ (more ++ rest) ++ taken
+longer new old taken more rest a b = a ∙ (ap (λ w. more ++ w) b ∙ sym (append_assoc more rest taken))
+
+-- a list that begins with all that a seat knows begins with what it knew before, and saw last then
+pub begins_seen : (ls taken more : List (List Snapshot)) (list seen : List Snapshot) → ls ≡ more ++ taken → seen_by taken ≡ seen → AllBegin ls list → IsPrefix seen list
+begins_seen ls taken more list seen is last h =
+    subst (λ (l : List Snapshot). IsPrefix l list) last (first_begins taken list (all_rest more taken list (subst (λ (w : List (List Snapshot)). AllBegin w list) is h)))

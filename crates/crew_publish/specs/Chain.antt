@@ -1,5 +1,5 @@
 -- Chains of versions.
-use Rattle.std.specs.Prelude.{◌≡◌, ◌<◌, List, [], ◌∷◌}
+use Rattle.std.specs.Prelude.{◌≡◌, ◌<◌, ◌⊎◌, List, [], ◌∷◌}
 use mathlib.Core.List.{IsPrefix}
 use Rattle.crew_version.specs.Versions.{Snapshot}
 
@@ -7,6 +7,14 @@ use Rattle.crew_version.specs.Versions.{Snapshot}
 pub record Follows (v : Snapshot) (w : Snapshot) : Type 0 where
   pub rises : v.number < w.number
   pub begins : IsPrefix v.entries w.entries
+
+-- w is v, by number and entries
+abbrev pub IsSame : Snapshot → Snapshot → Type 0
+IsSame v w = (v.number ≡ w.number) × (v.entries ≡ w.entries)
+
+-- w extends v: it is v, by number and entries, or it may come after v
+abbrev pub Extends : Snapshot → Snapshot → Type 0
+Extends v w = IsSame v w ⊎ Follows v w
 
 -- each of these follows the one before it, the first of them v
 abbrev pub ChainFrom : Snapshot → List Snapshot → Type 0

@@ -26,9 +26,9 @@ view_number view_memory = None
 abbrev pub IsViewerCount : ℕ → Type 0
 IsViewerCount viewers = (0 < viewers) × (viewers ≤ 64)
 
--- a pair isn't made for so many viewers; only where they are few enough may memory be the cause
+-- a pair isn't made for so many viewers: none or too many are asked for, or there is no memory
 abbrev pub IsPairFault : ℕ → PairFault → Type 0
-IsPairFault viewers NoViewer = Unit {0}
+IsPairFault viewers NoViewer = IsViewerCount viewers → ⊥
 IsPairFault viewers pair_memory = IsViewerCount viewers
 
 -- a version isn't published after these: it doesn't follow the last one, or it does and there is

@@ -1,15 +1,16 @@
 -- What contracts see of a publisher, its notes, its viewers and their views.
-use Rattle.std.specs.Prelude.{◌≡◌, ℕ, List, length}
+use Rattle.std.specs.Prelude.{◌≡◌, ℕ, Bool, false, List, length}
 use Rattle.crew_version.specs.Versions.{Snapshot}
-use Rattle.crew_publish.specs.Chain.{IsChain, Ends}
+use Rattle.crew_publish.specs.Chain.{IsChain, Ends, Extends}
 
 -- a publisher: the list of what was published, the first version first
 pub record Published : Type 0 where
   pub list : List Snapshot
 
--- a note of a publication: the number of its version, how many entries this has, and the list that
--- it ended
+-- a note of a publication: its version, the number of this, how many entries it has, and the list
+-- that it ended
 pub record Noted : Type 0 where
+  pub version : Snapshot
   pub number : ℕ
   pub count : ℕ
   pub list : List Snapshot
@@ -19,18 +20,26 @@ pub record Viewed : Type 0 where
   pub version : Snapshot
   pub list : List Snapshot
 
--- a viewer: the published list that it saw last, and the number and the count of entries that its
--- next view reaches
+-- a viewer: the published list that it saw last, and whether it is lost, and gives no view any more
 pub record Watching : Type 0 where
   pub seen : List Snapshot
-  pub number : ℕ
-  pub count : ℕ
+  pub lost : Bool
 
 -- a version is the last of a chain
 abbrev pub IsViewOf : List Snapshot → Snapshot → Type 0
 IsViewOf list v = IsChain list × Ends list v
 
+-- the note of the last of a list
+abbrev pub note_of : List Snapshot → Snapshot → Noted
+note_of list v =
+    record { version = v; number = v.number; count = length v.entries; list = list }
+
 -- a note tells the last of a chain
 abbrev pub IsNoteOf : List Snapshot → ℕ → ℕ → Type 0
 IsNoteOf list number count =
     (v : Snapshot) × IsViewOf list v × (v.number ≡ number) × (length v.entries ≡ count)
+
+-- what a viewer saw last extends the version that it was told of, unless the viewer is lost
+abbrev pub IsMet : Watching → Snapshot → Type 0
+IsMet viewer told =
+    viewer.lost ≡ false → (last : Snapshot) × Ends viewer.seen last × Extends told last

@@ -1,7 +1,7 @@
 //! Whether a version follows another.
 ghost use Rattle.std.specs.Prelude.{◌≡◌, IsTrue, ◌↔◌, slice_get};
 ghost use mathlib.Core.List.{IsPrefix};
-ghost use Rattle.crew_publish.specs.Chain.{Follows};
+ghost use Rattle.crew_publish.specs.Chain.{Extends, Follows, IsSame};
 
 use crew_version::{Version, is_entry};
 
@@ -34,4 +34,18 @@ pub(crate) fn follows(earlier: &Version, later: &Version) -> bool
     ensures { IsTrue result ↔ Follows earlier.now later.now }
 {
     earlier.number() < later.number() && begins(earlier, later)
+}
+
+// Whether a version is an earlier one by number and entries.
+fn is_same(earlier: &Version, later: &Version) -> bool
+    ensures { IsTrue result ↔ IsSame earlier.now later.now }
+{
+    earlier.number() == later.number() && earlier.count() == later.count() && begins(earlier, later)
+}
+
+/// Whether a version is an earlier one by number and entries, or may come after it.
+pub(crate) fn extends(earlier: &Version, later: &Version) -> bool
+    ensures { IsTrue result ↔ Extends earlier.now later.now }
+{
+    is_same(earlier, later) || follows(earlier, later)
 }

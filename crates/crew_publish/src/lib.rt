@@ -2,8 +2,10 @@
 //! meanwhile, and wait for nobody. The crate promises that what is published is a chain, in which
 //! numbers rise and each version's entries begin with those of the one before, and that no viewer
 //! ever goes back: the list that a view ends begins with the list of each earlier view of its
-//! viewer, and with the list that was published when the viewer was made. One that goes on as a
-//! fresh viewer has that one's list, and still takes no lesser number and no fewer entries.
+//! viewer, and with the list that was published when the viewer was made. A view's version is each
+//! version that its viewer was told of by a note, by number and entries, or follows it. So is that
+//! of a viewer that goes on as a fresh one, whose list it then has, by what it saw and was told of
+//! before.
 #![tactic(auto)]
 
 mod fault;

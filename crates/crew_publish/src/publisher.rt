@@ -1,10 +1,11 @@
 //! The publisher, and the pair.
-ghost use Rattle.std.specs.Prelude.{◌≡◌, ◌∷◌, [], ◌++◌, All, IfErr, IfOk, OnErr, OnOk, IsTrue, ◌↔◌, drop, length};
+ghost use Rattle.std.specs.Prelude.{◌≡◌, ◌∷◌, [], ◌++◌, All, IfErr, IfOk, OnErr, OnOk, IsTrue, ◌↔◌, drop, false, length};
 ghost use Rattle.std.specs.Arc.{arc_value};
 ghost use Rattle.left_right.specs.Sides.{view};
 ghost use Rattle.crew_publish.specs.Chain.{Ends, Follows, IsChain, IsNext};
 ghost use Rattle.crew_publish.specs.Faults.{IsPairFault, IsPublishFault, IsViewerCount};
 ghost use Rattle.crew_publish.specs.Machinery.Rule.{IsHeld, list_of, seen_by};
+ghost use Rattle.crew_publish.specs.declared.fault.PairFault.TheVariants.{NoViewer};
 
 use crate::fault::{PairFault, PublishFault};
 use crate::follow::follows;
@@ -107,7 +108,7 @@ impl<R: Wait + Drop> Publisher<R> {
     /// as it was. It may wait for viewers that look right then.
     pub fn publish(&mut self, version: Arc<Version>) -> Result<Note<R>, PublishFault>
         ensures added { OnOk result (self.new.list ≡ self.old.list ++ arc_value version ∷ []) }
-        ensures note { IfOk result (λ n. (n.list ≡ self.new.list)
+        ensures note { IfOk result (λ n. (n.list ≡ self.new.list) × (n.version ≡ arc_value version)
             × (n.number ≡ (arc_value version).number)
             × (n.count ≡ length (arc_value version).entries)) }
         ensures next { OnOk result (IsNext self.old.list (arc_value version)) }
@@ -118,16 +119,16 @@ impl<R: Wait + Drop> Publisher<R> {
         if !follows(self.last(), &version) {
             return Err(PublishFault::NotNext);
         }
-        let (number, count) = (version.number(), version.count());
+        let told = Arc::try_clone(&version)?;
         self.add(version)?;
-        Ok(Note::of(self, number, count))
+        Ok(Note::of(self, told))
     }
 
     /// A fresh viewer, which has seen all that was published. `NoViewer` where there is no place
     /// for one more.
     pub fn viewer(&mut self) -> Result<Viewer, PairFault>
-        ensures told { IfOk result (λ w. (w.seen ≡ self.old.list) × (w.number ≡ 0)
-            × (w.count ≡ 0)) }
+        ensures told { IfOk result (λ w. (w.seen ≡ self.old.list) × (w.lost ≡ false)) }
+        ensures fault { IfErr result (λ fault. fault ≡ NoViewer) }
         ensures same { self.new ≡ self.old }
     {
         match viewer(&mut self.pen) {
@@ -158,7 +159,7 @@ fn open<R: Wait>(rt: &R, pen: Pen) -> (Pen, Result<(), AllocError>)
 // A viewer that was told all that the writer's seat knows.
 fn viewer(pen: &mut Pen) -> Result<Viewer, AllocError>
     ensures told { IfOk result (λ w. (w.seen ≡ seen_by (view pen.old.desk.place ++ []))
-        × (w.number ≡ 0) × (w.count ≡ 0)) }
+        × (w.lost ≡ false)) }
     ensures kept { (view pen.new.desk.place ≡ view pen.old.desk.place)
         × (pen.new.desk.shown ≡ pen.old.desk.shown) }
 {
@@ -200,7 +201,8 @@ fn writer<R: Wait>(rt: &R, alloc: Global, first: Arc<Version>) -> Result<Pen, Al
 }
 
 /// A publisher that shows this version, and from 1 to 64 viewers that have seen it. `NoViewer`
-/// where none or more are asked for, or there is no place for them, or `Memory`. It may wait.
+/// exactly where none or more are asked for, and else `Memory`. There is room for all of them, so
+/// that one finds no place comes of want of memory too. It may wait.
 pub fn pair<R: Wait + Drop>(
     rt: R,
     alloc: Global,
@@ -210,18 +212,33 @@ pub fn pair<R: Wait + Drop>(
     ensures count { OnOk result (IsViewerCount viewers) }
     ensures list { IfOk result (λ p. p.0.list ≡ arc_value first ∷ []) }
     ensures viewers { IfOk result (λ p. length p.1.items ≡ viewers) }
-    ensures told { IfOk result (λ p. All (λ w. w.seen ≡ arc_value first ∷ []) p.1.items) }
+    ensures told { IfOk result (λ p. All (λ w. (w.seen ≡ arc_value first ∷ [])
+        × (w.lost ≡ false)) p.1.items) }
     ensures fault { IfErr result (IsPairFault viewers) }
 {
     if !is_viewer_count(viewers) {
         return Err(PairFault::NoViewer);
     }
-    let Ok(mut made) = Vec::with_capacity(alloc, viewers) else {
-        return Err(PairFault::Memory);
-    };
-    let Ok(pen) = writer(&rt, alloc, first) else {
-        return Err(PairFault::Memory);
-    };
+    match pair_of(rt, alloc, first, viewers) {
+        Ok(made) => Ok(made),
+        Err(_) => Err(PairFault::Memory),
+    }
+}
+
+// A publisher that shows this version, and so many viewers that have seen it.
+fn pair_of<R: Wait + Drop>(
+    rt: R,
+    alloc: Global,
+    first: Arc<Version>,
+    viewers: usize,
+) -> Result<(Publisher<R>, Vec<Viewer>), AllocError>
+    ensures list { IfOk result (λ p. p.0.list ≡ arc_value first ∷ []) }
+    ensures viewers { IfOk result (λ p. length p.1.items ≡ viewers) }
+    ensures told { IfOk result (λ p. All (λ w. (w.seen ≡ arc_value first ∷ [])
+        × (w.lost ≡ false)) p.1.items) }
+{
+    let mut made = Vec::with_capacity(alloc, viewers)?;
+    let pen = writer(&rt, alloc, first)?;
     let mut publisher = Publisher { pen, rt };
     fill(&mut publisher, &mut made, viewers)?;
     Ok((publisher, made))
@@ -232,17 +249,17 @@ fn fill<R: Wait + Drop>(
     publisher: &mut Publisher<R>,
     made: &mut Vec<Viewer>,
     viewers: usize,
-) -> Result<(), PairFault>
+) -> Result<(), AllocError>
     requires { made.old.items ≡ [] }
     ensures same { publisher.new ≡ publisher.old }
     ensures count { OnOk result (length made.new.items ≡ viewers) }
-    ensures told { All (λ w. w.seen ≡ publisher.old.list) made.new.items }
+    ensures told { All (λ w. (w.seen ≡ publisher.old.list) × (w.lost ≡ false)) made.new.items }
 {
     for _ in 0..viewers {
-        let viewer = publisher.viewer()?;
-        let Ok(()) = made.push(viewer) else {
-            return Err(PairFault::Memory);
+        let Ok(viewer) = publisher.viewer() else {
+            return Err(AllocError);
         };
+        made.push(viewer)?;
     }
     Ok(())
 }

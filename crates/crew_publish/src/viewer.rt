@@ -1,13 +1,14 @@
 //! A viewer, which sees the chain go on and never back.
-ghost use Rattle.std.specs.Prelude.{◌≡◌, ◌∷◌, ◌++◌, ◌≤◌, ◌↔◌, max, length, IfOk, IsTrue, OnErr};
+ghost use Rattle.std.specs.Prelude.{◌≡◌, ◌∷◌, ◌++◌, false, IfOk, OnOk, OnErr};
 ghost use mathlib.Core.List.{IsPrefix};
 ghost use Rattle.std.specs.Arc.{arc_value};
 ghost use Rattle.left_right.specs.Sides.{view};
-ghost use Rattle.crew_publish.specs.Chain.{IsChain, Ends};
+ghost use Rattle.crew_publish.specs.Chain.{IsChain, Ends, Extends};
 ghost use Rattle.crew_publish.specs.Machinery.Rule.{AllBegin, seen_by};
-ghost use Rattle.crew_publish.specs.Views.{IsViewOf};
+ghost use Rattle.crew_publish.specs.Views.{IsMet, IsViewOf};
 
 use crate::fault::ViewFault;
+use crate::follow::extends;
 use crate::note::Note;
 use crate::shown::{Seat, Sees};
 use core::mem::replace_with;
@@ -50,36 +51,32 @@ fn look_at(seat: &mut Seat) -> Result<Arc<Version>, ViewFault>
 #[derive(Drop)]
 pub struct View {
     version: Arc<Version>,
-    taken: Snapshot<Seat>,
+    viewer: Snapshot<Viewer>,
 }
 
 impl Model for View {
     ghost use Rattle.std.specs.Arc.{arc_value};
-    ghost use Rattle.left_right.specs.Sides.{view as seat_view};
-    ghost use Rattle.crew_publish.specs.Machinery.Rule.{seen_by};
     ghost use Rattle.crew_publish.specs.Views.{Viewed, IsViewOf};
 
     ghost Value = { Viewed };
 
     ghost view = { λ v. record {
       version = arc_value v.version;
-      list = seen_by (seat_view v.taken.value.place);
+      list = v.viewer.value.seen;
     } };
 
-    ghost invariant = { λ v. IsViewOf (seen_by (seat_view v.taken.value.place))
-        (arc_value v.version) };
+    ghost invariant = { λ v. IsViewOf v.viewer.value.seen (arc_value v.version) };
 }
 
 impl View {
-    // A version with the list that a seat saw last.
-    fn of(seat: &Seat, version: Arc<Version>) -> View
-        requires { IsViewOf (seen_by (view seat.now.place)) (arc_value version) }
-        ensures { (result.version ≡ arc_value version)
-            × (result.list ≡ seen_by (view seat.now.place)) }
+    // A version with the list that a viewer saw last.
+    fn of(viewer: &Viewer, version: Arc<Version>) -> View
+        requires { IsViewOf viewer.now.seen (arc_value version) }
+        ensures { (result.version ≡ arc_value version) × (result.list ≡ viewer.now.seen) }
     {
         View {
             version,
-            taken: Snapshot::of(seat),
+            viewer: Snapshot::of(viewer),
         }
     }
 
@@ -94,14 +91,13 @@ impl View {
 
 /// One who sees what is published. A refused view leaves it as it was.
 ///
-/// A contract sees the published list that it saw last, and the number and the count of entries
-/// that its next view reaches.
+/// A contract sees the published list that it saw last, and whether it is lost: then it was told
+/// of a version that what is shown doesn't extend, and gives no view any more.
 #[derive(Drop)]
 pub struct Viewer {
     seat: Seat,
     taken: Snapshot<Seat>,
-    number: u64,
-    count: usize,
+    lost: bool,
 }
 
 impl Model for Viewer {
@@ -112,11 +108,7 @@ impl Model for Viewer {
 
     ghost Value = { Watching };
 
-    ghost view = { λ w. record {
-      seen = seen_by (seat_view w.taken.value.place);
-      number = w.number;
-      count = w.count;
-    } };
+    ghost view = { λ w. record { seen = seen_by (seat_view w.taken.value.place); lost = w.lost } };
 
     ghost invariant = { λ w. (more : _)
         × (seat_view w.seat.place ≡ more ++ seat_view w.taken.value.place) };
@@ -125,77 +117,91 @@ impl Model for Viewer {
 impl Viewer {
     // A viewer that knows what a seat knows.
     pub(crate) fn over(seat: Seat) -> Viewer
-        ensures { (result.seen ≡ seen_by (view seat.place)) × (result.number ≡ 0)
-            × (result.count ≡ 0) }
+        ensures { (result.seen ≡ seen_by (view seat.place)) × (result.lost ≡ false) }
     {
         let taken = Snapshot::of(&seat);
         Viewer {
             seat,
             taken,
-            number: 0,
-            count: 0,
+            lost: false,
         }
     }
 
-    // Whether the next view may be of this version.
-    fn reaches(&self, version: &Version) -> bool
-        ensures { IsTrue result ↔ ((self.now.number ≤ version.now.number)
-            × (self.now.count ≤ length version.now.entries)) }
+    // Looks once, and knows no more for it.
+    fn peek(&mut self) -> Result<Arc<Version>, ViewFault>
+        ensures ok { IfOk result (λ a. (list : _) × IsPrefix self.old.seen list
+            × IsViewOf list (arc_value a)) }
+        ensures same { self.new ≡ self.old }
     {
-        self.number <= version.number() && self.count <= version.count()
+        look_at(&mut self.seat)
     }
 
-    /// The version that is shown. It waits for nobody. `NoView` where the version can't be read or
-    /// doesn't reach what this viewer saw or learned, or `Memory`.
+    // Looks once, and knows what it saw.
+    fn see(&mut self) -> Result<Arc<Version>, ViewFault>
+        ensures ok { IfOk result (λ a. IsPrefix self.old.seen self.new.seen
+            × IsViewOf self.new.seen (arc_value a)) }
+        ensures lost { self.new.lost ≡ self.old.lost }
+        ensures err { OnErr result (self.new ≡ self.old) }
+    {
+        let version = look_at(&mut self.seat)?;
+        self.taken = Snapshot::of(&self.seat);
+        Ok(version)
+    }
+
+    /// The version that is shown. It waits for nobody. `NoView` where the version can't be read, or
+    /// this viewer is lost, or `Memory`.
     pub fn view(&mut self) -> Result<View, ViewFault>
         ensures chain { IfOk result (λ v. IsPrefix self.old.seen v.list
             × (self.new.seen ≡ v.list)) }
         ensures last { IfOk result (λ v. IsViewOf v.list v.version) }
-        ensures reach { IfOk result (λ v. (self.old.number ≤ v.version.number)
-            × (self.old.count ≤ length v.version.entries)) }
-        ensures floor { IfOk result (λ v. (self.new.number ≡ v.version.number)
-            × (self.new.count ≡ length v.version.entries)) }
+        ensures told { IfOk result (λ v. (told : _) → IsMet self.old told
+            → Extends told v.version) }
+        ensures found { OnOk result ((self.old.lost ≡ false) × (self.new.lost ≡ false)) }
         ensures err { OnErr result (self.new ≡ self.old) }
     {
-        let version = look_at(&mut self.seat)?;
-        if !self.reaches(&version) {
+        if self.lost {
             return Err(ViewFault::NoView);
         }
-        let (number, count) = (version.number(), version.count());
-        let view = View::of(&self.seat, version);
-        self.taken = Snapshot::of(&self.seat);
-        self.number = number;
-        self.count = count;
-        Ok(view)
+        let version = self.see()?;
+        Ok(View::of(self, version))
     }
 
-    /// From now on it takes no version of a lesser number, or of fewer entries, than this note
-    /// tells. It takes no memory, and waits for nobody.
+    /// From now on each view extends the version that this note tells of: it is that version by
+    /// number and entries, or it follows it. Where what is shown doesn't extend it, as may be with a
+    /// note of another pair, or can't be read, the viewer is lost. It takes no memory, and waits for
+    /// nobody.
     pub fn learn<R: Wait + Drop>(&mut self, note: &Note<R>)
-        ensures seen { self.new.seen ≡ self.old.seen }
-        ensures floor { (self.new.number ≡ max self.old.number note.now.number)
-            × (self.new.count ≡ max self.old.count note.now.count) }
+        ensures told { IsMet self.new note.now.version }
+        ensures kept { (told : _) → IsMet self.old told → IsMet self.new told }
+        ensures seen { IsPrefix self.old.seen self.new.seen }
     {
-        self.number = self.number.max(note.number());
-        self.count = self.count.max(note.count());
+        let is_lost = match self.see() {
+            Ok(shown) => !extends(note.version(), &shown),
+            Err(_) => true,
+        };
+        self.lost |= is_lost;
     }
 
-    /// Goes on as a fresh viewer, from the list that this one knows, and takes no version before
-    /// those that either of them saw or learned.
-    pub fn go_on_as(&mut self, fresh: Viewer)
-        ensures seen { self.new.seen ≡ fresh.seen }
-        ensures floor { (self.new.number ≡ max self.old.number fresh.number)
-            × (self.new.count ≡ max self.old.count fresh.count) }
+    /// Goes on as a fresh viewer, from the list that this one knows, where what that one is shown
+    /// extends what this one is shown. `NoView` where it doesn't, as may be with a viewer of another
+    /// pair, or where one of them is lost or what is shown can't be read, or `Memory`. Then this
+    /// one is as it was, and the fresh one is let go.
+    pub fn go_on_as(&mut self, fresh: Viewer) -> Result<(), ViewFault>
+        ensures seen { OnOk result (IsPrefix fresh.seen self.new.seen) }
+        ensures kept { (told : _) → IsMet self.old told → IsMet self.new told }
+        ensures found { OnOk result ((self.old.lost ≡ false) × (self.new.lost ≡ false)) }
+        ensures err { OnErr result (self.new ≡ self.old) }
     {
-        let Viewer {
-            seat,
-            taken,
-            number,
-            count,
-        } = fresh;
-        self.seat = seat;
-        self.taken = taken;
-        self.number = self.number.max(number);
-        self.count = self.count.max(count);
+        let mut fresh = fresh;
+        if self.lost || fresh.lost {
+            return Err(ViewFault::NoView);
+        }
+        let shown = self.peek()?;
+        let next = fresh.see()?;
+        if !extends(&shown, &next) {
+            return Err(ViewFault::NoView);
+        }
+        *self = fresh;
+        Ok(())
     }
 }
