@@ -1,9 +1,13 @@
 -- What the threads of a service share may cross threads. Found type by type from below: a search
 -- over all of it at once comes to no end.
 use denote.Param.Send.{IsSend, IsSync, sendable}
+use denote.RattleType.{RattleType}
+use denote.Struct.Owning.{shape}
+use denote.Struct.Struct.{Struct}
+use Rattle.core.proofs.atomic.Sent.{chain-Keyless}
 use Rattle.std.proofs.Crossing.{crosses}
 use Rattle.std.proofs.MapsCrossing.{crosses as maps_cross}
-use Rattle.boxcar.proofs.Sent.{slot_send, slot_sync, tag_send, written_send, written_sync}
+use Rattle.boxcar.proofs.Sent.{slot_send, slot_sync, tag_send, tag_sync, written_send, written_sync}
 use Rattle.crew_board.specs.contracts.board.Board as Board
 use Rattle.crew_board.specs.contracts.round.Round as Round
 use Rattle.crew_dirty.specs.contracts.carried.Carried as Carried
@@ -11,6 +15,9 @@ use Rattle.crew_flights.specs.contracts.entries.Folding as Folding
 use Rattle.crew_flights.specs.contracts.timetable.Timetable as Timetable
 use Rattle.crew_job.specs.contracts.ground.Ground as Ground
 use Rattle.crew_log.specs.contracts.log.Log as Log
+use Rattle.crew_log.specs.contracts.rights.Right as Right
+use Rattle.crew_log.specs.contracts.rights.Rights as Rights
+use Rattle.crew_log.specs.contracts.rights.Stamped as Stamped
 use Rattle.crew_net.specs.contracts.net.Net as Net
 use Rattle.crew_ready.specs.contracts.counts.Counts as Counts
 use Rattle.crew_ready.specs.contracts.place_set.PlaceSet as PlaceSet
@@ -24,6 +31,11 @@ use Rattle.crew_solve.specs.contracts.base_fronts.BaseFronts as BaseFronts
 use Rattle.crew_solve.specs.contracts.solution.Solution as Solution
 use Rattle.crew_version.specs.contracts.draft.Draft as Draft
 use Rattle.crew_version.specs.contracts.version.Version as Version
+use Rattle.logbook.proofs.Fields.{beside_keyless, seen_keyless}
+use Rattle.logbook.specs.Kept.{rules}
+use Rattle.logbook.specs.contracts.tokens.Seen as Seen
+use Rattle.logbook.specs.contracts.word.Word as Word
+use Rattle.logbook.specs.declared.tokens.Rule.{Ghosts}
 
 ruleset parts = (sendable, crosses, maps_cross)
 
@@ -127,8 +139,41 @@ held-send = search (parts, board-send) depth 40 fits 30000
 
 -- ---- what threads share
 
+-- a history, and a counter of one, as their own crate shows it
+seen-send : (E A P : RattleType) (g : Ghosts P.Denot E.Denot A.Denot) → IsSend (Seen.the_row E A P g)
+seen-send E A P g = record { owned = λ d vs. ((λ vss. (tt, ((λ uss. (tt, tt)), tt))), seen_keyless E.coded.code (rules g.holds g.shows g.keeps) d.book d.names d.log); leaving = λ k f vs. tt }
+
+seen-sync : (E A P : RattleType) (g : Ghosts P.Denot E.Denot A.Denot) → IsSync (Seen.the_row E A P g)
+seen-sync E A P g = let fields : IsSync (Struct (shape (Seen.the_type E A P g))) = search sendable depth 20 in
+    record { shared = λ d b o ν. (fields.shared (tt, tt) b o ν, seen_keyless E.coded.code (rules g.holds g.shows g.keeps) d.book d.names d.log) }
+
+word-send : (E A P : RattleType) (g : Ghosts P.Denot E.Denot A.Denot) → IsSend (Word.the_row E A P g)
+word-send E A P g = record { owned = λ d vs. ((λ _. tt), λ n. ((λ vss. (tt, ((tt, tt), ((λ uss. (tt, tt)), tt)))), beside_keyless E.coded.code g.hinted d.tracked d.key d.book n)); leaving = λ k d w. tt }
+
+word-sync : (E A P : RattleType) (g : Ghosts P.Denot E.Denot A.Denot) → IsSync (Word.the_row E A P g)
+word-sync E A P g = record { shared = λ d b o κ t. ((λ νs. chain-Keyless νs κ t.0), ((λ _. tt), λ n. (tt, beside_keyless E.coded.code g.hinted d.tracked d.key d.book n))) }
+
+ruleset with_history = (parts, seen-send, seen-sync, word-send, word-sync)
+
+right-send : IsSend Right.the_row
+right-send = search with_history depth 40 fits 30000
+
+right-sync : IsSync Right.the_row
+right-sync = search with_history depth 40 fits 30000
+
+stamped-send : IsSend Stamped.the_row
+stamped-send = search with_history depth 40 fits 30000
+
+stamped-sync : IsSync Stamped.the_row
+stamped-sync = search with_history depth 40 fits 30000
+
+rights-sync : IsSync Rights.the_row
+rights-sync = search with_history depth 40 fits 30000
+
+ruleset with_rights = (with_history, slot_send, slot_sync, tag_send, tag_sync, written_send, written_sync)
+
 log-sync : IsSync Log.the_row
-log-sync = search (parts, slot_send, slot_sync, tag_send, written_send, written_sync) depth 60 fits 60000
+log-sync = search with_rights depth 60 fits 60000
 
 pub shared-sync : IsSync Shared.the_row
 shared-sync = search (parts, held-send, log-sync) depth 40 fits 30000

@@ -1,14 +1,22 @@
 -- Laws of what a planner keeps.
-use Rattle.std.proofs.Common.{◌≡◌, ◌≢◌, ◌≤◌, ◌<◌, ℕ, zero, suc, ◌+◌, ◌∙◌, List, [], ◌∷◌, ◌++◌, All, Some, length, map, refl, sym, ap, subst, arith, append_assoc, length-append, rules}
+use Rattle.std.proofs.Common.{◌≡◌, ◌≤◌, ◌<◌, ℕ, zero, suc, ◌+◌, ◌∙◌, List, [], ◌∷◌, ◌++◌, Some, length, map, refl, sym, ap, subst, arith, append_assoc, length-append, append-nil, zero-add, Bool, true, false, true≢false, inl, inr, ◌≢◌}
+use Rattle.std.proofs.Math.Dec.{ltb}
+use Rattle.std.proofs.lemmas.Bool.Decides.{Decides-ltb}
+use Rattle.std.proofs.lemmas.List.Elements.{All-append, All-cons}
 use Rattle.std.specs.Prelude.{slice_get, slice_index_or}
 use mathlib.Core.List.{IsPrefix}
 use Rattle.boxcar.specs.Table.{Where}
 use Rattle.crew_flights.specs.declared.entries.Entry.{Entry}
-use Rattle.crew_log.specs.Logs.{AreOf, IsOf, IsRun}
+use Rattle.crew_log.specs.Logs.{AreOf, HaveNone, IsOf, IsRun, Seat, unused_seat}
+use Rattle.crew_publish.proofs.Chains.{ends_push}
 use Rattle.crew_publish.specs.Chain.{Ends, Follows, IsNext}
+use Rattle.crew_resource.proofs.Lists.{Member-All}
+use Rattle.crew_resource.specs.Members.{Member}
 use Rattle.crew_rules.specs.Settings.{IsChecked}
+use Rattle.crew_service.specs.Faults.{IsMissing}
 use Rattle.crew_service.specs.Machinery.Kept.{HasRead, HasShown, IsAtOrAfter, IsPlanning}
-use Rattle.crew_service.specs.Plans.{IsNextOver, Planning, entries_of}
+use Rattle.crew_service.specs.Plans.{AreBelow, AreSeatsFrom, IsNextOver, Planning, entries_of}
+use Rattle.crew_version.proofs.Places.{prefix-at, prefix-from}
 use Rattle.crew_version.specs.Versions.{Snapshot}
 
 -- ---- beginnings
@@ -55,9 +63,6 @@ run-at n [] k d h lt = absurd (omega arith)
 run-at n (r ∷ rs) zero d h lt = omega (arith, h.0)
 run-at n (r ∷ rs) (suc k) d h lt = let e = run-at (suc n) rs k d h.1 (omega arith) in omega (arith, e)
 
-pub of-append : (P : Where Entry → Type 0) (rs qs : List (Where Entry)) → All P rs → All P qs → All P (rs ++ qs)
-of-append P rs qs h k = search rules
-
 -- ---- planners
 
 pub read-self : (p : Planning) → HasRead p p
@@ -75,8 +80,8 @@ read-over p q r h k = record {
 pub with-receipts : (p : Planning) (more : List (Where Entry)) → IsPlanning p → AreOf p.log more → IsRun (length p.receipts) more
     → IsPlanning (record { log = p.log; version = p.version; receipts = p.receipts ++ more; published = p.published })
 with-receipts p more h of run = record {
-  of = of-append (IsOf p.log) p.receipts more h.of of;
-  run = run-append 0 p.receipts more h.run run;
+  of = All-append (IsOf p.log) p.receipts more h.of of;
+  run = run-append 0 p.receipts more h.run (subst (λ (n : ℕ). IsRun n more) (sym (zero-add (length p.receipts))) run);
   over = prefix-over p.version.entries (entries_of p.receipts) (entries_of (p.receipts ++ more)) h.over (entries-prefix p.receipts (p.receipts ++ more) (prefix-more p.receipts p.receipts more (prefix-self p.receipts)));
   right = h.right;
   checked = h.checked;
@@ -112,3 +117,63 @@ next-follows p v h next = (
     begins = subst (λ (es : List Entry). IsPrefix h.last.entries es) (sym next.over) (prefix-over h.last.entries p.version.entries (entries_of p.receipts) h.behind.begins h.over);
   },
 )
+
+-- with its version published
+pub with-shown : (p : Planning) → IsPlanning p
+    → IsPlanning (record { log = p.log; version = p.version; receipts = p.receipts; published = p.published ++ p.version ∷ [] })
+with-shown p h = record {
+  of = h.of;
+  run = h.run;
+  over = h.over;
+  right = h.right;
+  checked = h.checked;
+  last = p.version;
+  ends = ends_push p.published p.version;
+  behind = record { number = omega arith; begins = prefix-self p.version.entries };
+}
+
+-- where no receipt has a place, and not all have one below it, one has a greater one
+pub some-missing : (end : ℕ) (wanted : List (Where Entry)) → HaveNone wanted end → (AreBelow end wanted → ⊥) → IsMissing wanted end
+some-missing end wanted none h =
+    let found = above end wanted (λ r m. Member-All (λ (q : Where Entry). q.index ≢ end) wanted r none m) h in
+    record { none_there = none; above = found.0; wants = found.1; greater = found.2 }
+  where
+    above : (n : ℕ) (rs : List (Where Entry)) → ((r : Where Entry) → Member rs r → r.index ≢ n) → (AreBelow n rs → ⊥) → (r : Where Entry) × Member rs r × (n < r.index)
+    above n [] apart h = absurd (h (λ k d lt. absurd (omega arith)))
+    above n (r ∷ rs) apart h = go (ltb n r.index) refl (λ less. above n rs (λ q m. apart q (inr m)) less)
+      where
+        go : (b : Bool) → ltb n r.index ≡ b → ((AreBelow n rs → ⊥) → (q : Where Entry) × Member rs q × (n < q.index)) → (q : Where Entry) × Member (r ∷ rs) q × (n < q.index)
+        go true e recur = (r, inl refl, (Decides-ltb n r.index).0 e)
+        go false e recur =
+            let not_above : n < r.index → ⊥ = λ lt. true≢false (sym ((Decides-ltb n r.index).1 lt) ∙ e) in
+            let not_there : r.index ≡ n → ⊥ = apart r (inl refl) in
+            let below : r.index < n = omega (arith, not_above, not_there) in
+            let rest = recur (λ all. h (All-cons (λ (q : Where Entry). q.index < n) r rs below all)) in
+            (rest.0, inr rest.1, rest.2)
+
+-- the entry at a place of the version is that of the receipt of the place
+pub planned-entry : (p : Planning) (k : ℕ) (d : Where Entry) → IsPlanning p → k < length p.version.entries
+    → ((slice_index_or p.receipts k d).index ≡ k) × (slice_get p.version.entries k ≡ Some (slice_index_or p.receipts k d).value)
+planned-entry p k d h lt =
+    let a = prefix-length p.version.entries (entries_of p.receipts) h.over in
+    let b = length-entries p.receipts in
+    let below : k < length p.receipts = omega (arith, a, b, lt) in
+    (run-at 0 p.receipts k d h.run below ∙ zero-add k, prefix-at p.version.entries (entries_of p.receipts) k h.over lt ∙ entry-at p.receipts k d below)
+
+-- ---- seats
+
+pub seats-push : (n : ℕ) (seats : List Seat) (seat : Seat) → AreSeatsFrom n seats → seat ≡ unused_seat (n + length seats) → AreSeatsFrom n (seats ++ seat ∷ [])
+seats-push n [] seat h e = (e ∙ ap unused_seat (let z : n + 0 ≡ n = omega arith in z), tt)
+seats-push n (s ∷ seats) seat h e = (h.0, seats-push (suc n) seats seat h.1 (e ∙ ap unused_seat (let z : n + suc (length seats) ≡ suc n + length seats = omega arith in z)))
+
+-- ---- lists
+
+pub same-list : {A : Type 0} (xs ys : List A) → length xs ≡ length ys → ((k : ℕ) → k < length xs → slice_get xs k ≡ slice_get ys k) → xs ≡ ys
+same-list xs ys e h =
+    let p = prefix-from xs ys h in
+    let none : length p.0 ≡ 0 = let a = sym (length-append xs p.0) ∙ ap length p.1 in omega (arith, a, e) in
+    sym (append-nil xs) ∙ (ap (λ zs. xs ++ zs) (sym (no-length p.0 none)) ∙ p.1)
+  where
+    no-length : {A : Type 0} (zs : List A) → length zs ≡ 0 → zs ≡ []
+    no-length [] e = refl
+    no-length (z ∷ zs) e = absurd (omega (arith, e))

@@ -1,7 +1,8 @@
 -- Why a service isn't made, or doesn't settle.
-use Rattle.std.specs.Prelude.{◌≡◌, ◌≢◌, ◌<◌, ◌≤◌, ℕ, All, List, Option, Some, None, length}
+use Rattle.std.specs.Prelude.{◌≡◌, ◌<◌, ◌≤◌, ℕ, List, Option, Some, None, length}
 use Rattle.boxcar.specs.Table.{Where}
 use Rattle.crew_flights.specs.declared.entries.Entry.{Entry}
+use Rattle.crew_log.specs.Logs.{HaveNone}
 use Rattle.crew_machine.specs.Rounds.{last_number}
 use Rattle.crew_pairing.specs.Duties.{HasTooMany}
 use Rattle.crew_publish.specs.Faults.{IsViewerCount}
@@ -37,7 +38,7 @@ IsServiceFault seats viewers Service.Memory = IsSeatCount seats × IsViewerCount
 
 -- no receipt has this place, and one has a greater one
 pub record IsMissing (wanted : List (Where Entry)) (place : ℕ) : Type 0 where
-  pub none_there : All (λ r. r.index ≢ place) wanted
+  pub none_there : HaveNone wanted place
   pub above : Where Entry
   pub wants : Member wanted above
   pub greater : place < above.index

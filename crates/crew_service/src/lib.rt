@@ -9,6 +9,7 @@
 //! its own entries. That a settle returns, and that more than one thread works, no contract says.
 #![tactic(auto)]
 
+mod attempt;
 mod fault;
 mod gate;
 mod jobs;

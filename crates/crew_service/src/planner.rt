@@ -1,8 +1,8 @@
 //! The one who settles.
-ghost use Rattle.std.specs.Prelude.{◌≡◌, ◌≢◌, ◌<◌, ◌↔◌, ◌∷◌, [], All, IfErr, IfOk, IfSome, IsTrue, OnErr, OnOk, Some, length, slice_get};
+ghost use Rattle.std.specs.Prelude.{◌≡◌, ◌<◌, ◌↔◌, ◌++◌, ◌∷◌, [], IfErr, IfOk, IsTrue, OnErr, OnOk, Some, length, slice_get};
 ghost use Rattle.std.specs.Arc.{arc_value};
 ghost use mathlib.Core.List.{IsPrefix};
-ghost use Rattle.crew_log.specs.Logs.{AreOf, IsOf};
+ghost use Rattle.crew_log.specs.Logs.{AreOf, HaveNone, IsOf};
 ghost use Rattle.crew_publish.specs.Chain.{IsNext};
 ghost use Rattle.crew_service.specs.Faults.{IsSettleFault};
 ghost use Rattle.crew_service.specs.Machinery.Kept.{HasRead, HasShown};
@@ -10,9 +10,9 @@ ghost use Rattle.crew_service.specs.Machinery.Rounds.{IsRoundFault};
 ghost use Rattle.crew_service.specs.Plans.{AreBelow, HasPublishedNothing, HasSettled, IsNextOver, entries_of};
 ghost use Rattle.crew_service.specs.declared.fault.SettleFault.TheVariants.{Memory};
 
+use crate::attempt::next_over;
 use crate::fault::SettleFault;
 use crate::gate::Gate;
-use crate::jobs::perform;
 use crate::shared::Shared;
 use crew_flights::Entry;
 use crew_log::{Log, Receipt};
@@ -125,7 +125,7 @@ impl<'a, R: Wait, G: Gate> Planner<'a, R, G> {
     /// and waits for what is out.
     ///
     /// `Gap` with the first place that isn't shown, where no receipt has that place and one has a
-    /// greater one; at a receipt's own place the log is read again until that is shown. Else
+    /// greater one: what a receipt shows counts as shown. Else
     /// `LastVersion` exactly where its version has the greatest number. Else `TooManyDuties`
     /// exactly where what it has read comes to more than 200,000 legal duties. Else `Memory`.
     /// Nothing is published then. After want of memory its version may be one that it hasn't
@@ -141,6 +141,7 @@ impl<'a, R: Wait, G: Gate> Planner<'a, R, G> {
         receipts: &[Receipt],
     ) -> Result<Note<&'a R>, SettleFault>
         requires own { self.old.log ≡ shared.now }
+        requires of { AreOf shared.now receipts.now }
         ensures ok { OnOk result (HasSettled self.old receipts.now self.new) }
         ensures note { IfOk result (λ note. (note.number ≡ self.new.version.number)
             × (note.count ≡ length self.new.version.entries) × (note.list ≡ self.new.published)) }
@@ -153,7 +154,7 @@ impl<'a, R: Wait, G: Gate> Planner<'a, R, G> {
         self.publish()
     }
 
-    // Reads the log until each of these receipts' places is read, or a place below one isn't shown.
+    // Reads the log on, past each place of these receipts where no place below it is missing.
     fn read_up_to(
         &mut self,
         alloc: Global,
@@ -161,29 +162,33 @@ impl<'a, R: Wait, G: Gate> Planner<'a, R, G> {
         receipts: &[Receipt],
     ) -> Result<(), SettleFault>
         requires own { self.old.log ≡ shared.now }
+        requires of { AreOf shared.now receipts.now }
         ensures read { HasRead self.old self.new }
         ensures ok { OnOk result (AreBelow (length self.new.receipts) receipts.now) }
         ensures fault { IfErr result (IsSettleFault self.old receipts.now self.new) }
     {
-        for _ in self.rt.forever() {
-            self.read(alloc, shared)?;
-            let end = self.receipts.len();
-            if are_below(end, receipts) {
-                return Ok(());
-            }
-            if is_missing(end, receipts) {
-                return Err(SettleFault::Gap(end));
-            }
+        self.read(alloc, shared, receipts)?;
+        let end = self.receipts.len();
+        if !are_below(end, receipts) {
+            return Err(SettleFault::Gap(end));
         }
-        unreachable!()
+        Ok(())
     }
 
-    // Reads on from where it has read to.
-    fn read(&mut self, alloc: Global, shared: &Shared) -> Result<(), AllocError>
+    // Reads on from where it has read to. It ends at no place of these receipts.
+    fn read(
+        &mut self,
+        alloc: Global,
+        shared: &Shared,
+        receipts: &[Receipt],
+    ) -> Result<(), AllocError>
         requires own { self.old.log ≡ shared.now }
+        requires of { AreOf shared.now receipts.now }
         ensures read { HasRead self.old self.new }
+        ensures end { OnOk result (HaveNone receipts.now (length self.new.receipts)) }
     {
-        let mut more = shared.log().read_from(alloc, self.receipts.len())?;
+        let from = self.receipts.len();
+        let mut more = shared.log().read_past(alloc, from, receipts)?;
         self.receipts.append(&mut more)?;
         Ok(())
     }
@@ -213,61 +218,8 @@ impl<'a, R: Wait, G: Gate> Planner<'a, R, G> {
         ensures same { self.new ≡ self.old }
     {
         let entries = self.entries(alloc, shared)?;
-        for _ in self.rt.forever() {
-            shared.open((self.rt, rt), alloc, &self.version, &entries)?;
-            if let Some(next) = self.close(alloc, shared, &entries)? {
-                return Ok(next);
-            }
-        }
-        unreachable!()
-    }
-
-    // Takes part in the round until it is over, and seals it, if it is its own. With no memory the
-    // round is dropped.
-    fn close(
-        &mut self,
-        alloc: Global,
-        shared: &Shared,
-        entries: &[Entry],
-    ) -> Result<Option<Arc<Version, Global>>, AllocError>
-        ensures ok { IfOk result (λ sealed. IfSome sealed
-            (λ next. IsNextOver self.old.version entries.now (arc_value next))) }
-        ensures same { self.new ≡ self.old }
-    {
-        let closed = self.work_and_seal(alloc, shared, entries);
-        if closed.is_err() {
-            shared.abandon(self.rt);
-        }
-        closed
-    }
-
-    // Takes part in the round until it is over, and seals it, if it is its own.
-    fn work_and_seal(
-        &mut self,
-        alloc: Global,
-        shared: &Shared,
-        entries: &[Entry],
-    ) -> Result<Option<Arc<Version, Global>>, AllocError>
-        ensures ok { IfOk result (λ sealed. IfSome sealed
-            (λ next. IsNextOver self.old.version entries.now (arc_value next))) }
-        ensures same { self.new ≡ self.old }
-    {
-        self.work(alloc, shared)?;
-        shared.seal(self.rt, alloc, &self.version, entries)
-    }
-
-    // Takes part in the work until no node is left to be done.
-    fn work(&mut self, alloc: Global, shared: &Shared) -> Result<(), AllocError>
-        ensures { self.new ≡ self.old }
-    {
-        for _ in self.rt.forever() {
-            let Some(lot) = shared.take_part(self.rt, alloc)? else {
-                return Ok(());
-            };
-            let done = perform(alloc, &mut self.gate, &lot)?;
-            shared.bring(self.rt, done);
-        }
-        unreachable!()
+        let rt = (self.rt, rt);
+        next_over(rt, alloc, shared, &mut self.gate, &self.version, &entries)
     }
 
     // Publishes its version.
@@ -280,11 +232,28 @@ impl<'a, R: Wait, G: Gate> Planner<'a, R, G> {
         ensures err { OnErr result (self.new ≡ self.old) }
     {
         let version = Arc::try_clone(&self.version)?;
-        match self.publisher.publish(version) {
-            Ok(note) => Ok(note),
-            Err(PublishFault::Memory) => Err(SettleFault::Memory),
-            Err(PublishFault::NotNext) => unreachable!(),
-        }
+        let Ok(note) = add(&mut self.publisher, version) else {
+            return Err(SettleFault::Memory);
+        };
+        Ok(note)
+    }
+}
+
+// Publishes a version that follows what was published last.
+fn add<R: Wait + Drop>(
+    publisher: &mut Publisher<R>,
+    version: Arc<Version, Global>,
+) -> Result<Note<R>, AllocError>
+    requires { IsNext publisher.old.list (arc_value version) }
+    ensures ok { OnOk result (publisher.new.list ≡ publisher.old.list ++ arc_value version ∷ []) }
+    ensures note { IfOk result (λ note. (note.number ≡ (arc_value version).number)
+        × (note.count ≡ length (arc_value version).entries) × (note.list ≡ publisher.new.list)) }
+    ensures err { OnErr result (publisher.new ≡ publisher.old) }
+{
+    match publisher.publish(version) {
+        Ok(note) => Ok(note),
+        Err(PublishFault::Memory) => Err(AllocError),
+        Err(PublishFault::NotNext) => unreachable!(),
     }
 }
 
@@ -306,11 +275,4 @@ fn are_below(end: usize, receipts: &[Receipt]) -> bool
     ensures { IsTrue result ↔ AreBelow end receipts.now }
 {
     receipts.iter().all(|receipt| receipt.place() < end)
-}
-
-// Whether no receipt has a place, where one has a greater one.
-fn is_missing(place: usize, receipts: &[Receipt]) -> bool
-    ensures { IsTrue result ↔ All (λ r. r.index ≢ place) receipts.now }
-{
-    receipts.iter().all(|receipt| receipt.place() != place)
 }
