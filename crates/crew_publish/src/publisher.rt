@@ -212,8 +212,8 @@ pub fn pair<R: Wait + Drop>(
     ensures count { OnOk result (IsViewerCount viewers) }
     ensures list { IfOk result (λ p. p.0.list ≡ arc_value first ∷ []) }
     ensures viewers { IfOk result (λ p. length p.1.items ≡ viewers) }
-    ensures told { IfOk result (λ p. All (λ w. (w.seen ≡ arc_value first ∷ [])
-        × (w.lost ≡ false)) p.1.items) }
+    ensures told { IfOk result (λ p. All (λ w. w.seen ≡ arc_value first ∷ []) p.1.items) }
+    ensures found { IfOk result (λ p. All (λ w. w.lost ≡ false) p.1.items) }
     ensures fault { IfErr result (IsPairFault viewers) }
 {
     if !is_viewer_count(viewers) {
@@ -234,8 +234,8 @@ fn pair_of<R: Wait + Drop>(
 ) -> Result<(Publisher<R>, Vec<Viewer>), AllocError>
     ensures list { IfOk result (λ p. p.0.list ≡ arc_value first ∷ []) }
     ensures viewers { IfOk result (λ p. length p.1.items ≡ viewers) }
-    ensures told { IfOk result (λ p. All (λ w. (w.seen ≡ arc_value first ∷ [])
-        × (w.lost ≡ false)) p.1.items) }
+    ensures told { IfOk result (λ p. All (λ w. w.seen ≡ arc_value first ∷ []) p.1.items) }
+    ensures found { IfOk result (λ p. All (λ w. w.lost ≡ false) p.1.items) }
 {
     let mut made = Vec::with_capacity(alloc, viewers)?;
     let pen = writer(&rt, alloc, first)?;
@@ -253,7 +253,8 @@ fn fill<R: Wait + Drop>(
     requires { made.old.items ≡ [] }
     ensures same { publisher.new ≡ publisher.old }
     ensures count { OnOk result (length made.new.items ≡ viewers) }
-    ensures told { All (λ w. (w.seen ≡ publisher.old.list) × (w.lost ≡ false)) made.new.items }
+    ensures told { All (λ w. w.seen ≡ publisher.old.list) made.new.items }
+    ensures found { All (λ w. w.lost ≡ false) made.new.items }
 {
     for _ in 0..viewers {
         let Ok(viewer) = publisher.viewer() else {

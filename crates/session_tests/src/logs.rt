@@ -125,6 +125,36 @@ fn count_from(alloc: Global, log: &Log, place: usize) -> Answer {
     }
 }
 
+// How many entries stand from a place on, for one who has the receipts of all that stand.
+fn count_past(alloc: Global, log: &Log, place: usize) -> Answer {
+    match log.read_from(alloc, 0) {
+        Ok(shown) => match log.read_past(alloc, place, &shown) {
+            Ok(receipts) => Ok(receipts.len() as u64),
+            Err(_) => Err(None),
+        },
+        Err(_) => Err(None),
+    }
+}
+
+// The seat of this number of a log.
+fn seat_of(log: &mut Log, number: usize) -> Option<Seat> {
+    for _ in 0..number {
+        log.seat().ok()?;
+    }
+    log.seat().ok()
+}
+
+// Submits an edit by a new seat of another log, which has this number, and gives its place.
+fn submit_as_stranger<R: Wait>(rt: &R, alloc: Global, log: &Log, number: usize) -> Answer {
+    let Ok(mut other) = Log::new(alloc) else {
+        return Err(None);
+    };
+    match seat_of(&mut other, number) {
+        Some(mut seat) => submit(rt, &mut seat, log),
+        None => Err(None),
+    }
+}
+
 // The seat and the number of the entry at a place.
 fn sender_at(alloc: Global, log: &Log, place: usize) -> Option<(u8, u32)> {
     match log.read_from(alloc, place) {
@@ -164,6 +194,8 @@ fn obey<R: Threads + Wait + Sync>(
         "both" => push_both(rt, seats, log, first),
         "made" => made(seats.get(first)),
         "from" => count_from(alloc, log, first),
+        "past" => count_past(alloc, log, first),
+        "stranger" => submit_as_stranger(rt, alloc, log, first),
         "seat" => seat_at(alloc, log, first),
         "number" => number_at(alloc, log, first),
         "ordered" => sent_by(alloc, log, first),

@@ -2,19 +2,21 @@
 
 use crate::commands::{Answer, number_of, read};
 use crate::versions::fill;
-use crew_publish::{PairFault, Publisher, View, Viewer, pair};
+use crew_publish::{Note, PairFault, Publisher, View, Viewer, pair};
 use crew_version::Version;
 use std::alloc::Global;
 use std::io::{self, Print};
 use std::sync::{Arc, Wait};
 use std::thread::{Threads, join};
 
-// A publisher, its viewers, and views that are held.
+// A publisher, its viewers, and views that are held; and the publisher of another pair, which showed
+// the same version first.
 #[derive(Drop)]
 struct Desk<R: Wait + Drop> {
     publisher: Publisher<R>,
     viewers: Vec<Viewer>,
     held: Vec<View>,
+    other: Publisher<R>,
 }
 
 // The number of a version, which has as many entries.
@@ -98,41 +100,44 @@ fn count_of(views: &[View], number: u64) -> Answer {
     Ok(count)
 }
 
-// Publishes a version, and gives the number that its note tells, with as many entries; the viewers
-// learn of it.
-fn publish<R: Wait + Drop>(
-    publisher: &mut Publisher<R>,
-    version: Arc<Version>,
-    viewers: &mut [Viewer],
-) -> Answer {
-    match publisher.publish(version) {
-        Ok(note) => {
-            for viewer in viewers {
-                viewer.learn(&note);
-            }
-            if note.number() == note.count() as u64 {
-                Ok(note.number())
-            } else {
-                Err(None)
-            }
-        }
-        Err(fault) => Err(fault.number()),
+// The number that a note tells, with as many entries.
+fn noted<R: Wait + Drop>(note: &Note<R>) -> Answer {
+    if note.number() == note.count() as u64 {
+        Ok(note.number())
+    } else {
+        Err(None)
     }
 }
 
-// The same of the version at a place.
+// Publishes the version at a place.
 fn publish_at<R: Wait + Drop>(
     publisher: &mut Publisher<R>,
     versions: &[Arc<Version>],
     place: usize,
-    viewers: &mut [Viewer],
-) -> Answer {
-    match versions.get(place) {
-        Some(version) => match Arc::try_clone(version) {
-            Ok(version) => publish(publisher, version, viewers),
-            Err(_) => Err(None),
+) -> Result<Note<R>, Option<u8>> {
+    let Some(version) = versions.get(place) else {
+        return Err(None);
+    };
+    let Ok(version) = Arc::try_clone(version) else {
+        return Err(None);
+    };
+    match publisher.publish(version) {
+        Ok(note) => Ok(note),
+        Err(fault) => Err(fault.number()),
+    }
+}
+
+// A viewer goes on as a fresh one of a pair, and gives the number of the version that it sees then.
+fn go_on<R: Wait + Drop>(publisher: &mut Publisher<R>, viewer: Option<&mut Viewer>) -> Answer {
+    let Some(viewer) = viewer else {
+        return Err(None);
+    };
+    match publisher.viewer() {
+        Ok(fresh) => match viewer.go_on_as(fresh) {
+            Ok(()) => see(viewer),
+            Err(fault) => Err(fault.number()),
         },
-        None => Err(None),
+        Err(fault) => Err(fault.number()),
     }
 }
 
@@ -143,7 +148,7 @@ fn publish_up_to<R: Wait + Drop>(
     last: usize,
 ) -> bool {
     for place in 0..last {
-        if publish_at(publisher, versions, place.saturating_add(1), &mut []).is_err() {
+        if publish_at(publisher, versions, place.saturating_add(1)).is_err() {
             return false;
         }
     }
@@ -221,9 +226,23 @@ fn publish_beside<T: Threads + Sync, R: Wait + Drop + Send>(
 impl<R: Wait + Drop + Send> Desk<R> {
     // Publishes the version at a place, of which so many of the viewers learn.
     fn teach(&mut self, versions: &[Arc<Version>], place: usize, count: usize) -> Answer {
-        let count = count.min(self.viewers.len());
-        let viewers = &mut self.viewers[..count];
-        publish_at(&mut self.publisher, versions, place, viewers)
+        let note = publish_at(&mut self.publisher, versions, place)?;
+        for viewer in self.viewers.iter_mut().take(count) {
+            viewer.learn(&note);
+        }
+        noted(&note)
+    }
+
+    // Publishes the version at a place in the other pair, and a viewer of this pair learns of it.
+    fn mislead(&mut self, versions: &[Arc<Version>], place: usize, viewer: usize) -> Answer {
+        let note = publish_at(&mut self.other, versions, place)?;
+        match self.viewers.get_mut(viewer) {
+            Some(viewer) => {
+                viewer.learn(&note);
+                noted(&note)
+            }
+            None => Err(None),
+        }
     }
 
     // Publishes the versions up to a place, beside so many views of the first viewer.
@@ -256,6 +275,9 @@ impl<R: Wait + Drop + Send> Desk<R> {
             "held" => count_of(&self.held, first as u64),
             "add" => add_all(&mut self.publisher, &mut self.viewers, first),
             "drop" => let_go(&mut self.viewers),
+            "fresh" => go_on(&mut self.publisher, self.viewers.get_mut(first)),
+            "other" => go_on(&mut self.other, self.viewers.get_mut(first)),
+            "mislead" => self.mislead(versions, first, second),
             "beside" => self.publish_beside(rt, versions, first, second),
             _ => Err(None),
         }
@@ -282,21 +304,32 @@ fn open<R: Wait + Drop>(
     versions: &[Arc<Version>],
     place: usize,
     viewers: usize,
-) -> Result<Desk<R>, PairFault> {
+) -> Result<(Publisher<R>, Vec<Viewer>), PairFault> {
     let Some(version) = versions.get(place) else {
         return Err(PairFault::Memory);
     };
     let Ok(first) = Arc::try_clone(version) else {
         return Err(PairFault::Memory);
     };
-    match pair(rt, alloc, first, viewers) {
-        Ok((publisher, viewers)) => Ok(Desk {
-            publisher,
-            viewers,
-            held: Vec::new(alloc),
-        }),
-        Err(fault) => Err(fault),
-    }
+    pair(rt, alloc, first, viewers)
+}
+
+// A pair with so many viewers, and another one with none but one that is let go.
+fn open_both<'a, R: Wait>(
+    rt: &'a R,
+    alloc: Global,
+    versions: &[Arc<Version>],
+    place: usize,
+    viewers: usize,
+) -> Result<Desk<&'a R>, PairFault> {
+    let (publisher, viewers) = open(rt, alloc, versions, place, viewers)?;
+    let (other, _) = open(rt, alloc, versions, place, 1)?;
+    Ok(Desk {
+        publisher,
+        viewers,
+        held: Vec::new(alloc),
+        other,
+    })
 }
 
 // Plays the commands over a pair, or shows the number of why there is none.
@@ -308,7 +341,7 @@ fn play_over<R: Print + Threads + Wait + Sync>(
     viewers: usize,
     input: &str,
 ) -> io::Result<()> {
-    match open(rt, alloc, versions, place, viewers) {
+    match open_both(rt, alloc, versions, place, viewers) {
         Ok(mut desk) => desk.obey_all(rt, versions, input),
         Err(fault) => println!(rt; "no pair: {:?}", fault.number()),
     }
