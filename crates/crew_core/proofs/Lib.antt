@@ -1,3 +1,4 @@
 pub mod Kept
 pub mod Stepped
+pub mod Wanting
 pub mod Played

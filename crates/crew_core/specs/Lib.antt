@@ -1,4 +1,5 @@
 pub mod Machines
 pub mod Replies
+pub mod Memory
 pub mod Plays
 pub mod Machinery

@@ -1,12 +1,14 @@
 //! The machine.
-ghost use Rattle.std.specs.Prelude.{◌≡◌, ◌≢◌, ◌↔◌, IfOk, IsTrue, OnErr, Some, map};
+ghost use Rattle.std.specs.Prelude.{◌≡◌, ◌≢◌, ◌↔◌, ◌<◌, IfOk, IsTrue, OnErr, Some, length, map};
 ghost use Rattle.std.specs.Arc.{arc_value};
 ghost use Rattle.crew_board.specs.declared.fault.BeginFault.TheVariants.{Ground};
+ghost use Rattle.crew_board.specs.declared.fault.SealFault.TheVariants as Seal;
 ghost use Rattle.crew_core.specs.Machines.{IsMachineOf};
 ghost use Rattle.crew_core.specs.Machinery.Refused.{begin_reply, seal_reply};
+ghost use Rattle.crew_core.specs.Memory.{MayClose, MayOpen, MayPublish, TakesMemory};
 ghost use Rattle.crew_core.specs.Replies.{IsStep, act_of, named};
 ghost use Rattle.crew_job.specs.Jobs.{IsJobOf, job_node};
-ghost use Rattle.crew_job.specs.declared.fault.GroundFault.TheVariants.{ShorterLog};
+ghost use Rattle.crew_job.specs.declared.fault.GroundFault.TheVariants.{Memory, ShorterLog};
 ghost use Rattle.crew_machine.specs.Crew.{CrewState, DutyNode, DutyWork, Entries, IsLocalOf, crew};
 ghost use Rattle.crew_machine.specs.Steps as Steps;
 ghost use Rattle.crew_rules.specs.Settings.{IsChecked};
@@ -70,7 +72,8 @@ fn opening(alloc: Global, settings: &Settings) -> Result<Arc<Version, Global>, A
 // The reply to a round that isn't begun over the whole log, which begins with what is settled.
 fn not_begun(fault: BeginFault) -> Result<Reply, AllocError>
     requires { fault ≢ Ground ShorterLog }
-    ensures { IfOk result (λ reply. begin_reply fault ≡ Some reply) }
+    ensures told { IfOk result (λ reply. begin_reply fault ≡ Some reply) }
+    ensures memory { OnErr result (fault ≡ Ground Memory) }
 {
     match fault {
         BeginFault::Busy => Ok(Reply::Busy),
@@ -83,7 +86,8 @@ fn not_begun(fault: BeginFault) -> Result<Reply, AllocError>
 
 // The reply to a round that isn't sealed.
 fn not_sealed(fault: SealFault) -> Result<Reply, AllocError>
-    ensures { IfOk result (λ reply. seal_reply fault ≡ Some reply) }
+    ensures told { IfOk result (λ reply. seal_reply fault ≡ Some reply) }
+    ensures memory { OnErr result (fault ≡ Seal.Memory) }
 {
     match fault {
         SealFault::NoRound => Ok(Reply::NoRound),
@@ -166,6 +170,7 @@ impl Machine {
     fn begin<R: Threads + Sync>(&mut self, rt: &R, alloc: Global) -> Result<Reply, AllocError>
         ensures ok { IfOk result (λ reply. IsStep self.old Steps.Begin reply self.new) }
         ensures err { OnErr result (self.new ≡ self.old) }
+        ensures memory { OnErr result (MayOpen self.old.board) }
     {
         if let Err(fault) = self.board.begin(rt, alloc, &self.log) {
             return not_begun(fault);
@@ -192,6 +197,7 @@ impl Machine {
     fn bring(&mut self, alloc: Global, job: u32) -> Result<Reply, AllocError>
         ensures ok { IfOk result (λ reply. IsStep self.old (Steps.Bring job) reply self.new) }
         ensures err { OnErr result (self.new ≡ self.old) }
+        ensures memory { OnErr result (job < length self.old.jobs) }
     {
         let Some(found) = self.jobs.get(job as usize) else {
             return Ok(Reply::NotBrought(job));
@@ -223,6 +229,7 @@ impl Machine {
     fn seal(&mut self, alloc: Global) -> Result<Reply, AllocError>
         ensures ok { IfOk result (λ reply. IsStep self.old Steps.Seal reply self.new) }
         ensures err { OnErr result (self.new ≡ self.old) }
+        ensures memory { OnErr result (MayClose self.old.board) }
     {
         let settled = self.board.sealed().count();
         let version = match self.board.seal(alloc) {
@@ -255,6 +262,7 @@ impl Machine {
     fn publish(&mut self) -> Result<Reply, AllocError>
         ensures ok { IfOk result (λ reply. IsStep self.old Steps.Publish reply self.new) }
         ensures err { OnErr result (self.new ≡ self.old) }
+        ensures memory { OnErr result (MayPublish self.old) }
     {
         if self.is_published() {
             return Ok(Reply::NothingNew);
@@ -276,7 +284,9 @@ impl Machine {
 
     /// One step of `crew_machine`'s, with the product's choices: a round is begun over the whole log,
     /// the least ready node's job is handed out, all that is unchanged with a result is done with it,
-    /// and the version published last answers a reader. With no memory nothing changes.
+    /// and the version published last answers a reader. With no memory nothing changes, and want of it
+    /// is answered only to a step that takes some: never where a job is given back or the round is
+    /// dropped, nor in the place of a refusal, but for that of too many duties.
     pub fn step<R: Threads + Sync>(
         &mut self,
         rt: &R,
@@ -285,6 +295,7 @@ impl Machine {
     ) -> Result<Reply, AllocError>
         ensures ok { IfOk result (λ reply. IsStep self.old (act_of step) reply self.new) }
         ensures err { OnErr result (self.new ≡ self.old) }
+        ensures memory { OnErr result (TakesMemory self.old step) }
     {
         match step {
             Step::Push(entry) => self.push(entry),

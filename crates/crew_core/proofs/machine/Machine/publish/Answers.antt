@@ -3,7 +3,9 @@ use Rattle.std.specs.Arc.{arc_value}
 use Rattle.crew_core.proofs.Kept.{map-push}
 use Rattle.crew_core.proofs.Stepped as by
 use Rattle.crew_core.proofs.Stepped.{with_board}
+use Rattle.crew_core.proofs.Wanting.{err-told, may-publish}
 use Rattle.crew_core.specs.Machines.{IsMachineOf, ShownMachine}
+use Rattle.crew_core.specs.Memory.{MayPublish}
 use Rattle.crew_core.specs.Replies.{HasStepped, IsStep}
 use Rattle.crew_core.specs.contracts.machine.Machine.{the_view}
 use Rattle.crew_core.specs.declared.reply.Reply.TheVariants as Told
@@ -13,6 +15,27 @@ use Rattle.crew_core.proofs.machine.Machine.publish.Goals as goal
 
 pub returns-then-is_published-clause-ok : goal.returns-then-is_published-clause-ok
 returns-then-is_published-clause-ok c = λ state is. by.nothing-new c.args.self.now state is ((c.is_published.ensures state is).0 c.if-is_published.true)
+
+pub returns-in_err-reserve-clause-memory : goal.returns-in_err-reserve-clause-memory
+returns-in_err-reserve-clause-memory c =
+    let m = c.args.self.now in
+    let state = c.self.invariant.0 in
+    let is = subst (λ (z : ShownMachine). IsMachineOf z state) c.self.view_is c.self.invariant.1 in
+    err-told (MayPublish m) c.from_residual.result (may-publish m state is c.is_published.result (c.is_published.ensures state is) c.if-is_published.false)
+
+pub returns-in_err-version-clause-memory : goal.returns-in_err-version-clause-memory
+returns-in_err-version-clause-memory c =
+    let m = c.args.self.now in
+    let state = c.self.invariant.0 in
+    let is = subst (λ (z : ShownMachine). IsMachineOf z state) c.self.view_is c.self.invariant.1 in
+    err-told (MayPublish m) c.from_residual-in_err-version.result (may-publish m state is c.is_published.result (c.is_published.ensures state is) c.if-is_published.false)
+
+pub returns-in_err-shared-clause-memory : goal.returns-in_err-shared-clause-memory
+returns-in_err-shared-clause-memory c =
+    let m = c.args.self.now in
+    let state = c.self.invariant.0 in
+    let is = subst (λ (z : ShownMachine). IsMachineOf z state) c.self.view_is c.self.invariant.1 in
+    err-told (MayPublish m) c.from_residual-in_err-shared.result (may-publish m state is c.is_published.result (c.is_published.ensures state is) c.if-is_published.false)
 
 abbrev next : goal.After-push_reserved → ShownMachine
 next c = record { log = (the_view c.self.inside).log; board = (the_view c.self.inside).board; jobs = (the_view c.self.inside).jobs; published = map arc_value c.push_reserved.new.self.items }

@@ -1,0 +1,70 @@
+//! Edits. Times are minutes since 2025-07-01T00:00 UTC, and all airports are on the clock of New
+//! York, four hours before it. Crews report an hour before a departure.
+
+use crate::call::{Call, code_of, flight_id};
+use crew_flights::{Edit, Flight};
+use crew_time::{ClockMinute, Minute};
+
+// The instant from which times are counted.
+const START: i64 = 29_188_800;
+
+// The instant of a time.
+fn instant_of(time: i64) -> Option<Minute> {
+    Minute::new(START.saturating_add(time))
+}
+
+// What the clock of New York says when the crew of a departure reports.
+fn clock_of(time: i64) -> Option<ClockMinute> {
+    let minutes = time.saturating_sub(300).rem_euclid(1440);
+    ClockMinute::new(u16::try_from(minutes).ok()?)
+}
+
+fn flight_of(call: &Call<'_>) -> Option<Edit> {
+    let [_, id, _, _, dep, arr, price, _] = call.numbers;
+    let [_, _, from, to, ..] = call.words;
+    Some(Edit::AddFlight(Flight {
+        id: flight_id(id)?,
+        from: code_of(from)?,
+        to: code_of(to)?,
+        dep: instant_of(dep)?,
+        arr: instant_of(arr)?,
+        report_clock: clock_of(dep)?,
+        price,
+    }))
+}
+
+// Other times for a flight.
+fn retime_of(call: &Call<'_>) -> Option<Edit> {
+    let [_, id, _, dep, arr, ..] = call.numbers;
+    Some(Edit::Retime {
+        id: flight_id(id)?,
+        from: code_of(call.words[2])?,
+        dep: instant_of(dep)?,
+        arr: instant_of(arr)?,
+        report_clock: clock_of(dep)?,
+    })
+}
+
+// A base, or another price for one.
+fn base_of(call: &Call<'_>) -> Option<Edit> {
+    let code = code_of(call.words[1])?;
+    let price = call.numbers[2];
+    if call.words[0] == "base" {
+        return Some(Edit::AddBase { code, price });
+    }
+    Some(Edit::BasePrice { code, price })
+}
+
+/// The edit that a call says, if it says one.
+pub fn edit_of(call: &Call<'_>) -> Option<Edit> {
+    match call.words[0] {
+        "flight" => flight_of(call),
+        "retime" => retime_of(call),
+        "cancel" => Some(Edit::Cancel(flight_id(call.numbers[1])?)),
+        "price" => Some(Edit::Price {
+            id: flight_id(call.numbers[1])?,
+            price: call.numbers[2],
+        }),
+        _ => base_of(call),
+    }
+}
