@@ -9,6 +9,7 @@ use Rattle.clap.specs.declared.error.kind.ErrorKind.TheVariants as kind
 use Rattle.crew_rules.specs.Settings.{check_of}
 use Rattle.crew_rules.specs.declared.settings.BadSetting.{BadSetting}
 use Rattle.crew_records.specs.Fields.{Fields}
+use Rattle.crew_session.specs.Faults.{Never}
 use Rattle.crew_session.specs.Replay.{IsReplayText, ReplayBegins}
 use Rattle.crew_session.specs.Rows.{records_of}
 use Rattle.crew_session.specs.Session.{Begins, IsSessionText, start}
@@ -71,11 +72,11 @@ abbrev pub Wrote : (List ℕ → List ℕ → Type 0) → (List Fields → Optio
 Wrote IsText IsBegun io (Ok done) = IfSome io.input
     (λ bytes. (text : List ℕ) × Appends io.before io.after text × IsText bytes text)
 Wrote IsText IsBegun io (Err fault) =
-    IsSessionFault false io.input io.reader io.writer fault
+    IsSessionFault Never io.input io.reader io.writer fault
     × IfSome io.input (λ bytes. IsBegun (records_of bytes) io.before io.after)
 
 abbrev pub WroteOf : Task → Streams → Result (Unit {0}) SessionFault → Type 0
-WroteOf (Run s) io r = Wrote (IsSessionText s) (Begins s (start s)) io r
+WroteOf (Run s workers) io r = Wrote (IsSessionText s) (Begins s (start s)) io r
 WroteOf (Replay s) io r = Wrote (IsReplayText s) (ReplayBegins s) io r
 
 -- what a task comes to

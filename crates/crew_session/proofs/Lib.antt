@@ -1,6 +1,8 @@
 pub mod AuditFacts
 pub mod BeginFacts
+pub mod LeadFacts
 pub mod LineFacts
+pub mod OddFacts
 pub mod OneText
 pub mod PlayerFacts
 pub mod RecordFacts

@@ -269,14 +269,14 @@ in-step-at-start strange j v s taken entries records version none =
 -- ---- which fault
 
 -- why a session stops, of what its play says and what has failed
-pub stops-by : (strange reader writer : Bool) (input : Option (List ℕ)) (fault : SessionFault) → IsPlayFault strange fault → IsSessionFault strange input reader writer (cause_of fault reader writer)
-stops-by strange reader writer input (Strange number) h = h
-stops-by strange true writer input Read h = inl refl
-stops-by strange false true input Read h = refl
-stops-by strange false false input Read h = (refl, refl)
-stops-by strange true writer input Write h = inl refl
-stops-by strange false true input Write h = refl
-stops-by strange false false input Write h = (refl, refl)
-stops-by strange true writer input fault.Memory h = inl refl
-stops-by strange false true input fault.Memory h = refl
-stops-by strange false false input fault.Memory h = (refl, refl)
+pub stops-by : (Called : ℕ → Type 0) (reader writer : Bool) (input : Option (List ℕ)) (fault : SessionFault) → IsPlayFault Called fault → IsSessionFault Called input reader writer (cause_of fault reader writer)
+stops-by Called reader writer input (Strange number) h = h
+stops-by Called true writer input Read h = inl refl
+stops-by Called false true input Read h = refl
+stops-by Called false false input Read h = (refl, refl)
+stops-by Called true writer input Write h = inl refl
+stops-by Called false true input Write h = refl
+stops-by Called false false input Write h = (refl, refl)
+stops-by Called true writer input fault.Memory h = inl refl
+stops-by Called false true input fault.Memory h = refl
+stops-by Called false false input fault.Memory h = (refl, refl)

@@ -1,9 +1,10 @@
 -- What an engine answers.
-use Rattle.std.specs.Prelude.{◌≡◌, ◌⊎◌, ◌+◌, ◌<◌, ◌++◌, ℕ, Bool, IsTrue, List, length, Option, Some, None}
+use Rattle.std.specs.Prelude.{◌≡◌, ◌⊎◌, ◌<◌, ◌++◌, ℕ, Bool, IsTrue, List, length, Option, Some, None, Result, Ok, Err}
 use Rattle.crew_flights.specs.declared.entries.Entry.{Entry}
 use Rattle.crew_pairing.specs.Duties.{HasTooMany}
 use Rattle.crew_version.specs.Versions.{Snapshot, timetable_of}
 use Rattle.crew_version.specs.declared.fault.VersionFault.{VersionFault}
+use Rattle.crew_session.specs.Oddities.{Found, IsWhole}
 use Rattle.crew_session.specs.declared.engine_fault.EngineFault.{EngineFault}
 use Rattle.crew_session.specs.declared.engine_fault.EngineFault.TheVariants.{TooManyDuties, LastVersion, SeatFull, Gap, OtherLog, NoView, Memory}
 
@@ -40,7 +41,8 @@ AreTooMany version entries = HasTooMany version.settings (timetable_of entries)
 -- a settle is refused where the version has the greatest number, for too many duties, or for want
 -- of memory; by an engine that may be strange also for what it finds in its log
 abbrev pub IsSettleFault : Bool → Snapshot → List Entry → EngineFault → Type 0
-IsSettleFault strange version entries LastVersion = version.number ≡ 18_446_744_073_709_551_615
+IsSettleFault strange version entries LastVersion =
+    (version.number ≡ 18_446_744_073_709_551_615) ⊎ IsTrue strange
 IsSettleFault strange version entries TooManyDuties = AreTooMany version entries ⊎ IsTrue strange
 IsSettleFault strange version entries (Gap place) = IsTrue strange
 IsSettleFault strange version entries OtherLog = IsTrue strange
@@ -52,8 +54,11 @@ IsSettleFault strange version entries SeatFull = ⊥
 abbrev pub BeginsWith : List Entry → List Entry → Type 0
 BeginsWith earlier later = (more : List Entry) × (later ≡ earlier ++ more)
 
--- the next version, of all entries that were taken
-pub record IsWhole (before : Snapshot) (taken : List Entry) (after : Snapshot) : Type 0 where
-  pub number : after.number ≡ before.number + 1
-  pub settings : after.settings ≡ before.settings
-  pub entries : after.entries ≡ taken
+-- what a settle answers is what it found: the version that the engine then shows, or why there is
+-- none; `OtherLog` where it found a version that isn't the next whole one, and shows the one before
+abbrev pub IsFound : Snapshot → List Entry → Snapshot → Found → Result (Unit {0}) EngineFault
+    → Type 0
+IsFound before taken shown found (Ok done) = found ≡ Ok shown
+IsFound before taken shown found (Err OtherLog) =
+    (after : Snapshot) × (found ≡ Ok after) × ¬ (IsWhole before taken after)
+IsFound before taken shown found (Err fault) = found ≡ Err fault

@@ -1,5 +1,5 @@
 -- Why a session stops.
-use Rattle.std.specs.Prelude.{◌≡◌, ◌⊎◌, ℕ, Bool, IsTrue, true, false, Option, Some, None}
+use Rattle.std.specs.Prelude.{ℕ, Bool, true, false, Option, Some, None}
 use Rattle.crew_session.specs.Engines.{engine_number}
 use Rattle.crew_session.specs.declared.engine_fault.EngineFault.{EngineFault}
 use Rattle.crew_session.specs.declared.fault.SessionFault.{SessionFault}
@@ -20,9 +20,9 @@ stop_by (Some number) = Strange number
 abbrev pub stop_of : EngineFault → SessionFault
 stop_of fault = stop_by (engine_number fault)
 
--- the numbers of what no session brings about
-abbrev pub IsStrange : ℕ → Type 0
-IsStrange number = (number ≡ 62) ⊎ ((number ≡ 63) ⊎ (number ≡ 65))
+-- no number is called for
+abbrev pub Never : ℕ → Type 0
+Never number = ⊥
 
 -- a read stops for the reader, or for want of memory
 abbrev pub IsReadFault : SessionFault → Type 0
@@ -38,19 +38,20 @@ IsLineFault Memory = Unit {0}
 IsLineFault Read = ⊥
 IsLineFault (Strange number) = ⊥
 
--- a record stops for the writer, for want of memory, or for an engine that may be strange
-abbrev pub IsRecordFault : Bool → SessionFault → Type 0
-IsRecordFault strange Write = Unit {0}
-IsRecordFault strange Memory = Unit {0}
-IsRecordFault strange Read = ⊥
-IsRecordFault strange (Strange number) = IsTrue strange × IsStrange number
+-- a record stops for the writer, for want of memory, or for what an engine found, whose number is
+-- called for
+abbrev pub IsRecordFault : (ℕ → Type 0) → SessionFault → Type 0
+IsRecordFault Called Write = Unit {0}
+IsRecordFault Called Memory = Unit {0}
+IsRecordFault Called Read = ⊥
+IsRecordFault Called (Strange number) = Called number
 
 -- the play of a session stops for the reader too
-abbrev pub IsPlayFault : Bool → SessionFault → Type 0
-IsPlayFault strange Read = Unit {0}
-IsPlayFault strange Write = Unit {0}
-IsPlayFault strange Memory = Unit {0}
-IsPlayFault strange (Strange number) = IsTrue strange × IsStrange number
+abbrev pub IsPlayFault : (ℕ → Type 0) → SessionFault → Type 0
+IsPlayFault Called Read = Unit {0}
+IsPlayFault Called Write = Unit {0}
+IsPlayFault Called Memory = Unit {0}
+IsPlayFault Called (Strange number) = Called number
 
 -- why a session stops, by whether the reader and the writer have failed
 abbrev pub cause_by : Bool → Bool → SessionFault

@@ -4,6 +4,7 @@ pub mod Entries
 pub mod Faults
 pub mod Fronts
 pub mod Lines
+pub mod Oddities
 pub mod Pairings
 pub mod Replay
 pub mod Replies

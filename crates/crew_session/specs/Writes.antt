@@ -13,6 +13,12 @@ module _ {A : Type 0} (Obeys : ℕ → Fields → A → A → List ℕ → Type 
       × Obeys (number + 1) row a b line
       × WritesBy (number + 1) b rows rest × (text ≡ line ++ rest)
 
+  -- where they lead
+  abbrev pub LeadsBy : ℕ → A → List Fields → A → Type 0
+  LeadsBy number a [] b = a ≡ b
+  LeadsBy number a (row ∷ rows) b =
+      (c : A) × (line : List ℕ) × Obeys (number + 1) row a c line × LeadsBy (number + 1) c rows b
+
   -- what was written of these records, obeyed from there on, is a beginning of the text of the
   -- first so many, which are 2,000,000 at most
   pub record BeginsBy (a : A) (rows : List Fields) (before after : Option (List ℕ)) : Type 0 where

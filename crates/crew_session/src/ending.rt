@@ -1,8 +1,8 @@
 //! How the reading of records ends, and why a session stops.
 
-ghost use Rattle.std.specs.Prelude.{◌≡◌, IfErr, OnOk, false};
+ghost use Rattle.std.specs.Prelude.{◌≡◌, IfErr, OnOk};
 ghost use Rattle.std.specs.Io.KnownBytes.{IsAtEnd, Keeps};
-ghost use Rattle.crew_session.specs.Faults.{IsPlayFault, cause_of};
+ghost use Rattle.crew_session.specs.Faults.{IsPlayFault, Never, cause_of};
 ghost use Rattle.crew_session.specs.Streams.{read_failed, write_failed};
 
 use crate::fault::SessionFault;
@@ -47,7 +47,7 @@ pub(crate) fn check_all<R: Read, W: Write>(
 ) -> Result<(), SessionFault>
     ensures end { OnOk result (IsAtEnd (R.remaining reader.new)) }
     ensures kept { Keeps (W.contents writer.old) (W.contents writer.new) }
-    ensures fault { IfErr result (IsPlayFault false) }
+    ensures fault { IfErr result (IsPlayFault Never) }
 {
     check_end(reader)?;
     check_written(writer)

@@ -3,8 +3,9 @@
 ghost use denote.Param.Send.{IsSync};
 ghost use Rattle.std.specs.Prelude.{◌≡◌, ◌⊎◌, ◌<◌, ◌++◌, ◌∷◌, [], Bool, IsTrue, List, IfErr, OnErr, OnOk, length};
 ghost use Rattle.crew_flights.specs.declared.entries.Entry.{Entry};
-ghost use Rattle.crew_session.specs.Engines.{BeginsWith, IsSettleFault, IsSubmitFault, IsWhole};
+ghost use Rattle.crew_session.specs.Engines.{BeginsWith, IsFound, IsSettleFault, IsSubmitFault};
 ghost use Rattle.crew_session.specs.Entries.{entry_of};
+ghost use Rattle.crew_session.specs.Oddities.{Found, IsWhole};
 ghost use Rattle.crew_version.specs.Versions.{IsRight, Snapshot};
 
 use crate::engine_fault::EngineFault;
@@ -23,9 +24,13 @@ pub trait Engine {
     // Whether it may be strange.
     ghost MAY_BE_STRANGE: { Bool };
 
+    // What its last settle found, where it may be strange.
+    ghost found: { Self → Found };
+
     /// Whether it may be strange: whether what it shows may come of a log that it doesn't write
     /// alone, and so may lack edits that it took, or have others.
-    const MAY_BE_STRANGE: bool;
+    fn may_be_strange(&self) -> bool
+        ensures { result ≡ MAY_BE_STRANGE };
 
     /// Takes an edit as its next entry. It is `SeatFull` exactly where 1,000,000 edits were
     /// taken, whatever the memory, and else `Memory`; the edit then comes back, and the engine is
@@ -44,8 +49,9 @@ pub trait Engine {
     /// case.
     ///
     /// An engine that may be strange may make another version, of which only the settings and
-    /// that its entries are the first of those taken are known, may answer `TooManyDuties` for
-    /// other entries, and may answer `Gap`, `OtherLog` and `NoView`.
+    /// that its entries are the first of those taken are known, may answer `TooManyDuties` and
+    /// `LastVersion` of other versions, and may answer `Gap`, `NoView`, and `OtherLog` where it
+    /// finds a version that isn't the next one of all entries so far.
     fn settle<R: Threads + Sync>(&mut self, rt: &R) -> Result<(), EngineFault>
         requires { IsSync R.row }
         ensures entries { entries self.new ≡ entries self.old }
@@ -56,7 +62,9 @@ pub trait Engine {
         ensures right { OnOk result (IsRight (shown self.new)) }
         ensures err { OnErr result (shown self.new ≡ shown self.old) }
         ensures fault { IfErr result
-            (IsSettleFault MAY_BE_STRANGE (shown self.old) (entries self.old)) };
+            (IsSettleFault MAY_BE_STRANGE (shown self.old) (entries self.old)) }
+        ensures found { IsTrue MAY_BE_STRANGE → IsFound (shown self.old) (entries self.old)
+            (shown self.new) (found self.new) result };
 
     /// The version that it keeps.
     fn version(&self) -> &Version

@@ -19,8 +19,9 @@ pub enum SessionFault {
     /// There is no memory.
     #[error("out of memory")]
     Memory,
-    /// The engine answered 62 or 65, whose number this is, or what it shows doesn't come of the
-    /// edits that were sent, and then this is 63.
+    /// The engine answered 57, 62 or 65, whose number this is; or what it found doesn't come of the
+    /// edits that were sent, or it answered 40 where these come to no more duties, and then this is
+    /// 63.
     #[error("strange log")]
     Strange(u8),
 }

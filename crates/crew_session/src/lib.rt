@@ -5,7 +5,9 @@
 //! version exactly where there are no more than 200,000 legal duties, the best that a version shows
 //! is the best pairing of its timetable, whatever its length, the pairings that it lists are the
 //! cheapest that fronts show, and an audit counts the partial pairings of its timetable by their
-//! definition. Where it ends otherwise, only an engine that may be strange is called strange.
+//! definition. Where it ends otherwise, only an engine that may be strange is called strange, and
+//! only where what its last settle found is odd: another version than the next whole one, a refusal
+//! that no session brings about, or too many duties where the edits come to few.
 //!
 //! Schedules: steps of the engine in, a record each in the order in which they happen, and the lines
 //! of their replies out. What `replay` writes is told by a run of the machine of `crew_machine` over

@@ -44,6 +44,7 @@ impl Plain {
 const EDITS: usize = 1_000_000;
 
 impl Engine for Plain {
+    ghost use Rattle.std.specs.Prelude.{Ok};
     ghost use Rattle.crew_session.specs.Machinery.Plains.{shown_by, taken_by};
 
     ghost entries = { taken_by };
@@ -52,7 +53,11 @@ impl Engine for Plain {
 
     ghost MAY_BE_STRANGE = { false };
 
-    const MAY_BE_STRANGE: bool = false;
+    ghost found = { λ e. Ok (shown_by e) };
+
+    fn may_be_strange(&self) -> bool {
+        false
+    }
 
     fn submit(&mut self, edit: Edit) -> Result<(), (Edit, EngineFault)> {
         let number = self.version.count() + self.pending.len();

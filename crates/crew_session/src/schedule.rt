@@ -1,10 +1,10 @@
 //! A schedule: records to steps of the machine, and its replies to lines.
 
-ghost use Rattle.std.specs.Prelude.{◌≡◌, ◌≤◌, List, ℕ, IfErr, IfOk, IfSome, OnErr, OnOk, false, length};
+ghost use Rattle.std.specs.Prelude.{◌≡◌, ◌≤◌, List, ℕ, IfErr, IfOk, IfSome, OnErr, OnOk, length};
 ghost use Rattle.std.specs.Io.KnownBytes.{Appends, IsAtEnd};
 ghost use Rattle.csv.specs.Records.{fields_of};
 ghost use Rattle.crew_rules.specs.Settings.{IsChecked};
-ghost use Rattle.crew_session.specs.Faults.{IsPlayFault};
+ghost use Rattle.crew_session.specs.Faults.{IsPlayFault, Never};
 ghost use Rattle.crew_session.specs.Machinery.Endings.{HasEndedBy};
 ghost use Rattle.crew_session.specs.Machinery.Players.{StandsFor};
 ghost use Rattle.crew_session.specs.Replay.{IsReplayText, Performs, ReplayBegins};
@@ -44,7 +44,7 @@ fn perform_all<T: Threads + Sync, R: Read, W: Write>(
         (W.contents writer.old) (W.contents writer.new) ending)) }
     ensures begun { OnErr result (IfSome (rows_left R.remaining records.old) (λ rows.
         ReplayBegins settings.now rows (W.contents writer.old) (W.contents writer.new))) }
-    ensures fault { IfErr result (IsPlayFault false) }
+    ensures fault { IfErr result (IsPlayFault Never) }
 {
     'records: for number in 0..RECORDS {
         if !next_row(records, row)? {
@@ -75,7 +75,7 @@ fn perform_bytes<T: Threads + Sync, R: Read + Drop, W: Write>(
     ensures begun { OnErr result (IfSome (R.remaining reader) (λ bytes.
         ReplayBegins settings.now (records_of bytes)
         (W.contents writer.old) (W.contents writer.new))) }
-    ensures fault { IfErr result (IsPlayFault false) }
+    ensures fault { IfErr result (IsPlayFault Never) }
 {
     let mut player = Player::new(alloc, settings)?;
     let mut records = ReaderBuilder::new()
@@ -111,7 +111,7 @@ fn perform<T: Threads + Sync, R: Read, W: Write>(
     ensures begun { OnErr result (IfSome (R.remaining reader.old) (λ bytes.
         ReplayBegins settings.now (records_of bytes)
         (W.contents writer.old) (W.contents writer.new))) }
-    ensures fault { IfErr result (IsPlayFault false) }
+    ensures fault { IfErr result (IsPlayFault Never) }
 {
     let ending = perform_bytes(rt, alloc, settings, &mut *reader, writer)?;
     if let Ending::AtEnd = ending {
@@ -151,7 +151,7 @@ pub fn replay<T: Threads + Sync, R: Read + Drop, W: Write + Drop>(
     ensures begun { OnErr result (IfSome (bytes_left R.remaining reader.old) (λ bytes.
         ReplayBegins settings.now (records_of bytes)
         (bytes_held W.contents writer.old) (bytes_held W.contents writer.new))) }
-    ensures fault { IfErr result (IsSessionFault false
+    ensures fault { IfErr result (IsSessionFault Never
         (bytes_left R.remaining reader.old) (read_failed reader.new) (write_failed writer.new)) }
 {
     match perform(rt, alloc, settings, &mut *reader, &mut *writer) {

@@ -6,11 +6,14 @@ ghost use Rattle.csv.specs.Records.{fields_of};
 ghost use Rattle.crew_flights.specs.declared.entries.Entry.{Entry as EntryOf};
 ghost use Rattle.crew_rules.specs.Settings.{IsChecked};
 ghost use Rattle.crew_records.specs.Commands.{IsDated};
-ghost use Rattle.crew_pairing.specs.Duties.{HasTooMany};
+ghost use Rattle.crew_pairing.specs.Duties.{HasFew, HasTooMany};
 ghost use Rattle.crew_session.specs.Engines.{AreTooMany, engine_number};
+ghost use Rattle.crew_session.specs.declared.engine_fault.EngineFault.TheVariants.{TooManyDuties};
+ghost use Rattle.crew_records.specs.declared.command.Command.TheVariants.{Settle};
 ghost use Rattle.crew_session.specs.Faults.{IsLineFault, IsPlayFault, IsRecordFault, cause_of};
 ghost use Rattle.crew_session.specs.Machinery.Journals.{Came, HasEnded, IsInStep, IsRefusal, state_of, zones_of};
 ghost use Rattle.crew_session.specs.Lines.{refused_line, refused_lines, version_line};
+ghost use Rattle.crew_session.specs.Oddities.{IsCalledFor, IsSettledAt, MeetsOdd};
 ghost use Rattle.crew_session.specs.Rows.{IsOpen, records_of, rows_left};
 ghost use Rattle.crew_session.specs.Session.{Begins, IsSessionText, Obeys, State, Writes};
 ghost use Rattle.crew_session.specs.Session as Spec;
@@ -85,7 +88,7 @@ fn submit<W: Write, E: Engine>(
 {
     let place = engine.version().count() + journal.records.len();
     match engine.submit(edit) {
-        Ok(()) => Ok(journal.add(number, E::MAY_BE_STRANGE, place as u32, edit)?),
+        Ok(()) => Ok(journal.add(number, engine.may_be_strange(), place as u32, edit)?),
         Err((_, fault)) => refuse(alloc, writer, number, fault),
     }
 }
@@ -123,8 +126,10 @@ fn has_too_many<R: Threads + Sync>(
     version: &Version,
     entries: &[Entry],
 ) -> Result<bool, AllocError>
-    ensures { IfOk result (λ many. many ≡ true
+    ensures many { IfOk result (λ many. many ≡ true
         → HasTooMany version.now.settings (timetable_of (version.now.entries ++ entries.now))) }
+    ensures few { IfOk result (λ many. many ≡ false
+        → HasFew version.now.settings (timetable_of (version.now.entries ++ entries.now))) }
 {
     let timetable = version.timetable_with(alloc, entries)?;
     match list_duties(rt, alloc, version.settings(), &timetable) {
@@ -148,15 +153,18 @@ fn decline<R: Threads + Sync, W: Write, E: Engine>(
         (E.shown engine.now) (E.entries engine.now) }
     requires many { AreTooMany (E.shown engine.now) (E.entries engine.now)
         ⊎ IsTrue E.MAY_BE_STRANGE }
+    requires found { IsTrue E.MAY_BE_STRANGE → E.found engine.now ≡ Err TooManyDuties }
     ensures written { OnOk result
         (Appends (W.contents writer.old) (W.contents writer.new) (refused_line number 40)) }
     ensures many { OnOk result (AreTooMany (E.shown engine.now) (E.entries engine.now)) }
     ensures begun { OnErr result (BeginsOne (W.contents writer.old) (W.contents writer.new)
         (λ text. AreTooMany (E.shown engine.now) (E.entries engine.now)
         × (text ≡ refused_line number 40))) }
-    ensures fault { IfErr result (IsRecordFault E.MAY_BE_STRANGE) }
+    ensures fault { IfErr result (IsRecordFault (MeetsOdd E.MAY_BE_STRANGE
+        (λ at. at ≡ state_of journal.now (E.shown engine.now) (E.entries engine.now))
+        (E.found engine.now))) }
 {
-    if E::MAY_BE_STRANGE && !has_too_many(rt, alloc, engine.version(), &journal.entries)? {
+    if engine.may_be_strange() && !has_too_many(rt, alloc, engine.version(), &journal.entries)? {
         return Err(stop(EngineFault::OtherLog));
     }
     refuse(alloc, writer, number, EngineFault::TooManyDuties)
@@ -214,16 +222,20 @@ fn settle<R: Threads + Sync, W: Write, E: Engine>(
     ensures in_step { OnOk result
         (IsInStep E.MAY_BE_STRANGE journal.new (E.shown engine.new) (E.entries engine.new)) }
     ensures late { OnOk result ((E.shown engine.new).number ≤ number) }
-    ensures fault { IfErr result (IsRecordFault E.MAY_BE_STRANGE) }
+    ensures fault { IfErr result (IsRecordFault (MeetsOdd E.MAY_BE_STRANGE
+        (λ at. at ≡ state_of journal.old (E.shown engine.old) (E.entries engine.old))
+        (E.found engine.new))) }
 {
     let before = engine.version().number();
     let first = engine.version().count();
     match engine.settle(rt) {
         Ok(()) => {}
-        Err(EngineFault::TooManyDuties) => {
-            return decline(rt, alloc, number, journal, writer, engine);
-        }
-        Err(fault) => return Err(stop(fault)),
+        Err(fault) => match fault {
+            EngineFault::TooManyDuties => {
+                return decline(rt, alloc, number, journal, writer, engine);
+            }
+            _ => return Err(stop(fault)),
+        },
     }
     if !is_next(engine.version(), before, first + journal.records.len()) {
         return Err(stop(EngineFault::OtherLog));
@@ -260,7 +272,10 @@ fn obey<R: Threads + Sync, W: Write, E: Engine>(
     ensures in_step { OnOk result
         (IsInStep E.MAY_BE_STRANGE journal.new (E.shown engine.new) (E.entries engine.new)) }
     ensures late { OnOk result ((E.shown engine.new).number ≤ number) }
-    ensures fault { IfErr result (IsRecordFault E.MAY_BE_STRANGE) }
+    ensures fault { IfErr result (IsRecordFault (MeetsOdd E.MAY_BE_STRANGE
+        (λ at. (command ≡ Settle)
+        × (at ≡ state_of journal.old (E.shown engine.old) (E.entries engine.old)))
+        (E.found engine.new))) }
 {
     match command {
         Command::AddZone { code, zone } => add_zone(alloc, number, code, zone, journal, writer),
@@ -343,7 +358,10 @@ fn obey_all<T: Threads + Sync, R: Read, W: Write, E: Engine>(
     ensures begun { OnErr result (IfSome (rows_left R.remaining records.old) (λ rows.
         Begins settings.now (state_of journal.old (E.shown engine.old) (E.entries engine.old)) rows
         (W.contents writer.old) (W.contents writer.new))) }
-    ensures fault { IfErr result (IsPlayFault E.MAY_BE_STRANGE) }
+    ensures fault { IfErr result (IsPlayFault (MeetsOdd E.MAY_BE_STRANGE
+        (λ at. IfSome (rows_left R.remaining records.old) (λ rows. IsSettledAt settings.now
+        (state_of journal.old (E.shown engine.old) (E.entries engine.old)) rows at))
+        (E.found engine.new))) }
 {
     'records: for number in 0..RECORDS {
         if !next_row(records, row)? {
@@ -385,7 +403,8 @@ fn read_all<T: Threads + Sync, R: Read + Drop, W: Write, E: Engine>(
     ensures begun { OnErr result (IfSome (R.remaining reader) (λ bytes.
         Begins settings.now (Spec.start settings.now) (records_of bytes)
         (W.contents writer.old) (W.contents writer.new))) }
-    ensures fault { IfErr result (IsPlayFault E.MAY_BE_STRANGE) }
+    ensures fault { IfErr result (IsPlayFault (IsCalledFor E.MAY_BE_STRANGE settings.now
+        (R.remaining reader) (E.found engine.new))) }
 {
     let mut records = ReaderBuilder::new()
         .has_headers(false)
@@ -425,7 +444,8 @@ fn play<T: Threads + Sync, R: Read, W: Write, E: Engine>(
     ensures begun { OnErr result (IfSome (R.remaining reader.old) (λ bytes.
         Begins settings.now (Spec.start settings.now) (records_of bytes)
         (W.contents writer.old) (W.contents writer.new))) }
-    ensures fault { IfErr result (IsPlayFault E.MAY_BE_STRANGE) }
+    ensures fault { IfErr result (IsPlayFault (IsCalledFor E.MAY_BE_STRANGE settings.now
+        (R.remaining reader.old) (E.found engine.new))) }
 {
     let ending = read_all(rt, alloc, settings, &mut *reader, writer, engine)?;
     if let Ending::AtEnd = ending {
@@ -446,9 +466,11 @@ fn play<T: Threads + Sync, R: Read, W: Write, E: Engine>(
 /// flushes them itself.
 ///
 /// `Read` where the reader failed or gives more records, `Write` where the writer failed, `Memory`
-/// where neither did, and `Strange` only of an engine that may be strange: where it answers what
-/// no session brings about. What was written is then a beginning of the text of the first so many
-/// records, 2,000,000 at most, and the engine is not used again.
+/// where neither did, and `Strange` only of an engine that may be strange, and only where a settle
+/// of the session found what no session brings about: 57, 62 or 65 where the engine answered that,
+/// and 63 where it found a version that isn't the next one of all edits so far, or answered 40 and
+/// these come to at most 200,000 duties. What was written is then a beginning of the text of the
+/// first so many records, 2,000,000 at most, and the engine is not used again.
 pub fn run<T: Threads + Sync, R: Read + Drop, W: Write + Drop, E: Engine>(
     rt: &T,
     alloc: Global,
@@ -470,7 +492,8 @@ pub fn run<T: Threads + Sync, R: Read + Drop, W: Write + Drop, E: Engine>(
     ensures begun { OnErr result (IfSome (bytes_left R.remaining reader.old) (λ bytes.
         Begins settings.now (Spec.start settings.now) (records_of bytes)
         (bytes_held W.contents writer.old) (bytes_held W.contents writer.new))) }
-    ensures fault { IfErr result (IsSessionFault E.MAY_BE_STRANGE
+    ensures fault { IfErr result (IsSessionFault (IsCalledFor E.MAY_BE_STRANGE settings.now
+        (bytes_left R.remaining reader.old) (E.found engine.new))
         (bytes_left R.remaining reader.old) (read_failed reader.new) (write_failed writer.new)) }
 {
     match play(rt, alloc, &mut *reader, &mut *writer, settings, engine) {

@@ -7,6 +7,8 @@ use Rattle.crew_session.specs.Zones.{clock_at, flight_with}
 use Rattle.crew_session.proofs.SessionFacts.{audited-begin, begun-do, cheapest-begin, fronted-begin, settled-begin}
 use Rattle.std.proofs.Common.{refl}
 use Rattle.crew_session.proofs.SessionFacts.{audited, cheapest-shown, did, fronted}
+use Rattle.std.proofs.lemmas.Result.{IfErr-weaker}
+use Rattle.crew_session.proofs.OddFacts.{odd-of}
 use Rattle.crew_session.proofs.session.obey.Goals as goal
 
 pub returns-in-AddZone-clause-obeys : goal.returns-in-AddZone-clause-obeys
@@ -67,3 +69,7 @@ pub returns-in-Some-clock_at-clause-begun : goal.returns-in-Some-clock_at-clause
 returns-in-Some-clock_at-clause-begun g c =
     edit-begin c.submit-in-Some-clock_at.result _ _ c.args.settings.now c.args.number _ _ (state_of c.args.journal.now (g.E.Engine.shown c.args.engine.now) (g.E.Engine.entries c.args.engine.now))
     (clock_at c.args.settings.now (zones_of c.args.journal.now.zones) c.in-Retime.from c.in-Retime.dep) (Some c.in-Some-clock_at.report_clock) (edit.Retime c.in-Retime.id c.in-Retime.from c.in-Retime.dep c.in-Retime.arr) c.in-Retime.is (sym c.in-Some-clock_at.is ∙ c.clock_at-in-Retime.ensures) (λ b text d. d) c.submit-in-Some-clock_at.ensures.begun
+
+pub returns-in-Settle-clause-fault : goal.returns-in-Settle-clause-fault
+returns-in-Settle-clause-fault g c =
+    IfErr-weaker c.settle.result _ _ (λ fault h. odd-of _ _ fault (λ number m. (m.0, (m.1.0, (c.in-Settle.is, m.1.1), m.1.2))) h) c.settle.ensures.fault

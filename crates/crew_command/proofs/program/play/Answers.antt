@@ -1,0 +1,11 @@
+use Rattle.std.proofs.Common.{subst, sym, true≢false}
+use Rattle.crew_session.specs.Streams.{bytes_held, bytes_left, read_failed, write_failed}
+use Rattle.crew_command.specs.Program.{WroteOf, streams}
+use Rattle.crew_command.proofs.PlayFacts.{wrote-plain}
+use Rattle.crew_command.proofs.program.play.Goals as goal
+use Rattle.crew_words.specs.declared.task.Task.{Task}
+
+pub returns-in-Run : goal.returns-in-Run
+returns-in-Run g c =
+    let io = streams (bytes_left g.R.Read.remaining c.args.reader.now) (bytes_held g.W.Write.contents c.args.writer.now) (bytes_held g.W.Write.contents c.run.new.writer) (read_failed c.run.new.reader) (write_failed c.run.new.writer) in
+    subst (λ (task : Task). WroteOf task io c.run.result) (sym c.in-Run.is) (wrote-plain c.run.result c.in-Run.settings _ io (λ number called. true≢false (sym called.0)) c.run.ensures.output c.run.ensures.begun c.run.ensures.fault)

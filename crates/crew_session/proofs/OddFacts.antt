@@ -1,0 +1,105 @@
+-- What a session is stopped by, and where it stands then.
+use Rattle.std.proofs.Common.{◌≡◌, ◌⊎◌, ◌<◌, ◌+◌, ◌++◌, ◌∙◌, ℕ, Bool, List, length, Option, Some, None, Ok, Err, refl, sym, ap, subst, arith, inl, inr}
+use Rattle.std.specs.Prelude.{IfErr, IfSome, IsTrue, Result}
+use Rattle.std.specs.Result.{IsErrAnd}
+use Rattle.crew_flights.specs.declared.entries.Entry.{Entry}
+use Rattle.crew_pairing.specs.Duties.{HasFew}
+use Rattle.crew_records.specs.Commands.{command_of}
+use Rattle.crew_records.specs.Fields.{Fields}
+use Rattle.crew_records.specs.declared.command.Command.{Command}
+use Rattle.crew_records.specs.declared.command.Command.TheVariants.{Settle}
+use Rattle.crew_rules.specs.declared.settings.Settings.{Settings}
+use Rattle.crew_session.specs.Engines.{IsFound, IsSettleFault}
+use Rattle.crew_session.specs.Faults.{IsPlayFault, IsRecordFault, stop_of}
+use Rattle.crew_session.specs.Oddities.{Found, IsOddAt, IsSettledAt, IsWhole, MeetsOdd}
+use Rattle.crew_session.specs.Rows.{TakesRow}
+use Rattle.crew_session.specs.Session.{ObeysRow, State}
+use Rattle.crew_session.specs.declared.engine_fault.EngineFault.{EngineFault}
+use Rattle.crew_session.specs.declared.engine_fault.EngineFault.TheVariants.{TooManyDuties, LastVersion, SeatFull, Gap, OtherLog, NoView, Memory}
+use Rattle.crew_session.specs.declared.fault.SessionFault.{SessionFault}
+use Rattle.crew_session.specs.declared.fault.SessionFault.TheVariants as stop
+use Rattle.crew_session.proofs.LeadFacts.{HasLed}
+use Rattle.crew_version.specs.Versions.{Snapshot, timetable_of}
+
+-- what is odd where a session stands
+odd-there : (strange : Bool) (a : State) (found was : Found) (number : ℕ) → IsTrue strange → found ≡ was → IsOddAt a was number → MeetsOdd strange (λ at. at ≡ a) found number
+odd-there strange a found was number s is odd = (s, (a, refl, subst (λ (f : Found). IsOddAt a f number) (sym is) odd))
+
+-- it answered 40, and the entries that were sent come to few duties
+pub declined-odd : (strange : Bool) (a : State) (found : Found) → IsTrue strange → found ≡ Err TooManyDuties → HasFew a.version.settings (timetable_of (a.version.entries ++ a.entries))
+    → MeetsOdd strange (λ at. at ≡ a) found 63
+declined-odd strange a found s is few = odd-there strange a found (Err TooManyDuties) 63 s is (refl, few)
+
+-- it found a version that isn't the next whole one
+found-odd : (strange : Bool) (a : State) (taken : List Entry) (after : Snapshot) (found : Found) → a.version.entries ++ a.entries ≡ taken → IsTrue strange → found ≡ Ok after → ¬ (IsWhole a.version taken after)
+    → MeetsOdd strange (λ at. at ≡ a) found 63
+found-odd strange a taken after found all s is other =
+    odd-there strange a found (Ok after) 63 s is (refl, subst (λ (es : List Entry). ¬ (IsWhole a.version es after)) (sym all) other)
+
+-- the engine refuses, by another number than 40
+pub refused-odd : (strange : Bool) (a : State) (taken : List Entry) (shown : Snapshot) (found : Found) (fault : EngineFault) → a.version.entries ++ a.entries ≡ taken → ¬ (fault ≡ TooManyDuties) → a.version.number < 18_446_744_073_709_551_615
+    → IsSettleFault strange a.version taken fault → (IsTrue strange → IsFound a.version taken shown found (Err fault)) → IsRecordFault (MeetsOdd strange (λ at. at ≡ a) found) (stop_of fault)
+refused-odd strange a taken shown found TooManyDuties all other small why is = absurd (other refl)
+refused-odd strange a taken shown found LastVersion all other small (inl last) is = absurd (omega (arith, last))
+refused-odd strange a taken shown found LastVersion all other small (inr s) is = odd-there strange a found (Err LastVersion) 57 s (is s) refl
+refused-odd strange a taken shown found SeatFull all other small why is = absurd why
+refused-odd strange a taken shown found (Gap place) all other small s is = odd-there strange a found (Err (Gap place)) 62 s (is s) refl
+refused-odd strange a taken shown found OtherLog all other small s is =
+    let h = is s in found-odd strange a taken h.0 found all s h.1 h.2
+refused-odd strange a taken shown found NoView all other small s is = odd-there strange a found (Err NoView) 65 s (is s) refl
+refused-odd strange a taken shown found Memory all other small why is = tt
+
+-- the engine shows a version with another number, or of other entries
+pub shown-odd : (strange : Bool) (a : State) (taken : List Entry) (shown : Snapshot) (found : Found) (count : ℕ) → a.version.entries ++ a.entries ≡ taken → length taken ≡ count
+    → ¬ ((shown.number ≡ a.version.number + 1) × (length shown.entries ≡ count)) → IsWhole a.version taken shown ⊎ IsTrue strange → (IsTrue strange → found ≡ Ok shown)
+    → MeetsOdd strange (λ at. at ≡ a) found 63
+shown-odd strange a taken shown found count all long other (inl whole) is = absurd (other (whole.number, ap length whole.entries ∙ long))
+shown-odd strange a taken shown found count all long other (inr s) is =
+    found-odd strange a taken shown found all s (is s) (λ whole. other (whole.number, ap length whole.entries ∙ long))
+
+-- the same, under equal names
+pub odd-of : (P : ℕ → Type 0) (Q : ℕ → Type 0) (fault : SessionFault) → ((n : ℕ) → P n → Q n) → IsRecordFault P fault → IsRecordFault Q fault
+odd-of P Q stop.Read more h = h
+odd-of P Q stop.Write more h = h
+odd-of P Q stop.Memory more h = h
+odd-of P Q (stop.Strange number) more h = more number h
+
+-- what stops a record stops the play
+pub play-fault : (P : ℕ → Type 0) (Q : ℕ → Type 0) (fault : SessionFault) → ((n : ℕ) → P n → Q n) → IsRecordFault P fault → IsPlayFault Q fault
+play-fault P Q stop.Read more h = absurd h
+play-fault P Q stop.Write more h = tt
+play-fault P Q stop.Memory more h = tt
+play-fault P Q (stop.Strange number) more h = more number h
+
+pub played-of : (P : ℕ → Type 0) (Q : ℕ → Type 0) (fault : SessionFault) → ((n : ℕ) → P n → Q n) → IsPlayFault P fault → IsPlayFault Q fault
+played-of P Q stop.Read more h = h
+played-of P Q stop.Write more h = h
+played-of P Q stop.Memory more h = h
+played-of P Q (stop.Strange number) more h = more number h
+
+-- an error that is handed on
+pub handed-on : {U : Type 0} (r : Result U SessionFault) (fault : SessionFault) (P : SessionFault → Type 0) → IsErrAnd r (λ x. x ≡ fault) → P fault → IfErr r P
+handed-on (Ok u) fault P is h = tt
+handed-on (Err x) fault P is h = subst P (sym is) h
+
+-- where the records led before a settle
+settled-at : (s : Settings) (all before left : Option (List Fields)) (number : ℕ) (first a : State) (row : Fields) → HasLed (ObeysRow s) all before number first a → TakesRow before left row
+    → command_of row ≡ Settle → number < 2_000_000 → IfSome all (λ rows. IsSettledAt s first rows a)
+settled-at s None before left number first a row h r e small = tt
+settled-at s (Some all) None left number first a row h r e small = absurd h
+settled-at s (Some all) (Some rows) None number first a row h r e small = absurd r
+settled-at s (Some all) (Some rows) (Some rest) number first a row h r e small =
+    record { count = number; few = small; leads = h.1; row = row; rest = rest; next = h.0 ∙ r; settle = e }
+
+-- what is odd at a record is met there by the session
+pub met-at : (s : Settings) (strange : Bool) (all before left : Option (List Fields)) (number : ℕ) (first a : State) (row : Fields) (command : Command) (found : Found)
+    → HasLed (ObeysRow s) all before number first a → TakesRow before left row → command ≡ command_of row → number < 2_000_000
+    → (n : ℕ) → MeetsOdd strange (λ at. (command ≡ Settle) × (at ≡ a)) found n → MeetsOdd strange (λ at. IfSome all (λ rows. IsSettledAt s first rows at)) found n
+met-at s strange all before left number first a row command found h r is small n (strange_so, (at, (settle, same), odd)) = (
+  strange_so,
+  (
+    at,
+    subst (λ (z : State). IfSome all (λ rows. IsSettledAt s first rows z)) (sym same) (settled-at s all before left number first a row h r (sym is ∙ settle) small),
+    odd,
+  ),
+)
