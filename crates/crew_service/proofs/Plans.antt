@@ -1,5 +1,5 @@
 -- Laws of what a planner keeps.
-use Rattle.std.proofs.Common.{◌≡◌, ◌≤◌, ◌<◌, ℕ, zero, suc, ◌+◌, ◌∙◌, List, [], ◌∷◌, ◌++◌, Some, length, map, refl, sym, ap, subst, arith, append_assoc, length-append, append-nil, zero-add, Bool, true, false, true≢false, inl, inr, ◌≢◌}
+use Rattle.std.proofs.Common.{◌≡◌, ◌≤◌, ◌<◌, ℕ, zero, suc, ◌+◌, ◌∙◌, List, [], ◌∷◌, ◌++◌, Some, length, refl, sym, ap, subst, arith, append_assoc, length-append, append-nil, zero-add, Bool, true, false, true≢false, inl, inr, ◌≢◌}
 use Rattle.std.proofs.Math.Dec.{ltb}
 use Rattle.std.proofs.lemmas.Bool.Decides.{Decides-ltb}
 use Rattle.std.proofs.lemmas.List.Elements.{All-append, All-cons}
@@ -9,12 +9,12 @@ use Rattle.boxcar.specs.Table.{Where}
 use Rattle.crew_flights.specs.declared.entries.Entry.{Entry}
 use Rattle.crew_log.specs.Logs.{AreOf, HaveNone, IsOf, IsRun, Seat, unused_seat}
 use Rattle.crew_publish.proofs.Chains.{ends_push}
-use Rattle.crew_publish.specs.Chain.{Ends, Follows, IsNext}
+use Rattle.crew_publish.specs.Chain.{IsNext}
 use Rattle.crew_resource.proofs.Lists.{Member-All}
 use Rattle.crew_resource.specs.Members.{Member}
 use Rattle.crew_rules.specs.Settings.{IsChecked}
 use Rattle.crew_service.specs.Faults.{IsMissing}
-use Rattle.crew_service.specs.Machinery.Kept.{HasRead, HasShown, IsAtOrAfter, IsPlanning}
+use Rattle.crew_service.specs.Machinery.Kept.{HasRead, IsPlanning}
 use Rattle.crew_service.specs.Plans.{AreBelow, AreSeatsFrom, IsNextOver, Planning, entries_of}
 use Rattle.crew_version.proofs.Places.{prefix-at, prefix-from}
 use Rattle.crew_version.specs.Versions.{Snapshot}

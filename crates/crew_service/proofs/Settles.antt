@@ -6,7 +6,7 @@ use Rattle.crew_flights.specs.declared.entries.Entry.{Entry}
 use Rattle.crew_machine.specs.Rounds.{last_number}
 use Rattle.crew_pairing.specs.Duties.{HasTooMany}
 use Rattle.crew_service.proofs.Plans.{length-entries}
-use Rattle.crew_service.specs.Faults.{IsPassed, IsSettleFault}
+use Rattle.crew_service.specs.Faults.{IsSettleFault}
 use Rattle.crew_service.specs.Machinery.Kept.{HasRead, HasShown}
 use Rattle.crew_service.specs.Machinery.Rounds.{IsRoundFault}
 use Rattle.crew_service.specs.Plans.{AreBelow, HasPublishedNothing, HasSettled, IsNextOver, Planning, entries_of}

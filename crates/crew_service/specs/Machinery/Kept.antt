@@ -1,5 +1,5 @@
 -- What a planner keeps.
-use Rattle.std.specs.Prelude.{◌≡◌, ◌≤◌, ◌∷◌, [], ◌++◌, length}
+use Rattle.std.specs.Prelude.{◌≡◌, ◌≤◌, ◌∷◌, [], ◌++◌}
 use mathlib.Core.List.{IsPrefix}
 use Rattle.crew_log.specs.Logs.{AreOf, IsRun}
 use Rattle.crew_publish.specs.Chain.{Ends}

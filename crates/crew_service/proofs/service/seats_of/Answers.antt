@@ -1,5 +1,5 @@
-use Rattle.std.proofs.Common.{◌≡◌, ◌+◌, ◌∙◌, ◌∷◌, [], List, length, length-append, sym, ap, subst, arith}
-use Rattle.crew_log.specs.Logs.{Log, Seat, unused_seat}
+use Rattle.std.proofs.Common.{◌≡◌, ◌+◌, ◌∙◌, ◌∷◌, [], length, length-append, sym, ap, subst, arith}
+use Rattle.crew_log.specs.Logs.{Log, unused_seat}
 use Rattle.crew_service.proofs.Plans.{seats-push}
 use Rattle.crew_service.specs.Plans.{AreSeatsFrom}
 use Rattle.crew_service.proofs.service.seats_of.Goals as goal

@@ -1,4 +1,4 @@
-use Rattle.std.proofs.Common.{◌≡◌, ◌∙◌, Some, sym, ap, subst}
+use Rattle.std.proofs.Common.{◌∙◌, Some, sym, ap, subst}
 use Rattle.std.specs.Prelude.{slice_index_or}
 use Rattle.boxcar.specs.Table.{Where}
 use Rattle.crew_flights.specs.declared.entries.Entry.{Entry}

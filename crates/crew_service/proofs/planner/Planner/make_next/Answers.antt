@@ -1,5 +1,4 @@
-use Rattle.std.proofs.Common.{◌≡◌, ◌∙◌, IfErr, List, ap, subst, sym}
-use Rattle.std.specs.Arc.{arc_value}
+use Rattle.std.proofs.Common.{◌≡◌, ◌∙◌, IfErr, List, ap, subst}
 use Rattle.crew_flights.specs.declared.entries.Entry.{Entry}
 use Rattle.crew_service.specs.Machinery.Rounds.{IsRoundFault}
 use Rattle.crew_service.specs.Plans.{Planning, entries_of}

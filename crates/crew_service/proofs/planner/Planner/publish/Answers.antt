@@ -1,5 +1,4 @@
-use Rattle.std.proofs.Common.{◌≡◌, ◌++◌, ◌∷◌, [], ◌∙◌, List, sym, ap, subst, refl}
-use Rattle.std.specs.Arc.{arc_value}
+use Rattle.std.proofs.Common.{◌≡◌, ◌++◌, ◌∷◌, [], ◌∙◌, List, sym, ap, subst}
 use Rattle.crew_service.proofs.Plans.{with-shown}
 use Rattle.crew_service.specs.Machinery.Kept.{IsPlanning}
 use Rattle.crew_service.specs.Plans.{Planning}

@@ -1,4 +1,4 @@
-use Rattle.std.proofs.Common.{◌≡◌, ◌∙◌, true≢false, length, ℕ, sym, ap, subst, arith}
+use Rattle.std.proofs.Common.{◌≡◌, ◌∙◌, true≢false, length, sym, ap, subst, arith}
 use Rattle.crew_log.specs.Logs.{HaveNone}
 use Rattle.crew_service.proofs.Plans.{some-missing}
 use Rattle.crew_service.specs.Plans.{Planning}
