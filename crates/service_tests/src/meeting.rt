@@ -59,7 +59,7 @@ impl<'a, R: Clock> Gate for Meeter<'a, R> {
 }
 
 // The gate of one more owner.
-fn meeter<'a, R: Clock>(rt: &'a R, meeting: &'a Meeting) -> Meeter<'a, R> {
+fn gate_of<'a, R: Clock>(rt: &'a R, meeting: &'a Meeting) -> Meeter<'a, R> {
     Meeter {
         rt,
         meeting,
@@ -85,7 +85,7 @@ fn serve<R: Print + Threads + Wait + Sync + Clock>(
 ) -> io::Result<()> {
     thread::scope(thread::scope_env(), rt, |scope| {
         for _ in 0..workers {
-            let _ = scope.spawn(move || Worker::new(meeter(rt, meeting)).run(rt, alloc, shared));
+            let _ = scope.spawn(move || Worker::new(gate_of(rt, meeting)).run(rt, alloc, shared));
         }
         let told = desk.obey_all(rt, rt, alloc, COMMANDS);
         shared.close(rt);
@@ -124,7 +124,7 @@ pub fn play<R: Print + Threads + Wait + Sync + Clock>(
         came: AtomicU64::new(0),
         late: AtomicU64::new(0),
     };
-    let gate = meeter(rt, &meeting);
+    let gate = gate_of(rt, &meeting);
     match Service::new(rt, alloc, &Settings::standard(), (1, 1), gate) {
         Ok(service) => play_over(rt, alloc, &meeting, service, workers)?,
         Err(fault) => println!(rt; "no service: {:?}", fault.number())?,
