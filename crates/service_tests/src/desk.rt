@@ -3,8 +3,10 @@ ghost use Rattle.std.specs.Prelude.{◌≡◌};
 ghost use Rattle.crew_log.specs.Logs.{AreOf};
 
 use crate::edits::edit_of;
-use crate::sights::{Question, all_see, ask, best_cost, count_views, held_of, hold_all, see};
-use crate::words::{Answer, code_of, count_of};
+use crate::sights::{
+    all_see, best_cost, count_views, entries_of, held_of, hold_all, verdict_at, view_of,
+};
+use crate::words::{Answer, count_of};
 use crew_flights::Edit;
 use crew_log::{Receipt, Seat};
 use crew_publish::{Note, View, Viewer};
@@ -108,11 +110,16 @@ impl<'a, R: Wait, G: Gate> Desk<'a, R, G> {
         }
     }
 
-    // What the version that a viewer sees answers.
-    fn ask(&mut self, viewer: usize, question: Question<'_>) -> Answer {
-        match self.viewers.get_mut(viewer) {
-            Some(viewer) => ask(viewer, question),
-            None => Err(None),
+    // What words ask of the version that a viewer sees.
+    fn ask(&mut self, viewer: &str, words: &[&str]) -> Answer {
+        let view = view_of(&mut self.viewers, count_of(viewer))?;
+        let version = view.version();
+        match *words {
+            ["see"] => Ok(version.number()),
+            ["count"] => Ok(version.count() as u64),
+            ["verdict", place] => verdict_at(version, count_of(place)),
+            ["front", base, flight] => entries_of(version, base, flight),
+            _ => Err(None),
         }
     }
 
@@ -127,15 +134,7 @@ impl<'a, R: Wait, G: Gate> Desk<'a, R, G> {
     // What words ask for that a viewer answers.
     fn look(&mut self, words: &[&str]) -> Answer {
         match *words {
-            ["see", viewer] => self.ask(count_of(viewer), Question::Number),
-            ["count", viewer] => self.ask(count_of(viewer), Question::Count),
-            ["verdict", viewer, place] => {
-                self.ask(count_of(viewer), Question::Verdict(count_of(place)))
-            }
-            ["front", viewer, base, flight] => match code_of(base) {
-                Some(base) => self.ask(count_of(viewer), Question::Entries(base, flight)),
-                None => Err(None),
-            },
+            ["ask", viewer, ref words @ ..] => self.ask(viewer, words),
             ["views", viewer, number, views] => {
                 self.count_views(count_of(viewer), count_of(number), count_of(views))
             }
@@ -180,10 +179,7 @@ impl<'a, R: Wait, G: Gate> Desk<'a, R, G> {
     ) -> io::Result<()> {
         let words: Vec<&str> = line.split([' ', ',']).collect(alloc)?;
         if let ["best", viewer] = *words.as_slice() {
-            let best = match self.viewers.get_mut(count_of(viewer)) {
-                Some(viewer) => best_cost(viewer),
-                None => None,
-            };
+            let best = best_cost(&mut self.viewers, count_of(viewer));
             return println!(rt; "{line}: {best:?}");
         }
         println!(rt; "{line}: {:?}", self.obey(rt, wait, alloc, &words))

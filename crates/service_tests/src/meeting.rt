@@ -72,7 +72,7 @@ const COMMANDS: &str = "submit 0 base,JFK,0
 submit 0 flight,101,JFK,BOS,2025-07-01T12:00,2025-07-01T13:10,3000
 submit 0 flight,102,JFK,BOS,2025-07-01T14:00,2025-07-01T15:15,2000
 settle
-see 0";
+ask 0 see";
 
 // Works beside so many workers, each with a gate.
 fn serve<R: Print + Threads + Wait + Sync + Clock>(

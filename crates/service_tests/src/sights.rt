@@ -1,7 +1,7 @@
 //! What a view shows.
 
-use crate::words::{Answer, key_of};
-use crew_flights::{Code, Verdict};
+use crate::words::{Answer, code_of, key_of};
+use crew_flights::Verdict;
 use crew_publish::{View, Viewer};
 use crew_version::Version;
 
@@ -24,9 +24,9 @@ pub fn count_views(viewer: &mut Viewer, number: u64, views: usize) -> Answer {
     Ok(count)
 }
 
-// How many entries the front of a base and a duty of one flight has.
-fn entries_of(version: &Version, base: Code, flight: &str) -> Answer {
-    let Some(key) = key_of(flight) else {
+/// How many entries the front of a base and a duty of one flight has.
+pub fn entries_of(version: &Version, base: &str, flight: &str) -> Answer {
+    let (Some(base), Some(key)) = (code_of(base), key_of(flight)) else {
         return Err(None);
     };
     match version.front(base, &key) {
@@ -35,8 +35,8 @@ fn entries_of(version: &Version, base: Code, flight: &str) -> Answer {
     }
 }
 
-// What the verdict on an entry is: 0 where it was accepted, and else the number of the refusal.
-fn verdict_at(version: &Version, place: usize) -> Answer {
+/// What the verdict on an entry is: 0 where it was accepted, and else the number of the refusal.
+pub fn verdict_at(version: &Version, place: usize) -> Answer {
     match version.verdict(place) {
         Some(Verdict::Accepted) => Ok(0),
         Some(Verdict::Refused(refusal)) => Err(Some(refusal.number())),
@@ -44,39 +44,21 @@ fn verdict_at(version: &Version, place: usize) -> Answer {
     }
 }
 
-/// What is asked of a version.
-#[derive(Clone, Copy)]
-pub enum Question<'a> {
-    Number,
-    Count,
-    Verdict(usize),
-    Entries(Code, &'a str),
-}
-
-// What a version answers.
-fn answer(version: &Version, question: Question<'_>) -> Answer {
-    match question {
-        Question::Number => Ok(version.number()),
-        Question::Count => Ok(version.count() as u64),
-        Question::Verdict(place) => verdict_at(version, place),
-        Question::Entries(base, flight) => entries_of(version, base, flight),
-    }
-}
-
-/// What the version that a viewer sees answers.
-pub fn ask(viewer: &mut Viewer, question: Question<'_>) -> Answer {
-    match viewer.view() {
-        Ok(view) => answer(view.version(), question),
-        Err(fault) => Err(fault.number()),
+/// The view of one of some viewers.
+pub fn view_of(viewers: &mut [Viewer], viewer: usize) -> Result<View, Option<u8>> {
+    match viewers.get_mut(viewer) {
+        Some(viewer) => match viewer.view() {
+            Ok(view) => Ok(view),
+            Err(fault) => Err(fault.number()),
+        },
+        None => Err(None),
     }
 }
 
 /// The cost of the best pairing that a viewer sees; `None` where there is none, or no view.
-pub fn best_cost(viewer: &mut Viewer) -> Option<i64> {
-    match viewer.view() {
-        Ok(view) => Some(view.version().best()?.cost),
-        Err(_) => None,
-    }
+pub fn best_cost(viewers: &mut [Viewer], viewer: usize) -> Option<i64> {
+    let view = view_of(viewers, viewer).ok()?;
+    Some(view.version().best()?.cost)
 }
 
 // Holds a view of a viewer beside others; whether it could.
