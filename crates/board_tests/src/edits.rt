@@ -20,12 +20,12 @@ fn clock_of(time: i64) -> Option<ClockMinute> {
 }
 
 fn flight_of(call: &Call<'_>) -> Option<Edit> {
-    let [_, id, _, _, dep, arr, price, _] = call.numbers;
-    let [_, _, from, to, ..] = call.words;
+    let [_, _, id, _, _, dep, arr, price] = call.numbers;
+    let (from, to) = (code_of(call.words[3])?, code_of(call.words[4])?);
     Some(Edit::AddFlight(Flight {
         id: flight_id(id)?,
-        from: code_of(from)?,
-        to: code_of(to)?,
+        from,
+        to,
         dep: instant_of(dep)?,
         arr: instant_of(arr)?,
         report_clock: clock_of(dep)?,
@@ -35,10 +35,10 @@ fn flight_of(call: &Call<'_>) -> Option<Edit> {
 
 // Other times for a flight.
 fn retime_of(call: &Call<'_>) -> Option<Edit> {
-    let [_, id, _, dep, arr, ..] = call.numbers;
+    let [_, _, id, _, dep, arr, ..] = call.numbers;
     Some(Edit::Retime {
         id: flight_id(id)?,
-        from: code_of(call.words[2])?,
+        from: code_of(call.words[3])?,
         dep: instant_of(dep)?,
         arr: instant_of(arr)?,
         report_clock: clock_of(dep)?,
@@ -47,24 +47,30 @@ fn retime_of(call: &Call<'_>) -> Option<Edit> {
 
 // A base, or another price for one.
 fn base_of(call: &Call<'_>) -> Option<Edit> {
-    let code = code_of(call.words[1])?;
-    let price = call.numbers[2];
-    if call.words[0] == "base" {
+    let code = code_of(call.words[2])?;
+    let price = call.numbers[3];
+    if call.words[1] == "base" {
         return Some(Edit::AddBase { code, price });
     }
     Some(Edit::BasePrice { code, price })
 }
 
-/// The edit that a call says, if it says one.
+// Another price for a flight, or its end.
+fn price_of(call: &Call<'_>) -> Option<Edit> {
+    let id = flight_id(call.numbers[2])?;
+    let price = call.numbers[3];
+    if call.words[1] == "price" {
+        return Some(Edit::Price { id, price });
+    }
+    Some(Edit::Cancel(id))
+}
+
+/// The edit that a call says behind its first word, if it says one.
 pub fn edit_of(call: &Call<'_>) -> Option<Edit> {
-    match call.words[0] {
+    match call.words[1] {
         "flight" => flight_of(call),
         "retime" => retime_of(call),
-        "cancel" => Some(Edit::Cancel(flight_id(call.numbers[1])?)),
-        "price" => Some(Edit::Price {
-            id: flight_id(call.numbers[1])?,
-            price: call.numbers[2],
-        }),
+        "price" | "cancel" => price_of(call),
         _ => base_of(call),
     }
 }

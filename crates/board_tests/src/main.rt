@@ -24,10 +24,30 @@ mod texts;
 use call::{Call, call_of};
 use crew_board::Board;
 use edits::edit_of;
-use std::alloc::AllocError;
+use std::alloc::{AllocError, Global};
 use std::io::{self, Read};
 use std::thread::Threads;
 use table::{Desk, Table, empty};
+
+// Answers a call of a board about jobs or lots, or one that names nothing else.
+fn answer_of(
+    alloc: Global,
+    board: &mut Board,
+    table: &mut Table,
+    call: Call<'_>,
+    out: &mut String,
+) -> Result<(), AllocError> {
+    let number = call.counts[2];
+    match call.words[0] {
+        "claim" => jobs::claim(alloc, board, &mut table.jobs, out),
+        "bring" => jobs::bring_at(alloc, board, table.jobs.get(number), out),
+        "giveback" => jobs::give_back_at(board, table.jobs.get(number), out),
+        "lot" => lots::claim(alloc, board, &mut table.lots, number, out),
+        "bringlot" => lots::bring_at(alloc, board, table.lots.get(number), out),
+        "backlot" => lots::give_back_at(board, table.lots.get(number), out),
+        word => boards::answer(alloc, board, word, out),
+    }
+}
 
 // Answers a call of a board.
 fn answer_by<R: Threads + Sync + AllocGlobal>(
@@ -37,18 +57,24 @@ fn answer_by<R: Threads + Sync + AllocGlobal>(
     call: Call<'_>,
     out: &mut String,
 ) -> Result<(), AllocError> {
-    let (alloc, number) = (rt.alloc(), call.counts[2]);
     match call.words[0] {
-        "begin" => boards::begin(rt, board, &table.entries, number, out),
+        "begin" => boards::begin(rt, board, &table.entries, call.counts[2], out),
         "like" => likes::like(rt, board, &table.entries, out),
-        "claim" => jobs::claim(alloc, board, &mut table.jobs, out),
-        "bring" => jobs::bring_at(alloc, board, table.jobs.get(number), out),
-        "giveback" => jobs::give_back_at(board, table.jobs.get(number), out),
-        "lot" => lots::claim(alloc, board, &mut table.lots, number, out),
-        "bringlot" => lots::bring_at(alloc, board, table.lots.get(number), out),
-        "backlot" => lots::give_back_at(board, table.lots.get(number), out),
-        "rounds" => drawn::rounds(rt, board, table, number, out),
-        word => boards::answer(alloc, board, word, out),
+        "rounds" => drawn::rounds(rt, board, table, call.counts[2], out),
+        _ => answer_of(rt.alloc(), board, table, call, out),
+    }
+}
+
+// Answers a call of the board of a number.
+fn answer_at<R: Threads + Sync + AllocGlobal>(
+    rt: &R,
+    desk: &mut Desk,
+    call: Call<'_>,
+    out: &mut String,
+) -> Result<(), AllocError> {
+    match desk.boards.get_mut(call.counts[1]) {
+        Some(board) => answer_by(rt, board, &mut desk.table, call, out),
+        None => out.push_str("no such board"),
     }
 }
 
@@ -59,19 +85,13 @@ fn answer<R: Threads + Sync + AllocGlobal>(
     call: Call<'_>,
     out: &mut String,
 ) -> Result<(), AllocError> {
-    let [_, first, second, ..] = call.counts;
     match call.words[0] {
-        "board" => boards::make(rt.alloc(), &mut desk.boards, first, out),
-        "restore" => boards::restore(&mut desk.boards, first, second, out),
+        "board" => boards::make(rt.alloc(), &mut desk.boards, call.counts[1], out),
+        "restore" => boards::restore(&mut desk.boards, call.counts[1], call.counts[2], out),
         "log" => desk.table.clear(out),
         "choices" => desk.table.choose(out),
-        "base" | "baseprice" | "price" | "flight" | "retime" | "cancel" => {
-            desk.table.take(edit_of(&call), out)
-        }
-        _ => match desk.boards.get_mut(first) {
-            Some(board) => answer_by(rt, board, &mut desk.table, call, out),
-            None => out.push_str("no such board"),
-        },
+        "edit" => desk.table.take(edit_of(&call), out),
+        _ => answer_at(rt, desk, call, out),
     }
 }
 
