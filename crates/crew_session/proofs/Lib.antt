@@ -10,4 +10,5 @@ pub mod ReplyFacts
 pub mod RowFacts
 pub mod RunFacts
 pub mod SessionFacts
+pub mod ThreadFacts
 pub mod ZoneFacts

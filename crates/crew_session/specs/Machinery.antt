@@ -3,4 +3,5 @@ pub mod Endings
 pub mod Journals
 pub mod Plains
 pub mod Players
+pub mod Threads
 pub mod Told

@@ -35,6 +35,7 @@ mod rows;
 mod schedule;
 mod session;
 mod text;
+mod threaded;
 mod zones;
 
 pub use engine::Engine;
@@ -45,3 +46,4 @@ pub use plain::Plain;
 pub use schedule::replay;
 pub use session::run;
 pub use text::write_text;
+pub use threaded::Threaded;
