@@ -76,7 +76,7 @@ Wrote IsText IsBegun io (Err fault) =
     × IfSome io.input (λ bytes. IsBegun (records_of bytes) io.before io.after)
 
 abbrev pub WroteOf : Task → Streams → Result (Unit {0}) SessionFault → Type 0
-WroteOf (Run s) io r = Wrote (IsSessionText s) (Begins s (start s)) io r
+WroteOf (Run s workers) io r = Wrote (IsSessionText s) (Begins s (start s)) io r
 WroteOf (Replay s) io r = Wrote (IsReplayText s) (ReplayBegins s) io r
 
 -- what a task comes to

@@ -66,7 +66,7 @@ fn play<T: Threads + Sync, R: Read + Drop, W: Write + Drop>(
         (read_failed reader.new) (write_failed writer.new)) result }
 {
     match task {
-        Task::Run(settings) => {
+        Task::Run(settings, _) => {
             let mut engine = Plain::new(alloc, &settings);
             run(rt, alloc, reader, writer, &settings, &mut engine)
         }

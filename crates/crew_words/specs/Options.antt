@@ -21,6 +21,10 @@ number_in None default = default
 number_in (Some text) default = if is_number (without_leading_plus text) then digits_value 10
     (without_leading_plus text) else default
 
+-- the number of workers, which is none unless it is given
+abbrev pub workers_in : List Row → ℕ
+workers_in rows = number_in (one_of (codes "workers") rows) 0
+
 -- each setting is the number of the option of its name
 unfoldable pub settings_in : List Row → Settings
 settings_in rows = record {

@@ -1,16 +1,16 @@
 -- The command line: `crewprice run` and `crewprice replay`, each with an option for each setting,
--- `--help` and `--version`.
-use Rattle.std.specs.Prelude.{pos, true, false, List, [], ◌∷◌, map, take, ℕ, Option, Some, None, codes, if◌then◌else◌}
+-- `run` with the number of workers, `--help` and `--version`.
+use Rattle.std.specs.Prelude.{ℤ, pos, true, false, List, [], ◌∷◌, map, take, ℕ, Option, Some, None, codes, if◌then◌else◌}
 use Rattle.std.specs.Str.{bytes_eq}
 use Rattle.clap.specs.Faults.{fault_of}
 use Rattle.clap.specs.Kinds.{Kinds}
-use Rattle.clap.specs.Words.{App, Row, Rule, Text, new_rule, subcommand_of}
+use Rattle.clap.specs.Words.{App, Row, Rule, Text, new_rule, subcommand_of, with_rule}
 use Rattle.clap.specs.Simple.{new_shape}
 use Rattle.clap.specs.declared.builder.action.ArgAction.TheVariants.{Set}
 use Rattle.clap.specs.declared.builder.value_parser.ValueParser.TheVariants as parser
 use Rattle.crew_rules.specs.Settings.{standard}
 use Rattle.crew_rules.specs.declared.settings.Settings.{Settings}
-use Rattle.crew_words.specs.Options.{settings_in}
+use Rattle.crew_words.specs.Options.{settings_in, workers_in}
 use Rattle.crew_words.specs.declared.task.Task.{Task}
 use Rattle.crew_words.specs.declared.task.Task.TheVariants.{Run, Replay}
 
@@ -22,14 +22,22 @@ names = codes "lead" ∷ codes "debrief" ∷ codes "connect" ∷ codes "sit" ∷
     ∷ codes "guarantee"
     ∷ codes "deadheads" ∷ []
 
--- an option takes one value, a whole number from 0 to 1,000,000
-unfoldable pub option_rule : Text → Rule
-option_rule name = record (new_rule name) {
-  long = Some name;
-  action = Some Set;
-  value_names = 1;
-  parser = Some (parser.Signed (pos 0) (pos 1_000_000));
-}
+-- an option that takes one value
+abbrev pub value_rule : Text → Rule
+value_rule name =
+    record (new_rule name) { long = Some name; action = Some Set; value_names = 1 }
+
+-- .. which is a whole number from 0 to a greatest one
+unfoldable pub number_rule : Text → ℤ → Rule
+number_rule name most = record (value_rule name) { parser = Some (parser.Signed (pos 0) most) }
+
+-- that of a setting is 1,000,000 at most
+abbrev pub option_rule : Text → Rule
+option_rule name = number_rule name (pos 1_000_000)
+
+-- and the number of workers 64
+abbrev pub workers_rule : Rule
+workers_rule = number_rule (codes "workers") (pos 64)
 
 -- a subcommand of this name with these options
 abbrev pub sub_with : Text → List Rule → App
@@ -38,6 +46,10 @@ sub_with name rules = record { top = record (new_shape name) { rules = rules }; 
 -- .. with the first options
 unfoldable pub sub_up_to : Text → ℕ → App
 sub_up_to name count = sub_with name (map option_rule (take count names))
+
+-- the subcommand of a session, with all options and the number of workers
+unfoldable pub run_command : App
+run_command = with_rule (sub_up_to (codes "run") 14) workers_rule
 
 -- the whole command line: a subcommand is wanted, `run` and `replay` are the only ones, and `help`
 -- is none
@@ -50,7 +62,7 @@ program = record {
     has_version =
         true;
   };
-  subs = (sub_up_to (codes "run") 14).top ∷ (sub_up_to (codes "replay") 14).top ∷ [];
+  subs = run_command.top ∷ (sub_up_to (codes "replay") 14).top ∷ [];
 }
 
 -- the faults of words, by kind; none where the parser takes them. The first word is the program's
@@ -62,16 +74,18 @@ faults_in words = fault_of program words
 abbrev pub task_named : Text → List Row → Task
 task_named name rows =
     if bytes_eq name (codes "replay") then Replay (settings_in rows) else Run (settings_in rows)
+    (workers_in rows)
 
 abbrev pub task_by : Option (Text × List Row) → Task
-task_by None = Run standard
+task_by None = Run standard 0
 task_by (Some sub) = task_named sub.0 sub.1
 
--- what words ask for: a session or a schedule, under the settings that they give
+-- what words ask for: a session with so many workers, or a schedule, under the settings that they
+-- give
 unfoldable pub task_of : List Text → Task
 task_of words = task_by (subcommand_of program words)
 
 -- the settings of a task
 abbrev pub settings_of : Task → Settings
-settings_of (Run s) = s
+settings_of (Run s workers) = s
 settings_of (Replay s) = s

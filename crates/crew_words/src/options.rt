@@ -3,7 +3,7 @@
 ghost use Rattle.std.specs.Prelude.{◌≡◌, ◌≤◌, IfOk, length, map, string_bytes};
 ghost use Rattle.clap.specs.Words.{found_of, one_of, rows_of};
 ghost use Rattle.crew_words.specs.Help as Spec;
-ghost use Rattle.crew_words.specs.Options.{number_in, settings_in};
+ghost use Rattle.crew_words.specs.Options.{number_in, settings_in, workers_in};
 
 use clap::ArgMatches;
 use crew_rules::Settings;
@@ -183,6 +183,13 @@ fn number_of(found: &ArgMatches<'_>, name: &str, default: u32) -> u32
     ensures { result ≡ number_in (one_of name.now (rows_of (found_of found.now))) default }
 {
     found.get_one::<u32>(name).unwrap_or(default)
+}
+
+/// The number of workers that the options give; none unless it is given.
+pub fn workers_from(found: &ArgMatches<'_>) -> u32
+    ensures { result ≡ workers_in (rows_of (found_of found.now)) }
+{
+    number_of(found, "workers", 0)
 }
 
 /// The settings that the options give, over the defaults.

@@ -8,8 +8,8 @@ use crew_rules::Settings;
 /// What the program is asked to do.
 #[derive(Clone, Copy, Debug)]
 pub enum Task {
-    /// A session under these settings.
-    Run(Settings),
+    /// A session under these settings, with so many workers.
+    Run(Settings, u32),
     /// A schedule of steps under these settings.
     Replay(Settings),
 }
@@ -20,7 +20,7 @@ impl Task {
         ensures { result ≡ settings_of self }
     {
         match self {
-            Task::Run(settings) | Task::Replay(settings) => settings,
+            Task::Run(settings, _) | Task::Replay(settings) => settings,
         }
     }
 }

@@ -5,7 +5,7 @@ ghost use Rattle.clap.specs.Words.{FailsBy, app_of, found_of, kind_of, rows_of, 
 ghost use Rattle.clap.specs.declared.builder.command.Command.TheViews.{out-Command as fields_of};
 ghost use Rattle.crew_words.specs.Words as Spec;
 
-use crate::options::{OPTIONS, SettingOption, help_texts, settings_from};
+use crate::options::{OPTIONS, SettingOption, help_texts, settings_from, workers_from};
 use crate::task::Task;
 use clap::error::ErrorKind;
 use clap::{Arg, ArgAction, ArgMatches, Command, Error};
@@ -27,17 +27,40 @@ static RUN: &str =
 static REPLAY: &str =
     "Plays a schedule: reads the steps of several workers and readers on standard input, one a line in the order in which they are to happen, and writes the reply to each to standard output";
 
+// What `--help` says of the number of workers.
+static WORKERS: &str =
+    "Threads that take part in the work of each settle, beside the one that reads the session: 0 to 64, 0 unless given\nWhat is written is the same for every number; with 0 a settle shares out its bases";
+
+// An option that takes a value.
+fn value_arg<'a>(alloc: Global, name: &'a str, unit: &'a str, help: &'a str) -> Arg<'a>
+    ensures rule { rule_of result ≡ Spec.value_rule name.now }
+    ensures local { result.global ≡ false }
+{
+    Arg::new(alloc, name)
+        .long(name)
+        .value_name(unit)
+        .help(help)
+        .action(ArgAction::Set)
+}
+
 // An option of a setting: a whole number from 0 to 1,000,000.
 fn arg_of<'a>(alloc: Global, option: &SettingOption, help: &'a str) -> Arg<'a>
     ensures rule { rule_of result ≡ Spec.option_rule option.now.name.now }
     ensures local { result.global ≡ false }
 {
-    Arg::new(alloc, option.name)
-        .long(option.name)
-        .value_name(option.unit)
-        .help(help)
-        .action(ArgAction::Set)
-        .value_parser(clap::value_parser!(u32).range(0..=1_000_000))
+    value_arg(alloc, option.name, option.unit, help).value_parser(clap::value_parser!(u32).range(
+        0..=1_000_000,
+    ))
+}
+
+// The option of the number of workers: a whole number from 0 to 64.
+fn workers_arg<'a>(alloc: Global) -> Arg<'a>
+    ensures rule { rule_of result ≡ Spec.workers_rule }
+    ensures local { result.global ≡ false }
+{
+    value_arg(alloc, "workers", "THREADS", WORKERS).value_parser(clap::value_parser!(u32).range(
+        0..=64,
+    ))
 }
 
 // A subcommand with these options, which have every name.
@@ -82,13 +105,24 @@ fn subcommand<'a>(
     with_options(alloc, bare, &OPTIONS, texts)
 }
 
+// The subcommand of a session, with each setting and the number of workers as options.
+fn run_command<'a>(alloc: Global, texts: &'a [String]) -> Result<Command<'a>, Error>
+    requires { length texts.now ≡ 14 }
+    ensures shape { IfOk result (λ r. app_of r ≡ Spec.run_command) }
+    ensures local { IfOk result (λ r. (fields_of r).has_globals ≡ false) }
+    ensures memory { IfErr result (λ e. kind_of e ≡ ErrorKind.OutOfMemory) }
+{
+    let command = subcommand(alloc, "run", RUN, texts)?;
+    Ok(command.arg(workers_arg(alloc))?)
+}
+
 // The whole command line, of which these are the subcommands.
 fn program<'a>(
     alloc: Global,
     run: Command<'a>,
     replay: Command<'a>,
 ) -> Result<Command<'a>, AllocError>
-    requires run { app_of run ≡ Spec.sub_up_to (codes "run") 14 }
+    requires run { app_of run ≡ Spec.run_command }
     requires local { (fields_of run).has_globals ≡ false }
     requires replay { app_of replay ≡ Spec.sub_up_to (codes "replay") 14 }
     requires local_too { (fields_of replay).has_globals ≡ false }
@@ -113,7 +147,7 @@ fn task_named(name: &str, found: &ArgMatches<'_>) -> Task
     if name == "replay" {
         Task::Replay(settings)
     } else {
-        Task::Run(settings)
+        Task::Run(settings, workers_from(found))
     }
 }
 
@@ -123,7 +157,7 @@ fn task_found(matches: &ArgMatches<'_>) -> Task
 {
     match matches.subcommand() {
         Some((name, found)) => task_named(name, found),
-        None => Task::Run(Settings::standard()),
+        None => Task::Run(Settings::standard(), 0),
     }
 }
 
@@ -133,7 +167,7 @@ fn program_with<'a>(alloc: Global, texts: &'a [String]) -> Result<Command<'a>, E
     ensures shape { IfOk result (λ r. app_of r ≡ Spec.program) }
     ensures memory { IfErr result (λ e. kind_of e ≡ ErrorKind.OutOfMemory) }
 {
-    let run = subcommand(alloc, "run", RUN, texts)?;
+    let run = run_command(alloc, texts)?;
     let replay = subcommand(alloc, "replay", REPLAY, texts)?;
     Ok(program(alloc, run, replay)?)
 }

@@ -25,4 +25,4 @@ pub returns-in-Some : goal.returns-in-Some
 returns-in-Some c = c.task_named.ensures ∙ found (out-ArgMatches c.args.matches.now).subcommand _ _ c.in-Some.ensures.name c.in-Some.ensures.rows
 
 pub returns-in-None : goal.returns-in-None
-returns-in-None c = ap Run c.standard.ensures.value ∙ sym (none (out-ArgMatches c.args.matches.now).subcommand c.in-None.ensures.variant)
+returns-in-None c = ap (λ s. Run s 0) c.standard.ensures.value ∙ sym (none (out-ArgMatches c.args.matches.now).subcommand c.in-None.ensures.variant)
