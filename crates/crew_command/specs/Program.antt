@@ -1,5 +1,5 @@
 -- How a run of the program ends.
-use Rattle.std.specs.Prelude.{◌≡◌, ◌⊎◌, ◌∷◌, [], ℕ, Bool, List, Option, Result, Ok, Err, IfSome, IsTrue, false}
+use Rattle.std.specs.Prelude.{◌≡◌, ◌⊎◌, ◌∷◌, [], ℕ, zero, suc, Bool, List, Option, Result, Ok, Err, IfSome, IsTrue, false}
 use Rattle.std.specs.Io.KnownBytes.{Appends, Keeps}
 use Rattle.clap.specs.Kinds.{IsAmong, Kinds}
 use Rattle.clap.specs.Words.{Text, kind_of}
@@ -19,6 +19,8 @@ use Rattle.crew_session.specs.declared.fault.SessionFault.{SessionFault}
 use Rattle.crew_command.specs.Faults.{fault_of, line_of, status_of}
 use Rattle.crew_command.specs.declared.fault.Fault.{Fault}
 use Rattle.crew_command.specs.declared.fault.Fault.TheVariants.{Read, Write, Usage, Word, Memory, Setting, Strange}
+use Rattle.crew_workers.specs.Workers.{EndsStrange, IsUnbegun}
+use Rattle.crew_rules.specs.declared.settings.Settings.{Settings}
 use Rattle.crew_words.specs.Words.{faults_in, settings_of, task_of}
 use Rattle.crew_words.specs.declared.task.Task.{Task}
 use Rattle.crew_words.specs.declared.task.Task.TheVariants.{Run, Replay}
@@ -64,20 +66,35 @@ Answers kind.DisplayHelp error before after writer r = Shows writer r
 Answers kind.DisplayVersion error before after writer r = Shows writer r
 Answers other error before after writer r = (r ≡ Err (Usage error)) × Keeps before after
 
--- what a session or a schedule wrote: the text of one of the bytes, or it failed, for the reader, the
--- writer or want of memory, and wrote a beginning of the text of the first records; this program's
--- engine is never strange
-abbrev pub Wrote : (List ℕ → List ℕ → Type 0) → (List Fields → Option (List ℕ) → Option (List ℕ)
-    → Type 0) → Streams → Result (Unit {0}) SessionFault → Type 0
-Wrote IsText IsBegun io (Ok done) = IfSome io.input
+-- what a session or a schedule wrote: the text of one of the bytes, or it failed so, and wrote a
+-- beginning of the text of the first records
+abbrev pub Wrote : (SessionFault → Type 0) → (List ℕ → List ℕ → Type 0) → (List Fields
+    → Option (List ℕ) → Option (List ℕ) → Type 0) → Streams → Result (Unit {0}) SessionFault
+    → Type 0
+Wrote Fails IsText IsBegun io (Ok done) = IfSome io.input
     (λ bytes. (text : List ℕ) × Appends io.before io.after text × IsText bytes text)
-Wrote IsText IsBegun io (Err fault) =
-    IsSessionFault Never io.input io.reader io.writer fault
-    × IfSome io.input (λ bytes. IsBegun (records_of bytes) io.before io.after)
+Wrote Fails IsText IsBegun io (Err fault) =
+    Fails fault × IfSome io.input (λ bytes. IsBegun (records_of bytes) io.before io.after)
+
+-- it fails for the reader, the writer or want of memory: what works in one thread is never strange
+abbrev pub FailsAlone : Streams → SessionFault → Type 0
+FailsAlone io fault = IsSessionFault Never io.input io.reader io.writer fault
+
+-- beside workers it fails for these too, or where a settle of the session found in the log, which
+-- threads share, what no session brings about; or it didn't begin, and nothing was written
+abbrev pub FailsBeside : Settings → Streams → SessionFault → Type 0
+FailsBeside s io fault = EndsStrange s io.input io.reader io.writer fault
+    ⊎ IsUnbegun io.before io.after fault
+
+-- a session fails by whether it has workers
+abbrev pub FailsWith : ℕ → Settings → Streams → SessionFault → Type 0
+FailsWith zero s io fault = FailsAlone io fault
+FailsWith (suc more) s io fault = FailsBeside s io fault
 
 abbrev pub WroteOf : Task → Streams → Result (Unit {0}) SessionFault → Type 0
-WroteOf (Run s workers) io r = Wrote (IsSessionText s) (Begins s (start s)) io r
-WroteOf (Replay s) io r = Wrote (IsReplayText s) (ReplayBegins s) io r
+WroteOf (Run s sharing) io r =
+    Wrote (FailsWith sharing.workers s io) (IsSessionText s) (Begins s (start s)) io r
+WroteOf (Replay s) io r = Wrote (FailsAlone io) (IsReplayText s) (ReplayBegins s) io r
 
 -- what a task comes to
 abbrev pub Played : Task → Streams → Outcome → Type 0

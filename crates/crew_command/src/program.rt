@@ -1,21 +1,26 @@
 //! The whole run, over any reader and writers.
 
-ghost use Rattle.std.specs.Prelude.{◌≡◌, ◌≤◌, map};
+ghost use Rattle.std.specs.Prelude.{◌≡◌, ◌<◌, ◌≤◌, map};
 ghost use Rattle.clap.specs.Words.{kind_of};
 ghost use Rattle.crew_rules.specs.Settings.{IsChecked, check_of};
 ghost use Rattle.crew_session.specs.Streams.{bytes_held, bytes_left, read_failed, write_failed};
 ghost use Rattle.crew_command.specs.Program.{Answers, Comes, Outcome, Plays, Shows, Tells, WroteOf, status_after, streams};
 ghost use Rattle.crew_words.specs.Words.{settings_of};
+ghost use Rattle.crew_words.specs.declared.task.Task.TheVariants.{Run};
 
 use crate::fault::Fault;
 use clap::error::ErrorKind;
+use crew_rules::Settings;
 use crew_session::{NotedReader, NotedWriter, Plain, SessionFault, replay, run};
-use crew_words::{Task, read_words};
+use crew_words::{Sharing, Task, read_words};
+use crew_workers::{Crew, run_with_workers};
 use std::alloc::Global;
 use std::convert::AsStr;
 use std::io;
-use std::io::{Read, Write};
+use std::io::{Print, Read, Write};
+use std::sync::Wait;
 use std::thread::Threads;
+use std::time::Clock;
 
 // Writes the help that the words asked for.
 fn write_help<W: Write>(help: &clap::Error, writer: &mut W) -> io::Result<()> {
@@ -52,8 +57,68 @@ fn answer<W: Write + Drop>(error: clap::Error, writer: &mut NotedWriter<W>) -> R
     }
 }
 
+// Plays a session in this thread.
+fn play_alone<T: Threads + Sync, R: Read + Drop, W: Write + Drop>(
+    rt: &T,
+    alloc: Global,
+    settings: &Settings,
+    sharing: Sharing,
+    reader: &mut NotedReader<R>,
+    writer: &mut NotedWriter<W>,
+) -> Result<(), SessionFault>
+    requires checked { IsChecked settings.now }
+    requires alone { sharing.workers ≡ 0 }
+    ensures { WroteOf (Run settings.now sharing) (streams (bytes_left R.remaining reader.old)
+        (bytes_held W.contents writer.old) (bytes_held W.contents writer.new)
+        (read_failed reader.new) (write_failed writer.new)) result }
+{
+    let mut engine = Plain::new(alloc, settings);
+    run(rt, alloc, reader, writer, settings, &mut engine)
+}
+
+// Plays a session beside workers.
+fn play_beside<T: Threads + Wait + Sync + Clock + Print, R: Read + Drop, W: Write + Drop>(
+    rt: &T,
+    alloc: Global,
+    settings: &Settings,
+    sharing: Sharing,
+    reader: &mut NotedReader<R>,
+    writer: &mut NotedWriter<W>,
+) -> Result<(), SessionFault>
+    requires checked { IsChecked settings.now }
+    requires some { 0 < sharing.workers }
+    ensures { WroteOf (Run settings.now sharing) (streams (bytes_left R.remaining reader.old)
+        (bytes_held W.contents writer.old) (bytes_held W.contents writer.new)
+        (read_failed reader.new) (write_failed writer.new)) result }
+{
+    let Sharing { workers, progress } = sharing;
+    let crew = Crew { workers, progress };
+    run_with_workers(rt, alloc, reader, writer, settings, crew)
+}
+
+// Plays a session, in this thread alone where there are no workers.
+fn play_session<T: Threads + Wait + Sync + Clock + Print, R: Read + Drop, W: Write + Drop>(
+    rt: &T,
+    alloc: Global,
+    settings: &Settings,
+    sharing: Sharing,
+    reader: &mut NotedReader<R>,
+    writer: &mut NotedWriter<W>,
+) -> Result<(), SessionFault>
+    requires { IsChecked settings.now }
+    ensures { WroteOf (Run settings.now sharing) (streams (bytes_left R.remaining reader.old)
+        (bytes_held W.contents writer.old) (bytes_held W.contents writer.new)
+        (read_failed reader.new) (write_failed writer.new)) result }
+{
+    if sharing.workers == 0 {
+        play_alone(rt, alloc, settings, sharing, reader, writer)
+    } else {
+        play_beside(rt, alloc, settings, sharing, reader, writer)
+    }
+}
+
 // Does a task whose settings are in their ranges.
-fn play<T: Threads + Sync, R: Read + Drop, W: Write + Drop>(
+fn play<T: Threads + Wait + Sync + Clock + Print, R: Read + Drop, W: Write + Drop>(
     rt: &T,
     alloc: Global,
     task: Task,
@@ -66,16 +131,15 @@ fn play<T: Threads + Sync, R: Read + Drop, W: Write + Drop>(
         (read_failed reader.new) (write_failed writer.new)) result }
 {
     match task {
-        Task::Run(settings, _) => {
-            let mut engine = Plain::new(alloc, &settings);
-            run(rt, alloc, reader, writer, &settings, &mut engine)
+        Task::Run(settings, sharing) => {
+            play_session(rt, alloc, &settings, sharing, reader, writer)
         }
         Task::Replay(settings) => replay(rt, alloc, reader, writer, &settings),
     }
 }
 
 // Does a task, or refuses its settings.
-fn run_task<T: Threads + Sync, R: Read + Drop, W: Write + Drop>(
+fn run_task<T: Threads + Wait + Sync + Clock + Print, R: Read + Drop, W: Write + Drop>(
     rt: &T,
     alloc: Global,
     task: Task,
@@ -97,7 +161,7 @@ fn run_task<T: Threads + Sync, R: Read + Drop, W: Write + Drop>(
 }
 
 // Does what the words ask for.
-fn run_words<T: Threads + Sync, S: AsStr, R: Read + Drop, W: Write + Drop>(
+fn run_words<T: Threads + Wait + Sync + Clock + Print, S: AsStr, R: Read + Drop, W: Write + Drop>(
     rt: &T,
     alloc: Global,
     words: &[S],
@@ -118,7 +182,7 @@ fn run_words<T: Threads + Sync, S: AsStr, R: Read + Drop, W: Write + Drop>(
 /// 1 a read or write fault; 2 a fault in the words; 3 no memory; 4 a bad setting; 5 a strange log.
 /// The line of a fault goes to `faults`, all else to `writer`; a fault in writing to `faults`
 /// changes nothing. The first word is the program's own name.
-pub fn command<T: Threads + Sync, S: AsStr, R: Read + Drop, W: Write + Drop, F: Write + Drop>(
+pub fn command<T: Threads + Wait + Sync + Clock + Print, S: AsStr, R: Read + Drop, W: Write + Drop, F: Write + Drop>(
     rt: &T,
     alloc: Global,
     words: &[S],

@@ -4,6 +4,7 @@ ghost use Rattle.std.specs.Arc.{arc_value};
 ghost use mathlib.Core.List.{IsPrefix};
 ghost use Rattle.crew_log.specs.Logs.{AreOf, HaveNone, IsOf};
 ghost use Rattle.crew_publish.specs.Chain.{IsNext};
+ghost use Rattle.crew_publish.specs.declared.fault.PairFault.TheVariants.{NoViewer};
 ghost use Rattle.crew_service.specs.Faults.{IsSettleFault};
 ghost use Rattle.crew_service.specs.Machinery.Kept.{HasRead, HasShown};
 ghost use Rattle.crew_service.specs.Machinery.Rounds.{IsRoundFault};
@@ -103,6 +104,7 @@ impl<'a, R: Wait, G: Gate> Planner<'a, R, G> {
     /// for one more.
     pub fn viewer(&mut self) -> Result<Viewer, PairFault>
         ensures told { IfOk result (λ w. w.seen ≡ self.old.published) }
+        ensures fault { IfErr result (λ fault. fault ≡ NoViewer) }
         ensures same { self.new ≡ self.old }
     {
         self.publisher.viewer()

@@ -1,5 +1,5 @@
 //! A service as it is made.
-ghost use Rattle.std.specs.Prelude.{◌≡◌, ◌↔◌, ◌∷◌, ◌≤◌, [], All, IfErr, IfOk, IsTrue, length};
+ghost use Rattle.std.specs.Prelude.{◌≡◌, ◌↔◌, ◌∷◌, ◌≤◌, [], All, IfErr, IfOk, IsTrue, OnOk, length};
 ghost use Rattle.std.specs.Arc.{arc_value};
 ghost use Rattle.crew_publish.specs.Faults.{IsViewerCount};
 ghost use Rattle.crew_rules.specs.Settings.{IsChecked};
@@ -114,6 +114,7 @@ impl<'a, R: Wait, G: Gate + Drop> Service<'a, R, G> {
         gate: G,
     ) -> Result<Self, ServiceFault>
         requires { IsChecked settings.now }
+        ensures few { OnOk result (IsSeatCount counts.0 × IsViewerCount counts.1) }
         ensures planner { IfOk result
             (λ service. service.planner ≡ new_planner settings.now service.shared) }
         ensures count { IfOk result (λ service. length service.seats.items ≡ counts.0) }

@@ -62,17 +62,24 @@ impl Shared {
     }
 
     /// How many nodes the open round has, and how many of them are done and out; `None` where none
-    /// is open. It waits for the lock.
+    /// is open. It waits for the lock. No clause: what lies under a lock is hidden from contracts.
     pub fn progress<R: Wait>(&self, rt: &R) -> Option<Progress> {
         let held = self.held.lock(rt);
         held.board.progress()
     }
 
-    /// Ends the workers, each after the lot that it has. It waits for the lock.
+    /// Ends the workers, each after the lot that it has. It waits for the lock. No clause, for the
+    /// same reason.
     pub fn close<R: Wait>(&self, rt: &R) {
         let mut held = self.held.lock(rt);
         held.is_closed = true;
         self.moved.notify_all();
+    }
+
+    /// Whether the workers were ended. It waits for the lock. No clause, for the same reason.
+    pub fn is_closed<R: Wait>(&self, rt: &R) -> bool {
+        let held = self.held.lock(rt);
+        held.is_closed
     }
 
     // A lot for a worker, once a node is ready; `None` once the service is closed.

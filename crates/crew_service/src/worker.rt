@@ -21,13 +21,14 @@ pub struct Worker<G: Gate> {
 }
 
 impl<G: Gate> Worker<G> {
-    /// A worker with a gate.
+    /// A worker with a gate. No clause: a contract sees nothing of a worker.
     pub fn new(gate: G) -> Worker<G> {
         Worker { gate }
     }
 
     /// Works until the service is closed, or there is no memory; it then gives back what it has. It
-    /// waits where no node is ready.
+    /// waits where no node is ready. No clause: what it does lies under the lock, where it needn't be
+    /// trusted, since the board judges each result by what its job holds.
     pub fn run<R: Wait>(&mut self, rt: &R, alloc: Global, shared: &Shared) -> Ended {
         for _ in rt.forever() {
             if let Some(ended) = self.turn(rt, alloc, shared) {

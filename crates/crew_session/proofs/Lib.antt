@@ -10,5 +10,4 @@ pub mod ReplyFacts
 pub mod RowFacts
 pub mod RunFacts
 pub mod SessionFacts
-pub mod ThreadFacts
 pub mod ZoneFacts

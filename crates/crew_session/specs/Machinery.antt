@@ -3,5 +3,4 @@ pub mod Endings
 pub mod Journals
 pub mod Plains
 pub mod Players
-pub mod Threads
 pub mod Told

@@ -3,8 +3,6 @@
 ghost use Rattle.std.specs.Prelude.{◌≡◌};
 ghost use Rattle.crew_session.specs.Engines.{engine_number};
 
-use crew_publish::ViewFault;
-use crew_service::SettleFault;
 use crew_version::VersionFault;
 use std::alloc::AllocError;
 use thiserror::Error;
@@ -74,36 +72,6 @@ impl From<VersionFault> for EngineFault {
             VersionFault::TooManyDuties => EngineFault::TooManyDuties,
             VersionFault::LastVersion => EngineFault::LastVersion,
             VersionFault::Memory => EngineFault::Memory,
-        }
-    }
-}
-
-impl From<SettleFault> for EngineFault {
-    ghost use Rattle.crew_session.specs.Machinery.Threads.{settled_fault_of};
-    ghost use Rattle.std.specs.Prelude.{◌≡◌};
-
-    ghost from_gives = { λ fault engine_fault. engine_fault ≡ settled_fault_of fault };
-
-    fn from(fault: SettleFault) -> EngineFault {
-        match fault {
-            SettleFault::Gap(place) => EngineFault::Gap(place as u64),
-            SettleFault::LastVersion => EngineFault::LastVersion,
-            SettleFault::TooManyDuties => EngineFault::TooManyDuties,
-            SettleFault::Memory => EngineFault::Memory,
-        }
-    }
-}
-
-impl From<ViewFault> for EngineFault {
-    ghost use Rattle.crew_session.specs.Machinery.Threads.{view_fault_of};
-    ghost use Rattle.std.specs.Prelude.{◌≡◌};
-
-    ghost from_gives = { λ fault engine_fault. engine_fault ≡ view_fault_of fault };
-
-    fn from(fault: ViewFault) -> EngineFault {
-        match fault {
-            ViewFault::NoView => EngineFault::NoView,
-            ViewFault::Memory => EngineFault::Memory,
         }
     }
 }

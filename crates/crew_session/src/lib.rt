@@ -35,7 +35,6 @@ mod rows;
 mod schedule;
 mod session;
 mod text;
-mod threaded;
 mod zones;
 
 pub use engine::Engine;
@@ -46,4 +45,3 @@ pub use plain::Plain;
 pub use schedule::replay;
 pub use session::run;
 pub use text::write_text;
-pub use threaded::Threaded;

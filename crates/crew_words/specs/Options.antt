@@ -6,6 +6,7 @@ use Rattle.std.specs.Str.Parse.{digits_value, without_leading_plus}
 use Rattle.clap.specs.Words.{Row, one_of}
 use Rattle.crew_rules.specs.declared.settings.Settings.{Settings}
 use Rattle.crew_rules.specs.Settings.{standard}
+use Rattle.crew_words.specs.declared.task.Sharing.{Sharing}
 
 -- one decimal digit or more, and nothing else
 abbrev pub is_numeral : List ℕ → Bool
@@ -21,9 +22,12 @@ number_in None default = default
 number_in (Some text) default = if is_number (without_leading_plus text) then digits_value 10
     (without_leading_plus text) else default
 
--- the number of workers, which is none unless it is given
-abbrev pub workers_in : List Row → ℕ
-workers_in rows = number_in (one_of (codes "workers") rows) 0
+-- how the work is shared: by nobody else, and nothing is told, unless it is given
+abbrev pub sharing_in : List Row → Sharing
+sharing_in rows = record {
+  workers = number_in (one_of (codes "workers") rows) 0;
+  progress = number_in (one_of (codes "progress") rows) 0;
+}
 
 -- each setting is the number of the option of its name
 unfoldable pub settings_in : List Row → Settings

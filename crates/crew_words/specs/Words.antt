@@ -1,5 +1,6 @@
 -- The command line: `crewprice run` and `crewprice replay`, each with an option for each setting,
--- `run` with the number of workers, `--help` and `--version`.
+-- `run` with the number of workers and how often it is told how far a settle is, `--help` and
+-- `--version`.
 use Rattle.std.specs.Prelude.{ℤ, pos, true, false, List, [], ◌∷◌, map, take, ℕ, Option, Some, None, codes, if◌then◌else◌}
 use Rattle.std.specs.Str.{bytes_eq}
 use Rattle.clap.specs.Faults.{fault_of}
@@ -10,7 +11,8 @@ use Rattle.clap.specs.declared.builder.action.ArgAction.TheVariants.{Set}
 use Rattle.clap.specs.declared.builder.value_parser.ValueParser.TheVariants as parser
 use Rattle.crew_rules.specs.Settings.{standard}
 use Rattle.crew_rules.specs.declared.settings.Settings.{Settings}
-use Rattle.crew_words.specs.Options.{settings_in, workers_in}
+use Rattle.crew_words.specs.Options.{settings_in, sharing_in}
+use Rattle.crew_words.specs.declared.task.Sharing.{Sharing}
 use Rattle.crew_words.specs.declared.task.Task.{Task}
 use Rattle.crew_words.specs.declared.task.Task.TheVariants.{Run, Replay}
 
@@ -35,9 +37,12 @@ number_rule name most = record (value_rule name) { parser = Some (parser.Signed 
 abbrev pub option_rule : Text → Rule
 option_rule name = number_rule name (pos 1_000_000)
 
--- and the number of workers 64
+-- the number of workers 64, and the seconds between two lines that tell how far a settle is 3,600
 abbrev pub workers_rule : Rule
 workers_rule = number_rule (codes "workers") (pos 64)
+
+abbrev pub progress_rule : Rule
+progress_rule = number_rule (codes "progress") (pos 3_600)
 
 -- a subcommand of this name with these options
 abbrev pub sub_with : Text → List Rule → App
@@ -47,9 +52,9 @@ sub_with name rules = record { top = record (new_shape name) { rules = rules }; 
 unfoldable pub sub_up_to : Text → ℕ → App
 sub_up_to name count = sub_with name (map option_rule (take count names))
 
--- the subcommand of a session, with all options and the number of workers
+-- the subcommand of a session, with all options, the number of workers and the seconds between lines
 unfoldable pub run_command : App
-run_command = with_rule (sub_up_to (codes "run") 14) workers_rule
+run_command = with_rule (with_rule (sub_up_to (codes "run") 14) workers_rule) progress_rule
 
 -- the whole command line: a subcommand is wanted, `run` and `replay` are the only ones, and `help`
 -- is none
@@ -74,18 +79,22 @@ faults_in words = fault_of program words
 abbrev pub task_named : Text → List Row → Task
 task_named name rows =
     if bytes_eq name (codes "replay") then Replay (settings_in rows) else Run (settings_in rows)
-    (workers_in rows)
+    (sharing_in rows)
+
+-- nobody else works, and nothing is told
+abbrev pub alone : Sharing
+alone = record { workers = 0; progress = 0 }
 
 abbrev pub task_by : Option (Text × List Row) → Task
-task_by None = Run standard 0
+task_by None = Run standard alone
 task_by (Some sub) = task_named sub.0 sub.1
 
--- what words ask for: a session with so many workers, or a schedule, under the settings that they
+-- what words ask for: a session whose work is shared so, or a schedule, under the settings that they
 -- give
 unfoldable pub task_of : List Text → Task
 task_of words = task_by (subcommand_of program words)
 
 -- the settings of a task
 abbrev pub settings_of : Task → Settings
-settings_of (Run s workers) = s
+settings_of (Run s sharing) = s
 settings_of (Replay s) = s

@@ -3,8 +3,9 @@
 ghost use Rattle.std.specs.Prelude.{◌≡◌, ◌≤◌, IfOk, length, map, string_bytes};
 ghost use Rattle.clap.specs.Words.{found_of, one_of, rows_of};
 ghost use Rattle.crew_words.specs.Help as Spec;
-ghost use Rattle.crew_words.specs.Options.{number_in, settings_in, workers_in};
+ghost use Rattle.crew_words.specs.Options.{number_in, settings_in, sharing_in};
 
+use crate::task::Sharing;
 use clap::ArgMatches;
 use crew_rules::Settings;
 use std::alloc::{AllocError, Global};
@@ -185,11 +186,14 @@ fn number_of(found: &ArgMatches<'_>, name: &str, default: u32) -> u32
     found.get_one::<u32>(name).unwrap_or(default)
 }
 
-/// The number of workers that the options give; none unless it is given.
-pub fn workers_from(found: &ArgMatches<'_>) -> u32
-    ensures { result ≡ workers_in (rows_of (found_of found.now)) }
+/// How the options have the work shared; nobody else works, and nothing is told, unless it is given.
+pub fn sharing_from(found: &ArgMatches<'_>) -> Sharing
+    ensures { result ≡ sharing_in (rows_of (found_of found.now)) }
 {
-    number_of(found, "workers", 0)
+    Sharing {
+        workers: number_of(found, "workers", 0),
+        progress: number_of(found, "progress", 0),
+    }
 }
 
 /// The settings that the options give, over the defaults.

@@ -5,8 +5,8 @@ ghost use Rattle.clap.specs.Words.{FailsBy, app_of, found_of, kind_of, rows_of, 
 ghost use Rattle.clap.specs.declared.builder.command.Command.TheViews.{out-Command as fields_of};
 ghost use Rattle.crew_words.specs.Words as Spec;
 
-use crate::options::{OPTIONS, SettingOption, help_texts, settings_from, workers_from};
-use crate::task::Task;
+use crate::options::{OPTIONS, SettingOption, help_texts, settings_from, sharing_from};
+use crate::task::{Sharing, Task};
 use clap::error::ErrorKind;
 use clap::{Arg, ArgAction, ArgMatches, Command, Error};
 use crew_rules::Settings;
@@ -30,6 +30,10 @@ static REPLAY: &str =
 // What `--help` says of the number of workers.
 static WORKERS: &str =
     "Threads that take part in the work of each settle, beside the one that reads the session: 0 to 64, 0 unless given\nWhat is written is the same for every number; with 0 a settle shares out its bases";
+
+// What `--help` says of how often it is told how far a settle is.
+static PROGRESS: &str =
+    "With workers, tells on standard error how far a settle is, every so many seconds: 0 to 3600, 0 unless given\n0 tells nothing";
 
 // An option that takes a value.
 fn value_arg<'a>(alloc: Global, name: &'a str, unit: &'a str, help: &'a str) -> Arg<'a>
@@ -60,6 +64,16 @@ fn workers_arg<'a>(alloc: Global) -> Arg<'a>
 {
     value_arg(alloc, "workers", "THREADS", WORKERS).value_parser(clap::value_parser!(u32).range(
         0..=64,
+    ))
+}
+
+// The option of how often it is told how far a settle is: a whole number from 0 to 3,600.
+fn progress_arg<'a>(alloc: Global) -> Arg<'a>
+    ensures rule { rule_of result ≡ Spec.progress_rule }
+    ensures local { result.global ≡ false }
+{
+    value_arg(alloc, "progress", "SECONDS", PROGRESS).value_parser(clap::value_parser!(u32).range(
+        0..=3_600,
     ))
 }
 
@@ -105,15 +119,16 @@ fn subcommand<'a>(
     with_options(alloc, bare, &OPTIONS, texts)
 }
 
-// The subcommand of a session, with each setting and the number of workers as options.
+// The subcommand of a session, with each setting, the number of workers, and how often it is told how
+// far a settle is, as options.
 fn run_command<'a>(alloc: Global, texts: &'a [String]) -> Result<Command<'a>, Error>
     requires { length texts.now ≡ 14 }
     ensures shape { IfOk result (λ r. app_of r ≡ Spec.run_command) }
     ensures local { IfOk result (λ r. (fields_of r).has_globals ≡ false) }
     ensures memory { IfErr result (λ e. kind_of e ≡ ErrorKind.OutOfMemory) }
 {
-    let command = subcommand(alloc, "run", RUN, texts)?;
-    Ok(command.arg(workers_arg(alloc))?)
+    let command = subcommand(alloc, "run", RUN, texts)?.arg(workers_arg(alloc))?;
+    Ok(command.arg(progress_arg(alloc))?)
 }
 
 // The whole command line, of which these are the subcommands.
@@ -147,7 +162,7 @@ fn task_named(name: &str, found: &ArgMatches<'_>) -> Task
     if name == "replay" {
         Task::Replay(settings)
     } else {
-        Task::Run(settings, workers_from(found))
+        Task::Run(settings, sharing_from(found))
     }
 }
 
@@ -157,7 +172,7 @@ fn task_found(matches: &ArgMatches<'_>) -> Task
 {
     match matches.subcommand() {
         Some((name, found)) => task_named(name, found),
-        None => Task::Run(Settings::standard(), 0),
+        None => Task::Run(Settings::standard(), Sharing::ALONE),
     }
 }
 

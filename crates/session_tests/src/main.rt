@@ -12,6 +12,7 @@
 //! before each of its lines, and the status where it isn't 0.
 #![tactic(auto)]
 
+mod beside;
 mod commands;
 mod engines;
 mod logs;
@@ -28,6 +29,7 @@ use std::io::{self, Print, Read};
 use std::str::from_utf8;
 use std::sync::Wait;
 use std::thread::Threads;
+use std::time::Clock;
 use ways::Ways;
 
 // A part of a case as text; nothing where it is none.
@@ -45,7 +47,7 @@ fn cut(text: &[u8], at: u8) -> (&[u8], &[u8]) {
 }
 
 // Plays what the words ask for, the first of which is the program's name, or names another thing.
-fn play_words<R: Print + Threads + Wait + Sync>(
+fn play_words<R: Print + Threads + Wait + Sync + Clock>(
     rt: &R,
     alloc: Global,
     words: &[&str],
@@ -66,7 +68,7 @@ fn play_words<R: Print + Threads + Wait + Sync>(
 }
 
 // Plays a case.
-fn play<R: Print + Threads + Wait + Sync>(rt: &R, alloc: Global, text: &[u8]) -> io::Result<()> {
+fn play<R: Print + Threads + Wait + Sync + Clock>(rt: &R, alloc: Global, text: &[u8]) -> io::Result<()> {
     let (head, rest) = cut(text, b'$');
     let (line, input) = cut(rest, b'\n');
     let head = text_of(head);
@@ -78,7 +80,7 @@ fn play<R: Print + Threads + Wait + Sync>(rt: &R, alloc: Global, text: &[u8]) ->
 }
 
 // Plays each case of a text.
-fn play_all<R: Print + Threads + Wait + Sync>(
+fn play_all<R: Print + Threads + Wait + Sync + Clock>(
     rt: &R,
     alloc: Global,
     text: &[u8],

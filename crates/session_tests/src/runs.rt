@@ -1,11 +1,14 @@
 //! Whole runs of the program.
 
+use crate::beside::compare;
 use crate::streams::{Shown, Source};
 use crate::ways::Ways;
 use crew_command::{NotedReader, NotedWriter, Outlet, command};
 use std::alloc::Global;
 use std::io::{self, Print, Read, Write};
+use std::sync::Wait;
 use std::thread::Threads;
+use std::time::Clock;
 
 /// A case: how its streams behave, and its input.
 #[derive(Clone, Copy)]
@@ -58,8 +61,9 @@ fn show_status<R: Print>(rt: &R, status: u8) -> io::Result<()> {
     Ok(())
 }
 
-// Runs the program, and shows its status.
-fn run_plain<R: Print + Threads + Sync>(
+// Runs the program, and shows its status. Where its answers are shown too, and not only counted, it
+// is compared with runs beside workers.
+fn run_plain<R: Print + Threads + Wait + Sync + Clock>(
     rt: &R,
     alloc: Global,
     words: &[&str],
@@ -75,11 +79,15 @@ fn run_plain<R: Print + Threads + Sync>(
         &mut NotedWriter::new(case.faults(rt)),
     );
     answers.show_count()?;
-    show_status(rt, status)
+    show_status(rt, status)?;
+    if case.ways.count > 0 {
+        return Ok(());
+    }
+    compare(rt, alloc, words, case)
 }
 
 // Runs the program over an outlet.
-fn run_over<T: Threads + Sync, R: Read, W: Write + Drop, F: Write + Drop>(
+fn run_over<T: Threads + Wait + Sync + Clock + Print, R: Read, W: Write + Drop, F: Write + Drop>(
     rt: &T,
     alloc: Global,
     words: &[&str],
@@ -94,7 +102,7 @@ fn run_over<T: Threads + Sync, R: Read, W: Write + Drop, F: Write + Drop>(
 }
 
 // Runs the program over an outlet, which answers while the input is open, and shows its status.
-fn run_open<'a, R: Print + Threads + Sync>(
+fn run_open<'a, R: Print + Threads + Wait + Sync + Clock>(
     rt: &'a R,
     alloc: Global,
     words: &[&str],
@@ -108,7 +116,7 @@ fn run_open<'a, R: Print + Threads + Sync>(
 }
 
 /// Runs the program under these words, and shows what came of it.
-pub fn play_run<R: Print + Threads + Sync>(
+pub fn play_run<R: Print + Threads + Wait + Sync + Clock>(
     rt: &R,
     alloc: Global,
     words: &[&str],

@@ -5,7 +5,7 @@ use Rattle.std.specs.Box.{box_value}
 use Rattle.clap.specs.Words.{Row, Text, subcommand_rows}
 use Rattle.clap.specs.declared.parser.matches.ArgMatches.TheViews.{out-ArgMatches, out-SubCommand}
 use Rattle.clap.specs.declared.parser.matches.SubCommand.{SubCommand}
-use Rattle.crew_words.specs.Words.{task_by, task_named}
+use Rattle.crew_words.specs.Words.{alone, task_by, task_named}
 use Rattle.crew_words.specs.declared.task.Task.TheVariants.{Run}
 use Rattle.crew_words.proofs.words.task_found.Goals as goal
 
@@ -25,4 +25,4 @@ pub returns-in-Some : goal.returns-in-Some
 returns-in-Some c = c.task_named.ensures ∙ found (out-ArgMatches c.args.matches.now).subcommand _ _ c.in-Some.ensures.name c.in-Some.ensures.rows
 
 pub returns-in-None : goal.returns-in-None
-returns-in-None c = ap (λ s. Run s 0) c.standard.ensures.value ∙ sym (none (out-ArgMatches c.args.matches.now).subcommand c.in-None.ensures.variant)
+returns-in-None c = ap (λ s. Run s alone) c.standard.ensures.value ∙ sym (none (out-ArgMatches c.args.matches.now).subcommand c.in-None.ensures.variant)

@@ -1,20 +1,22 @@
 //! The engine over a running service.
 
 ghost use Rattle.std.specs.Prelude.{◌≡◌, ◌⊎◌, ◌↔◌, ◌+◌, ◌∷◌, [], Err, IfErr, IfOk, IsTrue, Ok, OnErr, OnOk, Some, slice_get};
+ghost use mathlib.Core.List.{IsPrefix};
 ghost use Rattle.crew_log.specs.Logs.{AreOf, unused_seat};
+ghost use Rattle.crew_publish.specs.Views.{IsViewOf};
 ghost use Rattle.crew_service.specs.Plans.{entries_of};
-ghost use Rattle.crew_session.specs.Machinery.Threads.{IsNewView, IsThreadedFault};
+ghost use Rattle.crew_workers.specs.Machinery.Threads.{IsNewView, IsThreadedFault};
 ghost use Rattle.crew_session.specs.Oddities.{IsWhole};
 ghost use Rattle.crew_session.specs.declared.engine_fault.EngineFault.TheVariants.{NoView, Memory, OtherLog};
 ghost use Rattle.crew_version.specs.Versions.{IsRight};
 
-use crate::engine::Engine;
-use crate::engine_fault::EngineFault;
+use crate::faults::{of_settle, of_view};
 use crew_flights::{Edit, Entry};
 use crew_log::{Log, Receipt, Seat};
 use crew_publish::{View, Viewer};
 use crew_rules::Settings;
 use crew_service::{Gate, Planner, Shared};
+use crew_session::{Engine, EngineFault};
 use crew_version::{Version, is_entry};
 use std::alloc::Global;
 use std::marker::Model;
@@ -54,7 +56,7 @@ pub struct Threaded<'s, 'a, R: Wait, G: Gate> {
 
 impl<'s, 'a, R: Wait, G: Gate> Model for Threaded<'s, 'a, R, G> {
     ghost use Rattle.crew_service.specs.Plans.{entries_of};
-    ghost use Rattle.crew_session.specs.Machinery.Threads.{IsThreaded, Threading, found_by};
+    ghost use Rattle.crew_workers.specs.Machinery.Threads.{IsThreaded, Threading, found_by};
 
     ghost Value = { Threading };
 
@@ -120,13 +122,25 @@ fn is_whole(before: &Version, after: &Version, log: &Log, receipts: &[Receipt]) 
     is_after(before, after) && has_entries(after, log, receipts)
 }
 
+// What a viewer sees.
+fn look(viewer: &mut Viewer) -> Result<View, EngineFault>
+    ensures seen { IfOk result (λ view. IsPrefix viewer.old.seen view.list) }
+    ensures chain { IfOk result (λ view. IsViewOf view.list view.version) }
+    ensures fault { IfErr result (λ fault. (fault ≡ NoView) ⊎ (fault ≡ Memory)) }
+{
+    match viewer.view() {
+        Ok(view) => Ok(view),
+        Err(fault) => Err(of_view(fault)),
+    }
+}
+
 // A viewer's first view, where it is of the version before any entry.
 fn first_view(viewer: &mut Viewer) -> Result<View, EngineFault>
     requires { IsNewView viewer.old }
     ensures ok { IfOk result (λ view. viewer.old.seen ≡ view.version ∷ []) }
     ensures fault { IfErr result (λ fault. (fault ≡ NoView) ⊎ (fault ≡ Memory)) }
 {
-    let view = viewer.view()?;
+    let view = look(viewer)?;
     if view.version().number() != 0 {
         return Err(EngineFault::NoView);
     }
@@ -169,9 +183,13 @@ impl<'s, 'a, R: Wait, G: Gate + Drop> Threaded<'s, 'a, R, G> {
         ensures fault { IfErr result IsThreadedFault }
     {
         let alloc = *self.receipts.allocator();
-        let note = self.planner.settle(rt, alloc, self.shared, &self.receipts)?;
-        self.viewer.learn(&note);
-        Ok(self.viewer.view()?)
+        match self.planner.settle(rt, alloc, self.shared, &self.receipts) {
+            Ok(note) => {
+                self.viewer.learn(&note);
+                look(&mut self.viewer)
+            }
+            Err(fault) => Err(of_settle(fault)),
+        }
     }
 
     // Shows a view, where it is of the next version of all edits.

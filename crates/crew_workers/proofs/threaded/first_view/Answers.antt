@@ -1,6 +1,6 @@
 use Rattle.std.proofs.Common.{◌∙◌, ap, sym}
-use Rattle.crew_session.proofs.ThreadFacts.{first-seen}
-use Rattle.crew_session.proofs.threaded.first_view.Goals as goal
+use Rattle.crew_workers.proofs.Views.{first-seen}
+use Rattle.crew_workers.proofs.threaded.first_view.Goals as goal
 use Rattle.crew_version.specs.Versions.{Snapshot}
 
 pub returns-clause-ok : goal.returns-clause-ok

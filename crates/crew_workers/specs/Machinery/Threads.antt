@@ -12,8 +12,8 @@ use Rattle.crew_service.specs.declared.fault.SettleFault.TheVariants as Settle
 use Rattle.crew_session.specs.Oddities.{Found}
 use Rattle.crew_session.specs.declared.engine_fault.EngineFault.{EngineFault}
 use Rattle.crew_session.specs.declared.engine_fault.EngineFault.TheVariants.{TooManyDuties, LastVersion, SeatFull, Gap, OtherLog, NoView, Memory}
-use Rattle.crew_session.specs.declared.threaded.Last.{Last}
-use Rattle.crew_session.specs.declared.threaded.Last.TheVariants.{Shown, Refused, Other}
+use Rattle.crew_workers.specs.declared.threaded.Last.{Last}
+use Rattle.crew_workers.specs.declared.threaded.Last.TheVariants.{Shown, Refused, Other}
 use Rattle.crew_version.specs.Versions.{Snapshot}
 
 -- the log of its service, all entries that it took, the version that it shows, and what its last

@@ -1,8 +1,8 @@
 use Rattle.std.proofs.Common.{◌≡◌, ◌∙◌, arith, length, refl, sym}
 use Rattle.crew_service.specs.Plans.{entries_of}
 use Rattle.crew_service.proofs.Plans.{length-entries}
-use Rattle.crew_session.proofs.ThreadFacts.{one-list}
-use Rattle.crew_session.proofs.threaded.has_entries.Goals as goal
+use Rattle.crew_workers.proofs.Views.{one-list}
+use Rattle.crew_workers.proofs.threaded.has_entries.Goals as goal
 
 pub returns : goal.returns
 returns c =

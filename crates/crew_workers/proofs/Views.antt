@@ -4,8 +4,8 @@ use Rattle.std.specs.Prelude.{slice_get}
 use mathlib.Core.List.{IsPrefix}
 use Rattle.crew_publish.specs.Chain.{ChainFrom, Ends, IsChain, last_or}
 use Rattle.crew_publish.specs.Views.{IsViewOf, Watching}
-use Rattle.crew_session.specs.Machinery.Threads.{IsNewView}
 use Rattle.crew_version.proofs.Places.{prefix-from}
+use Rattle.crew_workers.specs.Machinery.Threads.{IsNewView}
 use Rattle.crew_version.specs.Versions.{Snapshot}
 
 -- numbers don't fall in a chain

@@ -1,0 +1,2 @@
+pub mod Workers
+pub mod Machinery

@@ -1,0 +1,180 @@
+//! Sessions beside workers.
+ghost use Rattle.std.specs.Prelude.{◌≡◌, ◌⊎◌, ◌≤◌, [], ℕ, List, IfErr, IfSome, OnErr, OnOk, length};
+ghost use Rattle.std.specs.Io.KnownBytes.{Appends, IsAtEnd};
+ghost use Rattle.crew_rules.specs.Settings.{IsChecked};
+ghost use Rattle.crew_session.specs.Rows.{records_of};
+ghost use Rattle.crew_session.specs.Session.{Begins, IsSessionText, start};
+ghost use Rattle.crew_session.specs.declared.engine_fault.EngineFault.TheVariants.{NoView, Memory as NoMemory};
+ghost use Rattle.crew_session.specs.Streams.{bytes_held, bytes_left, read_failed, write_failed};
+ghost use Rattle.crew_version.specs.Versions.{opening};
+ghost use Rattle.crew_workers.specs.Machinery.Played.{IsPlayed, played};
+ghost use Rattle.crew_workers.specs.Workers.{EndsStrange, IsUnbegun};
+
+use crate::report::report;
+use crate::threaded::Threaded;
+use crew_rules::Settings;
+use crew_service::{Open, Service, Shared, Worker};
+use crew_session::{Engine, EngineFault, NotedReader, NotedWriter, SessionFault, run};
+use std::alloc::Global;
+use std::io::{Print, Read, Write};
+use std::sync::Wait;
+use std::thread;
+use std::thread::Threads;
+use std::time::Clock;
+
+/// Who takes part in the work of a session beside the thread that reads it.
+#[derive(Clone, Copy, Debug)]
+pub struct Crew {
+    /// How many threads do.
+    pub workers: u32,
+    /// How many seconds lie between two lines on standard error that tell how far the open round is;
+    /// with 0 there is none.
+    pub progress: u32,
+}
+
+// Takes part in the work of a service until it is closed, by the threads of a crew, of which this is
+// one. A thread that can't be made is left out.
+fn work<T: Threads + Wait + Sync + Clock + Print>(
+    rt: &T,
+    alloc: Global,
+    shared: &Shared,
+    crew: Crew,
+) {
+    thread::scope(thread::scope_env(), rt, |scope| {
+        if crew.progress > 0 {
+            let _ = scope.spawn(move || report(rt, shared, crew.progress));
+        }
+        for _ in 1..crew.workers {
+            let _ = scope.spawn(move || Worker::new(Open).run(rt, alloc, shared));
+        }
+        if crew.workers > 0 {
+            Worker::new(Open).run(rt, alloc, shared);
+        }
+    });
+}
+
+// Plays a session over a service by its engine, and closes it.
+fn play_over<T: Threads + Wait + Sync + Clock + Print, R: Read + Drop, W: Write + Drop, E: Engine>(
+    rt: &T,
+    alloc: Global,
+    shared: &Shared,
+    engine: &mut E,
+    reader: &mut NotedReader<R>,
+    writer: &mut NotedWriter<W>,
+    settings: &Settings,
+) -> Result<(), SessionFault>
+    requires checked { IsChecked settings.now }
+    requires entries { E.entries engine.old ≡ [] }
+    requires version { E.shown engine.old ≡ opening settings.now }
+    ensures { IsPlayed settings.now (played
+        (bytes_left R.remaining reader.old) (bytes_left R.remaining reader.new)
+        (bytes_held W.contents writer.old) (bytes_held W.contents writer.new)
+        (read_failed reader.new) (write_failed writer.new)) result }
+{
+    let done = run(rt, alloc, reader, writer, settings, engine);
+    shared.close(rt);
+    done
+}
+
+// Plays a session over a service by its engine, beside a crew. That works in a thread of its
+// own; where none can be made it comes last, and finds the service closed.
+fn play_beside<T: Threads + Wait + Sync + Clock + Print, R: Read + Drop, W: Write + Drop, E: Engine>(
+    rt: &T,
+    alloc: Global,
+    shared: &Shared,
+    engine: &mut E,
+    reader: &mut NotedReader<R>,
+    writer: &mut NotedWriter<W>,
+    settings: &Settings,
+    crew: Crew,
+) -> Result<(), SessionFault>
+    requires checked { IsChecked settings.now }
+    requires entries { E.entries engine.old ≡ [] }
+    requires version { E.shown engine.old ≡ opening settings.now }
+    ensures { IsPlayed settings.now (played
+        (bytes_left R.remaining reader.old) (bytes_left R.remaining reader.new)
+        (bytes_held W.contents writer.old) (bytes_held W.contents writer.new)
+        (read_failed reader.new) (write_failed writer.new)) result }
+{
+    let mut works = || work(rt, alloc, shared, crew);
+    let mut plays = || -> Result<(), SessionFault>
+        requires checked { IsChecked settings.now }
+        requires entries { E.entries engine.now ≡ [] }
+        requires version { E.shown engine.now ≡ opening settings.now }
+    { play_over(rt, alloc, shared, engine, reader, writer, settings) };
+    let (_, done) = thread::join_mut(rt, &mut works, &mut plays);
+    done
+}
+
+// Why a session doesn't begin, where its engine isn't made.
+fn unbegun(fault: EngineFault) -> SessionFault
+    requires { (fault ≡ NoView) ⊎ (fault ≡ NoMemory) }
+    ensures { (result ≡ SessionFault.Memory) ⊎ (result ≡ SessionFault.Strange 65) }
+{
+    match fault {
+        EngineFault::NoView => SessionFault::Strange(65),
+        _ => SessionFault::Memory,
+    }
+}
+
+/// Plays a session as `crew_session::run` does, over a service of its own whose work a crew of threads
+/// shares with this one; a thread that can't be made is left out, and without any this one works
+/// alone. What is written is the same for every number.
+///
+/// Where the answer is `Ok`, what is written is the text of a session of the bytes that were read,
+/// there were at most 2,000,000 records, and the input is at its end. `Read` where the reader failed
+/// or gives more records, `Write` where the writer failed, `Memory` where neither did, and `Strange`
+/// only where a settle of the session found what no session brings about: what was written is then
+/// a beginning of the text of the first so many records. Before anything is read or written it may
+/// be `Memory`, or `Strange` 65, where the version before any entry can't be seen.
+pub fn run_with_workers<T: Threads + Wait + Sync + Clock + Print, R: Read + Drop, W: Write + Drop>(
+    rt: &T,
+    alloc: Global,
+    reader: &mut NotedReader<R>,
+    writer: &mut NotedWriter<W>,
+    settings: &Settings,
+    crew: Crew,
+) -> Result<(), SessionFault>
+    requires { IsChecked settings.now }
+    ensures output { OnOk result (IfSome (bytes_left R.remaining reader.old) (λ bytes.
+        (text : List ℕ)
+        × Appends (bytes_held W.contents writer.old) (bytes_held W.contents writer.new) text
+        × IsSessionText settings.now bytes text)) }
+    ensures limit { OnOk result (IfSome (bytes_left R.remaining reader.old)
+        (λ bytes. length (records_of bytes) ≤ 2_000_000)) }
+    ensures end { OnOk result (IsAtEnd (bytes_left R.remaining reader.new)) }
+    ensures begun { OnErr result (IfSome (bytes_left R.remaining reader.old) (λ bytes.
+        Begins settings.now (start settings.now) (records_of bytes)
+        (bytes_held W.contents writer.old) (bytes_held W.contents writer.new))) }
+    ensures fault { IfErr result (λ fault.
+        EndsStrange settings.now (bytes_left R.remaining reader.old)
+        (read_failed reader.new) (write_failed writer.new) fault
+        ⊎ IsUnbegun (bytes_held W.contents writer.old) (bytes_held W.contents writer.new) fault) }
+{
+    let Ok(service) = Service::new(rt, alloc, settings, (1, 1), Open) else {
+        return Err(SessionFault::Memory);
+    };
+    let Service {
+        shared,
+        planner,
+        mut seats,
+        mut viewers,
+    } = service;
+    let (Some(seat), Some(viewer)) = (seats.pop(), viewers.pop()) else {
+        unreachable!()
+    };
+    let mut engine = match Threaded::new(rt, alloc, &shared, (planner, seat, viewer)) {
+        Ok(engine) => engine,
+        Err(fault) => return Err(unbegun(fault)),
+    };
+    play_beside(
+        rt,
+        alloc,
+        &shared,
+        &mut engine,
+        reader,
+        writer,
+        settings,
+        crew,
+    )
+}
