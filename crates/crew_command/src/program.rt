@@ -17,7 +17,7 @@ use crew_workers::{Crew, run_with_workers};
 use std::alloc::Global;
 use std::convert::AsStr;
 use std::io;
-use std::io::{Print, Read, Write};
+use std::io::{Eprint, Read, Write};
 use std::sync::Wait;
 use std::thread::Threads;
 use std::time::Clock;
@@ -77,7 +77,7 @@ fn play_alone<T: Threads + Sync, R: Read + Drop, W: Write + Drop>(
 }
 
 // Plays a session beside workers.
-fn play_beside<T: Threads + Wait + Sync + Clock + Print, R: Read + Drop, W: Write + Drop>(
+fn play_beside<T: Threads + Wait + Sync + Clock + Eprint, R: Read + Drop, W: Write + Drop>(
     rt: &T,
     alloc: Global,
     settings: &Settings,
@@ -97,7 +97,7 @@ fn play_beside<T: Threads + Wait + Sync + Clock + Print, R: Read + Drop, W: Writ
 }
 
 // Plays a session, in this thread alone where there are no workers.
-fn play_session<T: Threads + Wait + Sync + Clock + Print, R: Read + Drop, W: Write + Drop>(
+fn play_session<T: Threads + Wait + Sync + Clock + Eprint, R: Read + Drop, W: Write + Drop>(
     rt: &T,
     alloc: Global,
     settings: &Settings,
@@ -118,7 +118,7 @@ fn play_session<T: Threads + Wait + Sync + Clock + Print, R: Read + Drop, W: Wri
 }
 
 // Does a task whose settings are in their ranges.
-fn play<T: Threads + Wait + Sync + Clock + Print, R: Read + Drop, W: Write + Drop>(
+fn play<T: Threads + Wait + Sync + Clock + Eprint, R: Read + Drop, W: Write + Drop>(
     rt: &T,
     alloc: Global,
     task: Task,
@@ -139,7 +139,7 @@ fn play<T: Threads + Wait + Sync + Clock + Print, R: Read + Drop, W: Write + Dro
 }
 
 // Does a task, or refuses its settings.
-fn run_task<T: Threads + Wait + Sync + Clock + Print, R: Read + Drop, W: Write + Drop>(
+fn run_task<T: Threads + Wait + Sync + Clock + Eprint, R: Read + Drop, W: Write + Drop>(
     rt: &T,
     alloc: Global,
     task: Task,
@@ -161,7 +161,7 @@ fn run_task<T: Threads + Wait + Sync + Clock + Print, R: Read + Drop, W: Write +
 }
 
 // Does what the words ask for.
-fn run_words<T: Threads + Wait + Sync + Clock + Print, S: AsStr, R: Read + Drop, W: Write + Drop>(
+fn run_words<T: Threads + Wait + Sync + Clock + Eprint, S: AsStr, R: Read + Drop, W: Write + Drop>(
     rt: &T,
     alloc: Global,
     words: &[S],
@@ -182,7 +182,13 @@ fn run_words<T: Threads + Wait + Sync + Clock + Print, S: AsStr, R: Read + Drop,
 /// 1 a read or write fault; 2 a fault in the words; 3 no memory; 4 a bad setting; 5 a strange log.
 /// The line of a fault goes to `faults`, all else to `writer`; a fault in writing to `faults`
 /// changes nothing. The first word is the program's own name.
-pub fn command<T: Threads + Wait + Sync + Clock + Print, S: AsStr, R: Read + Drop, W: Write + Drop, F: Write + Drop>(
+pub fn command<
+    T: Threads + Wait + Sync + Clock + Eprint,
+    S: AsStr,
+    R: Read + Drop,
+    W: Write + Drop,
+    F: Write + Drop,
+>(
     rt: &T,
     alloc: Global,
     words: &[S],

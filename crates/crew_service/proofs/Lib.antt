@@ -1,4 +1,3 @@
 pub mod Boards
-pub mod Crossing
 pub mod Plans
 pub mod Settles

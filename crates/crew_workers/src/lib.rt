@@ -9,6 +9,7 @@
 #![tactic(auto)]
 
 mod faults;
+mod parts;
 mod report;
 mod sessions;
 mod threaded;

@@ -2,7 +2,7 @@
 
 use crew_round::Progress;
 use crew_service::Shared;
-use std::io::Print;
+use std::io::Eprint;
 use std::sync::Wait;
 use std::thread;
 use std::time::{Clock, Duration};
@@ -22,7 +22,7 @@ fn is_over<T: Wait + Clock>(rt: &T, shared: &Shared, seconds: u32) -> bool {
 }
 
 // Tells how far a round is. Nothing comes of a line that can't be written.
-fn tell<T: Print>(rt: &T, progress: Progress) {
+fn tell<T: Eprint>(rt: &T, progress: Progress) {
     let Progress { nodes, done, out } = progress;
     let _ = eprintln!(rt; "crewprice: {done} of {nodes} nodes done, {out} out");
 }
@@ -30,7 +30,7 @@ fn tell<T: Print>(rt: &T, progress: Progress) {
 /// Tells on standard error how far the open round is, every so many seconds, until the service is
 /// closed. No clause: what lies under a lock is hidden from contracts, and so is what standard error
 /// carries.
-pub(crate) fn report<T: Wait + Clock + Print>(rt: &T, shared: &Shared, seconds: u32) {
+pub(crate) fn report<T: Wait + Clock + Eprint>(rt: &T, shared: &Shared, seconds: u32) {
     for _ in rt.forever() {
         if is_over(rt, shared, seconds) {
             return;

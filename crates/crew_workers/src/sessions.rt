@@ -1,5 +1,5 @@
 //! Sessions beside workers.
-ghost use Rattle.std.specs.Prelude.{◌≡◌, ◌⊎◌, ◌≤◌, [], ℕ, List, IfErr, IfSome, OnErr, OnOk, length};
+ghost use Rattle.std.specs.Prelude.{◌≡◌, ◌⊎◌, ◌≤◌, ◌∷◌, [], ℕ, All, List, IfErr, IfSome, OnErr, OnOk, length};
 ghost use Rattle.std.specs.Io.KnownBytes.{Appends, IsAtEnd};
 ghost use Rattle.crew_rules.specs.Settings.{IsChecked};
 ghost use Rattle.crew_session.specs.Rows.{records_of};
@@ -7,16 +7,21 @@ ghost use Rattle.crew_session.specs.Session.{Begins, IsSessionText, start};
 ghost use Rattle.crew_session.specs.declared.engine_fault.EngineFault.TheVariants.{NoView, Memory as NoMemory};
 ghost use Rattle.crew_session.specs.Streams.{bytes_held, bytes_left, read_failed, write_failed};
 ghost use Rattle.crew_version.specs.Versions.{opening};
-ghost use Rattle.crew_workers.specs.Machinery.Played.{IsPlayed, played};
+ghost use Rattle.crew_log.specs.Logs.{unused_seat};
+ghost use Rattle.crew_service.specs.Plans.{AreSeatsFrom};
+ghost use Rattle.crew_workers.specs.Machinery.Played.{IsEnded, IsPlayed, played};
 ghost use Rattle.crew_workers.specs.Workers.{EndsStrange, IsUnbegun};
 
+use crate::parts::{only_seat, only_viewer};
 use crate::report::report;
 use crate::threaded::Threaded;
+use crew_log::Seat;
+use crew_publish::Viewer;
 use crew_rules::Settings;
-use crew_service::{Open, Service, Shared, Worker};
+use crew_service::{Open, Planner, Service, Shared, Worker};
 use crew_session::{Engine, EngineFault, NotedReader, NotedWriter, SessionFault, run};
 use std::alloc::Global;
-use std::io::{Print, Read, Write};
+use std::io::{Eprint, Read, Write};
 use std::sync::Wait;
 use std::thread;
 use std::thread::Threads;
@@ -34,7 +39,7 @@ pub struct Crew {
 
 // Takes part in the work of a service until it is closed, by the threads of a crew, of which this is
 // one. A thread that can't be made is left out.
-fn work<T: Threads + Wait + Sync + Clock + Print>(
+fn work<T: Threads + Wait + Sync + Clock + Eprint>(
     rt: &T,
     alloc: Global,
     shared: &Shared,
@@ -54,7 +59,7 @@ fn work<T: Threads + Wait + Sync + Clock + Print>(
 }
 
 // Plays a session over a service by its engine, and closes it.
-fn play_over<T: Threads + Wait + Sync + Clock + Print, R: Read + Drop, W: Write + Drop, E: Engine>(
+fn play_over<T: Threads + Wait + Sync + Clock + Eprint, R: Read + Drop, W: Write + Drop, E: Engine>(
     rt: &T,
     alloc: Global,
     shared: &Shared,
@@ -78,7 +83,12 @@ fn play_over<T: Threads + Wait + Sync + Clock + Print, R: Read + Drop, W: Write 
 
 // Plays a session over a service by its engine, beside a crew. That works in a thread of its
 // own; where none can be made it comes last, and finds the service closed.
-fn play_beside<T: Threads + Wait + Sync + Clock + Print, R: Read + Drop, W: Write + Drop, E: Engine>(
+fn play_beside<
+    T: Threads + Wait + Sync + Clock + Eprint,
+    R: Read + Drop,
+    W: Write + Drop,
+    E: Engine,
+>(
     rt: &T,
     alloc: Global,
     shared: &Shared,
@@ -117,6 +127,72 @@ fn unbegun(fault: EngineFault) -> SessionFault
     }
 }
 
+// Plays a session over a service, of which these are the planner, the seat and the viewer.
+fn play_parts<'a, T: Threads + Wait + Sync + Clock + Eprint, R: Read + Drop, W: Write + Drop>(
+    rt: &'a T,
+    alloc: Global,
+    shared: &Shared,
+    parts: (Planner<'a, T, Open>, Seat, Viewer),
+    reader: &mut NotedReader<R>,
+    writer: &mut NotedWriter<W>,
+    settings: &Settings,
+    crew: Crew,
+) -> Result<(), SessionFault>
+    requires checked { IsChecked settings.now }
+    requires planner { parts.0.log ≡ shared.now }
+    requires seat { parts.1 ≡ unused_seat 0 }
+    requires viewer { parts.2.seen ≡ opening settings.now ∷ [] }
+    ensures { IsEnded settings.now (played
+        (bytes_left R.remaining reader.old) (bytes_left R.remaining reader.new)
+        (bytes_held W.contents writer.old) (bytes_held W.contents writer.new)
+        (read_failed reader.new) (write_failed writer.new)) result }
+{
+    match Threaded::new(rt, alloc, shared, parts) {
+        Ok(mut engine) => play_beside(
+            rt,
+            alloc,
+            shared,
+            &mut engine,
+            reader,
+            writer,
+            settings,
+            crew,
+        ),
+        Err(fault) => Err(unbegun(fault)),
+    }
+}
+
+// Plays a session over a new service with one seat and one viewer.
+fn play_service<'a, T: Threads + Wait + Sync + Clock + Eprint, R: Read + Drop, W: Write + Drop>(
+    rt: &'a T,
+    alloc: Global,
+    service: Service<'a, T, Open>,
+    reader: &mut NotedReader<R>,
+    writer: &mut NotedWriter<W>,
+    settings: &Settings,
+    crew: Crew,
+) -> Result<(), SessionFault>
+    requires checked { IsChecked settings.now }
+    requires planner { service.planner.log ≡ service.shared }
+    requires seats { AreSeatsFrom 0 service.seats.items }
+    requires one_seat { length service.seats.items ≡ 1 }
+    requires viewers { All (λ viewer. viewer.seen ≡ opening settings.now ∷ []) service.viewers.items }
+    requires one_viewer { length service.viewers.items ≡ 1 }
+    ensures { IsEnded settings.now (played
+        (bytes_left R.remaining reader.old) (bytes_left R.remaining reader.new)
+        (bytes_held W.contents writer.old) (bytes_held W.contents writer.new)
+        (read_failed reader.new) (write_failed writer.new)) result }
+{
+    let Service {
+        shared,
+        planner,
+        seats,
+        viewers,
+    } = service;
+    let parts = (planner, only_seat(seats), only_viewer(viewers));
+    play_parts(rt, alloc, &shared, parts, reader, writer, settings, crew)
+}
+
 /// Plays a session as `crew_session::run` does, over a service of its own whose work a crew of threads
 /// shares with this one; a thread that can't be made is left out, and without any this one works
 /// alone. What is written is the same for every number.
@@ -127,7 +203,7 @@ fn unbegun(fault: EngineFault) -> SessionFault
 /// only where a settle of the session found what no session brings about: what was written is then
 /// a beginning of the text of the first so many records. Before anything is read or written it may
 /// be `Memory`, or `Strange` 65, where the version before any entry can't be seen.
-pub fn run_with_workers<T: Threads + Wait + Sync + Clock + Print, R: Read + Drop, W: Write + Drop>(
+pub fn run_with_workers<T: Threads + Wait + Sync + Clock + Eprint, R: Read + Drop, W: Write + Drop>(
     rt: &T,
     alloc: Global,
     reader: &mut NotedReader<R>,
@@ -151,30 +227,8 @@ pub fn run_with_workers<T: Threads + Wait + Sync + Clock + Print, R: Read + Drop
         (read_failed reader.new) (write_failed writer.new) fault
         ⊎ IsUnbegun (bytes_held W.contents writer.old) (bytes_held W.contents writer.new) fault) }
 {
-    let Ok(service) = Service::new(rt, alloc, settings, (1, 1), Open) else {
-        return Err(SessionFault::Memory);
-    };
-    let Service {
-        shared,
-        planner,
-        mut seats,
-        mut viewers,
-    } = service;
-    let (Some(seat), Some(viewer)) = (seats.pop(), viewers.pop()) else {
-        unreachable!()
-    };
-    let mut engine = match Threaded::new(rt, alloc, &shared, (planner, seat, viewer)) {
-        Ok(engine) => engine,
-        Err(fault) => return Err(unbegun(fault)),
-    };
-    play_beside(
-        rt,
-        alloc,
-        &shared,
-        &mut engine,
-        reader,
-        writer,
-        settings,
-        crew,
-    )
+    match Service::new(rt, alloc, settings, (1, 1), Open) {
+        Ok(service) => play_service(rt, alloc, service, reader, writer, settings, crew),
+        Err(_) => Err(SessionFault::Memory),
+    }
 }

@@ -3,7 +3,7 @@
 use crate::runs::Case;
 use crew_command::{NotedReader, NotedWriter, command};
 use std::alloc::{AllocError, Global};
-use std::io::{self, Print};
+use std::io::{self, Eprint, Print};
 use std::sync::Wait;
 use std::thread::Threads;
 use std::time::Clock;
@@ -12,7 +12,7 @@ use std::time::Clock;
 type Outcome = (Vec<u8>, u8);
 
 // Runs the program over a writer in memory.
-fn outcome_of<R: Print + Threads + Wait + Sync + Clock>(
+fn outcome_of<R: Print + Eprint + Threads + Wait + Sync + Clock>(
     rt: &R,
     alloc: Global,
     words: &[&str],
@@ -49,7 +49,7 @@ fn is_alone(words: &[&str]) -> bool {
 
 /// Runs a session once more without workers, and beside 1 and 8; shows which comes to something
 /// else.
-pub fn compare<R: Print + Threads + Wait + Sync + Clock>(
+pub fn compare<R: Print + Eprint + Threads + Wait + Sync + Clock>(
     rt: &R,
     alloc: Global,
     words: &[&str],

@@ -25,7 +25,7 @@ mod ways;
 
 use runs::Case;
 use std::alloc::Global;
-use std::io::{self, Print, Read};
+use std::io::{self, Eprint, Print, Read};
 use std::str::from_utf8;
 use std::sync::Wait;
 use std::thread::Threads;
@@ -47,7 +47,7 @@ fn cut(text: &[u8], at: u8) -> (&[u8], &[u8]) {
 }
 
 // Plays what the words ask for, the first of which is the program's name, or names another thing.
-fn play_words<R: Print + Threads + Wait + Sync + Clock>(
+fn play_words<R: Print + Eprint + Threads + Wait + Sync + Clock>(
     rt: &R,
     alloc: Global,
     words: &[&str],
@@ -68,7 +68,11 @@ fn play_words<R: Print + Threads + Wait + Sync + Clock>(
 }
 
 // Plays a case.
-fn play<R: Print + Threads + Wait + Sync + Clock>(rt: &R, alloc: Global, text: &[u8]) -> io::Result<()> {
+fn play<R: Print + Eprint + Threads + Wait + Sync + Clock>(
+    rt: &R,
+    alloc: Global,
+    text: &[u8],
+) -> io::Result<()> {
     let (head, rest) = cut(text, b'$');
     let (line, input) = cut(rest, b'\n');
     let head = text_of(head);
@@ -80,7 +84,7 @@ fn play<R: Print + Threads + Wait + Sync + Clock>(rt: &R, alloc: Global, text: &
 }
 
 // Plays each case of a text.
-fn play_all<R: Print + Threads + Wait + Sync + Clock>(
+fn play_all<R: Print + Eprint + Threads + Wait + Sync + Clock>(
     rt: &R,
     alloc: Global,
     text: &[u8],

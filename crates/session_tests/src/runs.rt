@@ -5,7 +5,7 @@ use crate::streams::{Shown, Source};
 use crate::ways::Ways;
 use crew_command::{NotedReader, NotedWriter, Outlet, command};
 use std::alloc::Global;
-use std::io::{self, Print, Read, Write};
+use std::io::{self, Eprint, Print, Read, Write};
 use std::sync::Wait;
 use std::thread::Threads;
 use std::time::Clock;
@@ -63,7 +63,7 @@ fn show_status<R: Print>(rt: &R, status: u8) -> io::Result<()> {
 
 // Runs the program, and shows its status. Where its answers are shown too, and not only counted, it
 // is compared with runs beside workers.
-fn run_plain<R: Print + Threads + Wait + Sync + Clock>(
+fn run_plain<R: Print + Eprint + Threads + Wait + Sync + Clock>(
     rt: &R,
     alloc: Global,
     words: &[&str],
@@ -87,7 +87,7 @@ fn run_plain<R: Print + Threads + Wait + Sync + Clock>(
 }
 
 // Runs the program over an outlet.
-fn run_over<T: Threads + Wait + Sync + Clock + Print, R: Read, W: Write + Drop, F: Write + Drop>(
+fn run_over<T: Threads + Wait + Sync + Clock + Eprint, R: Read, W: Write + Drop, F: Write + Drop>(
     rt: &T,
     alloc: Global,
     words: &[&str],
@@ -102,7 +102,7 @@ fn run_over<T: Threads + Wait + Sync + Clock + Print, R: Read, W: Write + Drop, 
 }
 
 // Runs the program over an outlet, which answers while the input is open, and shows its status.
-fn run_open<'a, R: Print + Threads + Wait + Sync + Clock>(
+fn run_open<'a, R: Print + Eprint + Threads + Wait + Sync + Clock>(
     rt: &'a R,
     alloc: Global,
     words: &[&str],
@@ -116,7 +116,7 @@ fn run_open<'a, R: Print + Threads + Wait + Sync + Clock>(
 }
 
 /// Runs the program under these words, and shows what came of it.
-pub fn play_run<R: Print + Threads + Wait + Sync + Clock>(
+pub fn play_run<R: Print + Eprint + Threads + Wait + Sync + Clock>(
     rt: &R,
     alloc: Global,
     words: &[&str],

@@ -1,0 +1,132 @@
+-- A viewer may cross threads, as what it may be shown. Found type by type from below: a search over
+-- all of it at once comes to no end.
+use denote.RattleType.{RattleType}
+use denote.Builtin.{RawPtr}
+use denote.Param.Send.{Frees, IsSend, IsSync, owning_send, part_keyless, struct_send, sendable}
+use denote.Struct.Owning.{fields, shape, to}
+use denote.Struct.Struct.{Struct, exits_of}
+use mathlib.Core.List.{[], ◌∷◌}
+use Rattle.std.proofs.Crossing.{crosses}
+use Rattle.std.specs.contracts.collections.LinkedList as List
+use Rattle.std.specs.contracts.alloc.Global as Heap
+use Rattle.std.specs.contracts.impls.GlobalAllocator.TheImpl.{ghosts as heap}
+use Rattle.left_right.specs.contracts.reader.Reader as Reader
+use Rattle.left_right.specs.contracts.reader.Factory as Factory
+use Rattle.left_right.specs.contracts.part.Part as Part
+use Rattle.atomic_table.specs.contracts.send_lease.SendLease as Lease
+use Rattle.atomic_table.specs.contracts.shared.Seat as Place
+use Rattle.atomic_table.specs.contracts.shared.Shared as Table
+use Rattle.atomic_table.specs.declared.shared.TableRule.{Ghosts}
+use Rattle.atomic_table.proofs.Rights.{right_send}
+use Rattle.atomic_table.proofs.Sent.{owns_keyless, seat_keyless, shares_keyless}
+use Rattle.core.specs.declared.alloc.Allocator.{Ghosts as HeapGhosts}
+use Rattle.std_alloc.proofs.SendSync.{quiet, seen}
+use Rattle.crew_publish.specs.contracts.shown.OneChain as OneChain
+use Rattle.crew_publish.specs.contracts.shown.OneChainProtocolShownKnown.TheImpl.{ghosts as chain}
+use Rattle.std.proofs.MapsCrossing.{crosses as maps_cross}
+use Rattle.crew_flights.specs.contracts.entries.Folding as Folding
+use Rattle.crew_flights.specs.contracts.timetable.Timetable as Timetable
+use Rattle.crew_publish.specs.contracts.shown.Shown as Shown
+use Rattle.crew_publish.specs.contracts.viewer.Viewer as Viewer
+use Rattle.crew_publish.specs.contracts.viewer.Viewer.TheInside as Inside
+use Rattle.crew_solve.specs.contracts.base_fronts.BaseFronts as BaseFronts
+use Rattle.crew_solve.specs.contracts.solution.Solution as Solution
+use Rattle.crew_version.specs.contracts.draft.Draft as Draft
+use Rattle.crew_version.specs.contracts.version.Version as Version
+
+ruleset parts = (sendable, crosses, maps_cross)
+
+-- ---- what a version holds
+
+fronts-send : IsSend BaseFronts.the_row
+fronts-send = search parts depth 40 fits 30000
+
+fronts-sync : IsSync BaseFronts.the_row
+fronts-sync = search parts depth 40 fits 30000
+
+ruleset with_fronts = (parts, fronts-send, fronts-sync)
+
+solution-send : IsSend Solution.the_row
+solution-send = search with_fronts depth 40 fits 30000
+
+solution-sync : IsSync Solution.the_row
+solution-sync = search with_fronts depth 40 fits 30000
+
+timetable-send : IsSend Timetable.the_row
+timetable-send = search parts depth 40 fits 30000
+
+timetable-sync : IsSync Timetable.the_row
+timetable-sync = search parts depth 40 fits 30000
+
+ruleset with_timetable = (parts, timetable-send, timetable-sync)
+
+folding-send : IsSend Folding.the_row
+folding-send = search with_timetable depth 40 fits 30000
+
+folding-sync : IsSync Folding.the_row
+folding-sync = search with_timetable depth 40 fits 30000
+
+ruleset with_folding = (parts, folding-send, folding-sync)
+
+draft-send : IsSend Draft.the_row
+draft-send = search with_folding depth 40 fits 30000
+
+draft-sync : IsSync Draft.the_row
+draft-sync = search with_folding depth 40 fits 30000
+
+ruleset with_draft = (parts, draft-send, draft-sync, solution-send, solution-sync)
+
+version-send : IsSend Version.the_row
+version-send = search with_draft depth 40 fits 30000
+
+version-sync : IsSync Version.the_row
+version-sync = search with_draft depth 40 fits 30000
+
+-- ---- what a viewer is shown
+
+ruleset with_version = (parts, version-send, version-sync)
+
+shown-send : IsSend Shown.the_row
+shown-send = search with_version depth 40 fits 30000
+
+shown-sync : IsSync Shown.the_row
+shown-sync = search with_version depth 40 fits 30000
+
+ruleset with_shown = (parts, shown-send, shown-sync)
+
+abbrev Known : RattleType
+Known = List.the_row (List.the_row Version.the_row Heap.the_row heap) Heap.the_row heap
+
+-- ---- the seat of a viewer, as its own crates show it
+
+part-send : (T : RattleType) → IsSync T → IsSend (Part.the_row T)
+part-send T y = let O = Part.the_type T in let ps : IsSend RawPtr = search sendable in owning_send O (ps, tt) (λ d. ((λ e c. tt), seen T y d.ptr d.value (d.round ∷ [])))
+    (λ k. quiet (to O) (exits_of k (fields O)) ((struct_send (shape O) (ps, tt)).leaving k))
+
+place-send : (S V : RattleType) → IsSend S → IsSend (Place.the_row S V)
+place-send S V s = record { owned = λ d vs. ((λ vss. (tt, ((λ uss. (tt, tt)), tt))), seat_keyless S s V.coded.code d.table_id d.id d.me); leaving = λ k f vs. tt }
+
+table-send : (S V K P : RattleType) (g : Ghosts P.Denot S.Denot V.Denot K.Denot) → IsSend S → IsSend (Table.the_row S V K P g)
+table-send S V K P g s = record { owned = λ d vs. ((λ vss. (tt, (tt, (tt, ((λ uss. (tt, tt)), tt))))), owns_keyless S s V.coded.code d.table_id (g.holds d.key) d.words d.slots); leaving = λ k f vs. tt }
+
+table-sync : (S V K P : RattleType) (g : Ghosts P.Denot S.Denot V.Denot K.Denot) → IsSend S → IsSync (Table.the_row S V K P g)
+table-sync S V K P g s = let inside : IsSync (Struct (shape (Table.the_type S V K P g))) = search sendable depth 20 in
+    record { shared = λ d b o ν. (inside.shared (d.words, (d.slots, (tt, tt))) b o ν, shares_keyless S s V.coded.code d.table_id (g.holds d.key) d.words d.slots ν) }
+
+lease-send : (T A : RattleType) (g : HeapGhosts A.Denot) → IsSend A → Frees g g.dealloc_token → IsSend (Lease.the_row T A g)
+lease-send T A g s f = right_send T A g f
+
+lease-sync : (T A : RattleType) (g : HeapGhosts A.Denot) → IsSend A → Frees g g.dealloc_token → IsSync (Lease.the_row T A g)
+lease-sync T A g s f = record { shared = λ d b o ν q. part_keyless (Lease.the_row T A g) (right_send T A g f) q d b o }
+
+ruleset with_table = (with_shown, part-send, place-send, table-send, table-sync, lease-send, lease-sync)
+
+inside-send : IsSend Inside.the_row
+inside-send = search with_table depth 60 fits 120000
+
+pub viewer_send : IsSend Viewer.the_row
+viewer_send = search (parts, inside-send) depth 40 fits 30000
+
+-- for the threads that a caller starts: with it the goal is closed that a closure which has a viewer
+-- may go to another thread
+pub ruleset with_viewers = (sendable, crosses, maps_cross, viewer_send)
