@@ -1,0 +1,4 @@
+pub mod Limits
+pub mod Histories
+pub mod HistoryValues
+pub mod Machinery
