@@ -5,3 +5,4 @@ pub mod HistoryCuts
 pub mod FixedHistories
 pub mod HistoryOfList
 pub mod OfDuties
+pub mod LegalOrder

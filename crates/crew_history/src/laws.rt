@@ -1,7 +1,11 @@
 //! Laws over the definitions alone.
 ghost use Rattle.std.specs.Prelude.{◌≡◌, Bool, true, IsTrue, ◌↔◌, ℤ, pos, ◌-ℤ◌, ◌≤ℤ◌, ◌<ℤ◌, List, [], ◌∷◌, ◌++◌, map, Option, Some};
+ghost use Rattle.crew_flights.specs.Timetable.{IsSound, Timetable};
+ghost use Rattle.crew_rules.specs.declared.settings.Settings.{Settings};
+ghost use Rattle.crew_pairing.specs.Duties.{flights_of};
+ghost use Rattle.crew_pairing.specs.Pairings.{AllRested, IsDuty};
 ghost use Rattle.crew_pairing.specs.declared.duty.Duty.{Duty};
-ghost use Rattle.crew_resource.specs.Members.{Member};
+ghost use Rattle.crew_resource.specs.Members.{Each, Member};
 ghost use Rattle.crew_resource.specs.Resource.{OrderLaws};
 ghost use Rattle.crew_history.specs.Histories.{minutes_after, IsHistory, IsNoMore, is_no_more, cut, grown, EndsBefore, minutes_within, KeepsCap, boarded_history, history_from};
 ghost use Rattle.crew_history.specs.HistoryValues.{periods_of, history_at_most};
@@ -9,6 +13,13 @@ ghost use Rattle.crew_history.specs.Limits.{AreInOrder, IsFreeBeforeReports, Kee
 ghost use Rattle.crew_history.specs.declared.history.History.{History};
 
 use crate::History;
+
+/// Legal duties of a timetable, each after a rest from the one before, come in order.
+pub fn legal_duties_come_in_order()
+    ensures { (s : Settings) (t : Timetable) (first : Duty) (others : List Duty) → IsSound t
+        → Each (IsDuty s (flights_of t)) (first ∷ others) → AllRested s first others
+        → AreInOrder first others }
+{}
 
 /// Of duties in order: where every window keeps the cap, the list has a history, of what lies in
 /// the window that ends with the last arrival; and where it has one, every window keeps the cap.
