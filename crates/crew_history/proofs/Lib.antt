@@ -6,3 +6,4 @@ pub mod FixedHistories
 pub mod HistoryOfList
 pub mod OfDuties
 pub mod LegalOrder
+pub mod ShortPairings

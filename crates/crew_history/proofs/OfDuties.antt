@@ -103,10 +103,10 @@ last_is : (first : Duty) (before : List Duty) (d : Duty) → last_duty first (be
 last_is first [] d = refl
 last_is first (next ∷ before) d = last_is next before d
 
-lasts : (d : Duty) → IsTimed d → d.report ≤ℤ d.release
+pub lasts : (d : Duty) → IsTimed d → d.report ≤ℤ d.release
 lasts d t = let n = t.nonempty in let a = t.arrives in omega (arith, ints)
 
-head_timed : (first : Duty) (others : List Duty) → AreInOrder first others → IsTimed first
+pub head_timed : (first : Duty) (others : List Duty) → AreInOrder first others → IsTimed first
 head_timed first [] o = o
 head_timed first (next ∷ others) o = o.0
 
@@ -118,7 +118,7 @@ before_report first [] d after o = weak first.release d.report o.1
 before_report first (next ∷ before) d after o = (weak first.release next.report o.1, lasts next (head_timed next (before ++ d ∷ after) o.2), before_report next before d after o.2)
 
 -- no duty reports before the first
-all_later : (first : Duty) (others : List Duty) → AreInOrder first others → (x : Duty) → Member (first ∷ others) x → first.report ≤ℤ x.report
+pub all_later : (first : Duty) (others : List Duty) → AreInOrder first others → (x : Duty) → Member (first ∷ others) x → first.report ≤ℤ x.report
 all_later first others o x (inl e) = subst (λ z. first.report ≤ℤ z.report) e (itself first.report)
   where
     itself : (r : ℤ) → r ≤ℤ r

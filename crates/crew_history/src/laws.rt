@@ -1,15 +1,16 @@
 //! Laws over the definitions alone.
-ghost use Rattle.std.specs.Prelude.{◌≡◌, Bool, true, IsTrue, ◌↔◌, ℤ, pos, ◌-ℤ◌, ◌≤ℤ◌, ◌<ℤ◌, List, [], ◌∷◌, ◌++◌, map, Option, Some};
+ghost use Rattle.std.specs.Prelude.{◌≡◌, ◌≤◌, ℕ, Bool, true, IsTrue, ◌↔◌, ℤ, pos, ◌-ℤ◌, ◌≤ℤ◌, ◌<ℤ◌, List, [], ◌∷◌, ◌++◌, map, Option, Some};
 ghost use Rattle.crew_flights.specs.Timetable.{IsSound, Timetable};
 ghost use Rattle.crew_rules.specs.declared.settings.Settings.{Settings};
 ghost use Rattle.crew_pairing.specs.Duties.{flights_of};
-ghost use Rattle.crew_pairing.specs.Pairings.{AllRested, IsDuty};
+ghost use Rattle.crew_pairing.specs.Pairings.{AllRested, IsDuty, IsPartial};
 ghost use Rattle.crew_pairing.specs.declared.duty.Duty.{Duty};
 ghost use Rattle.crew_resource.specs.Members.{Each, Member};
 ghost use Rattle.crew_resource.specs.Resource.{OrderLaws};
 ghost use Rattle.crew_history.specs.Histories.{minutes_after, IsHistory, IsNoMore, is_no_more, cut, grown, EndsBefore, minutes_within, KeepsCap, boarded_history, history_from};
 ghost use Rattle.crew_history.specs.HistoryValues.{periods_of, history_at_most};
 ghost use Rattle.crew_history.specs.Limits.{AreInOrder, IsFreeBeforeReports, KeepsWindows, history_of, period_of, since_rest};
+ghost use Rattle.crew_history.specs.LongPairings.{IsLongPartial};
 ghost use Rattle.crew_history.specs.declared.history.History.{History};
 
 use crate::History;
@@ -19,6 +20,19 @@ pub fn legal_duties_come_in_order()
     ensures { (s : Settings) (t : Timetable) (first : Duty) (others : List Duty) → IsSound t
         → Each (IsDuty s (flights_of t)) (first ∷ others) → AllRested s first others
         → AreInOrder first others }
+{}
+
+/// A pairing of at most 138 hours is legal by the rules of longer ones exactly where it is by its
+/// own, where the cap on all flight duty is no less than that of a window.
+pub fn short_pairings_are_as_before()
+    ensures long { (s : Settings) (t : Timetable) (fdp_total : ℤ) (base : List ℕ) (first : Duty)
+        (others : List Duty) → IsSound t → s.away_cap ≤ 8_280 → pos s.fdp_cap ≤ℤ fdp_total
+        → IsPartial s (flights_of t) base first others
+        → IsLongPartial s fdp_total (flights_of t) base first others }
+    ensures short { (s : Settings) (t : Timetable) (fdp_total : ℤ) (base : List ℕ) (first : Duty)
+        (others : List Duty) → IsSound t → s.away_cap ≤ 8_280 → pos s.fdp_cap ≤ℤ fdp_total
+        → IsLongPartial s fdp_total (flights_of t) base first others
+        → IsPartial s (flights_of t) base first others }
 {}
 
 /// Of duties in order: where every window keeps the cap, the list has a history, of what lies in
