@@ -71,6 +71,7 @@ fn answer_alone(alloc: Global, call: &Call<'_>, out: &mut String) -> Result<(), 
         "trip-grades" => trips::grades(out),
         "trip-ordered" => trips::ordered(out),
         "trip-staged" => trips::staged(out),
+        "trip-pool" => trips::pool(alloc, out),
         _ => write!(out, "no such call"),
     }
 }
