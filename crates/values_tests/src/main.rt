@@ -18,6 +18,7 @@ mod duties;
 mod flights;
 mod fronts;
 mod jobs;
+mod long;
 mod rides;
 mod rules;
 mod show;
@@ -61,6 +62,7 @@ fn answer_alone(alloc: Global, call: &Call<'_>, out: &mut String) -> Result<(), 
         "order" => vectors::order(call, out),
         "vector-laws" => vectors::vector_laws(out),
         "anchored" => anchors::anchored(call, out),
+        "long" => long::long(call, out),
         "opening" => jobs::opening(alloc, call, out),
         "ways" => jobs::ways(alloc, call, out),
         "trip-steps" => trips::steps(out),
@@ -69,6 +71,7 @@ fn answer_alone(alloc: Global, call: &Call<'_>, out: &mut String) -> Result<(), 
         "trip-grades" => trips::grades(out),
         "trip-ordered" => trips::ordered(out),
         "trip-staged" => trips::staged(out),
+        "trip-pool" => trips::pool(alloc, out),
         _ => write!(out, "no such call"),
     }
 }

@@ -3,10 +3,11 @@ ghost use Rattle.std.specs.Prelude.{None, pos, ◌-ℤ◌, ◌≡◌};
 ghost use Rattle.crew_resource.specs.Machinery.Sum.{LiesWithin};
 
 use crate::rides::{Away, Fare, FareCost, Ride};
+use crew_forgetful::offer;
 use crew_resource::{
     Both, Cost, Count, Resource, Staged, Sum, extend_ordered, extend_staged, is_same, start_staged,
 };
-use std::alloc::AllocError;
+use std::alloc::{AllocError, Global};
 
 type Trip = Both<Sum<Fare>, Both<Count<Ride>, Sum<Away>>>;
 
@@ -123,6 +124,29 @@ pub fn grades(out: &mut String) -> Result<(), AllocError> {
 pub fn ordered(out: &mut String) -> Result<(), AllocError> {
     let (cheap, dear) = extend_ordered(&trips(), &(5, (1, 60)), &(6, (1, 60)), &OUT, &BACK)?;
     put_values(out, &[cheap, dear])
+}
+
+// Labels of trips: values, each with the number of its walk.
+const LABELS: [(Value, u32); 5] = [
+    ((5, (1, 60)), 2),
+    ((6, (1, 60)), 0),
+    ((5, (1, 60)), 1),
+    ((4, (2, 90)), 3),
+    ((5, (1, 60)), 4),
+];
+
+/// What is left of labels that are offered to a pool one after another.
+pub fn pool(alloc: Global, out: &mut String) -> Result<(), AllocError> {
+    let trip = trips();
+    let mut pool: Vec<(Value, u32)> = Vec::new(alloc);
+    for (value, walk) in &LABELS {
+        offer::<Ride, Trip>(&trip, &mut pool, *value, *walk)?;
+    }
+    for (value, walk) in &pool {
+        put_values(out, &[Some(*value)])?;
+        write!(out, " by {walk}; ")?;
+    }
+    write!(out, "{} in all", pool.len())
 }
 
 // A ride after the one out, by its stages.

@@ -1,0 +1,4 @@
+pub mod Forgetful
+pub mod Misleading
+pub mod Sweeps
+pub mod Machinery

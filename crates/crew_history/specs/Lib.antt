@@ -1,0 +1,5 @@
+pub mod Limits
+pub mod LongPairings
+pub mod Histories
+pub mod HistoryValues
+pub mod Machinery

@@ -1,0 +1,3 @@
+pub mod RestValues
+pub mod Taken
+pub mod WindowValues

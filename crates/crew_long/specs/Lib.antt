@@ -1,0 +1,3 @@
+pub mod RestEnds
+pub mod Recents
+pub mod Machinery
