@@ -19,6 +19,7 @@ use Rattle.crew_pairing.proofs.Sums.{total-push, total-take}
 use Rattle.crew_pairing.proofs.Tree.{Each-member, slice_get-Member}
 use Rattle.crew_pairing.proofs.Paid.{legs-paid}
 use Rattle.crew_pairing.proofs.Times.{AllSound, ends-later, flown-total}
+use Rattle.crew_audit.specs.Machinery.Leaving.{airport_after}
 use Rattle.crew_audit.specs.Machinery.Listing.{comes_back, may_join}
 use Rattle.crew_audit.specs.Machinery.Ranges.{IsInRange}
 
@@ -36,6 +37,10 @@ last_duty-push first (x ∷ others) d = last_duty-push x others d
 pub join-last : (base : List ℕ) (s : Settings) (before : List Duty) (last next : Duty) → slice_get before (length before - 1) ≡ Some last → may_stand_after s last next ≡ may_join base s before next
 join-last base s [] last next e = cc
 join-last base s (first ∷ others) last next e = ap (λ (d : Duty). may_stand_after s d next) (sym (last_duty-get first others last e))
+
+pub airport-last : (base : List ℕ) (before : List Duty) (last : Duty) → slice_get before (length before - 1) ≡ Some last → last.to ≡ airport_after base before
+airport-last base [] last e = cc
+airport-last base (first ∷ others) last e = ap (λ (d : Duty). d.to) (sym (last_duty-get first others last e))
 
 pub back-last : (base : List ℕ) (ds : List Duty) (last : Duty) → slice_get ds (length ds - 1) ≡ Some last → eq_by_cmp code_cmp last.to base ≡ comes_back base ds
 back-last base [] last e = cc

@@ -2,6 +2,7 @@ pub mod Chains
 pub mod Complete
 pub mod Counts
 pub mod Flat
+pub mod Leaving
 pub mod ReadNumbers
 pub mod Rising
 pub mod Sound

@@ -19,11 +19,13 @@ use Rattle.crew_pairing.proofs.Legal.{AllConnect-after, Each-after, known-sound,
 use Rattle.crew_pairing.proofs.Sums.{total-append}
 use Rattle.crew_pairing.proofs.Times.{AllSound, ends-later, flown-total, no-earlier}
 use Rattle.crew_pairing.proofs.Tree.{Each-push, listing-at}
+use Rattle.crew_audit.specs.Machinery.Leaving.{IsLeaving, airport_after, leaves}
 use Rattle.crew_audit.specs.Machinery.Listing.{after, goes_on, listed, may_join, with_next}
 use Rattle.crew_audit.specs.Machinery.Ranges.{IsInRange}
 use Rattle.crew_audit.specs.declared.partial.Partial.{Partial}
 use Rattle.crew_audit.proofs.Chains.{both-on, caps-shorter}
 use Rattle.crew_audit.proofs.Flat.{flat-filter, flat-flat, flat-none}
+use Rattle.crew_audit.proofs.Leaving.{elsewhere, first-off, flat-leaving}
 
 pub after-none : (s : Settings) (flights : List Flight) (base : List ℕ) (price : ℤ) (before : List Duty) → after 0 s flights base price before ≡ []
 unfolding after
@@ -70,10 +72,6 @@ pub join-flight : (base : List ℕ) (s : Settings) (before : List Duty) (a b : B
     → may_join base s before (duty_of s (timed a f) xs) ≡ may_join base s before (duty_of s (timed b f) ys)
 join-flight base s [] a b f xs ys = refl
 join-flight base s (d ∷ before) a b f xs ys = refl
-
-first-off : (a b : Bool) → a ≡ false → a && b ≡ false
-first-off true b e = cc
-first-off false b e = refl
 
 second-off : (a b : Bool) → b ≡ false → a && b ≡ false
 second-off true b e = e
@@ -191,3 +189,19 @@ longer-few before longer d most e h = omega (arith, h, ap length e, length-appen
 
 pub longer-ranges : (before longer : List Duty) (d : Duty) → longer ≡ before ++ d ∷ [] → Each IsInRange before → IsInRange d → Each IsInRange longer
 longer-ranges before longer d e ranges range = rw e (Each-push IsInRange before d ranges range)
+
+-- flight by flight of those that leave where the next duty begins
+pub after-leaving : (n : ℕ) (s : Settings) (flights : List Flight) (base : List ℕ) (price : ℤ) (before : List Duty) (near : List Flight) → IsLeaving (airport_after base before) flights near
+    → flat_map (λ f. flat_map (with_next n s flights base price before) (from_flight s flights f)) near
+    ≡ flat_map (λ f. flat_map (with_next n s flights base price before) (from_flight s flights f)) flights
+after-leaving n s flights base price before near i =
+    flat-leaving (airport_after base before) (λ f. flat_map (with_next n s flights base price before) (from_flight s flights f)) flights near i
+    (λ f known e. not-joined n s flights base price before f known (elsewhere s base before f e))
+
+-- flight by flight of those that leave where the legs come to
+pub legs-leaving : (room : ℕ) (s : Settings) (flights : List Flight) (base : List ℕ) (price : ℤ) (before : List Duty) (first : TimedLeg) (others : List TimedLeg) (near : List Flight)
+    → IsLeaving (last_of first others).flight.to flights near
+    → flat_map (onward room s flights base price before first others) near ≡ flat_map (onward room s flights base price before first others) flights
+legs-leaving room s flights base price before first others near i =
+    flat-leaving (last_of first others).flight.to (onward room s flights base price before first others) flights near i
+    (λ f known e. onward-off room s flights base price before first others f (first-off (leaves (last_of first others).flight.to f) _ e))

@@ -9,6 +9,7 @@ ghost use Rattle.crew_audit.specs.Machinery.Taking.{Took};
 ghost use Rattle.crew_audit.specs.Partials.{ArePartials, HasMoreThan};
 ghost use Rattle.crew_audit.specs.Tallies.{IsTallyOf};
 
+use crate::flight_list::FlightList;
 use crate::partial::{AuditFault, Partial};
 use crate::search::{Scope, list_after};
 use crate::sink::{Running, Sink};
@@ -23,6 +24,14 @@ fn held_flights(alloc: Global, timetable: &Timetable) -> Result<Vec<Flight>, All
     ensures sound { IsSound timetable.now }
 {
     timetable.flights().copied().collect(alloc)
+}
+
+// The flights of a timetable, by number and by airport.
+fn flights_at_hand(alloc: Global, timetable: &Timetable) -> Result<FlightList, AllocError>
+    ensures held { IfOk result (λ flights. flights ≡ flights_of timetable.now) }
+    ensures sound { IsSound timetable.now }
+{
+    FlightList::new(alloc, held_flights(alloc, timetable)?)
 }
 
 // Finds all partials of a timetable.
@@ -43,7 +52,7 @@ fn find<F: Sink>(
     ensures over { result ≡ Err AuditFault.OverLimit
         → HasMoreThan settings.now timetable.now limit }
 {
-    let flights = held_flights(alloc, timetable)?;
+    let flights = flights_at_hand(alloc, timetable)?;
     for (base, base_price) in timetable.bases() {
         let scope = Scope {
             settings,
@@ -78,8 +87,8 @@ pub fn enumerate(
     Ok(partials)
 }
 
-/// What `enumerate` lists, counted and not kept: it takes memory for the flights, the bases and one
-/// partial at a time, however many there are. `OverLimit` exactly where there are more than
+/// What `enumerate` lists, counted and not kept: it takes memory for the flights, twice, the bases
+/// and one partial at a time, however many there are. `OverLimit` exactly where there are more than
 /// `limit`, as soon as one more is found, and `Memory` only where a growth was refused.
 pub fn tally_all(
     alloc: Global,

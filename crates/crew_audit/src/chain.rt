@@ -10,6 +10,7 @@ ghost use Rattle.crew_resource.specs.Members.{Each};
 ghost use Rattle.crew_pairing.specs.Pairings.{is_within_caps, may_stand_after};
 ghost use Rattle.crew_pairing.specs.Pairings as Spec;
 ghost use Rattle.crew_pairing.specs.Vectors.{vector_of};
+ghost use Rattle.crew_audit.specs.Machinery.Leaving.{airport_after};
 ghost use Rattle.crew_audit.specs.Machinery.Listing.{comes_back, listed, may_join};
 ghost use Rattle.crew_audit.specs.Machinery.Ranges.{IsInRange};
 
@@ -55,6 +56,16 @@ pub(crate) fn may_leave(settings: &Settings, base: Code, before: &[Duty], flight
     match before.last() {
         None => flight.from == base,
         Some(last) => may_rest(settings, last, flight),
+    }
+}
+
+/// Where the duty after these leaves: the base, where there are none.
+pub(crate) fn next_airport(base: Code, before: &[Duty]) -> Code
+    ensures { result ≡ airport_after base before.now }
+{
+    match before.last() {
+        None => base,
+        Some(last) => last.to,
     }
 }
 

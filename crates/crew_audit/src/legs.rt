@@ -8,7 +8,7 @@ ghost use Rattle.crew_pairing.specs.Machinery.Listing.{is_hopeless, timed};
 ghost use Rattle.crew_resource.specs.Members.{Each};
 ghost use Rattle.crew_audit.specs.Machinery.Ranges.{IsInRange};
 
-use crew_flights::Flight;
+use crew_flights::{Code, Flight};
 use crew_pairing::facts::{
     deadheads, flight_duty_period, flight_time, last_leg, price, release, report, segments,
 };
@@ -18,6 +18,13 @@ use std::alloc::{AllocError, Global};
 
 /// The most legs of a duty.
 pub(crate) const LEGS: usize = 8;
+
+/// Where a leg comes to.
+pub(crate) fn comes_to(leg: &TimedLeg) -> Code
+    ensures { result ≡ leg.now.flight.to }
+{
+    leg.flight.to
+}
 
 /// Whether a flight may come next after another.
 pub(crate) fn may_come_next(settings: &Settings, before: &Flight, next: &Flight) -> bool

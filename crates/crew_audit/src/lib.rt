@@ -8,6 +8,7 @@
 
 mod audit;
 mod chain;
+mod flight_list;
 pub mod laws;
 mod legs;
 mod partial;

@@ -13,8 +13,9 @@ ghost use Rattle.crew_audit.specs.Machinery.Listing.{after, listed, may_join, wi
 ghost use Rattle.crew_audit.specs.Machinery.Ranges.{IsInRange};
 ghost use Rattle.crew_audit.specs.Machinery.Taking.{Took};
 
-use crate::chain::{self, keep_within_caps, may_leave, partial_from};
-use crate::legs::{self, LEGS, cannot_begin, duty_from, may_come_next};
+use crate::chain::{self, keep_within_caps, may_leave, next_airport, partial_from};
+use crate::flight_list::FlightList;
+use crate::legs::{self, LEGS, cannot_begin, comes_to, duty_from, may_come_next};
 use crate::partial::AuditFault;
 use crate::sink::Sink;
 use crew_flights::{Code, Flight};
@@ -23,12 +24,12 @@ use crew_pairing::{Duty, TimedLeg};
 use crew_rules::Settings;
 use std::alloc::Global;
 
-// What the search works with: the flights by number, a base with its price, and the most partials
-// that are taken.
+// What the search works with: the flights by number and by airport, a base with its price, and the
+// most partials that are taken.
 #[derive(Clone, Copy, Drop)]
 pub(crate) struct Scope<'a> {
     pub(crate) settings: &'a Settings,
-    pub(crate) flights: &'a [Flight],
+    pub(crate) flights: &'a FlightList,
     pub(crate) base: Code,
     pub(crate) base_price: i64,
     pub(crate) limit: usize,
@@ -83,7 +84,8 @@ pub(crate) fn list_after<F: Sink>(
     if before.len() >= scope.settings.max_duties as usize {
         return Ok(());
     }
-    for flight in scope.flights {
+    let leaving = scope.flights.leaving(next_airport(scope.base, before));
+    for flight in leaving {
         if may_leave(scope.settings, scope.base, before, flight) {
             list_from(alloc, found, scope, before, flight)?;
         }
@@ -172,7 +174,8 @@ fn list_legs<F: Sink>(
     }
     let last = last_leg(first, others);
     list_own(alloc, found, scope, &longer, last.deadhead)?;
-    for flight in scope.flights {
+    let leaving = scope.flights.leaving(comes_to(&last));
+    for flight in leaving {
         if may_come_next(scope.settings, &last.flight, flight) {
             list_below(alloc, found, scope, before, first, others, flight)?;
         }

@@ -30,7 +30,7 @@ price-is : (z : ℤ) → IsBasePrice z → to_z w64 (of_z w64 z) ≡ z
 price-is z price = let least = price.least in let most = price.most in omega (arith, ints, least, most)
 
 pub list_after-requires-clause-flights : goal.list_after-requires-clause-flights
-list_after-requires-clause-flights bound c = rw (c.deref.ensures.value, c.in_ok-flights.ensures.held) (flights-of-timetable c.args.timetable.now c.held_flights.ensures.sound)
+list_after-requires-clause-flights bound c = rw (c.in_ok-flights.ensures.held) (flights-of-timetable c.args.timetable.now c.flights_at_hand.ensures.sound)
 
 pub list_after-requires-clause-price : goal.list_after-requires-clause-price
 list_after-requires-clause-price bound c =
@@ -38,7 +38,7 @@ list_after-requires-clause-price bound c =
     let all = fin.entries t.bases in
     let b : List ℕ × ℤ = (c.in-Some.base.now, c.in-Some.base_price.now) in
     let at = iter_turn deref_pair all c.loop-base.yielded _ _ _ _ (c.into_iter-base-iterator.ensures.into_iter_gives ∙ c.bases-base-items.ensures.held) c.loop-base.yielded_by (c.in-Some.base, c.in-Some.base_price) c.in-Some.is c.next.ensures.steps in
-    let price = Each-member (λ (x : List ℕ × ℤ). IsBasePrice x.1) all b (prices-fit t c.held_flights.ensures.sound) (slice_get-Member all (length c.loop-base.yielded) b at.1) in
+    let price = Each-member (λ (x : List ℕ × ℤ). IsBasePrice x.1) all b (prices-fit t c.flights_at_hand.ensures.sound) (slice_get-Member all (length c.loop-base.yielded) b at.1) in
     subst IsBasePrice (sym (price-is b.1 price)) price
 
 pub loop-base-preserved : goal.loop-base-preserved
@@ -49,8 +49,8 @@ loop-base-preserved bound c =
     let x : Bor (List ℕ) × Bor ℤ = (c.in-Some.base, c.in-Some.base_price) in
     let b : List ℕ × ℤ = (c.in-Some.base.now, c.in-Some.base_price.now) in
     let at = iter_turn deref_pair all c.loop-base.yielded _ _ _ _ (c.into_iter-base-iterator.ensures.into_iter_gives ∙ c.bases-base-items.ensures.held) c.loop-base.yielded_by x c.in-Some.is c.next.ensures.steps in
-    let price = Each-member (λ (y : List ℕ × ℤ). IsBasePrice y.1) all b (prices-fit t c.held_flights.ensures.sound) (slice_get-Member all (length c.loop-base.yielded) b at.1) in
-    let own = base-is s c.deref.result.now (flights_of t) b (to_z w64 (of_z w64 b.1)) (c.deref.ensures.value ∙ c.in_ok-flights.ensures.held) (price-is b.1 price) in
+    let price = Each-member (λ (y : List ℕ × ℤ). IsBasePrice y.1) all b (prices-fit t c.flights_at_hand.ensures.sound) (slice_get-Member all (length c.loop-base.yielded) b at.1) in
+    let own = base-is s c.in_ok-flights.flights (flights_of t) b (to_z w64 (of_z w64 b.1)) c.in_ok-flights.ensures.held (price-is b.1 price) in
     let taken = subst (Took bound.F.Sink.count bound.F.Sink.holds c.loop-base.found c.list_after.new.found) own c.in_ok-list_after.ensures.ok in
     record {
       found = rw (length-append c.loop-base.yielded (x ∷ []))
@@ -65,13 +65,13 @@ returns-in_err-list_after-clause-over bound c =
     let all = fin.entries t.bases in
     let b : List ℕ × ℤ = (c.in-Some.base.now, c.in-Some.base_price.now) in
     let at = iter_turn deref_pair all c.loop-base.yielded _ _ _ _ (c.into_iter-base-iterator.ensures.into_iter_gives ∙ c.bases-base-items.ensures.held) c.loop-base.yielded_by (c.in-Some.base, c.in-Some.base_price) c.in-Some.is c.next.ensures.steps in
-    let price = Each-member (λ (x : List ℕ × ℤ). IsBasePrice x.1) all b (prices-fit t c.held_flights.ensures.sound) (slice_get-Member all (length c.loop-base.yielded) b at.1) in
-    let own = base-is s c.deref.result.now (flights_of t) b (to_z w64 (of_z w64 b.1)) (c.deref.ensures.value ∙ c.in_ok-flights.ensures.held) (price-is b.1 price) in
+    let price = Each-member (λ (x : List ℕ × ℤ). IsBasePrice x.1) all b (prices-fit t c.flights_at_hand.ensures.sound) (slice_get-Member all (length c.loop-base.yielded) b at.1) in
+    let own = base-is s c.in_ok-flights.flights (flights_of t) b (to_z w64 (of_z w64 b.1)) c.in_ok-flights.ensures.held (price-is b.1 price) in
     let before = bound.F.Sink.count c.loop-base.found in
     let p = err_from_is_err_and c.from_residual-in_err-list_after.result c.from_residual-in_err-list_after.ensures.1 in
     λ e. (
       all_partials s t,
-      all-partials s t c.held_flights.ensures.sound,
+      all-partials s t c.flights_at_hand.ensures.sound,
       let over = took-over bound.F.Sink.count bound.F.Sink.holds (of_base s (flights_of t)) all (length c.loop-base.yielded) b c.args.found.now c.loop-base.found c.args.limit at.1 c.loop-base.invariant.found
           (subst (λ (ps : List Partial). c.args.limit < before + length ps) own (c.in_err-list_after.ensures.over (cc))) in
           let none = c.requires.new in
@@ -88,7 +88,7 @@ returns-clause-ok bound c =
     subst (λ (bs : List (List ℕ × ℤ)). Took bound.F.Sink.count bound.F.Sink.holds c.args.found.now c.loop-base.found (flat_map (of_base s (flights_of t)) bs)) whole c.loop-base.invariant.found
 
 pub returns-clause-all : goal.returns-clause-all
-returns-clause-all bound c = all-partials c.args.settings.now c.args.timetable.now c.held_flights.ensures.sound
+returns-clause-all bound c = all-partials c.args.settings.now c.args.timetable.now c.flights_at_hand.ensures.sound
 
 pub returns-clause-few : goal.returns-clause-few
 returns-clause-few bound c =

@@ -1,4 +1,4 @@
-use Rattle.std.proofs.Common.{arith, List, map, take, ap, ◌∙◌}
+use Rattle.std.proofs.Common.{arith, map, ap, ◌∙◌}
 use Rattle.std.proofs.lemmas.Grind.{common_steps}
 use Rattle.std.proofs.lemmas.List.{take_all}
 use Rattle.crew_pairing.specs.declared.duty.Duty.{Duty}

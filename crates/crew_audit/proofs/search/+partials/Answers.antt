@@ -1,4 +1,4 @@
-use Rattle.std.proofs.Common.{refl, ◌≡◌, ◌≤◌, ◌+◌, ◌-◌, ◌++◌, ◌∷◌, [], ◌∙◌, List, true, false, sym, ap, arith, length, length-append, take}
+use Rattle.std.proofs.Common.{refl, ◌≡◌, ◌≤◌, ◌+◌, ◌-◌, ◌++◌, ◌∷◌, [], ◌∙◌, List, true, false, sym, ap, subst, arith, length, length-append, take, ℕ}
 use Rattle.std.specs.List.{flat_map}
 use Rattle.std.proofs.lemmas.List.{take_all}
 use Rattle.std.proofs.lemmas.Result.{err_from_is_err_and, on_ok_weaker}
@@ -9,12 +9,13 @@ use Rattle.crew_pairing.specs.declared.duty.Duty.{Duty}
 use Rattle.crew_pairing.specs.declared.leg.TimedLeg.{TimedLeg}
 use Rattle.crew_pairing.proofs.Legal.{known-sound}
 use Rattle.crew_pairing.proofs.Tree.{IsBeginning-more, listing-closed, listing-longer, listing-none}
+use Rattle.crew_audit.specs.Machinery.Leaving.{IsLeaving}
 use Rattle.crew_audit.specs.Machinery.Listing.{with_next}
 use Rattle.crew_audit.specs.declared.partial.Partial.{Partial}
 use Rattle.crew_pairing.specs.Pairings.{is_within_caps}
 use Rattle.crew_audit.proofs.Flat.{item-at, item-known}
 use Rattle.crew_audit.proofs.Taking.{joined-up, over-after, over-first, over-second, took-at, took-both, took-join, took-none, took-over, took-skip}
-use Rattle.crew_audit.proofs.Steps.{after-flights, after-full, join-legs, legs-open, longer-few, longer-ranges, more-than, not-joined, not-within, onward, onward-off, onward-on, own-listed}
+use Rattle.crew_audit.proofs.Steps.{after-flights, after-full, after-leaving, join-legs, legs-leaving, legs-open, longer-few, longer-ranges, more-than, not-joined, not-within, onward, onward-off, onward-on, own-listed}
 use Rattle.crew_audit.proofs.search.+partials.Goals as goal
 use Rattle.crew_audit.proofs.search.+partials.Goals.{list_after-then-may_leave+in_ok-list_from, list_after-else-may_leave, list_legs-then-others-ge-LEGS-via-then-others-ge-LEGS, list_legs-then-others-ge-LEGS-via-else-others-ge-LEGS+then-cannot_begin, list_legs-then-may_come_next+in_ok-list_below, list_legs-else-may_come_next}
 
@@ -29,7 +30,8 @@ list_after-list_from-requires bound t c =
     let flights = c.args.scope.now.flights.now in
     let i = c.loop-flight.flight-index in
     let f = c.flight-item.result in
-    let known = item-known flights i f c.loop-flight-test.true c.flight-item.is in
+    let near = c.leaving-leaving.result.now in
+    let known = c.leaving-leaving.ensures.known f (item-known near i f c.loop-flight-test.true c.flight-item.is) in
     λ κs within. (omega arith, (within, (c.requires.checked, (c.requires.flights, (c.requires.price, (c.if-before-scope.false, (c.requires.ranges, (known, (sym c.may_leave.ensures ∙ c.if-may_leave.true, c.loop-flight.invariant.room)))))))))
 
 pub list_after-returns-in_err-list_from-clause-over : goal.list_after-returns-in_err-list_from-clause-over
@@ -42,12 +44,14 @@ list_after-returns-in_err-list_from-clause-over bound t c =
     let n = s.max_duties - (length before + 1) in
     let i = c.loop-flight.flight-index in
     let f = c.flight-item.result in
-    let at = item-at flights i f c.loop-flight-test.true c.flight-item.is in
+    let near = c.leaving-leaving.result.now in
+    let at = item-at near i f c.loop-flight-test.true c.flight-item.is in
     let opened = after-flights s.max_duties (length before) s flights base price before c.if-before-scope.false in
     let p = err_from_is_err_and c.from_residual.result c.from_residual.ensures.1 in
-    λ e. rw opened
-    (took-over bound.F.Sink.count bound.F.Sink.holds (λ (g : Flight). flat_map (with_next n s flights base price before) (from_flight s flights g)) flights i f c.args.found.now c.loop-flight.found c.args.scope.now.limit at
-    c.loop-flight.invariant.found (c.in_err-list_from.ensures.over (cc)))
+    let whole = after-leaving n s flights base price before near (subst (λ (a : List ℕ). IsLeaving a flights near) c.next_airport.ensures c.leaving-leaving.ensures) in
+    λ e. rw opened (rw (← whole)
+    (took-over bound.F.Sink.count bound.F.Sink.holds (λ (g : Flight). flat_map (with_next n s flights base price before) (from_flight s flights g)) near i f c.args.found.now c.loop-flight.found c.args.scope.now.limit at
+    c.loop-flight.invariant.found (c.in_err-list_from.ensures.over (cc))))
 
 pub list_after-loop-flight-preserved : goal.list_after-loop-flight-preserved
 list_after-loop-flight-preserved bound t c =
@@ -59,21 +63,22 @@ list_after-loop-flight-preserved bound t c =
     let n = s.max_duties - (length before + 1) in
     let i = c.loop-flight.flight-index in
     let f = c.flight-item.result in
-    let at = item-at flights i f c.loop-flight-test.true c.flight-item.is in
-    let known = item-known flights i f c.loop-flight-test.true c.flight-item.is in
+    let near = c.leaving-leaving.result.now in
+    let at = item-at near i f c.loop-flight-test.true c.flight-item.is in
+    let known = c.leaving-leaving.ensures.known f (item-known near i f c.loop-flight-test.true c.flight-item.is) in
     let F : Flight → List Partial = λ g. flat_map (with_next n s flights base price before) (from_flight s flights g) in
     elim c.if-may_leave.branch [
       | list_after-then-may_leave+in_ok-list_from w ↦
           let same : c.if-may_leave.found ≡ w.list_from.new.found = w.found-is in
           record {
-            found = rw same (took-at bound.F.Sink.count bound.F.Sink.holds F flights i f c.args.found.now c.loop-flight.found w.list_from.new.found at c.loop-flight.invariant.found w.in_ok-list_from.ensures.ok);
+            found = rw same (took-at bound.F.Sink.count bound.F.Sink.holds F near i f c.args.found.now c.loop-flight.found w.list_from.new.found at c.loop-flight.invariant.found w.in_ok-list_from.ensures.ok);
             room = rw same w.in_ok-list_from.ensures.room;
           }
       | list_after-else-may_leave w ↦
           let same : c.if-may_leave.found ≡ c.loop-flight.found = w.found-is in
           let none = not-joined n s flights base price before f known (sym c.may_leave.ensures ∙ w.if-may_leave.false) in
           record {
-            found = rw same (took-skip bound.F.Sink.count bound.F.Sink.holds F flights i f c.args.found.now c.loop-flight.found at c.loop-flight.invariant.found none);
+            found = rw same (took-skip bound.F.Sink.count bound.F.Sink.holds F near i f c.args.found.now c.loop-flight.found at c.loop-flight.invariant.found none);
             room = rw same c.loop-flight.invariant.room;
           }
     ]
@@ -86,8 +91,11 @@ list_after-returns-clause-ok bound t c =
     let price = c.args.scope.now.base_price in
     let before = c.args.before.now in
     let opened = after-flights s.max_duties (length before) s flights base price before c.if-before-scope.false in
-    let all : take c.loop-flight.flight-index flights ≡ flights = take_all c.loop-flight.flight-index flights (omega arith) in
-    rw opened (rw all at c.loop-flight.invariant.found)
+    let near = c.leaving-leaving.result.now in
+    let all : take c.loop-flight.flight-index near ≡ near = take_all c.loop-flight.flight-index near (omega arith) in
+    let n = s.max_duties - (length before + 1) in
+    let whole = after-leaving n s flights base price before near (subst (λ (a : List ℕ). IsLeaving a flights near) c.next_airport.ensures c.leaving-leaving.ensures) in
+    rw opened (rw (← whole) (rw all at c.loop-flight.invariant.found))
 
 pub list_below-list_legs-requires : goal.list_below-list_legs-requires
 list_below-list_legs-requires bound t c =
@@ -171,7 +179,8 @@ list_legs-list_below-requires bound t c =
     let flights = c.args.scope.now.flights.now in
     let i = c.loop-flight.flight-index in
     let g = c.flight-item.result in
-    let known = item-known flights i g c.loop-flight-test.true c.flight-item.is in
+    let near = c.leaving-leaving.result.now in
+    let known = c.leaving-leaving.ensures.known g (item-known near i g c.loop-flight-test.true c.flight-item.is) in
     let follows : may_follow s (last_of c.args.first.now c.args.others.now).flight g ≡ true =
     ap (λ (l : TimedLeg). may_follow s l.flight g) (sym c.last_leg-last.ensures) ∙ sym c.may_come_next.ensures ∙ c.if-may_come_next.true in
     λ κs within. (omega arith, (within, (c.requires.checked, (c.requires.flights, (c.requires.price, (c.requires.few, (c.requires.ranges, (c.requires.joins, (c.requires.beginning, (c.if-others-ge-LEGS.false, (known, (follows, c.loop-flight.invariant.room))))))))))))
@@ -188,7 +197,10 @@ list_legs-returns-in_err-list_below-clause-over bound t c =
     let room = s.max_duties - (length before + 1) in
     let i = c.loop-flight.flight-index in
     let g = c.flight-item.result in
-    let at = item-at flights i g c.loop-flight-test.true c.flight-item.is in
+    let near = c.leaving-leaving.result.now in
+    let at = item-at near i g c.loop-flight-test.true c.flight-item.is in
+    let airport = c.comes_to.ensures ∙ ap (λ (l : TimedLeg). l.flight.to) c.last_leg-last.ensures in
+    let whole = legs-leaving room s flights base price before first others near (subst (λ (a : List ℕ). IsLeaving a flights near) airport c.leaving-leaving.ensures) in
     let longer : c.deref.result.now ≡ before ++ duty_of s first others ∷ [] =
     c.deref.ensures.value ∙ c.in_ok-longer.ensures ∙ ap (λ (d : Duty). before ++ d ∷ []) c.duty_from-next.ensures.value in
     let longer-2 : c.deref-2.result.now ≡ before ++ duty_of s first others ∷ [] =
@@ -201,8 +213,8 @@ list_legs-returns-in_err-list_below-clause-over bound t c =
     let ward = onward-on room s flights base price before first others g follows in
     λ e. rw opened
     (over-after bound.F.Sink.count bound.F.Sink.holds c.args.found.now c.list_own.new.found _ _ (flat_map (onward room s flights base price before first others) flights) c.args.scope.now.limit own-is c.in_ok-list_own.ensures.ok
-    (took-over bound.F.Sink.count bound.F.Sink.holds (onward room s flights base price before first others) flights i g c.list_own.new.found c.loop-flight.found c.args.scope.now.limit at c.loop-flight.invariant.found
-    (rw ward (c.in_err-list_below.ensures.over (cc)))))
+    (rw (← whole) (took-over bound.F.Sink.count bound.F.Sink.holds (onward room s flights base price before first others) near i g c.list_own.new.found c.loop-flight.found c.args.scope.now.limit at c.loop-flight.invariant.found
+    (rw ward (c.in_err-list_below.ensures.over (cc))))))
 
 pub list_legs-loop-flight-preserved : goal.list_legs-loop-flight-preserved
 list_legs-loop-flight-preserved bound t c =
@@ -216,7 +228,8 @@ list_legs-loop-flight-preserved bound t c =
     let room = s.max_duties - (length before + 1) in
     let i = c.loop-flight.flight-index in
     let g = c.flight-item.result in
-    let at = item-at flights i g c.loop-flight-test.true c.flight-item.is in
+    let near = c.leaving-leaving.result.now in
+    let at = item-at near i g c.loop-flight-test.true c.flight-item.is in
     let test : may_follow s (last_of first others).flight g ≡ c.may_come_next.result = ap (λ (l : TimedLeg). may_follow s l.flight g) (sym c.last_leg-last.ensures) ∙ sym c.may_come_next.ensures in
     let F : Flight → List Partial = onward room s flights base price before first others in
     elim c.if-may_come_next.branch [
@@ -224,14 +237,14 @@ list_legs-loop-flight-preserved bound t c =
           let same : c.if-may_come_next.found ≡ w.list_below.new.found = w.found-is in
           let ward = onward-on room s flights base price before first others g (test ∙ w.if-may_come_next.true) in
           record {
-            found = rw same (took-at bound.F.Sink.count bound.F.Sink.holds F flights i g c.list_own.new.found c.loop-flight.found w.list_below.new.found at c.loop-flight.invariant.found (rw ward w.in_ok-list_below.ensures.ok));
+            found = rw same (took-at bound.F.Sink.count bound.F.Sink.holds F near i g c.list_own.new.found c.loop-flight.found w.list_below.new.found at c.loop-flight.invariant.found (rw ward w.in_ok-list_below.ensures.ok));
             room = rw same w.in_ok-list_below.ensures.room;
           }
       | list_legs-else-may_come_next w ↦
           let same : c.if-may_come_next.found ≡ c.loop-flight.found = w.found-is in
           let none = onward-off room s flights base price before first others g (test ∙ w.if-may_come_next.false) in
           record {
-            found = rw same (took-skip bound.F.Sink.count bound.F.Sink.holds F flights i g c.list_own.new.found c.loop-flight.found at c.loop-flight.invariant.found none);
+            found = rw same (took-skip bound.F.Sink.count bound.F.Sink.holds F near i g c.list_own.new.found c.loop-flight.found at c.loop-flight.invariant.found none);
             room = rw same c.loop-flight.invariant.room;
           }
     ]
@@ -253,8 +266,11 @@ list_legs-returns-clause-ok bound t c =
     let caps : is_within_caps s (before ++ duty_of s first others ∷ []) ≡ true = ap (is_within_caps s) (sym longer) ∙ sym c.keep_within_caps.ensures ∙ c.if-not-keep_within_caps.false in
     let opened = legs-open room s flights base price before first others c.if-others-ge-LEGS.false (sym c.cannot_begin.ensures ∙ c.if-cannot_begin.false) c.requires.joins caps in
     let own-is = own-listed room s flights base price before (duty_of s first others) c.deref-2.result.now c.last_leg-last.result (last_of first others) longer-2 c.last_leg-last.ensures in
-    let all : take c.loop-flight.flight-index flights ≡ flights = take_all c.loop-flight.flight-index flights (omega arith) in
-    let done = rw all at c.loop-flight.invariant.found in
+    let near = c.leaving-leaving.result.now in
+    let airport = c.comes_to.ensures ∙ ap (λ (l : TimedLeg). l.flight.to) c.last_leg-last.ensures in
+    let whole = legs-leaving room s flights base price before first others near (subst (λ (a : List ℕ). IsLeaving a flights near) airport c.leaving-leaving.ensures) in
+    let all : take c.loop-flight.flight-index near ≡ near = take_all c.loop-flight.flight-index near (omega arith) in
+    let done = rw whole at (rw all at c.loop-flight.invariant.found) in
     rw opened (joined-up bound.F.Sink.count bound.F.Sink.holds c.args.found.now c.list_own.new.found c.loop-flight.found _ _ (flat_map (onward room s flights base price before first others) flights) own-is c.in_ok-list_own.ensures.ok done)
 
 pub list_below-returns-in_err-list_legs-clause-over : goal.list_below-returns-in_err-list_legs-clause-over

@@ -25,7 +25,7 @@ abbrev pub invariant-list_after-loop-flight : goal.invariant-list_after-loop-fli
 invariant-list_after-loop-flight g l = record {
   found : Took g.F.Sink.count g.F.Sink.holds l.initial.found l.found
       (flat_map (λ f. flat_map (with_next (l.scope.settings.now.max_duties - (length l.before + 1)) l.scope.settings.now l.scope.flights.now l.scope.base l.scope.base_price l.before) (from_flight l.scope.settings.now l.scope.flights.now f))
-      (take l.flight-index l.scope.flights.now));
+      (take l.flight-index l.leaving));
   room : g.F.Sink.count l.found ≤ l.scope.limit;
 }
 
@@ -35,6 +35,6 @@ invariant-list_legs-loop-flight g l = record {
       (flat_map (λ x. if may_follow l.scope.settings.now (last_of l.first l.others).flight x then
       flat_map (with_next (l.scope.settings.now.max_duties - (length l.before + 1)) l.scope.settings.now l.scope.flights.now l.scope.base l.scope.base_price l.before)
       (below (7 - length l.others) l.scope.settings.now l.scope.flights.now l.first l.others x) else [])
-      (take l.flight-index l.scope.flights.now));
+      (take l.flight-index l.leaving));
   room : g.F.Sink.count l.found ≤ l.scope.limit;
 }
