@@ -241,7 +241,7 @@ pub rest-after : (o : Option PricedPairing) (n : ℕ) (xs : Ps) → RiseByCost x
 rest-after o n [] h = sym (drop-none n)
 rest-after o n (x ∷ xs) h = rest-by o n x xs (is_past o x) refl h.0 (rest-after o n xs h.1) (λ m. rest-after (Some x) m xs h.1)
 
-take-drop : (n : ℕ) (xs : Ps) → xs ≡ take n xs ++ drop n xs
+pub take-drop : (n : ℕ) (xs : Ps) → xs ≡ take n xs ++ drop n xs
 take-drop zero xs = refl
 take-drop (suc n) [] = refl
 take-drop (suc n) (x ∷ xs) = ap (λ (l : Ps). x ∷ l) (take-drop n xs)

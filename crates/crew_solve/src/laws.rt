@@ -1,10 +1,10 @@
 //! Laws over the definitions alone.
-ghost use Rattle.std.specs.Prelude.{◌≡◌, ◌<◌, ◌≤◌, ◌≤ℤ◌, ℕ, List, Option, length, slice_get, take};
+ghost use Rattle.std.specs.Prelude.{◌≡◌, ◌<◌, ◌≤◌, ◌≤ℤ◌, ℕ, List, Option, count_by, length, slice_get, take};
 ghost use Rattle.crew_flights.specs.Timetable.{IsSound, Timetable};
 ghost use Rattle.crew_pairing.specs.Pairings.{last_duty};
 ghost use Rattle.crew_rules.specs.Settings.{IsChecked};
 ghost use Rattle.crew_rules.specs.declared.settings.Settings.{Settings};
-ghost use Rattle.crew_solve.specs.Apart.{AreApart};
+ghost use Rattle.crew_solve.specs.Apart.{AreApart, flies};
 ghost use Rattle.crew_solve.specs.Cheapest.{AreCheapest, IsShown};
 ghost use Rattle.crew_vector.specs.Bests.{IsBest, IsPairing};
 ghost use Rattle.crew_vector.specs.declared.priced.PricedPairing.{PricedPairing};
@@ -47,4 +47,10 @@ pub fn apart_begin_those_up_to_more()
 pub fn apart_with_room_are_the_cheapest()
     ensures { (s : Settings) (t : Timetable) (limit share : ℕ) (a b : List PricedPairing)
         → AreApart s t limit share a → AreCheapest s t limit b → length b ≤ share → a ≡ b }
+{}
+
+/// Of pairings that share few flights no more than the share fly a flight.
+pub fn apart_fly_no_flight_more_often()
+    ensures { (s : Settings) (t : Timetable) (limit share flight : ℕ) (pairings : List PricedPairing)
+        → AreApart s t limit share pairings → count_by (flies flight) pairings ≤ share }
 {}
