@@ -1,5 +1,5 @@
 -- What a record asks for.
-use Rattle.std.specs.Prelude.{ℕ, List, Option, Some, None, Result, Ok, Err, codes, if◌then◌else◌}
+use Rattle.std.specs.Prelude.{ℕ, List, Option, Some, None, Result, Ok, Err, codes, length, nat_eq, if◌then◌else◌}
 use Rattle.std.specs.Str.{bytes_eq}
 use Rattle.crew_time.specs.Instant.{IsInYears}
 use Rattle.crew_flights.specs.declared.edit.Edit.TheVariants as edit
@@ -7,7 +7,7 @@ use Rattle.crew_records.specs.Fields.{Fields, ◌>>=◌, count_field, field_of, 
 use Rattle.crew_records.specs.declared.fault.RecordFault.{RecordFault}
 use Rattle.crew_records.specs.declared.fault.RecordFault.TheVariants.{UnknownRecord}
 use Rattle.crew_records.specs.declared.command.Command.{Command}
-use Rattle.crew_records.specs.declared.command.Command.TheVariants.{AddZone, Submit, AddFlight, Retime, Settle, Best, ShowFront, Cheapest, Audit, Refuse}
+use Rattle.crew_records.specs.declared.command.Command.TheVariants.{AddZone, Submit, AddFlight, Retime, Settle, Best, ShowFront, Cheapest, Apart, Audit, Refuse}
 
 -- ---- each kind of record: its number of fields, then its fields from left to right
 
@@ -87,6 +87,19 @@ cheapest_command fields = do
   limit ← limit_field 10_000 (field_of fields 1)
   Ok (Cheapest limit)
 
+-- pairings,LIMIT,SHARE
+unfoldable pub apart_command : Fields → Result Command RecordFault
+apart_command fields = do
+  count ← count_field fields 3
+  limit ← limit_field 10_000 (field_of fields 1)
+  share ← limit_field 10_000 (field_of fields 2)
+  Ok (Apart limit share)
+
+-- a record of three fields has a share; each other is refused where it hasn't two
+abbrev pub pairings_command : Fields → Result Command RecordFault
+pairings_command fields =
+    if nat_eq (length fields) 3 then apart_command fields else cheapest_command fields
+
 -- audit,LIMIT
 unfoldable pub audit_command : Fields → Result Command RecordFault
 audit_command fields = do
@@ -122,7 +135,7 @@ kind_of name fields =
     else (if bytes_eq name (codes "settle") then plain_command fields Settle
     else (if bytes_eq name (codes "best") then plain_command fields Best
     else (if bytes_eq name (codes "front") then front_command fields
-    else (if bytes_eq name (codes "pairings") then cheapest_command fields
+    else (if bytes_eq name (codes "pairings") then pairings_command fields
     else (if bytes_eq name (codes "audit") then audit_command fields
     else Err UnknownRecord)))))
 
@@ -152,5 +165,6 @@ IsDated Settle = Unit {0}
 IsDated Best = Unit {0}
 IsDated (ShowFront base key) = Unit {0}
 IsDated (Cheapest limit) = Unit {0}
+IsDated (Apart limit share) = Unit {0}
 IsDated (Audit limit) = Unit {0}
 IsDated (Refuse fault) = Unit {0}

@@ -55,6 +55,11 @@ pub enum Command {
     Cheapest {
         limit: u32,
     },
+    /// So many pairings of the last version, of which so many at most fly a flight.
+    Apart {
+        limit: u32,
+        share: u32,
+    },
     /// The partial pairings of the last version, where there are at most so many.
     Audit {
         limit: u32,
@@ -179,6 +184,28 @@ fn cheapest_command(row: &ByteRecord) -> Result<Command, RecordFault>
     Ok(Command::Cheapest { limit })
 }
 
+#[tactic(auto, unfolding(crate::specs::Commands::apart_command))]
+fn apart_command(row: &ByteRecord) -> Result<Command, RecordFault>
+    ensures value { result ≡ Spec.apart_command (fields_of row.now) }
+    ensures dated { IfOk result IsDated }
+{
+    count_fields(row, 3)?;
+    let most = read_limit(field(row, 1), 10_000)?;
+    let share = read_limit(field(row, 2), 10_000)?;
+    Ok(Command::Apart { limit: most, share })
+}
+
+// A record of three fields has a share; each other is refused where it hasn't two.
+fn pairings_command(row: &ByteRecord) -> Result<Command, RecordFault>
+    ensures value { result ≡ Spec.pairings_command (fields_of row.now) }
+    ensures dated { IfOk result IsDated }
+{
+    if row.len() == 3 {
+        return apart_command(row);
+    }
+    cheapest_command(row)
+}
+
 #[tactic(auto, unfolding(crate::specs::Commands::audit_command))]
 fn audit_command(row: &ByteRecord) -> Result<Command, RecordFault>
     ensures value { result ≡ Spec.audit_command (fields_of row.now) }
@@ -249,7 +276,7 @@ fn named_command(row: &ByteRecord) -> Result<Command, RecordFault>
         return front_command(row);
     }
     if name == b"pairings".as_slice() {
-        return cheapest_command(row);
+        return pairings_command(row);
     }
     if name == b"audit".as_slice() {
         return audit_command(row);

@@ -25,6 +25,7 @@ use Rattle.crew_vector.proofs.OneBest.{one-best}
 use Rattle.crew_vector.proofs.Unique.{same-listed}
 use Rattle.crew_vector.specs.Fronts.{IsFrontAt}
 use Rattle.crew_solve.proofs.OneList.{one-list}
+use Rattle.crew_solve.proofs.Sharing.{one-apart}
 use Rattle.crew_audit.specs.Partials.{ArePartials, Rise, partial_cmp}
 use Rattle.crew_audit.specs.Tallies.{IsLeast, IsTally}
 use Rattle.crew_audit.specs.declared.partial.Partial.{Partial}
@@ -35,11 +36,11 @@ use Rattle.crew_version.proofs.SolutionFacts.{timetable-sound}
 use Rattle.crew_records.specs.Commands.{command_of}
 use Rattle.crew_records.specs.Fields.{Fields}
 use Rattle.crew_records.specs.declared.command.Command.{Command}
-use Rattle.crew_records.specs.declared.command.Command.TheVariants.{AddZone, Submit, AddFlight, Retime, Settle, Best, ShowFront, Cheapest, Audit, Refuse}
+use Rattle.crew_records.specs.declared.command.Command.TheVariants.{AddZone, Submit, AddFlight, Retime, Settle, Best, ShowFront, Cheapest, Apart, Audit, Refuse}
 use Rattle.crew_session.specs.Audits.{Audits, Counts, PassesLimit}
 use Rattle.crew_session.specs.Fronts.{ShowsFront}
 use Rattle.crew_session.specs.Lines.{audit_line, front_lines, pairings_lines, refused_lines, version_line}
-use Rattle.crew_session.specs.Pairings.{ShowsCheapest}
+use Rattle.crew_session.specs.Pairings.{ShowsApart, ShowsCheapest}
 use Rattle.crew_session.specs.Session.{Declines, Does, Obeys, Publishes, Settles, State, Writes}
 
 -- ---- the version that a settle makes
@@ -120,6 +121,9 @@ one-showing base key v x y h k =
 one-listing : (limit : ℕ) (v : Snapshot) (x y : List ℕ) → ShowsCheapest limit v x → ShowsCheapest limit v y → x ≡ y
 one-listing limit v x y h k = h.written ∙ ap pairings_lines (one-list v.settings (timetable_of v.entries) limit h.pairings k.pairings h.exact k.exact) ∙ sym k.written
 
+one-apart-listing : (limit share : ℕ) (v : Snapshot) (x y : List ℕ) → ShowsApart limit share v x → ShowsApart limit share v y → x ≡ y
+one-apart-listing limit share v x y h k = h.written ∙ ap pairings_lines (one-apart v.settings (timetable_of v.entries) limit share h.pairings k.pairings h.exact k.exact) ∙ sym k.written
+
 -- ---- an audit
 
 rising : (ps : List Partial) → Rise ps → Rising partial_cmp ps
@@ -179,6 +183,7 @@ one-record s number Settle a b c x y h k = one-settle number a b c x y h k
 one-record s number Best a b c x y h k = both _ b c x y h k
 one-record s number (ShowFront base key) a b c x y h k = (h.0 ∙ sym k.0, one-showing base key a.version x y h.1 k.1)
 one-record s number (Cheapest limit) a b c x y h k = (h.0 ∙ sym k.0, one-listing limit a.version x y h.1 k.1)
+one-record s number (Apart limit share) a b c x y h k = (h.0 ∙ sym k.0, one-apart-listing limit share a.version x y h.1 k.1)
 one-record s number (Audit limit) a b c x y h k = (h.0 ∙ sym k.0, one-audit limit number a.version x y h.1 k.1)
 one-record s number (Refuse fault) a b c x y h k = both _ b c x y h k
 

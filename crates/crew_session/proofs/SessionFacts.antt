@@ -20,10 +20,10 @@ use Rattle.crew_pairing.specs.Duties.{HasTooMany}
 use Rattle.crew_session.specs.declared.journal.Journal.{Journal}
 use Rattle.crew_session.specs.Audits.{Audits}
 use Rattle.crew_session.specs.Fronts.{ShowsFront}
-use Rattle.crew_session.specs.Pairings.{ShowsCheapest}
+use Rattle.crew_session.specs.Pairings.{ShowsApart, ShowsCheapest}
 use Rattle.crew_pairing.specs.Legs.{Leg}
 use Rattle.crew_records.specs.declared.command.Command.{Command}
-use Rattle.crew_records.specs.declared.command.Command.TheVariants.{Audit, Cheapest, Settle, ShowFront}
+use Rattle.crew_records.specs.declared.command.Command.TheVariants.{Apart, Audit, Cheapest, Settle, ShowFront}
 use Rattle.jiff_tz.specs.PosixText.{TzText}
 use Rattle.crew_records.specs.Faults.{record_number}
 use Rattle.crew_records.specs.declared.fault.RecordFault.{RecordFault}
@@ -56,6 +56,12 @@ pub cheapest-shown : {F : Type 0} (r : Result (Unit {0}) F) (old new : Option (L
 cheapest-shown (Ok u) old new s number limit command j v w taken e f told =
     (told.0, told.1, subst (λ (k : Command). Obeys s number k (state_of j v taken) (state_of j v taken) told.0) (sym e) (refl, subst (λ (x : Snapshot). ShowsCheapest limit x told.0) f told.2))
 cheapest-shown (Err x) old new s number limit command j v w taken e f told = tt
+
+pub apart-shown : {F : Type 0} (r : Result (Unit {0}) F) (old new : Option (List ℕ)) (s : Settings) (number limit share : ℕ) (command : Command) (j : Journal) (v w : Snapshot) (taken : List Entry) → command ≡ Apart limit share → w ≡ v
+    → OnOk r ((text : List ℕ) × Appends old new text × ShowsApart limit share w text) → OnOk r ((text : List ℕ) × Appends old new text × Obeys s number command (state_of j v taken) (state_of j v taken) text)
+apart-shown (Ok u) old new s number limit share command j v w taken e f told =
+    (told.0, told.1, subst (λ (k : Command). Obeys s number k (state_of j v taken) (state_of j v taken) told.0) (sym e) (refl, subst (λ (x : Snapshot). ShowsApart limit share x told.0) f told.2))
+apart-shown (Err x) old new s number limit share command j v w taken e f told = tt
 
 -- an audit changes nothing
 pub audited : {F : Type 0} (r : Result (Unit {0}) F) (old new : Option (List ℕ)) (s : Settings) (number limit : ℕ) (command : Command) (j : Journal) (v w : Snapshot) (taken : List Entry) → command ≡ Audit limit → w ≡ v
@@ -125,6 +131,12 @@ pub cheapest-begin : {F : Type 0} (r : Result (Unit {0}) F) (old new : Option (L
 cheapest-begin r old new s number limit command j v w taken e f =
     begins-of r old new (ShowsCheapest limit w) (λ text. (b : State) × Obeys s number command (state_of j v taken) b text)
     (λ text h. (state_of j v taken, subst (λ (k : Command). Obeys s number k (state_of j v taken) (state_of j v taken) text) (sym e) (refl, subst (λ (x : Snapshot). ShowsCheapest limit x text) f h)))
+
+pub apart-begin : {F : Type 0} (r : Result (Unit {0}) F) (old new : Option (List ℕ)) (s : Settings) (number limit share : ℕ) (command : Command) (j : Journal) (v w : Snapshot) (taken : List Entry) → command ≡ Apart limit share → w ≡ v
+    → OnErr r (BeginsOne old new (ShowsApart limit share w)) → OnErr r (BeginsOne old new (λ text. (b : State) × Obeys s number command (state_of j v taken) b text))
+apart-begin r old new s number limit share command j v w taken e f =
+    begins-of r old new (ShowsApart limit share w) (λ text. (b : State) × Obeys s number command (state_of j v taken) b text)
+    (λ text h. (state_of j v taken, subst (λ (k : Command). Obeys s number k (state_of j v taken) (state_of j v taken) text) (sym e) (refl, subst (λ (x : Snapshot). ShowsApart limit share x text) f h)))
 
 pub audited-begin : {F : Type 0} (r : Result (Unit {0}) F) (old new : Option (List ℕ)) (s : Settings) (number limit : ℕ) (command : Command) (j : Journal) (v w : Snapshot) (taken : List Entry) → command ≡ Audit limit → w ≡ v
     → OnErr r (BeginsOne old new (Audits limit number w)) → OnErr r (BeginsOne old new (λ text. (b : State) × Obeys s number command (state_of j v taken) b text))

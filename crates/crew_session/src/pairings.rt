@@ -6,7 +6,7 @@ ghost use Rattle.std.specs.List.{flat_map};
 ghost use Rattle.crew_session.specs.Faults.{IsLineFault};
 ghost use Rattle.crew_session.specs.Lines as Spec;
 ghost use Rattle.crew_session.specs.Texts.{AppendsBeginning, BeginsOne};
-ghost use Rattle.crew_session.specs.Pairings.{ShowsCheapest};
+ghost use Rattle.crew_session.specs.Pairings.{ShowsApart, ShowsCheapest};
 
 use crate::fault::SessionFault;
 use crate::lines::{pairing_line, put_number, write_line};
@@ -78,5 +78,24 @@ pub(crate) fn answer_cheapest<W: Write>(
     ensures fault { IfErr result IsLineFault }
 {
     let pairings = version.cheapest(alloc, limit as usize)?;
+    write_pairings(alloc, writer, &pairings)
+}
+
+/// Writes the pairings of a version that share few flights, up to a limit.
+pub(crate) fn answer_apart<W: Write>(
+    alloc: Global,
+    writer: &mut W,
+    limit: u32,
+    share: u32,
+    version: &Version,
+) -> Result<(), SessionFault>
+    ensures answered { OnOk result ((text : List ℕ)
+        × Appends (W.contents writer.old) (W.contents writer.new) text
+        × ShowsApart limit share version.now text) }
+    ensures begun { OnErr result (BeginsOne (W.contents writer.old) (W.contents writer.new)
+        (ShowsApart limit share version.now)) }
+    ensures fault { IfErr result IsLineFault }
+{
+    let pairings = version.apart(alloc, limit as usize, share)?;
     write_pairings(alloc, writer, &pairings)
 }

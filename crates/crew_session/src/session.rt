@@ -32,7 +32,7 @@ use crate::front::answer_front;
 use crate::journal::Journal;
 use crate::lines::{write_best, write_refusals, write_refused, write_version};
 use crate::noted::{NotedReader, NotedWriter};
-use crate::pairings::answer_cheapest;
+use crate::pairings::{answer_apart, answer_cheapest};
 use crate::rows::next_row;
 use crew_clocks::Zone;
 use crew_duty::{DutyFault, list_duties};
@@ -330,6 +330,9 @@ fn obey<R: Threads + Sync, W: Write, E: Engine>(
             answer_front(alloc, writer, base, &key, engine.version())
         }
         Command::Cheapest { limit } => answer_cheapest(alloc, writer, limit, engine.version()),
+        Command::Apart { limit, share } => {
+            answer_apart(alloc, writer, limit, share, engine.version())
+        }
         Command::Audit { limit } => answer_audit(alloc, number, limit, writer, engine.version()),
         Command::Refuse(fault) => write_refused(alloc, writer, number, fault.number()),
     }

@@ -1,5 +1,5 @@
 -- What comes home is what the fronts of a timetable show, so the first of it are the cheapest.
-use Rattle.std.proofs.Common.{◌≡◌, ◌∙◌, ℕ, ℤ, pos, ◌+ℤ◌, ◌-ℤ◌, ◌*ℤ◌, true, cond, List, [], ◌∷◌, inl, inr, refl, sym, ap, subst, arith, map}
+use Rattle.std.proofs.Common.{◌≡◌, ◌∙◌, ℕ, ℤ, pos, ◌+ℤ◌, ◌-ℤ◌, ◌*ℤ◌, true, cond, List, [], ◌∷◌, inl, inr, refl, sym, ap, subst, arith, map, take}
 use Rattle.std.specs.FinMap as fin
 use Rattle.std.specs.List.{flat_map}
 use Rattle.std.specs.Ordering.{eq_by_cmp, int_cmp, is_eq, is_le, ordering_reverse}
@@ -23,11 +23,13 @@ use Rattle.crew_rules.specs.Settings.{IsChecked}
 use Rattle.crew_rules.specs.declared.settings.Settings.{Settings}
 use Rattle.crew_solve.proofs.Bases.{RiseByBase, entry-of, keys-rise, price-found}
 use Rattle.crew_solve.proofs.Homing.{home-in, home-out}
-use Rattle.crew_solve.proofs.Keeping.{firsts-among, firsts-few, firsts-least, firsts-rise, kept-first}
+use Rattle.crew_solve.proofs.Keeping.{firsts-among, firsts-few, firsts-least, firsts-rise, in-order-among, in-order-each, in-order-rise, kept-first, sorted}
 use Rattle.crew_solve.proofs.Solving.{found}
+use Rattle.crew_solve.specs.Apart.{AreAll, AreApart, taken_from}
 use Rattle.crew_solve.specs.Cheapest.{AreCheapest, IsShown, pairing_cmp}
 use Rattle.crew_solve.specs.Machinery.Homes.{home_of, priced}
 use Rattle.crew_solve.specs.Machinery.Keeps.{keep_all, nothing}
+use Rattle.crew_solve.specs.Machinery.Takes.{AreInOrder}
 use Rattle.crew_solve.specs.Machinery.Solved.{IsSolved}
 use Rattle.crew_solve.specs.Solutions.{front_among}
 use Rattle.crew_sweep.specs.Sweeps.{BaseSweep, front_at}
@@ -146,6 +148,23 @@ module _ (s : Settings) (t : Timetable) (checked : IsChecked s) (sound : IsSound
 
     same-home : (p q : PricedPairing) → Member All p → Member All q → pairing_cmp p q ≡ Equal → p ≡ q
     same-home p q m n e = same-shown p q (shown-out p m) (shown-out q n) e
+
+    pub in-order : AreInOrder All (sorted [] All)
+    in-order = record {
+      rise = in-order-rise All same-home 0;
+      among = in-order-among All same-home 0;
+      each = in-order-each All same-home 0;
+    }
+
+    are-all : AreAll s t (sorted [] All)
+    are-all = record {
+      rise = in-order.rise;
+      shown = λ p m. shown-out p (in-order.among p m);
+      each = λ p h. in-order.each p (shown-in p h);
+    }
+
+    pub are-apart : (limit share : ℕ) (ps : List PricedPairing) → ps ≡ take limit (taken_from share [] (sorted [] All)) → AreApart s t limit share ps
+    are-apart limit share ps e = record { all = sorted [] All; are = are-all; first = e }
 
     pub are-cheapest : (n : ℕ) → AreCheapest s t n (keep_all (nothing n) All).pairings
     are-cheapest n = subst (AreCheapest s t n) (sym (kept-first n All)) (record {

@@ -1,6 +1,6 @@
 -- Keeping the least of many pairings.
 use Rattle.std.proofs.Common.{◌≡◌, ◌∙◌, ◌⊎◌, ◌≤◌, ℕ, zero, suc, Bool, true, false, cond, ◌&&◌, ◌||◌, List, [], ◌∷◌, ◌++◌, Option, Some, None, ℤ, inl, inr, refl, sym, ap, subst, ⊎_elim, arith, length, map, take}
-use Rattle.std.specs.Prelude.{int_lt, ◌<ℤ◌, slice_get}
+use Rattle.std.specs.Prelude.{filter, int_lt, ◌<ℤ◌, slice_get}
 use Rattle.std.specs.BTreeSet.{insert_key}
 use Rattle.std.specs.Ordering.{int_cmp, is_eq, is_lt, match_ordering, ordering_reverse, ordering_then}
 use Rattle.std.specs.declared.cmp.Ordering.{Ordering}
@@ -12,7 +12,8 @@ use Rattle.crew_pairing.proofs.Tree.{Each-member}
 use Rattle.crew_resource.specs.Members.{Each, Member}
 use Rattle.crew_solve.specs.Cheapest.{RiseByCost, pairing_cmp, pairing_total}
 use Rattle.crew_solve.specs.Machinery.Homes.{is_cheaper, least_of, lesser}
-use Rattle.crew_solve.specs.Machinery.Keeps.{Kept, keep, keep_all, nothing}
+use Rattle.crew_solve.specs.Machinery.Keeps.{Kept, is_wanted, keep, keep_all, nothing, nothing_beside}
+use Rattle.crew_solve.specs.Machinery.Takes.{Taken, may_take}
 use Rattle.crew_vector.specs.declared.priced.PricedPairing.{PricedPairing}
 
 abbrev Ps : Type 0
@@ -35,7 +36,7 @@ listed None = []
 listed (Some p) = p ∷ []
 
 abbrev one : Option PricedPairing → Kept
-one o = record { limit = 1; pairings = listed o }
+one o = record { limit = 1; beside = None; pairings = listed o }
 
 cheaper-by : (a b : Bool) (r : Ordering) → (a || (is_eq (cond a Less (cond b Greater Equal)) && is_lt r)) ≡ is_lt (ordering_then (cond a Less (cond b Greater Equal)) r)
 cheaper-by true b r = refl
@@ -52,7 +53,7 @@ one-by p q Greater = refl
 
 keep-lesser : (o : Option PricedPairing) (p : PricedPairing) → keep (one o) p ≡ one (lesser o p)
 keep-lesser None p = refl
-keep-lesser (Some q) p = ap (λ l. let k : Kept = record { limit = 1; pairings = l } in k) (one-by p q (pairing_cmp p q) ∙ ap (λ b. cond b p q ∷ []) (sym (is-cheaper p q)))
+keep-lesser (Some q) p = ap (λ l. let k : Kept = record { limit = 1; beside = None; pairings = l } in k) (one-by p q (pairing_cmp p q) ∙ ap (λ b. cond b p q ∷ []) (sym (is-cheaper p q)))
 
 keep-least : (o : Option PricedPairing) (ps : Ps) → keep_all (one o) ps ≡ one (least_of o ps)
 keep-least o [] = refl
@@ -89,14 +90,19 @@ cut-end (q ∷ ks) p h =
     ap (λ r. take (suc (length ks)) (match_ordering r (p ∷ q ∷ ks) (q ∷ ks) (q ∷ insert_key pairing_cmp ks p))) (h q (inl refl))
     ∙ ap (λ (l : Ps). q ∷ l) (cut-end ks p (λ r m. h r (inr m)))
 
+either-way : (b : Bool) (xs ys : Ps) → xs ≡ ys → cond b xs ys ≡ ys
+either-way true xs ys e = e
+either-way false xs ys e = refl
+
 pub keep-none : (k : Kept) (p : PricedPairing) → length k.pairings ≡ k.limit → ((q : PricedPairing) → Member k.pairings q → pairing_cmp p q ≡ Greater) → keep k p ≡ k
 keep-none k p full h =
     let at : take k.limit (insert_key pairing_cmp k.pairings p) ≡ k.pairings = ap (λ n. take n (insert_key pairing_cmp k.pairings p)) (sym full) ∙ cut-end k.pairings p h in
-    ap (λ l. let z : Kept = record { limit = k.limit; pairings = l } in z) at
+    let same = either-way (is_wanted k.beside p) (take k.limit (insert_key pairing_cmp k.pairings p)) k.pairings at in
+    ap (λ l. let z : Kept = record { limit = k.limit; beside = k.beside; pairings = l } in z) same
 
 -- ---- all in order, of which the first are kept
 
-abbrev sorted : Ps → Ps → Ps
+abbrev pub sorted : Ps → Ps → Ps
 sorted ys [] = ys
 sorted ys (p ∷ ps) = sorted (insert_key pairing_cmp ys p) ps
 
@@ -125,21 +131,47 @@ cut-insert zero ys p = refl
 cut-insert (suc n) [] p = refl
 cut-insert (suc n) (y ∷ ys) p = cut-by n y p ys (pairing_cmp p y) (cut-insert n ys p)
 
-abbrev cut : ℕ → Ps → Kept
-cut n ys = record { limit = n; pairings = take n ys }
+abbrev cut : Option Taken → ℕ → Ps → Kept
+cut beside n ys = record { limit = n; beside = beside; pairings = take n ys }
 
-keep-cut : (n : ℕ) (ys ps : Ps) → keep_all (cut n ys) ps ≡ cut n (sorted ys ps)
-keep-cut n ys [] = refl
-keep-cut n ys (p ∷ ps) =
-    ap (λ l. let k : Kept = record { limit = n; pairings = l } in keep_all k ps) (cut-insert n ys p)
-    ∙ keep-cut n (insert_key pairing_cmp ys p) ps
+cut-if : (n : ℕ) (ys : Ps) (p : PricedPairing) (b : Bool) → cond b (take n (insert_key pairing_cmp (take n ys) p)) (take n ys) ≡ take n (cond b (insert_key pairing_cmp ys p) ys)
+cut-if n ys p true = cut-insert n ys p
+cut-if n ys p false = refl
+
+sorted-if : (ys ps : Ps) (p : PricedPairing) (b : Bool) → sorted (cond b (insert_key pairing_cmp ys p) ys) ps ≡ sorted ys (cond b (p ∷ ps) ps)
+sorted-if ys ps p true = refl
+sorted-if ys ps p false = refl
+
+keep-cut : (beside : Option Taken) (n : ℕ) (ys ps : Ps) → keep_all (cut beside n ys) ps ≡ cut beside n (sorted ys (filter (is_wanted beside) ps))
+keep-cut beside n ys [] = refl
+keep-cut beside n ys (p ∷ ps) =
+    let b = is_wanted beside p in
+    ap (λ l. let k : Kept = record { limit = n; beside = beside; pairings = l } in keep_all k ps) (cut-if n ys p b)
+    ∙ (keep-cut beside n (cond b (insert_key pairing_cmp ys p) ys) ps
+    ∙ ap (cut beside n) (sorted-if ys (filter (is_wanted beside) ps) p b))
 
 take-none : (n : ℕ) → take n (let l : Ps = [] in l) ≡ []
 take-none zero = refl
 take-none (suc n) = refl
 
+kept-of : (beside : Option Taken) (n : ℕ) (ps : Ps) → (let k : Kept = record { limit = n; beside = beside; pairings = [] } in (keep_all k ps).pairings) ≡ take n (sorted [] (filter (is_wanted beside) ps))
+kept-of beside n ps =
+    ap (λ l. let k : Kept = record { limit = n; beside = beside; pairings = l } in (keep_all k ps).pairings) (sym (take-none n))
+    ∙ ap (λ (k : Kept). k.pairings) (keep-cut beside n [] ps)
+
+all-wanted : (ps : Ps) → filter (is_wanted None) ps ≡ ps
+all-wanted [] = refl
+all-wanted (p ∷ ps) = ap (λ (l : Ps). p ∷ l) (all-wanted ps)
+
 pub kept-first : (n : ℕ) (ps : Ps) → (keep_all (nothing n) ps).pairings ≡ take n (sorted [] ps)
-kept-first n ps = ap (λ l. let k : Kept = record { limit = n; pairings = l } in (keep_all k ps).pairings) (sym (take-none n)) ∙ ap (λ (k : Kept). k.pairings) (keep-cut n [] ps)
+kept-first n ps = kept-of None n ps ∙ ap (λ (l : Ps). take n (sorted [] l)) (all-wanted ps)
+
+pub kept-beside : (n : ℕ) (taken : Taken) (ps : Ps) → (keep_all (nothing_beside n taken) ps).pairings ≡ take n (sorted [] (filter (may_take taken) ps))
+kept-beside n taken ps = kept-of (Some taken) n ps
+
+pub still-beside : (k : Kept) (ps : Ps) → (keep_all k ps).beside ≡ k.beside
+still-beside k [] = refl
+still-beside k (p ∷ ps) = still-beside (keep k p) ps
 
 -- ---- they rise
 
@@ -176,7 +208,7 @@ each-take P zero ys h = tt
 each-take P (suc n) [] h = tt
 each-take P (suc n) (y ∷ ys) h = (h.0, each-take P n ys h.1)
 
-rise-take : (n : ℕ) (ys : Ps) → RiseByCost ys → RiseByCost (take n ys)
+pub rise-take : (n : ℕ) (ys : Ps) → RiseByCost ys → RiseByCost (take n ys)
 rise-take zero ys h = tt
 rise-take (suc n) [] h = tt
 rise-take (suc n) (y ∷ ys) h = (each-take (λ l. pairing_cmp y l ≡ Less) n ys h.0, rise-take n ys h.1)
@@ -222,7 +254,7 @@ sorted-in : (ys ps : Ps) (q : PricedPairing) → Member ys q → Member (sorted 
 sorted-in ys [] q m = m
 sorted-in ys (p ∷ ps) q m = sorted-in (insert_key pairing_cmp ys p) ps q (insert-in ys p q m)
 
-sorted-out : (ys ps : Ps) (q : PricedPairing) → Member (sorted ys ps) q → Member ys q ⊎ Member ps q
+pub sorted-out : (ys ps : Ps) (q : PricedPairing) → Member (sorted ys ps) q → Member ys q ⊎ Member ps q
 sorted-out ys [] q m = inl m
 sorted-out ys (p ∷ ps) q m =
     ⊎_elim {C = Member ys q ⊎ Member (p ∷ ps) q}
@@ -237,17 +269,17 @@ sorted-has ys (p ∷ ps) q (inl e) =
     (t.0, sorted-in (insert_key pairing_cmp ys p) ps t.0 t.1, subst (λ z. pairing_cmp t.0 z ≡ Equal) e t.2)
 sorted-has ys (p ∷ ps) q (inr m) = sorted-has (insert_key pairing_cmp ys p) ps q m
 
-take-out : (n : ℕ) (ys : Ps) (q : PricedPairing) → Member (take n ys) q → Member ys q
+pub take-out : (n : ℕ) (ys : Ps) (q : PricedPairing) → Member (take n ys) q → Member ys q
 take-out zero ys q m = absurd m
 take-out (suc n) [] q m = absurd m
 take-out (suc n) (y ∷ ys) q (inl e) = inl e
 take-out (suc n) (y ∷ ys) q (inr m) = inr (take-out n ys q m)
 
 -- it stands among the first, or these are so many and each comes before it
-abbrev StandsFirst : ℕ → Ps → PricedPairing → Type 0
+abbrev pub StandsFirst : ℕ → Ps → PricedPairing → Type 0
 StandsFirst n ps q = Member ps q ⊎ ((length ps ≡ n) × Each (λ p. pairing_cmp p q ≡ Less) ps)
 
-take-or : (n : ℕ) (ys : Ps) (q : PricedPairing) → RiseByCost ys → Member ys q → StandsFirst n (take n ys) q
+pub take-or : (n : ℕ) (ys : Ps) (q : PricedPairing) → RiseByCost ys → Member ys q → StandsFirst n (take n ys) q
 take-or zero ys q h m = inr (refl, tt)
 take-or (suc n) [] q h m = absurd m
 take-or (suc n) (y ∷ ys) q h (inl e) = inl (inl e)
@@ -257,7 +289,7 @@ take-or (suc n) (y ∷ ys) q h (inr m) =
     (λ k. inr (ap suc k.0, (Each-member (λ l. pairing_cmp y l ≡ Less) ys q h.0 m, k.1)))
     (take-or n ys q h.1 m)
 
-take-few : (n : ℕ) (ys : Ps) → length (take n ys) ≤ n
+pub take-few : (n : ℕ) (ys : Ps) → length (take n ys) ≤ n
 take-few zero ys = omega arith
 take-few (suc n) [] = omega arith
 take-few (suc n) (y ∷ ys) = let h = take-few n ys in omega (arith, h)
@@ -269,6 +301,18 @@ module _ (ps : Ps) (same : (p q : PricedPairing) → Member ps p → Member ps q
 
   among : (p : PricedPairing) → Member (sorted [] ps) p → Member ps p
   among p m = ⊎_elim {C = Member ps p} (λ k. absurd k) (λ k. k) (sorted-out [] ps p m)
+
+  pub in-order-rise : RiseByCost (sorted [] ps)
+  in-order-rise = rise-sorted [] ps tt
+
+  pub in-order-among : (p : PricedPairing) → Member (sorted [] ps) p → Member ps p
+  in-order-among = among
+
+  pub in-order-each : (q : PricedPairing) → Member ps q → Member (sorted [] ps) q
+  in-order-each q m =
+      let t = sorted-has [] ps q m in
+      let e = same t.0 q (among t.0 t.1) m t.2 in
+      subst (Member (sorted [] ps)) e t.1
 
   pub firsts-rise : RiseByCost Firsts
   firsts-rise = rise-take n (sorted [] ps) (rise-sorted [] ps tt)

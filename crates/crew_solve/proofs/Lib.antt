@@ -22,6 +22,10 @@ pub mod Entered
 pub mod Swept
 pub mod OneNet
 pub mod Keeping
+pub mod Taking
+pub mod Flown
 pub mod Cheapest
 pub mod OneList
 pub mod Below
+pub mod Sharing
+pub mod Choosing

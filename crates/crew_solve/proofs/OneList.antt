@@ -15,7 +15,7 @@ use Rattle.crew_vector.specs.declared.priced.PricedPairing.{PricedPairing}
 abbrev Ps : Type 0
 Ps = List PricedPairing
 
-rising : (ps : Ps) → RiseByCost ps → Rising pairing_cmp ps
+pub rising : (ps : Ps) → RiseByCost ps → Rising pairing_cmp ps
 rising [] h = tt
 rising (p ∷ ps) h = (h.0, rising ps h.1)
 

@@ -1,4 +1,4 @@
--- The pairings that come home, and the fronts that are lent.
+-- The pairings that come home, those taken of them, and the fronts that are lent.
 pub mod Early
 pub mod Floors
 pub mod Homes
@@ -6,3 +6,4 @@ pub mod Keeps
 pub mod Lent
 pub mod Planned
 pub mod Solved
+pub mod Takes

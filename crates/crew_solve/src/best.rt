@@ -97,7 +97,7 @@ fn keep_label(
         return Ok(());
     }
     let pairing = pairing_of(alloc, sweep, trip_rig, &vector, label.1)?;
-    kept.keep(pairing)
+    kept.keep(alloc, pairing)
 }
 
 // Keeps the least of the pairings of the labels that board a duty.

@@ -7,6 +7,7 @@ ghost use Rattle.std.specs.Cmp.{eq_by_cmp_equiv, partial_equiv_from_equiv, parti
 ghost use Rattle.crew_solve.specs.Cheapest.{pairing_cmp, pairing_total};
 ghost use Rattle.crew_vector.specs.declared.priced.PricedPairing.{PricedPairing as PairingOf};
 
+use crate::taken::Taken;
 use crew_vector::PricedPairing;
 use std::alloc::{AllocError, Global};
 use std::cmp::Ordering;
@@ -67,12 +68,25 @@ impl Ord for ByCost {
     }
 }
 
-/// The least of the pairings so far by cost and walk, up to a limit.
+// The pairings of a set in order.
+fn in_order(alloc: Global, kept: BTreeSet<ByCost>) -> Result<Vec<PricedPairing>, AllocError>
+    ensures { IfOk result (λ pairings. pairings.items ≡ kept.keys) }
+{
+    let mut pairings = Vec::with_capacity(alloc, kept.len())?;
+    for held in kept {
+        pairings.push(held.pairing)?;
+    }
+    Ok(pairings)
+}
+
+/// The least of the pairings so far by cost and walk, up to a limit: of all, or of those alone that
+/// may be taken beside others.
 ///
-/// A contract sees the limit, and the pairings in order.
+/// A contract sees the limit, those that are taken already, and the pairings in order.
 #[derive(Drop)]
 pub(crate) struct Kept {
     limit: usize,
+    beside: Option<Taken>,
     pairings: BTreeSet<ByCost>,
 }
 
@@ -82,7 +96,11 @@ impl Model for Kept {
 
     ghost Value = { Spec.Kept };
 
-    ghost view = { λ k. record { limit = k.limit; pairings = k.pairings.keys } };
+    ghost view = { λ k. record {
+      limit = k.limit;
+      beside = k.beside;
+      pairings = k.pairings.keys;
+    } };
 
     ghost invariant = { λ k. length k.pairings.keys ≤ k.limit };
 }
@@ -96,7 +114,29 @@ impl Kept {
     {
         Kept {
             limit,
+            beside: None,
             pairings: BTreeSet::new(alloc),
+        }
+    }
+
+    /// None yet, of so many that may be taken beside these.
+    pub(crate) fn beside(alloc: Global, limit: usize, taken: Taken) -> Self
+        ensures { result ≡ Spec.nothing_beside limit taken }
+    {
+        Kept {
+            limit,
+            beside: Some(taken),
+            pairings: BTreeSet::new(alloc),
+        }
+    }
+
+    // Whether a pairing is among those that are asked for.
+    fn is_wanted(&self, alloc: Global, pairing: &PricedPairing) -> Result<bool, AllocError>
+        ensures { IfOk result (λ wanted. wanted ≡ Spec.is_wanted self.now.beside pairing.now) }
+    {
+        match &self.beside {
+            None => Ok(true),
+            Some(taken) => taken.may_take(alloc, pairing),
         }
     }
 
@@ -114,13 +154,25 @@ impl Kept {
         }
     }
 
-    /// Takes a pairing in; where there are then more than the limit, the greatest goes.
-    pub(crate) fn keep(&mut self, pairing: PricedPairing) -> Result<(), AllocError>
-        ensures { OnOk result (self.new ≡ Spec.keep self.old pairing) }
+    // Takes a pairing in; where there are then more than the limit, the greatest goes.
+    fn put(&mut self, pairing: PricedPairing) -> Result<(), AllocError>
+        ensures { OnOk result (self.new ≡ Spec.put self.old pairing) }
     {
         self.pairings.insert(ByCost { pairing })?;
         if self.pairings.len() > self.limit {
             self.pairings.pop_last();
+        }
+        Ok(())
+    }
+
+    /// Takes a pairing in that is asked for; where there are then more than the limit, the greatest
+    /// goes.
+    pub(crate) fn keep(&mut self, alloc: Global, pairing: PricedPairing) -> Result<(), AllocError>
+        ensures { OnOk result (self.new ≡ Spec.keep self.old pairing) }
+    {
+        let wanted = self.is_wanted(alloc, &pairing)?;
+        if wanted {
+            self.put(pairing)?;
         }
         Ok(())
     }
@@ -140,11 +192,24 @@ impl Kept {
     pub(crate) fn into_vec(self, alloc: Global) -> Result<Vec<PricedPairing>, AllocError>
         ensures { IfOk result (λ pairings. pairings.items ≡ self.pairings) }
     {
-        let Kept { pairings: kept, .. } = self;
-        let mut pairings = Vec::with_capacity(alloc, kept.len())?;
-        for held in kept {
-            pairings.push(held.pairing)?;
-        }
-        Ok(pairings)
+        let Kept { pairings, .. } = self;
+        in_order(alloc, pairings)
+    }
+
+    /// Those that were taken already, and the pairings in order.
+    pub(crate) fn into_parts(
+        self,
+        alloc: Global,
+    ) -> Result<(Option<Taken>, Vec<PricedPairing>), AllocError>
+        ensures beside { IfOk result (λ parts. parts.0 ≡ self.beside) }
+        ensures pairings { IfOk result (λ parts. parts.1.items ≡ self.pairings) }
+    {
+        let Kept {
+            beside,
+            pairings,
+            ..
+        } = self;
+        let pairings = in_order(alloc, pairings)?;
+        Ok((beside, pairings))
     }
 }

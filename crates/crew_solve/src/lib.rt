@@ -7,6 +7,7 @@
 #![tactic(auto)]
 
 mod alike;
+mod apart;
 mod base_fronts;
 mod best;
 mod entries;
@@ -21,6 +22,7 @@ mod scratch;
 mod shown_entries;
 mod solution;
 mod sweeps;
+mod taken;
 mod walk_view;
 
 pub use base_fronts::BaseFronts;

@@ -6,11 +6,13 @@ ghost use Rattle.crew_resource.specs.Members.{Each};
 ghost use Rattle.crew_flights.specs.Timetable.{IsSound, Timetable};
 ghost use Rattle.crew_rules.specs.Settings.{IsChecked};
 ghost use Rattle.crew_rules.specs.declared.settings.Settings.{Settings};
+ghost use Rattle.crew_solve.specs.Apart.{AreApart};
 ghost use Rattle.crew_solve.specs.Cheapest.{AreCheapest};
 ghost use Rattle.crew_solve.specs.Plans.{AreSweepsIn, IsSolutionIn};
 ghost use Rattle.crew_solve.specs.Solutions.{HasNetOf, IsFrontOf, front_of};
 ghost use Rattle.crew_vector.specs.Bests.{AreFronts};
 
+use crate::apart::apart_of;
 use crate::base_fronts::BaseFronts;
 use crate::best::{best_of, keep_home};
 use crate::entries::fronts_of;
@@ -109,6 +111,25 @@ impl Solution {
         let trip_rig = self.net.settings().trip_rig;
         keep_home(alloc, &self.fronts, trip_rig, &mut kept)?;
         Ok(kept.into_vec(alloc)?)
+    }
+
+    /// Of all pairings that the fronts show, by cost and walk, the first that are taken, up to a limit:
+    /// one after another each is taken unless so many as the share are taken already that fly a
+    /// flight that it flies. The settings and the timetable are those whose network and fronts these
+    /// are.
+    pub fn apart(
+        &self,
+        alloc: Global,
+        limit: usize,
+        share: u32,
+    ) -> Result<Vec<PricedPairing>, AllocError>
+        ensures { IfOk result (λ pairings. (s : Settings) (t : Timetable) → IsChecked s → IsSound t
+            → HasNetOf s t self.now → AreFronts s t (front_of self.now)
+            → AreApart s t limit share pairings.items) }
+    {
+        let trip_rig = self.net.settings().trip_rig;
+        let pairings = apart_of(alloc, &self.fronts, trip_rig, limit, share)?;
+        Ok(pairings)
     }
 
     /// The front of a base and the duty of a key, in order of vector: each vector with its walk.

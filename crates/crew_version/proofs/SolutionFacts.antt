@@ -1,5 +1,5 @@
 -- What a solution says of a timetable.
-use Rattle.std.proofs.Common.{◌≡◌, ℕ, ℤ, Bool, true, false, cond, List, [], ◌∷◌, Option, Some, None, refl, sym, ap, subst, ◌∙◌, inl, inr, ◌||◌, reverse, arith}
+use Rattle.std.proofs.Common.{◌≡◌, ℕ, zero, suc, take, ℤ, Bool, true, false, cond, List, [], ◌∷◌, Option, Some, None, refl, sym, ap, subst, ◌∙◌, inl, inr, ◌||◌, reverse, arith}
 use Rattle.std.specs.Prelude.{◌↔◌, ◌≤ℤ◌, IfSome, IsNone, is_some}
 use Rattle.std.proofs.lemmas.Bool.{false≢true}
 use Rattle.std.specs.Borrow.{Bor}
@@ -30,6 +30,7 @@ use Rattle.crew_version.specs.Fronts.{IsFrontByKey}
 use Rattle.crew_version.specs.Versions.{timetable_of}
 use Rattle.crew_version.specs.Machinery.Kept.{IsSolved, best_of}
 use Rattle.crew_rules.specs.Settings.{IsChecked}
+use Rattle.crew_solve.specs.Apart.{AreApart}
 use Rattle.crew_solve.specs.Cheapest.{AreCheapest}
 use Rattle.crew_solve.specs.Solutions.{IsFrontOf, Solution, front_of}
 use Rattle.crew_vector.specs.Bests.{IsBest, IsPairing}
@@ -132,6 +133,17 @@ no-pairing-at-start s t limit e = rw e (record {
   shown = λ p m. absurd m;
   least = λ q h. absurd (no-base q.base h.pairing.price h.pairing.based);
 })
+
+pub none-apart-at-start : (s : Settings) (t : Timetable) (limit share : ℕ) → t ≡ empty_timetable → AreApart s t limit share []
+none-apart-at-start s t limit share e = rw e (record {
+  all = [];
+  are = record { rise = tt; shown = λ p m. absurd m; each = λ q h. absurd (no-base q.base h.pairing.price h.pairing.based) };
+  first = none-of limit;
+})
+  where
+    none-of : (n : ℕ) → let none : List PricedPairing = [] in none ≡ take n none
+    none-of zero = refl
+    none-of (suc n) = refl
 
 -- ---- the best
 

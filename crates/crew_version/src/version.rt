@@ -8,6 +8,7 @@ ghost use mathlib.Core.List.{IsPrefix};
 ghost use Rattle.crew_pairing.specs.Duties.{HasFew};
 ghost use Rattle.crew_rules.specs.Settings.{IsChecked};
 ghost use Rattle.crew_flights.specs.Timetable.{empty_timetable};
+ghost use Rattle.crew_solve.specs.Apart.{AreApart};
 ghost use Rattle.crew_solve.specs.Cheapest.{AreCheapest};
 ghost use Rattle.crew_solve.specs.Solutions.{HasNetOf, front_of};
 ghost use Rattle.crew_vector.specs.Bests.{IsPairing, IsScratch};
@@ -194,6 +195,24 @@ impl Version {
         match &self.solution {
             None => Ok(Vec::new(alloc)),
             Some(solution) => solution.cheapest(alloc, limit),
+        }
+    }
+
+    /// Of all pairings that fronts show, by cost and walk, the first that are taken, up to a limit: one
+    /// after another each is taken unless so many as the share are taken already that fly a flight
+    /// that it flies.
+    pub fn apart(
+        &self,
+        alloc: Global,
+        limit: usize,
+        share: u32,
+    ) -> Result<Vec<PricedPairing>, AllocError>
+        ensures { IfOk result (λ pairings. AreApart self.now.settings
+            (Spec.timetable_of self.now.entries) limit share pairings.items) }
+    {
+        match &self.solution {
+            None => Ok(Vec::new(alloc)),
+            Some(solution) => solution.apart(alloc, limit, share),
         }
     }
 

@@ -1,22 +1,48 @@
 -- The least of many pairings, by cost and walk, up to a limit.
-use Rattle.std.specs.Prelude.{ℕ, List, [], ◌∷◌, take}
+use Rattle.std.specs.Prelude.{ℕ, Bool, true, cond, List, [], ◌∷◌, Option, Some, None, take}
 use Rattle.std.specs.BTreeSet.{insert_key}
 use Rattle.crew_solve.specs.Cheapest.{pairing_cmp}
+use Rattle.crew_solve.specs.Machinery.Takes.{Taken, may_take}
 use Rattle.crew_vector.specs.declared.priced.PricedPairing.{PricedPairing}
 
--- the least so far, in order, and how many at most
+-- the least so far, in order, how many at most, and what they are to be taken beside, if anything
 pub record Kept : Type 0 where
   pub limit : ℕ
+  pub beside : Option Taken
   pub pairings : List PricedPairing
 
 abbrev pub nothing : ℕ → Kept
-nothing limit = record { limit = limit; pairings = [] }
+nothing limit = record { limit = limit; beside = None; pairings = [] }
+
+abbrev pub nothing_beside : ℕ → Taken → Kept
+nothing_beside limit taken = record { limit = limit; beside = Some taken; pairings = [] }
+
+abbrev pub is_wanted : Option Taken → PricedPairing → Bool
+is_wanted None p = true
+is_wanted (Some taken) p = may_take taken p
 
 -- with one more
+abbrev pub put : Kept → PricedPairing → Kept
+put k p = record {
+  limit = k.limit;
+  beside = k.beside;
+  pairings = take k.limit (insert_key pairing_cmp k.pairings p);
+}
+
+-- where it is wanted
 abbrev pub keep : Kept → PricedPairing → Kept
-keep k p = record { limit = k.limit; pairings = take k.limit (insert_key pairing_cmp k.pairings p) }
+keep k p = record {
+  limit = k.limit;
+  beside = k.beside;
+  pairings = cond (is_wanted k.beside p) (take k.limit (insert_key pairing_cmp k.pairings p))
+      k.pairings;
+}
 
 -- with each of a list
 abbrev pub keep_all : Kept → List PricedPairing → Kept
 keep_all k [] = k
 keep_all k (p ∷ ps) = keep_all (keep k p) ps
+
+-- the least of a list that may be taken beside others, so many or all
+abbrev pub least_beside : ℕ → Taken → List PricedPairing → List PricedPairing
+least_beside many taken ps = (keep_all (nothing_beside many taken) ps).pairings

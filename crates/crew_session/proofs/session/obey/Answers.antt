@@ -4,9 +4,9 @@ use Rattle.std.proofs.Common.{◌∙◌, None, Some, sym}
 use Rattle.crew_flights.specs.declared.edit.Edit.TheVariants as edit
 use Rattle.crew_session.specs.Machinery.Journals.{state_of, zones_of}
 use Rattle.crew_session.specs.Zones.{clock_at, flight_with}
-use Rattle.crew_session.proofs.SessionFacts.{audited-begin, begun-do, cheapest-begin, fronted-begin, settled-begin}
+use Rattle.crew_session.proofs.SessionFacts.{apart-begin, audited-begin, begun-do, cheapest-begin, fronted-begin, settled-begin}
 use Rattle.std.proofs.Common.{refl}
-use Rattle.crew_session.proofs.SessionFacts.{audited, cheapest-shown, did, fronted}
+use Rattle.crew_session.proofs.SessionFacts.{apart-shown, audited, cheapest-shown, did, fronted}
 use Rattle.std.proofs.lemmas.Result.{IfErr-weaker}
 use Rattle.crew_session.proofs.OddFacts.{odd-of}
 use Rattle.crew_session.proofs.session.obey.Goals as goal
@@ -26,6 +26,10 @@ pub returns-in-Cheapest-clause-obeys : goal.returns-in-Cheapest-clause-obeys
 returns-in-Cheapest-clause-obeys g c =
     cheapest-shown c.answer_cheapest.result _ _ c.args.settings.now c.args.number _ _ c.args.journal.now _ _ _ c.in-Cheapest.is c.version-in-Cheapest.ensures c.answer_cheapest.ensures.answered
 
+pub returns-in-Apart-clause-obeys : goal.returns-in-Apart-clause-obeys
+returns-in-Apart-clause-obeys g c =
+    apart-shown c.answer_apart.result _ _ c.args.settings.now c.args.number _ _ _ c.args.journal.now _ _ _ c.in-Apart.is c.version-in-Apart.ensures c.answer_apart.ensures.answered
+
 pub returns-in-AddZone-clause-begun : goal.returns-in-AddZone-clause-begun
 returns-in-AddZone-clause-begun g c = begun-do c.add_zone.result _ _ c.args.settings.now c.args.number _ _ _ _ c.in-AddZone.is (λ b text d. d) (c.add_zone.ensures.begun (g.E.Engine.shown c.args.engine.now) (g.E.Engine.entries c.args.engine.now))
 
@@ -43,6 +47,9 @@ returns-in-ShowFront-clause-begun g c = fronted-begin c.answer_front.result _ _ 
 
 pub returns-in-Cheapest-clause-begun : goal.returns-in-Cheapest-clause-begun
 returns-in-Cheapest-clause-begun g c = cheapest-begin c.answer_cheapest.result _ _ c.args.settings.now c.args.number _ _ c.args.journal.now _ _ _ c.in-Cheapest.is c.version-in-Cheapest.ensures c.answer_cheapest.ensures.begun
+
+pub returns-in-Apart-clause-begun : goal.returns-in-Apart-clause-begun
+returns-in-Apart-clause-begun g c = apart-begin c.answer_apart.result _ _ c.args.settings.now c.args.number _ _ _ c.args.journal.now _ _ _ c.in-Apart.is c.version-in-Apart.ensures c.answer_apart.ensures.begun
 
 pub returns-in-Audit-clause-begun : goal.returns-in-Audit-clause-begun
 returns-in-Audit-clause-begun g c = audited-begin c.answer_audit.result _ _ c.args.settings.now c.args.number _ _ c.args.journal.now _ _ _ c.in-Audit.is c.version-in-Audit.ensures c.answer_audit.ensures.begun

@@ -1,0 +1,50 @@
+use Rattle.std.proofs.Common.{◌≡◌, ◌∙◌, ◌<◌, ◌≤◌, ap, arith, length, map, take}
+use Rattle.std.specs.Arc.{arc_value}
+use Rattle.std.specs.List.{flat_map}
+use Rattle.crew_solve.proofs.Choosing.{all-whole, more-each, still-whole}
+use Rattle.crew_solve.proofs.Taking.{Whole, whole-begun, whole-first}
+use Rattle.crew_solve.specs.Machinery.Homes.{home_of}
+use Rattle.crew_solve.specs.Machinery.Keeps.{least_beside}
+use Rattle.crew_solve.specs.Machinery.Takes.{Taken}
+use Rattle.crew_sweep.specs.Sweeps.{BaseSweep}
+use Rattle.crew_solve.proofs.apart.apart_of.Goals as goal
+
+pub loop-alloc-init : goal.loop-alloc-init
+loop-alloc-init c = record {
+  share = ap (λ (t : Taken). t.share) c.in_ok-taken.ensures;
+  some = c.more_than-many.ensures;
+  whole = λ all are. ap (Whole all) c.in_ok-taken.ensures ∙ whole-begun c.args.share all;
+}
+
+pub returns-then-found-many : goal.returns-then-found-many
+returns-then-found-many c = λ all are.
+    let homes = flat_map home_of (map (arc_value {X = BaseSweep}) c.args.fronts.now) in
+    let many = c.loop-alloc.many in
+    let t = c.loop-alloc.taken in
+    let next = c.in_ok-next.next in
+    let few : length (least_beside many t homes) < many = omega (arith, c.if-found-many.true, c.in_ok-next.ensures.many) in
+    let whole = still-whole homes all are many t next c.in_ok-next.ensures.taken ∙ c.loop-alloc.invariant.whole all are in
+    c.into_first.ensures ∙ ap (take c.args.limit) (all-whole homes all are many t next c.in_ok-next.ensures.taken few ∙ whole)
+
+pub loop-alloc-smaller : goal.loop-alloc-smaller
+loop-alloc-smaller c =
+    let homes = flat_map home_of (map (arc_value {X = BaseSweep}) c.args.fronts.now) in
+    let many = c.loop-alloc.many in
+    let t = c.loop-alloc.taken in
+    let next = c.in_ok-next.next in
+    let full : many ≤ length (least_beside many t homes) = omega (arith, c.if-found-many.false, c.in_ok-next.ensures.many) in
+    let more = more-each many t next homes c.in_ok-next.ensures.taken c.loop-alloc.invariant.some full in
+    let test : length t.pairings < c.args.limit = omega (arith, c.loop-alloc-test.true, c.len.ensures) in
+    omega (arith, more, test)
+
+pub loop-alloc-preserved : goal.loop-alloc-preserved
+loop-alloc-preserved c =
+    let homes = flat_map home_of (map (arc_value {X = BaseSweep}) c.args.fronts.now) in
+    let many = c.loop-alloc.many in
+    let t = c.loop-alloc.taken in
+    let next = c.in_ok-next.next in
+    record {
+      share = ap (λ (x : Taken). x.share) c.in_ok-next.ensures.taken ∙ c.loop-alloc.invariant.share;
+      some = c.more_than-many-in-loop-alloc.ensures;
+      whole = λ all are. still-whole homes all are many t next c.in_ok-next.ensures.taken ∙ c.loop-alloc.invariant.whole all are;
+    }

@@ -1,0 +1,81 @@
+//! The least pairings of all that comes home that share few flights.
+
+ghost use Rattle.std.specs.Prelude.{◌≡◌, ◌<◌, List, [], IfOk, length, map, take};
+ghost use Rattle.std.specs.Arc.{arc_value};
+ghost use Rattle.std.specs.List.{flat_map};
+ghost use Rattle.crew_resource.specs.Members.{Each};
+ghost use Rattle.crew_solve.specs.Apart.{taken_from};
+ghost use Rattle.crew_solve.specs.Machinery.Homes.{home_of};
+ghost use Rattle.crew_solve.specs.Machinery.Keeps.{least_beside};
+ghost use Rattle.crew_solve.specs.Machinery.Takes.{AreInOrder, looked_at};
+ghost use Rattle.crew_vector.specs.declared.priced.PricedPairing.{PricedPairing as Pairing};
+
+use crate::base_fronts::BaseFronts;
+use crate::best::keep_home;
+use crate::kept::Kept;
+use crate::taken::Taken;
+use crew_vector::PricedPairing;
+use std::alloc::{AllocError, Global};
+use std::sync::Arc;
+
+// How many to look at after so many.
+fn more_than(many: usize) -> usize
+    ensures { 0 < result }
+{
+    many.max(250).saturating_mul(4)
+}
+
+// Looks at the least of what comes home that may still be taken, so many or all, and says how many
+// these were.
+fn take_next(
+    alloc: Global,
+    fronts: &[Arc<BaseFronts, Global>],
+    trip_rig: u32,
+    many: usize,
+    taken: Taken,
+) -> Result<(Taken, usize), AllocError>
+    requires { Each (λ b. trip_rig ≡ b.net.settings.trip_rig) (map arc_value fronts.now) }
+    ensures taken { IfOk result (λ next. next.0 ≡ looked_at taken
+        (least_beside many taken (flat_map home_of (map arc_value fronts.now)))) }
+    ensures many { IfOk result (λ next. next.1
+        ≡ length (least_beside many taken (flat_map home_of (map arc_value fronts.now)))) }
+{
+    let mut kept = Kept::beside(alloc, many, taken);
+    keep_home(alloc, fronts, trip_rig, &mut kept)?;
+    let (beside, pairings) = kept.into_parts(alloc)?;
+    let found = pairings.len();
+    match beside {
+        Some(mut taken) => {
+            taken.look_at(alloc, pairings)?;
+            Ok((taken, found))
+        }
+        None => unreachable!(),
+    }
+}
+
+/// Of all that comes home, by cost and walk, the first that are taken where no flight is flown by
+/// more than so many, up to a limit.
+pub(crate) fn apart_of(
+    alloc: Global,
+    fronts: &[Arc<BaseFronts, Global>],
+    trip_rig: u32,
+    limit: usize,
+    share: u32,
+) -> Result<Vec<PricedPairing>, AllocError>
+    requires { Each (λ b. trip_rig ≡ b.net.settings.trip_rig) (map arc_value fronts.now) }
+    ensures { IfOk result (λ pairings. (all : List Pairing)
+        → AreInOrder (flat_map home_of (map arc_value fronts.now)) all
+        → pairings.items ≡ take limit (taken_from share [] all)) }
+{
+    let mut taken = Taken::new(alloc, share)?;
+    let mut many = more_than(limit);
+    while taken.len() < limit {
+        let (next, found) = take_next(alloc, fronts, trip_rig, many, taken)?;
+        taken = next;
+        if found < many {
+            return Ok(taken.into_first(limit));
+        }
+        many = more_than(many);
+    }
+    Ok(taken.into_first(limit))
+}
