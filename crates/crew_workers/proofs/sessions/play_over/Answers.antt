@@ -5,5 +5,5 @@ use Rattle.crew_workers.proofs.sessions.play_over.Goals as goal
 
 pub returns : goal.returns
 returns g c =
-    let io = played (bytes_left g.R.Read.remaining c.args.reader.now) (bytes_left g.R.Read.remaining c.run.new.reader) (bytes_held g.W.Write.contents c.args.writer.now) (bytes_held g.W.Write.contents c.run.new.writer) (read_failed c.run.new.reader) (write_failed c.run.new.writer) in
-    is-played c.run.result c.args.settings.now io _ _ c.run.ensures.output c.run.ensures.limit c.run.ensures.end c.run.ensures.begun c.run.ensures.fault
+    let io = played (bytes_left g.R.Read.remaining c.args.reader.now) (bytes_left g.R.Read.remaining c.run-done.new.reader) (bytes_held g.W.Write.contents c.args.writer.now) (bytes_held g.W.Write.contents c.run-done.new.writer) (read_failed c.run-done.new.reader) (write_failed c.run-done.new.writer) in
+    is-played c.run-done.result c.args.settings.now io _ _ c.run-done.ensures.output c.run-done.ensures.limit c.run-done.ensures.end c.run-done.ensures.begun c.run-done.ensures.fault
