@@ -47,6 +47,22 @@ fn is_alone(words: &[&str]) -> bool {
     words.get(1) == Some(&"run") && !words.iter().any(|word| *word == "--workers")
 }
 
+// Shows that a run beside so many workers comes to something else.
+fn tell_other<R: Print>(rt: &R, workers: u32) -> io::Result<()> {
+    println!(rt; "beside {workers} workers it comes to something else")
+}
+
+// Whether a run under these words comes to this.
+fn comes_to<R: Print + Eprint + Threads + Wait + Sync + Clock>(
+    rt: &R,
+    alloc: Global,
+    words: &[&str],
+    case: &Case<'_>,
+    outcome: &Outcome,
+) -> bool {
+    outcome_of(rt, alloc, words, case) == *outcome
+}
+
 /// Runs a session once more without workers, and beside 1 and 8; shows which comes to something
 /// else.
 pub fn compare<R: Print + Eprint + Threads + Wait + Sync + Clock>(
@@ -59,11 +75,13 @@ pub fn compare<R: Print + Eprint + Threads + Wait + Sync + Clock>(
         return Ok(());
     }
     let alone = outcome_of(rt, alloc, words, case);
-    for workers in ["1", "8"] {
-        let beside = with_workers(alloc, words, workers)?;
-        if outcome_of(rt, alloc, &beside, case) != alone {
-            println!(rt; "beside {workers} workers it comes to something else")?;
-        }
+    let one = with_workers(alloc, words, "1")?;
+    if !comes_to(rt, alloc, &one, case, &alone) {
+        tell_other(rt, 1)?;
+    }
+    let eight = with_workers(alloc, words, "8")?;
+    if !comes_to(rt, alloc, &eight, case, &alone) {
+        tell_other(rt, 8)?;
     }
     Ok(())
 }
