@@ -1,0 +1,6 @@
+pub mod LongVectors
+pub mod Dominance
+pub mod Fronts
+pub mod Locals
+pub mod Bests
+pub mod ShortPairings

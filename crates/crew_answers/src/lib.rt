@@ -1,0 +1,5 @@
+//! What the engine has to answer for pairings of up to 240 hours, as definitions, and the resource
+//! by which labels of such pairings are extended.
+#![tactic(auto)]
+
+pub mod laws;
