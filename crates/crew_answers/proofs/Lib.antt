@@ -1,2 +1,4 @@
 pub mod Caps
 pub mod ShortPartials
+pub mod ShortFronts
+pub mod ShortBests

@@ -113,3 +113,10 @@ module _ (s : Settings) (fdp_total : ℕ) (t : Timetable) (base : List ℕ) (fir
         windows = q.windows;
         free = q.free;
       }
+
+pub same-settings : (s : Settings) (fdp_total : ℕ) → is_long s ≡ false → s.fdp_cap ≤ fdp_total → settings_of_sums s fdp_total ≡ s
+same-settings s fdp_total short enough =
+    ap (λ c. let r : Settings = record s { fdp_cap = c } in r) (ap (λ b. cond b fdp_total (min s.fdp_cap fdp_total)) short ∙ lesser s.fdp_cap fdp_total enough)
+  where
+    lesser : (m n : ℕ) → m ≤ n → min m n ≡ m
+    lesser m n h = omega arith
