@@ -4,3 +4,4 @@ pub mod Fronts
 pub mod Locals
 pub mod Bests
 pub mod ShortPairings
+pub mod Machinery

@@ -2,4 +2,10 @@
 //! by which labels of such pairings are extended.
 #![tactic(auto)]
 
+mod cost;
 pub mod laws;
+mod resource;
+mod value;
+
+pub use resource::LongResource;
+pub use value::LongValue;
