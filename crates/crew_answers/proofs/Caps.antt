@@ -17,21 +17,19 @@ module _ (s : Settings) (fdp_cap away_cap : ℕ) where
   connected first [] h = tt
   connected first (next ∷ others) h = (h.0, connected next others h.1)
 
+  pub same-legal : (flights : List Flight) (first : TimedLeg) (others : List TimedLeg) → IsLegal s flights first others → IsLegal (with_caps s fdp_cap away_cap) flights first others
+  same-legal flights first others l = record {
+    known = l.known;
+    legs = l.legs;
+    connected = connected first others l.connected;
+    deadheaded = l.deadheaded;
+    flown_last = l.flown_last;
+    table_a = l.table_a;
+    table_b = l.table_b;
+  }
+
   pub same-duty : (flights : List Flight) (d : Duty) → IsDuty s flights d → IsDuty (with_caps s fdp_cap away_cap) flights d
-  same-duty flights d l = (
-    l.0,
-    l.1,
-    record {
-      known = l.2.known;
-      legs = l.2.legs;
-      connected = connected l.0 l.1 l.2.connected;
-      deadheaded = l.2.deadheaded;
-      flown_last = l.2.flown_last;
-      table_a = l.2.table_a;
-      table_b = l.2.table_b;
-    },
-    l.3,
-  )
+  same-duty flights d l = (l.0, l.1, same-legal flights l.0 l.1 l.2, l.3)
 
   pub same-duties : (flights : List Flight) (ds : List Duty) → Each (IsDuty s flights) ds → Each (IsDuty (with_caps s fdp_cap away_cap) flights) ds
   same-duties flights [] h = tt

@@ -209,7 +209,7 @@ impl Staged<Duty> for LongResource {
 }
 
 impl Forgets<Duty> for LongResource {
-    ghost same_sums = { λ a b. is_same is_at_most a.sums b.sums && (true && true) };
+    ghost same_sums = { λ a b. is_same is_at_most a.sums b.sums };
 
     ghost forgets = { λ s. joined_forgetful _ _ _ _ (both_forgetful _ _ _ _ _ _ _ _
         (shifts_forgetful _ _ _ _ _ _ _ _ _ named_order (vector_staged s.sums)

@@ -1,7 +1,8 @@
 -- Laws of values in pairs are laws of the same values by name.
-use Rattle.std.specs.Prelude.{◌≡◌, ℕ, Bool, List, ◌∷◌, [], ◌++◌, Option, Some, None, ℤ}
+use Rattle.std.specs.Prelude.{◌≡◌, ℕ, Bool, true, ◌&&◌, List, ◌∷◌, [], ◌++◌, Option, Some, None, ℤ}
 use Rattle.std.specs.Option.{option_and_then, option_map}
 use Rattle.std.proofs.Common.{refl, ◌∙◌, ap}
+use Rattle.std.proofs.lemmas.Bool.{and_from, and_parts}
 use Rattle.std.specs.declared.cmp.Ordering.{Ordering}
 use Rattle.crew_forgetful.specs.Forgetful.{Forgetful}
 use Rattle.crew_resource.specs.Resource.{GradesOrder, OrderLaws, StepLaws}
@@ -88,25 +89,38 @@ module _ (below : Parts → Parts → Bool) where
         (unjoined (board (parts_of b) i) z e);
   }
 
-  pub joined_forgetful : {I X G : Type 0} (same : Parts → Parts → Bool)
+  -- the sums alone are never forgotten
+  pub joined_forgetful : {I X G : Type 0} (same : PairingVector → PairingVector → Bool)
       (wait : Parts → X → G → Parts) (board : Parts → I → Option Parts)
-      → Forgetful below same wait board
-      → Forgetful below_by_name (λ a b. same (parts_of a) (parts_of b))
+      → Forgetful below (λ a b. same a.0 b.0 && true) wait board
+      → Forgetful below_by_name (λ a b. same a.sums b.sums)
       (λ v x g. joined (wait (parts_of v) x g))
       (λ v i. option_map joined (board (parts_of v) i))
   joined_forgetful same wait board p = record {
-    same_itself = λ a. p.same_itself (parts_of a);
-    same_between = λ a b c h k e. p.same_between (parts_of a) (parts_of b) (parts_of c) h k e;
+    same_itself = λ a. left a.sums a.sums (p.same_itself (parts_of a));
+    same_between = λ a b c h k e.
+        let r = p.same_between (parts_of a) (parts_of b) (parts_of c) h k
+        (both_ways a.sums c.sums e) in
+        (left a.sums b.sums r.0, left b.sums c.sums r.1);
     wait_monotone = λ a b x g h. p.wait_monotone (parts_of a) (parts_of b) x g h;
-    wait_keeps = λ a b x g h e. p.wait_keeps (parts_of a) (parts_of b) x g h e;
+    wait_keeps = λ a b x g h e. left a.sums b.sums
+        (p.wait_keeps (parts_of a) (parts_of b) x g h
+        (both_ways (wait (parts_of a) x g).0 (wait (parts_of b) x g).0 e));
     board_monotone = λ a b c d h e.
         let s = p.board_monotone (parts_of a) (parts_of b) (parts_of c) d h
         (unjoined (board (parts_of b) d) c e) in
         (joined s.0, ap (option_map joined) s.1, s.2);
-    board_keeps = λ a b y z d h k l e. p.board_keeps (parts_of a) (parts_of b) (parts_of y)
-        (parts_of z) d h (unjoined (board (parts_of a) d) y k)
-        (unjoined (board (parts_of b) d) z l) e;
+    board_keeps = λ a b y z d h k l e. left a.sums b.sums
+        (p.board_keeps (parts_of a) (parts_of b) (parts_of y) (parts_of z) d h
+        (unjoined (board (parts_of a) d) y k) (unjoined (board (parts_of b) d) z l)
+        (both_ways y.sums z.sums e));
   }
+    where
+      left : (a b : PairingVector) → (same a b && true) ≡ true → same a b ≡ true
+      left a b h = (and_parts (same a b) true h).0
+
+      both_ways : (a b : PairingVector) → same a b ≡ true → (same a b && true) ≡ true
+      both_ways a b h = and_from (same a b) true h refl
 
 -- the sums count
 pub joined_counting : {I X G : Type 0} (count : PairingVector → ℤ) (most : ℕ)
