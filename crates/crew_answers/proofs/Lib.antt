@@ -6,3 +6,8 @@ pub mod Ranking
 pub mod Told
 pub mod Nodes
 pub mod Parts
+pub mod KeptHistories
+pub mod PlainNodes
+pub mod Unique
+pub mod Cheapest
+pub mod OneBest

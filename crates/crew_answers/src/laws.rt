@@ -1,23 +1,26 @@
 //! Laws over the definitions alone.
-ghost use Rattle.std.specs.Prelude.{◌≡◌, ◌≤◌, ℕ, Bool, ℤ, pos, List, ◌∷◌, Option};
+ghost use Rattle.std.specs.Prelude.{◌≡◌, ◌≤◌, ◌≤ℤ◌, ℕ, ℤ, pos, ◌+ℤ◌, ◌-ℤ◌, ◌*ℤ◌, List, ◌∷◌, Option, Some, None};
 ghost use Rattle.crew_flights.specs.Timetable as TimetableSpec;
 ghost use Rattle.crew_flights.specs.Timetable.{Timetable};
 ghost use Rattle.crew_rules.specs.declared.settings.Settings.{Settings};
 ghost use Rattle.crew_pairing.specs.Duties.{flights_of};
-ghost use Rattle.crew_pairing.specs.Pairings.{IsPartial};
-ghost use Rattle.crew_pairing.specs.Vectors.{vector_of};
+ghost use Rattle.crew_resource.specs.Members.{Member};
+ghost use Rattle.crew_pairing.specs.Pairings.{IsDuty, IsPartial};
+ghost use Rattle.crew_pairing.specs.Vectors.{cost_of, reduced_cost, vector_of};
 ghost use Rattle.crew_pairing.specs.declared.duty.Duty.{Duty};
 ghost use Rattle.crew_pairing.specs.Legs.{Leg};
 ghost use Rattle.crew_pairing.specs.declared.vector.PairingVector.{PairingVector};
 ghost use Rattle.crew_vector.specs.Bests as PlainBests;
+ghost use Rattle.crew_vector.specs.Bests.{NoDearer};
 ghost use Rattle.crew_vector.specs.Dominance as PlainOrder;
 ghost use Rattle.crew_vector.specs.Fronts as PlainFronts;
 ghost use Rattle.crew_vector.specs.declared.priced.PricedPairing.{PricedPairing};
 ghost use Rattle.crew_history.specs.LongPairings.{IsLongPartial};
-ghost use Rattle.crew_answers.specs.Bests.{IsBest, IsScratch};
+ghost use Rattle.crew_answers.specs.Bests.{AreFronts, IsBest, IsCleanPairing, IsHomeEntry, IsPairing, IsScratch};
 ghost use Rattle.crew_answers.specs.Dominance.{is_at_most};
-ghost use Rattle.crew_answers.specs.Fronts.{At, Clean, IsFrontAt};
+ghost use Rattle.crew_answers.specs.Fronts.{At, Clean, IsFrontAt, IsUndominated, RiseByVector};
 ghost use Rattle.crew_answers.specs.LongVectors.{LongVector, long_vector_of, settings_of_sums};
+ghost use Rattle.crew_answers.specs.Ranges.{IsInRange};
 ghost use Rattle.crew_answers.specs.ShortPairings.{sums_of, with_no_past, with_no_pasts};
 
 /// Where settings allow at most 138 hours, a list is a partial by the rules of longer pairings
@@ -89,4 +92,83 @@ pub fn short_answers_are_as_before()
         (best : Option PricedPairing) → TimetableSpec.IsSound t → s.away_cap ≤ 8_280
         → IsScratch s fdp_total t front best
         → PlainBests.IsScratch (settings_of_sums s fdp_total) t (λ base d. sums_of (front base d)) best }
+{}
+
+/// The cost of a vector is the pairing's pay, less the prices of its flights and of its base.
+pub fn cost_is_pay_less_prices()
+    ensures { (s : Settings) (price : ℤ) (first : Duty) (others : List Duty)
+        → reduced_cost (long_vector_of s price first others).sums
+        ≡ cost_of s price (first ∷ others) }
+{}
+
+/// Each undominated vector of a node has a clean partial there.
+pub fn undominated_vectors_have_clean_partials()
+    ensures { (s : Settings) (fdp_total : ℕ) (t : Timetable) (base : List ℕ) (price : ℤ) (d : Duty)
+        (v : LongVector) → IsInRange s fdp_total → TimetableSpec.IsSound t
+        → IsUndominated s fdp_total t base price d v → (w : List (List Leg))
+        × Clean s fdp_total t base price d v w }
+{}
+
+/// Each node has a front.
+pub fn each_node_has_a_front()
+    ensures { (s : Settings) (fdp_total : ℕ) (t : Timetable) (base : List ℕ) (price : ℤ) (d : Duty)
+        → IsInRange s fdp_total → TimetableSpec.IsSound t → IsDuty s (flights_of t) d
+        → (entries : List (LongVector × List (List Leg)))
+        × IsFrontAt s fdp_total t base price d entries }
+{}
+
+/// A node has one front: two of them have the same entries, and in order of vector they are one
+/// list.
+pub fn fronts_are_unique()
+    ensures entries { (s : Settings) (fdp_total : ℕ) (t : Timetable) (base : List ℕ) (price : ℤ)
+        (d : Duty) (es fs : List (LongVector × List (List Leg)))
+        → IsFrontAt s fdp_total t base price d es → IsFrontAt s fdp_total t base price d fs
+        → (v : LongVector) (w : List (List Leg)) → Member es (v, w) → Member fs (v, w) }
+    ensures listed { (s : Settings) (fdp_total : ℕ) (t : Timetable) (base : List ℕ) (price : ℤ)
+        (d : Duty) (es fs : List (LongVector × List (List Leg)))
+        → IsFrontAt s fdp_total t base price d es → IsFrontAt s fdp_total t base price d fs
+        → RiseByVector es → RiseByVector fs → es ≡ fs }
+{}
+
+/// Under each pairing lies a clean one that costs no more; so the best costs the least of all
+/// pairings, clean or not.
+pub fn best_costs_least()
+    ensures clean { (s : Settings) (fdp_total : ℕ) (t : Timetable) (p : PricedPairing)
+        → IsInRange s fdp_total → TimetableSpec.IsSound t → IsPairing s fdp_total t p
+        → (q : PricedPairing) × IsCleanPairing s fdp_total t q × (q.cost ≤ℤ p.cost) }
+    ensures least { (s : Settings) (fdp_total : ℕ) (t : Timetable) (best p : PricedPairing)
+        → IsInRange s fdp_total → TimetableSpec.IsSound t → IsBest s fdp_total t (Some best)
+        → IsPairing s fdp_total t p → best.cost ≤ℤ p.cost }
+{}
+
+/// There is one best pairing, or none: cost and walk tell its base, its pay and its minutes away.
+pub fn best_is_unique()
+    ensures { (s : Settings) (fdp_total : ℕ) (t : Timetable) (a b : Option PricedPairing)
+        → TimetableSpec.IsSound t → IsBest s fdp_total t a → IsBest s fdp_total t b → a ≡ b }
+{}
+
+/// Where fronts are right, the entry at home that is least by cost and walk is the best pairing,
+/// and there is none where there is no such entry. An entry at home tells its pairing's cost, pay
+/// and minutes away.
+pub fn best_is_the_least_entry_at_home()
+    ensures pairing { (s : Settings) (fdp_total : ℕ) (t : Timetable)
+        (front : List ℕ → Duty → List (LongVector × List (List Leg)))
+        → AreFronts s fdp_total t front → (base : List ℕ) (v : LongVector) (w : List (List Leg))
+        → IsHomeEntry s t front base v w → (p : PricedPairing) × IsCleanPairing s fdp_total t p
+        × (p.base ≡ base) × (p.walk ≡ w) × (p.cost ≡ reduced_cost v.sums)
+        × (p.pay ≡ reduced_cost v.sums
+        +ℤ (pos s.trip_rig *ℤ v.sums.away -ℤ v.sums.trip_rig)) × (p.away ≡ v.sums.away) }
+    ensures best { (s : Settings) (fdp_total : ℕ) (t : Timetable)
+        (front : List ℕ → Duty → List (LongVector × List (List Leg))) (best : PricedPairing)
+        → IsInRange s fdp_total → TimetableSpec.IsSound t → AreFronts s fdp_total t front
+        → IsCleanPairing s fdp_total t best
+        → ((base : List ℕ) (v : LongVector) (w : List (List Leg))
+        → IsHomeEntry s t front base v w
+        → NoDearer best.cost best.walk (reduced_cost v.sums) w)
+        → IsBest s fdp_total t (Some best) }
+    ensures none { (s : Settings) (fdp_total : ℕ) (t : Timetable)
+        (front : List ℕ → Duty → List (LongVector × List (List Leg))) → IsInRange s fdp_total
+        → TimetableSpec.IsSound t → AreFronts s fdp_total t front
+        → ((base : List ℕ) (v : LongVector) (w : List (List Leg))
+        → IsHomeEntry s t front base v w → ⊥) → IsBest s fdp_total t None }
 {}
