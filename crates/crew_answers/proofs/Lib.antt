@@ -11,3 +11,5 @@ pub mod PlainNodes
 pub mod Unique
 pub mod Cheapest
 pub mod OneBest
+pub mod Recalled
+pub mod LongNodes

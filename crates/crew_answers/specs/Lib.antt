@@ -4,5 +4,7 @@ pub mod Fronts
 pub mod Locals
 pub mod Bests
 pub mod Ranges
+pub mod Shown
+pub mod Schedules
 pub mod ShortPairings
 pub mod Machinery
