@@ -13,3 +13,4 @@ pub mod Cheapest
 pub mod OneBest
 pub mod Recalled
 pub mod LongNodes
+pub mod Scheduled

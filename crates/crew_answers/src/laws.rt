@@ -3,11 +3,17 @@ ghost use Rattle.std.specs.Prelude.{◌≡◌, ◌≤◌, ◌≤ℤ◌, ℕ, ℤ
 ghost use Rattle.crew_flights.specs.Timetable as TimetableSpec;
 ghost use Rattle.crew_flights.specs.Timetable.{Timetable};
 ghost use Rattle.crew_rules.specs.declared.settings.Settings.{Settings};
-ghost use Rattle.crew_pairing.specs.Duties.{flights_of};
-ghost use Rattle.crew_resource.specs.Members.{Member};
-ghost use Rattle.crew_pairing.specs.Pairings.{IsDuty, IsPartial};
+ghost use Rattle.crew_pairing.specs.Duties.{AreDuties, flights_of};
+ghost use Rattle.crew_pairing.specs.Events.{arrival_of, departure_of};
+ghost use Rattle.crew_pairing.specs.declared.events.Arrival.{Arrival};
+ghost use Rattle.crew_pairing.specs.declared.events.Departure.{Departure};
+ghost use Rattle.crew_forgetful.specs.Sweeps.{IsCoveredPass, IsFrontOf, IsSchedule, TellCount};
+ghost use Rattle.crew_forgetful.specs.Sweeps as Sweeps;
+ghost use Rattle.crew_resource.specs.Members.{Each, Member};
+ghost use Rattle.crew_pairing.specs.Pairings.{AllRested, IsDuty, IsPartial, last_duty};
 ghost use Rattle.crew_pairing.specs.Vectors.{cost_of, reduced_cost, vector_of};
 ghost use Rattle.crew_pairing.specs.declared.duty.Duty.{Duty};
+ghost use Rattle.crew_pairing.specs.Keys.{walk_at_most};
 ghost use Rattle.crew_pairing.specs.Legs.{Leg};
 ghost use Rattle.crew_pairing.specs.declared.vector.PairingVector.{PairingVector};
 ghost use Rattle.crew_vector.specs.Bests as PlainBests;
@@ -21,7 +27,16 @@ ghost use Rattle.crew_answers.specs.Dominance.{is_at_most};
 ghost use Rattle.crew_answers.specs.Fronts.{At, Clean, IsFrontAt, IsUndominated, RiseByVector};
 ghost use Rattle.crew_answers.specs.LongVectors.{LongVector, long_vector_of, settings_of_sums};
 ghost use Rattle.crew_answers.specs.Ranges.{IsInRange};
+ghost use Rattle.crew_answers.specs.Schedules.{IsDated, schedule_of};
+ghost use Rattle.crew_answers.specs.Shown.{long_resource, shown, shown_entries};
+ghost use Rattle.crew_answers.specs.declared.resource.LongResource.{LongResource};
+ghost use Rattle.crew_answers.specs.declared.value.LongValue.{LongValue};
 ghost use Rattle.crew_answers.specs.ShortPairings.{sums_of, with_no_past, with_no_pasts};
+
+use crate::LongResource;
+use crew_forgetful::Forgets;
+use crew_pairing::{Duty, Key};
+use crew_resource::{Placed, Resource, Staged};
 
 /// Where settings allow at most 138 hours, a list is a partial by the rules of longer pairings
 /// exactly where it is by its own, and its vector has no past.
@@ -172,3 +187,74 @@ pub fn best_is_the_least_entry_at_home()
         → ((base : List ℕ) (v : LongVector) (w : List (List Leg))
         → IsHomeEntry s t front base v w → ⊥) → IsBest s fdp_total t None }
 {}
+
+/// Of legal duties, each after a rest from the one before, the first leaving the base: a list has a
+/// value exactly where it is a partial, and the value shows its vector. Of two lists that end with
+/// one duty the values compare as the vectors do, and are one where the vectors are.
+pub fn values_tell_partials()
+    ensures value { (s : Settings) (fdp_total : ℕ) (t : Timetable) (base : List ℕ) (price : ℤ)
+        (first : Duty) (others : List Duty) → IsInRange s fdp_total → TimetableSpec.IsSound t
+        → IsDated t → IsLongPartial s (pos fdp_total) (flights_of t) base first others
+        → (v : LongValue) × (⟦<LongResource as Resource>⟧.value_of
+        (long_resource s fdp_total price) (first ∷ others) ≡ Some v)
+        × (shown s (last_duty first others) v ≡ long_vector_of s price first others) }
+    ensures partial { (s : Settings) (fdp_total : ℕ) (t : Timetable) (base : List ℕ) (price : ℤ)
+        (first : Duty) (others : List Duty) (v : LongValue) → IsInRange s fdp_total
+        → TimetableSpec.IsSound t → IsDated t → Each (IsDuty s (flights_of t)) (first ∷ others)
+        → first.from ≡ base → AllRested s first others
+        → ⟦<LongResource as Resource>⟧.value_of (long_resource s fdp_total price)
+        (first ∷ others) ≡ Some v
+        → IsLongPartial s (pos fdp_total) (flights_of t) base first others
+        × (shown s (last_duty first others) v ≡ long_vector_of s price first others) }
+    ensures at_most { (s : Settings) (fdp_total : ℕ) (t : Timetable) (base : List ℕ) (price : ℤ)
+        (first : Duty) (others : List Duty) (other_first : Duty) (other_others : List Duty)
+        (u v : LongValue) → IsInRange s fdp_total → TimetableSpec.IsSound t → IsDated t
+        → IsLongPartial s (pos fdp_total) (flights_of t) base first others
+        → IsLongPartial s (pos fdp_total) (flights_of t) base other_first other_others
+        → ⟦<LongResource as Resource>⟧.value_of (long_resource s fdp_total price)
+        (first ∷ others) ≡ Some u
+        → ⟦<LongResource as Resource>⟧.value_of (long_resource s fdp_total price)
+        (other_first ∷ other_others) ≡ Some v
+        → last_duty first others ≡ last_duty other_first other_others
+        → ⟦<LongResource as Resource>⟧.below u v
+        ≡ is_at_most (shown s (last_duty first others) u) (shown s (last_duty first others) v) }
+{}
+
+/// A front of values, over all legal lists of a schedule, shows the node's front.
+pub fn fronts_of_values_show_the_fronts()
+    ensures { (s : Settings) (fdp_total : ℕ) (t : Timetable) (base : List ℕ) (price : ℤ)
+        (duties : List Duty) (d : Duty) (entries : List (LongValue × List (List Leg)))
+        → IsInRange s fdp_total → TimetableSpec.IsSound t → IsDated t → AreDuties s t duties
+        → IsDuty s (flights_of t) d
+        → IsFrontOf (schedule_of s base duties) ⟦<LongResource as Resource>⟧.below
+        (⟦<LongResource as Resource>⟧.value_of (long_resource s fdp_total price)) d entries
+        → IsFrontAt s fdp_total t base price d (shown_entries s d entries) }
+{}
+
+/// The legal duties of a timetable are a schedule, and equal sums tell one number of duties.
+pub fn legal_duties_are_a_schedule()
+    ensures schedule { (s : Settings) (t : Timetable) (base : List ℕ) (duties : List Duty)
+        → TimetableSpec.IsSound t → AreDuties s t duties
+        → IsSchedule arrival_of departure_of (schedule_of s base duties) }
+    ensures count { (r : LongResource) → TellCount ⟦<LongResource as Forgets<Duty>>⟧.same_sums
+        (⟦<LongResource as Staged<Duty>>⟧.count_of r) }
+{}
+
+/// A pass over the events of a base, by pools that cover and fronts that are filtered, shows the
+/// front of each legal duty.
+pub fn covered_passes_show_the_fronts()
+    ensures { (s : Settings) (fdp_total : ℕ) (t : Timetable) (base : List ℕ) (price : ℤ)
+        (duties : List Duty) (pools : Departure → List (LongValue × List (List Leg)))
+        (arrivals : Departure → Arrival → List (LongValue × List (List Leg)))
+        (fronts : Duty → List (LongValue × List (List Leg))) (d : Duty) → IsInRange s fdp_total
+        → TimetableSpec.IsSound t → IsDated t → AreDuties s t duties
+        → IsCoveredPass (Sweeps.network_of (schedule_of s base duties) departure_of arrival_of
+        (⟦<LongResource as Staged<Duty>>⟧.idle_of (long_resource s fdp_total price))
+        (⟦<LongResource as Staged<Duty>>⟧.waited (long_resource s fdp_total price))
+        (⟦<LongResource as Staged<Duty>>⟧.boards (long_resource s fdp_total price)))
+        ⟦<LongResource as Resource>⟧.below ⟦<LongResource as Forgets<Duty>>⟧.same_sums
+        walk_at_most pools arrivals fronts → IsDuty s (flights_of t) d
+        → IsFrontAt s fdp_total t base price d (shown_entries s d (fronts d)) }
+{
+    crew_forgetful::laws::covered_passes_show_the_fronts::<Duty, LongResource, Key>();
+}
