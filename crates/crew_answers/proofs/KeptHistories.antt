@@ -67,12 +67,12 @@ kept_by cap v d (inr n) = None
 abbrev pub board_kept : Bool → ℤ → Kept → Duty → Option Kept
 board_kept is_on cap v d = cond is_on (kept_by cap v d (cases_Bool (may_board (pos 10_080) cap v.periods (period_of d)))) (Some v)
 
-kept-out : (cap : ℤ) (v : Kept) (d : Duty) (t : (may_board (pos 10_080) cap v.periods (period_of d) ≡ true) ⊎ (may_board (pos 10_080) cap v.periods (period_of d) ≡ false)) (z : Kept) → kept_by cap v d t ≡ Some z
+pub kept-out : (cap : ℤ) (v : Kept) (d : Duty) (t : (may_board (pos 10_080) cap v.periods (period_of d) ≡ true) ⊎ (may_board (pos 10_080) cap v.periods (period_of d) ≡ false)) (z : Kept) → kept_by cap v d t ≡ Some z
     → (may_board (pos 10_080) cap v.periods (period_of d) ≡ true) × (z.periods ≡ grown (pos 10_080) v.periods (period_of d))
 kept-out cap v d (inl y) z e = let q : longer cap v d y ≡ z = (cc) in (y, ap (λ x. x.periods) (sym q) ∙ longer-periods cap v d y)
 kept-out cap v d (inr n) z e = absurd (let q : ⊥ = (cc) in q)
 
-kept-in : (cap : ℤ) (v : Kept) (d : Duty) (t : (may_board (pos 10_080) cap v.periods (period_of d) ≡ true) ⊎ (may_board (pos 10_080) cap v.periods (period_of d) ≡ false)) → may_board (pos 10_080) cap v.periods (period_of d) ≡ true
+pub kept-in : (cap : ℤ) (v : Kept) (d : Duty) (t : (may_board (pos 10_080) cap v.periods (period_of d) ≡ true) ⊎ (may_board (pos 10_080) cap v.periods (period_of d) ≡ false)) → may_board (pos 10_080) cap v.periods (period_of d) ≡ true
     → (z : Kept) × (kept_by cap v d t ≡ Some z) × (z.periods ≡ grown (pos 10_080) v.periods (period_of d))
 kept-in cap v d (inl y) e = (longer cap v d y, refl, longer-periods cap v d y)
 kept-in cap v d (inr n) e = absurd (false≢true (sym n ∙ e))

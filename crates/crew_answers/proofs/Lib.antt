@@ -14,3 +14,4 @@ pub mod OneBest
 pub mod Recalled
 pub mod LongNodes
 pub mod Scheduled
+pub mod Growth
