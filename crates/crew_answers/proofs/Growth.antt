@@ -16,6 +16,7 @@ use Rattle.crew_vector.proofs.Growth as SumsGrowth
 use Rattle.crew_vector.proofs.Steps as SumsSteps
 use Rattle.crew_history.specs.Histories.{EndsBefore, fits_window, follows, grown, may_board, minutes_after}
 use Rattle.crew_history.specs.Limits.{AreInOrder, IsTimed, arrival, period_of}
+use Rattle.crew_history.proofs.Histories.{follows_decides}
 use Rattle.crew_history.proofs.OfDuties.{head_timed, lasts}
 use Rattle.crew_long.specs.RestEnds.{rest_end_at, wait_rest}
 use Rattle.crew_long.specs.Machinery.RestStages.{extend_rest, open_rest}
@@ -172,4 +173,46 @@ module _ (s : Settings) (fdp_total : ℕ) where
       let past = kept-step-out on cap v.1.1 z.1.1 d n l.1 in (
         from-tests d (Locals.grown s e d (shown e v)) sums.0 rested.0 past.0,
         same-vector z.0 (Sums.grown s e d v.0) _ _ _ _ sums.1 (ap (λ (x : RestEnd). cond on (d.report -ℤ x.minute) (pos 0)) (sym rested.1) ∙ rest-shown on v.1.0 e d) past.1,
+      )
+
+  collapsed : (b : Bool) (x c : ℤ) → cond b (int_le (cond b x (pos 0)) c) true ≡ cond b (int_le x c) true
+  collapsed true x c = refl
+  collapsed false x c = refl
+
+  start-shown : (b : Bool) (r : ℤ) → cond b (r -ℤ cond b r (pos 0)) (pos 0) ≡ cond b (r -ℤ r) (pos 0)
+  start-shown true r = refl
+  start-shown false r = refl
+
+  first-follows : (d : Duty) → IsTimed d → follows none-kept.periods (period_of d) ≡ true
+  first-follows d timed = subst (λ h. follows h (period_of d) ≡ true) (sym none-periods) ((follows_decides [] (period_of d) tt).1 tt (later d.report d.fdp timed.nonempty))
+    where
+      later : (r f : ℤ) → pos 0 <ℤ f → r <ℤ (r +ℤ f)
+      later r f h = omega (arith, ints)
+
+  pub start-in : (price : ℤ) (d : Duty) → IsTimed d → Locals.is_within_limits s fdp_total d (long_vector_of s price d []) ≡ true
+      → (z : Value) × (started price d ≡ Some z) × (shown d z ≡ long_vector_of s price d [])
+  start-in price d timed h =
+      let tests = three-tests d (long_vector_of s price d []) h in
+      let sums = SumsGrowth.start-in (settings_of_sums s fdp_total) price d (vector_of s price (d ∷ [])) tests.0 refl in
+      let ends = rest_end_at (cond on d.report (pos 0)) in
+      let rested = rest-start on d ∙ ap (λ b. cond b (Some ends) None) (sym (collapsed on (d.report -ℤ d.report) (pos 8_280)) ∙ tests.1) in
+      let fit : fits on cap none-kept.periods d ≡ true = subst (λ h. fits on cap h d ≡ true) (sym none-periods) tests.2 in
+      let past = kept-step-in on cap none-kept d (λ e. first-follows d timed) (λ e. none-periods) fit in (
+        (vector_of s price (d ∷ []), (ends, past.0)),
+        three (SumsSteps.opens (settings_of_sums s fdp_total) price d) (open_rest on d) (open_kept on cap d) (vector_of s price (d ∷ [])) ends past.0 sums rested past.1,
+        same-vector (vector_of s price (d ∷ [])) (vector_of s price (d ∷ [])) _ _ _ _ refl (start-shown on d.report) (past.2 ∙ ap (λ h. history-grown on h d) none-periods),
+      )
+
+  pub start-out : (price : ℤ) (z : Value) (d : Duty) → started price d ≡ Some z
+      → (Locals.is_within_limits s fdp_total d (long_vector_of s price d []) ≡ true) × (shown d z ≡ long_vector_of s price d [])
+  start-out price z d h =
+      let k = both_parts (SumsSteps.opens (settings_of_sums s fdp_total) price d) (both (open_rest on d) (open_kept on cap d)) z h in
+      let l = both_parts (open_rest on d) (open_kept on cap d) z.1 k.1 in
+      let sums = SumsGrowth.start-out (settings_of_sums s fdp_total) price d z.0 k.0 in
+      let ends = rest_end_at (cond on d.report (pos 0)) in
+      let rested = test-out (cond on (int_le (d.report -ℤ d.report) (pos 8_280)) true) ends z.1.0 (sym (rest-start on d) ∙ l.0) in
+      let past = kept-step-out on cap none-kept z.1.1 d (λ e. none-periods) l.1 in
+      let fit = subst (λ h. fits on cap h d ≡ true) none-periods past.0 in (
+        from-tests d (long_vector_of s price d []) sums.0 (collapsed on (d.report -ℤ d.report) (pos 8_280) ∙ rested.0) fit,
+        same-vector z.0 (vector_of s price (d ∷ [])) _ _ _ _ sums.1 (ap (λ (x : RestEnd). cond on (d.report -ℤ x.minute) (pos 0)) (sym rested.1) ∙ start-shown on d.report) (past.1 ∙ ap (λ h. history-grown on h d) none-periods),
       )

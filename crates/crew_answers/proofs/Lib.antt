@@ -15,3 +15,4 @@ pub mod Recalled
 pub mod LongNodes
 pub mod Scheduled
 pub mod Growth
+pub mod Feeding

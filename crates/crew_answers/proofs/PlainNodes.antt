@@ -1,5 +1,5 @@
 -- The theory at the nodes of a timetable, by histories of any length.
-use Rattle.std.proofs.Common.{◌≡◌, ℕ, Bool, true, ◌&&◌, List, [], ◌∷◌, ◌++◌, length, Option, Some, ℤ, pos, refl, sym, ◌∙◌, ap, arith}
+use Rattle.std.proofs.Common.{◌≡◌, ℕ, ◌<◌, Bool, true, ◌&&◌, List, [], ◌∷◌, ◌++◌, length, Option, Some, ℤ, pos, refl, sym, ◌∙◌, ap, arith}
 use Rattle.std.proofs.lemmas.Bool.{and_from, and_parts}
 use Rattle.std.proofs.lemmas.Int.{ints}
 use Rattle.crew_flights.specs.Timetable.{IsSound, Timetable}
@@ -7,9 +7,14 @@ use Rattle.crew_rules.specs.declared.settings.Settings.{Settings}
 use Rattle.crew_resource.specs.Machinery.Both.{both, both_extend}
 use Rattle.crew_resource.specs.Machinery.BothLaws.{both_steps}
 use Rattle.crew_resource.specs.Resource.{StepLaws}
+use Rattle.crew_resource.specs.Labels.{IsFront}
+use Rattle.crew_resource.specs.Members.{Member}
 use Rattle.crew_resource.proofs.Order.{IsOrder}
+use Rattle.crew_resource.proofs.Scratch.{Right, some_front}
+use Rattle.crew_resource.proofs.Step.{Rules}
 use Rattle.crew_resource.proofs.Values.{below_order}
 use Rattle.crew_pairing.specs.Duties.{AreDuties, flights_of}
+use Rattle.crew_pairing.specs.Keys.{walk_at_most}
 use Rattle.crew_pairing.specs.Legs.{Leg}
 use Rattle.crew_pairing.specs.Machinery.Listing.{all_duties}
 use Rattle.crew_pairing.specs.Pairings.{IsDuty}
@@ -19,6 +24,7 @@ use Rattle.crew_pairing.proofs.InOrder.{all-duties}
 use Rattle.crew_pairing.proofs.Timetables.{flights-of-timetable}
 use Rattle.crew_vector.specs.Dominance as Plain
 use Rattle.crew_vector.specs.Values.{value_of}
+use Rattle.crew_vector.proofs.Orders.{walk-either}
 use Rattle.crew_vector.proofs.Steps as Sums
 use Rattle.crew_long.specs.RestEnds.{rest_end_at_most}
 use Rattle.crew_long.specs.Machinery.Folds.{value_by}
@@ -28,12 +34,14 @@ use Rattle.crew_long.specs.declared.rest_end.RestEnd.{RestEnd}
 use Rattle.crew_answers.specs.Dominance.{is_at_most}
 use Rattle.crew_answers.specs.Fronts.{At, Clean, IsFrontAt, IsUndominated}
 use Rattle.crew_answers.specs.LongVectors.{LongVector, is_long, settings_of_sums}
+use Rattle.crew_answers.specs.Machinery.Ranks.{rank_of}
 use Rattle.crew_answers.specs.Ranges.{IsInRange}
 use Rattle.crew_answers.proofs.KeptHistories.{Kept, extend_kept, kept-keeps, kept-off, kept-order, kept-steps, kept-value, kept_at_most, kept_of, none-kept, none-periods, open_kept}
 use Rattle.crew_answers.proofs.Nodes as Nodes
 use Rattle.crew_answers.proofs.Parts as Parts
 use Rattle.crew_answers.proofs.Parts.{Recalls}
-use Rattle.crew_answers.proofs.Told.{Tells}
+use Rattle.crew_answers.proofs.Told as Told
+use Rattle.crew_answers.proofs.Told.{Listed, Tells, compared, listed, shown_entries}
 
 both-order : {A B : Type 0} (la : A → A → Bool) (lb : B → B → Bool) → IsOrder la → IsOrder lb → IsOrder {V = A × B} (λ x y. la x.0 y.0 && lb x.1 y.1)
 both-order la lb p q = record {
@@ -116,3 +124,49 @@ module _ (s : Settings) (fdp_total : ℕ) (t : Timetable) (base : List ℕ) (pri
 
   pub node-front : (d : Duty) → IsDuty s (flights_of t) d → (entries : List (LongVector × List (List Leg))) × IsFrontAt s fdp_total t base price d entries
   node-front = Nodes.node-front s fdp_total t base price sound duties are-duties Value (opens s fdp_total price) (extends s fdp_total price) at_most (all_of s fdp_total price) value-order (value-steps s fdp_total price) shown tells same-length
+
+  abbrev pub PathAt : Duty → Value → List (List Leg) → Type 0
+  PathAt = Nodes.PathAt s fdp_total t base price sound duties are-duties Value (opens s fdp_total price) (extends s fdp_total price) at_most (all_of s fdp_total price) value-order (value-steps s fdp_total price) shown tells same-length
+
+  abbrev pub CleanAt : Duty → Value → List (List Leg) → Type 0
+  CleanAt = Nodes.CleanAt s fdp_total t base price sound duties are-duties Value (opens s fdp_total price) (extends s fdp_total price) at_most (all_of s fdp_total price) value-order (value-steps s fdp_total price) shown tells same-length
+
+  abbrev pub One : Duty → List (List Leg)
+  One = Nodes.One s fdp_total t base price sound duties are-duties Value (opens s fdp_total price) (extends s fdp_total price) at_most (all_of s fdp_total price) value-order (value-steps s fdp_total price) shown tells same-length
+
+  abbrev pub More : List (List Leg) → Duty → List (List Leg)
+  More = Nodes.More s fdp_total t base price sound duties are-duties Value (opens s fdp_total price) (extends s fdp_total price) at_most (all_of s fdp_total price) value-order (value-steps s fdp_total price) shown tells same-length
+
+  abbrev pub Opening : Duty → Option Value
+  Opening = Nodes.Opening s fdp_total t base price sound duties are-duties Value (opens s fdp_total price) (extends s fdp_total price) at_most (all_of s fdp_total price) value-order (value-steps s fdp_total price) shown tells same-length
+
+  abbrev pub Preds : Duty → List Duty
+  Preds = Nodes.Preds s fdp_total t base price sound duties are-duties Value (opens s fdp_total price) (extends s fdp_total price) at_most (all_of s fdp_total price) value-order (value-steps s fdp_total price) shown tells same-length
+
+  pub node-rules : Rules Duty Value (List (List Leg)) One More Opening (extends s fdp_total price) (λ e d. Member (Preds d) e) at_most walk_at_most PathAt CleanAt
+  node-rules = Nodes.node-rules s fdp_total t base price sound duties are-duties Value (opens s fdp_total price) (extends s fdp_total price) at_most (all_of s fdp_total price) value-order (value-steps s fdp_total price) shown tells same-length
+
+  pub arcs-rise : (e d : Duty) → Member (Preds d) e → rank_of duties e < rank_of duties d
+  arcs-rise = Nodes.arcs-rise s fdp_total t base price sound duties are-duties Value (opens s fdp_total price) (extends s fdp_total price) at_most (all_of s fdp_total price) value-order (value-steps s fdp_total price) shown tells same-length
+
+  pub some : (d : Duty) → (entries : List (Value × List (List Leg))) × Right Duty Value (List (List Leg)) One More Opening (extends s fdp_total price) Preds at_most walk_at_most PathAt CleanAt node-rules (rank_of duties) arcs-rise d entries
+  some = some_front Duty Value (List (List Leg)) One More Opening (extends s fdp_total price) Preds at_most walk_at_most PathAt CleanAt node-rules (rank_of duties) arcs-rise walk-either
+
+  pub node-known : (d : Duty) → IsDuty s (flights_of t) d → Member duties d
+  node-known = Nodes.node-known s fdp_total t base price sound duties are-duties Value (opens s fdp_total price) (extends s fdp_total price) at_most (all_of s fdp_total price) value-order (value-steps s fdp_total price) shown tells same-length
+
+  pub known-legal : (d : Duty) → Member duties d → IsDuty s (flights_of t) d
+  known-legal d m = are-duties.sound d m
+
+  pub shown-front : (d : Duty) → IsDuty s (flights_of t) d → (entries : List (Value × List (List Leg))) → IsFront at_most walk_at_most (PathAt d) (CleanAt d) entries
+      → IsFrontAt s fdp_total t base price d (shown_entries (shown d) entries)
+  shown-front = Nodes.shown-front s fdp_total t base price sound duties are-duties Value (opens s fdp_total price) (extends s fdp_total price) at_most (all_of s fdp_total price) value-order (value-steps s fdp_total price) shown tells same-length
+
+  pub path-listed : (d : Duty) → Member duties d → (v : Value) (w : List (List Leg)) (p : PathAt d v w) → Listed s fdp_total t base price duties are-duties Value (opens s fdp_total price) (extends s fdp_total price) at_most (all_of s fdp_total price) value-order (value-steps s fdp_total price) shown tells d v w p.before
+  path-listed = listed s fdp_total t base price duties are-duties Value (opens s fdp_total price) (extends s fdp_total price) at_most (all_of s fdp_total price) value-order (value-steps s fdp_total price) shown tells
+
+  pub paths-compared : (d : Duty) → Member duties d → (u : Value) (y : List (List Leg)) (v : Value) (w : List (List Leg)) → PathAt d u y → PathAt d v w → at_most u v ≡ is_at_most (shown d u) (shown d v)
+  paths-compared = compared s fdp_total t base price duties are-duties Value (opens s fdp_total price) (extends s fdp_total price) at_most (all_of s fdp_total price) value-order (value-steps s fdp_total price) shown tells
+
+  pub same-shown : (d : Duty) → Member duties d → (u : Value) (y : List (List Leg)) (v : Value) (w : List (List Leg)) → PathAt d u y → PathAt d v w → shown d u ≡ shown d v → u ≡ v
+  same-shown = Told.same-shown s fdp_total t base price duties are-duties Value (opens s fdp_total price) (extends s fdp_total price) at_most (all_of s fdp_total price) value-order (value-steps s fdp_total price) shown tells

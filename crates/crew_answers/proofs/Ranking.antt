@@ -36,10 +36,14 @@ shifted-less a r b n h k = omega (arith, ints)
 ten-hours : (x y : ℤ) → int_le (pos 600) (y -ℤ x) ≡ true → x <ℤ y
 ten-hours x y h = grind (arith, ints)
 
+pub later-report : (s : Settings) (e d : Duty) → may_stand_after s e d ≡ true → e.release <ℤ d.report
+later-report s e d follows =
+    let rested = and_parts (int_le (pos 600) (rest e d)) (int_le (rest e d) (pos s.max_rest)) (and_parts (eq_by_cmp code_cmp e.to d.from) (int_le (pos 600) (rest e d) && int_le (rest e d) (pos s.max_rest)) follows).1 in
+    ten-hours e.release d.report rested.0
+
 pub rank-rises : (s : Settings) (t : Timetable) (duties : List Duty) (e d : Duty) → IsSound t → Member duties e
     → IsDuty s (flights_of t) e → may_stand_after s e d ≡ true → rank_of duties e < rank_of duties d
 rank-rises s t duties e d sound known legal follows =
     let timed = in_order s t e [] sound (legal, tt) tt in
-    let rested = and_parts (int_le (pos 600) (rest e d)) (int_le (rest e d) (pos s.max_rest)) (and_parts (eq_by_cmp code_cmp e.to d.from) (int_le (pos 600) (rest e d) && int_le (rest e d) (pos s.max_rest)) follows).1 in
     rises-as-number (e.report +ℤ pos (reach duties)) (d.report +ℤ pos (reach duties)) (within-reach duties e known)
-    (shifted-less e.report e.release d.report (pos (reach duties)) (lasts e timed) (ten-hours e.release d.report rested.0))
+    (shifted-less e.report e.release d.report (pos (reach duties)) (lasts e timed) (later-report s e d follows))

@@ -25,6 +25,7 @@ ghost use Rattle.crew_history.specs.LongPairings.{IsLongPartial};
 ghost use Rattle.crew_answers.specs.Bests.{AreFronts, IsBest, IsCleanPairing, IsHomeEntry, IsPairing, IsScratch};
 ghost use Rattle.crew_answers.specs.Dominance.{is_at_most};
 ghost use Rattle.crew_answers.specs.Fronts.{At, Clean, IsFrontAt, IsUndominated, RiseByVector};
+ghost use Rattle.crew_answers.specs.Locals.{AreFrontsBefore, Feed, IsLocalAt};
 ghost use Rattle.crew_answers.specs.LongVectors.{LongVector, long_vector_of, settings_of_sums};
 ghost use Rattle.crew_answers.specs.Ranges.{IsInRange};
 ghost use Rattle.crew_answers.specs.Schedules.{IsDated, schedule_of};
@@ -186,6 +187,31 @@ pub fn best_is_the_least_entry_at_home()
         → TimetableSpec.IsSound t → AreFronts s fdp_total t front
         → ((base : List ℕ) (v : LongVector) (w : List (List Leg))
         → IsHomeEntry s t front base v w → ⊥) → IsBest s fdp_total t None }
+{}
+
+/// Local and front are one: given the fronts of the nodes before, entries are local exactly where
+/// they are the node's front. So a node that is fed alike in two timetables has one front in both.
+pub fn local_entries_are_the_front()
+    ensures front { (s : Settings) (fdp_total : ℕ) (t : Timetable) (base : List ℕ) (price : ℤ)
+        (d : Duty) (feed : Feed) (entries : List (LongVector × List (List Leg)))
+        → IsInRange s fdp_total → TimetableSpec.IsSound t → IsDuty s (flights_of t) d
+        → AreFrontsBefore s fdp_total t base price d feed
+        → IsLocalAt s fdp_total base price d feed entries
+        → IsFrontAt s fdp_total t base price d entries }
+    ensures local { (s : Settings) (fdp_total : ℕ) (t : Timetable) (base : List ℕ) (price : ℤ)
+        (d : Duty) (feed : Feed) (entries : List (LongVector × List (List Leg)))
+        → IsInRange s fdp_total → TimetableSpec.IsSound t → IsDuty s (flights_of t) d
+        → AreFrontsBefore s fdp_total t base price d feed
+        → IsFrontAt s fdp_total t base price d entries
+        → IsLocalAt s fdp_total base price d feed entries }
+    ensures alike { (s : Settings) (fdp_total : ℕ) (t u : Timetable) (base : List ℕ) (price : ℤ)
+        (d : Duty) (feed : Feed) (entries : List (LongVector × List (List Leg)))
+        → IsInRange s fdp_total → TimetableSpec.IsSound t → TimetableSpec.IsSound u
+        → IsDuty s (flights_of t) d → IsDuty s (flights_of u) d
+        → AreFrontsBefore s fdp_total t base price d feed
+        → AreFrontsBefore s fdp_total u base price d feed
+        → IsFrontAt s fdp_total t base price d entries
+        → IsFrontAt s fdp_total u base price d entries }
 {}
 
 /// Of legal duties, each after a rest from the one before, the first leaving the base: a list has a
