@@ -29,9 +29,7 @@ use Rattle.crew_answers.specs.Fronts.{At}
 use Rattle.crew_answers.specs.LongVectors.{LongVector, long_vector_of}
 use Rattle.crew_answers.specs.Ranges.{IsInRange}
 use Rattle.crew_answers.proofs.PlainNodes.{each-below, each-clean}
-
-sums-at-most : (a b : LongVector) → is_at_most a b ≡ true → Plain.is_at_most a.sums b.sums ≡ true
-sums-at-most a b h = (and_parts (Plain.is_at_most a.sums b.sums) (int_le a.since_rest b.since_rest && is_no_more a.history b.history) h).0
+use Rattle.crew_answers.proofs.Vectors.{sums-at-most}
 
 last-of-each : (P : Duty → Type 0) (first : Duty) (others : List Duty) → Each P (first ∷ others) → P (last_duty first others)
 last-of-each P first [] h = h.0

@@ -24,6 +24,8 @@ use Rattle.crew_long.specs.declared.rest_end.RestEnd.{RestEnd}
 use Rattle.crew_answers.specs.Locals as Locals
 use Rattle.crew_answers.specs.LongVectors.{LongVector, is_long, long_vector_of, settings_of_sums}
 use Rattle.crew_answers.proofs.KeptHistories.{Kept, board_kept, extend_kept, kept-in, kept-out, none-kept, none-periods, open_kept}
+use Rattle.crew_answers.proofs.Missing.{test-out, three}
+use Rattle.crew_answers.proofs.Vectors.{same-vector}
 
 -- periods of duties in order end before a later report
 report-before : (first : Duty) (others : List Duty) (r : ℤ) → AreInOrder first others → (last_duty first others).release <ℤ r → first.report <ℤ r
@@ -92,23 +94,9 @@ kept-step-out true cap v z d n e =
     ((and_parts (follows v.periods (period_of d)) (fits_window (pos 10_080) cap v.periods (period_of d)) k.0).1, k.1)
 kept-step-out false cap v z d n e = (refl, let q : v ≡ z = (cc) in ap (λ x. x.periods) (sym q) ∙ n refl)
 
-test-out : {A : Type 0} (b : Bool) (g h : A) → cond b (Some g) None ≡ Some h → (b ≡ true) × (g ≡ h)
-test-out true g h e = (refl, let q : g ≡ h = (cc) in q)
-test-out false g h e = absurd (let q : ⊥ = (cc) in q)
-
-three : {A B C : Type 0} (a : Option A) (b : Option B) (c : Option C) (x : A) (y : B) (z : C) → a ≡ Some x → b ≡ Some y → c ≡ Some z → both a (both b c) ≡ Some (x, (y, z))
-three a b c x y z e f g = ap (λ p. both p (both b c)) e ∙ (ap (λ q. both (Some x) (both q c)) f ∙ ap (λ q. both (Some x) (both (Some y) q)) g)
-
 both-tests : (on a b : Bool) → cond on (a && b) true ≡ (cond on a true && cond on b true)
 both-tests true a b = refl
 both-tests false a b = refl
-
-same-vector : (a b : PairingVector) (r u : ℤ) (h k : List (ℤ × ℤ)) → a ≡ b → r ≡ u → h ≡ k
-    → ◌≡◌ {A = LongVector} (record { sums = a; since_rest = r; history = h }) (record { sums = b; since_rest = u; history = k })
-same-vector a b r u h k e f g =
-    ap (λ z. let v : LongVector = record { sums = z; since_rest = r; history = h } in v) e
-    ∙ (ap (λ z. let v : LongVector = record { sums = b; since_rest = z; history = h } in v) f
-    ∙ ap (λ z. let v : LongVector = record { sums = b; since_rest = u; history = z } in v) g)
 
 abbrev pub Value : Type 0
 Value = PairingVector × (RestEnd × Kept)

@@ -13,6 +13,7 @@ use Rattle.crew_history.specs.Machinery.Kept.{history_prop}
 use Rattle.crew_history.proofs.Histories.{follows_decides, grown_history, grown_monotone, is_no_more_decides, may_board_monotone, no_more_antisym, no_more_refl, no_more_trans}
 use Rattle.crew_history.proofs.OfDuties.{windows_told}
 use Rattle.crew_long.specs.Machinery.Folds.{value_by, value_from, value_steps}
+use Rattle.crew_answers.proofs.Missing.{same-some, test-out}
 
 pub record Kept : Type 0 where
   pub periods : List (ℤ × ℤ)
@@ -101,13 +102,6 @@ kept_of is_on cap = value_by (open_kept is_on cap) (extend_kept is_on cap)
 
 pub kept-steps : (is_on : Bool) (cap : ℤ) → StepLaws (open_kept is_on cap) (extend_kept is_on cap) kept_at_most (kept_of is_on cap)
 kept-steps is_on cap = value_steps (open_kept is_on cap) (extend_kept is_on cap) kept_at_most (λ a b c last next. board-monotone is_on cap a b c next)
-
-test-out : {A : Type 0} (b : Bool) (g h : A) → cond b (Some g) None ≡ Some h → (b ≡ true) × (g ≡ h)
-test-out true g h e = (refl, let q : g ≡ h = (cc) in q)
-test-out false g h e = absurd (let q : ⊥ = (cc) in q)
-
-same-some : {A : Type 0} (g h : A) → Some g ≡ Some h → g ≡ h
-same-some g h e = (cc)
 
 module _ (cap : ℤ) where
   valued : (others : List Duty) (v : Kept) (last : Duty) (h : List (ℤ × ℤ)) → history_from (pos 10_080) cap v.periods (map period_of others) ≡ Some h

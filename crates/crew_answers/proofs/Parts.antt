@@ -36,8 +36,10 @@ use Rattle.crew_answers.specs.Dominance.{is_at_most}
 use Rattle.crew_answers.specs.LongVectors.{LongVector, is_long, long_vector_of, settings_of_sums}
 use Rattle.crew_answers.specs.Ranges.{IsInRange}
 use Rattle.crew_answers.proofs.Caps.{same-duties, same-legal, same-rests}
+use Rattle.crew_answers.proofs.Missing.{same-some, three}
 use Rattle.crew_answers.proofs.ShortPartials.{partial-from-long, partial-to-long}
 use Rattle.crew_answers.proofs.Told.{Tells}
+use Rattle.crew_answers.proofs.Vectors.{same-vector}
 
 same-tests : (a b : Bool) → (a ≡ true → b ≡ true) → (b ≡ true → a ≡ true) → a ≡ b
 same-tests true b f g = sym (f refl)
@@ -47,19 +49,6 @@ same-tests false false f g = refl
 and-under : (p q q' r r' : Bool) → q ≡ q' → (p ≡ true → r ≡ r') → p && (q && r) ≡ (p && (q' && r'))
 and-under true q q' r r' e f = ap (λ z. z && r) e ∙ ap (λ z. q' && z) (f refl)
 and-under false q q' r r' e f = refl
-
-same-some : {A : Type 0} (a b : A) → Some a ≡ Some b → a ≡ b
-same-some a b e = (cc)
-
-three : {A B C : Type 0} (a : Option A) (b : Option B) (c : Option C) (x : A) (y : B) (z : C) → a ≡ Some x → b ≡ Some y → c ≡ Some z → both a (both b c) ≡ Some (x, (y, z))
-three a b c x y z e f g = ap (λ p. both p (both b c)) e ∙ (ap (λ q. both (Some x) (both q c)) f ∙ ap (λ q. both (Some x) (both (Some y) q)) g)
-
-same-vector : (a b : PairingVector) (r u : ℤ) (h k : List (ℤ × ℤ)) → a ≡ b → r ≡ u → h ≡ k
-    → ◌≡◌ {A = LongVector} (record { sums = a; since_rest = r; history = h }) (record { sums = b; since_rest = u; history = k })
-same-vector a b r u h k e f g =
-    ap (λ z. let v : LongVector = record { sums = z; since_rest = r; history = h } in v) e
-    ∙ (ap (λ z. let v : LongVector = record { sums = b; since_rest = z; history = h } in v) f
-    ∙ ap (λ z. let v : LongVector = record { sums = b; since_rest = u; history = z } in v) g)
 
 module _ (s : Settings) (fdp_total : ℕ) (t : Timetable) (base : List ℕ) (price : ℤ) (range : IsInRange s fdp_total) (sound : IsSound t) where
   abbrev Sums : Settings

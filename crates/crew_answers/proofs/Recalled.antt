@@ -23,6 +23,7 @@ use Rattle.crew_long.proofs.WindowValues.{value_keeps, window_value}
 use Rattle.crew_answers.specs.LongVectors.{is_long}
 use Rattle.crew_answers.specs.Ranges.{IsInRange}
 use Rattle.crew_answers.specs.Schedules.{IsDated}
+use Rattle.crew_answers.proofs.Missing.{same-some}
 use Rattle.crew_answers.proofs.Parts as Parts
 use Rattle.crew_answers.proofs.Parts.{Recalls}
 
@@ -31,9 +32,6 @@ le-is m n h = grind (arith, ints)
 
 le-yes : (m n : ℕ) → m ≤ n → nat_le m n ≡ true
 le-yes m n h = grind (arith, nat_tests)
-
-same-some : {A : Type 0} (a b : A) → Some a ≡ Some b → a ≡ b
-same-some a b e = (cc)
 
 -- a report lies between 1970 and 5772
 dated-report : (dep : ℤ) (lead : ℕ) → pos 15_776_640 ≤ℤ dep → dep ≤ℤ pos 68_375_519 → lead ≤ 240 → (pos 0 ≤ℤ (dep -ℤ pos lead)) × ((dep -ℤ pos lead) ≤ℤ pos 2_000_000_000)

@@ -1,5 +1,5 @@
 //! Laws over the definitions alone.
-ghost use Rattle.std.specs.Prelude.{◌≡◌, ◌≤◌, ◌≤ℤ◌, ℕ, ℤ, pos, ◌+ℤ◌, ◌-ℤ◌, ◌*ℤ◌, List, ◌∷◌, Option, Some, None};
+ghost use Rattle.std.specs.Prelude.{◌≡◌, true, ◌≤◌, ◌≤ℤ◌, ℕ, ℤ, pos, ◌+ℤ◌, ◌-ℤ◌, ◌*ℤ◌, List, ◌∷◌, Option, Some, None};
 ghost use Rattle.crew_flights.specs.Timetable as TimetableSpec;
 ghost use Rattle.crew_flights.specs.Timetable.{Timetable};
 ghost use Rattle.crew_rules.specs.declared.settings.Settings.{Settings};
@@ -21,6 +21,8 @@ ghost use Rattle.crew_vector.specs.Bests.{NoDearer};
 ghost use Rattle.crew_vector.specs.Dominance as PlainOrder;
 ghost use Rattle.crew_vector.specs.Fronts as PlainFronts;
 ghost use Rattle.crew_vector.specs.declared.priced.PricedPairing.{PricedPairing};
+ghost use Rattle.crew_history.specs.Histories.{IsNoMore};
+ghost use Rattle.crew_history.specs.Limits.{AreInOrder};
 ghost use Rattle.crew_history.specs.LongPairings.{IsLongPartial};
 ghost use Rattle.crew_answers.specs.Bests.{AreFronts, IsBest, IsCleanPairing, IsHomeEntry, IsPairing, IsScratch};
 ghost use Rattle.crew_answers.specs.Dominance.{is_at_most};
@@ -110,11 +112,27 @@ pub fn short_answers_are_as_before()
         → PlainBests.IsScratch (settings_of_sums s fdp_total) t (λ base d. sums_of (front base d)) best }
 {}
 
-/// The cost of a vector is the pairing's pay, less the prices of its flights and of its base.
+/// The cost of a vector is the pairing's pay, less the prices of its flights and of its base, and a
+/// vector that is at most another costs no more.
 pub fn cost_is_pay_less_prices()
-    ensures { (s : Settings) (price : ℤ) (first : Duty) (others : List Duty)
+    ensures cost { (s : Settings) (price : ℤ) (first : Duty) (others : List Duty)
         → reduced_cost (long_vector_of s price first others).sums
         ≡ cost_of s price (first ∷ others) }
+    ensures order { (a b : LongVector) → is_at_most a b ≡ true
+        → reduced_cost a.sums ≤ℤ reduced_cost b.sums }
+{}
+
+/// Of duties in order: one vector is at most another exactly where no sum is greater, the last long
+/// rest ended no longer ago, and after every instant the history has no more duty minutes.
+pub fn vectors_are_compared_after_every_instant()
+    ensures { (s : Settings) (price : ℤ) (first : Duty) (others : List Duty) (other_first : Duty)
+        (other_others : List Duty) (a b : LongVector) → AreInOrder first others
+        → AreInOrder other_first other_others → a ≡ long_vector_of s price first others
+        → b ≡ long_vector_of s price other_first other_others
+        → (is_at_most a b ≡ true → (PlainOrder.is_at_most a.sums b.sums ≡ true)
+        × (a.since_rest ≤ℤ b.since_rest) × IsNoMore a.history b.history)
+        × ((PlainOrder.is_at_most a.sums b.sums ≡ true) × (a.since_rest ≤ℤ b.since_rest)
+        × IsNoMore a.history b.history → is_at_most a b ≡ true) }
 {}
 
 /// Each undominated vector of a node has a clean partial there.

@@ -7,5 +7,5 @@ pub mod laws;
 mod resource;
 mod value;
 
-pub use resource::LongResource;
+pub use resource::{LongResource, settings_of_sums};
 pub use value::LongValue;

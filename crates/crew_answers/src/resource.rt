@@ -15,6 +15,8 @@ ghost use Rattle.crew_long.specs.Machinery.RecentStages.{recent_bounds, recent_o
 ghost use Rattle.crew_long.specs.Machinery.RestOrder.{rest_end_order};
 ghost use Rattle.crew_long.specs.Machinery.RestStages.{rest_bounds, rest_shifts, rest_staged, rest_steps};
 ghost use Rattle.crew_forgetful.specs.Machinery.Sums.{is_same, shifts_forgetful, staged_forgetful, both_forgetful};
+ghost use Rattle.crew_answers.specs.LongVectors as LongVectors;
+ghost use Rattle.crew_answers.specs.Shown.{resource_over};
 ghost use Rattle.crew_answers.specs.Machinery.Joined.{joined, parts_of, past_of, sides_of};
 ghost use Rattle.crew_answers.specs.Machinery.JoinedLaws.{joined_order, joined_steps, joined_staged, joined_shifts, joined_counting, joined_bounds, joined_forgetful};
 
@@ -23,6 +25,7 @@ use crew_forgetful::Forgets;
 use crew_long::{SinceRest, Window};
 use crew_pairing::{Arrival, Departure, Duty};
 use crew_resource::{Both, Resource, Staged};
+use crew_rules::Settings;
 use crew_vector::VectorResource;
 use std::alloc::AllocError;
 
@@ -39,6 +42,40 @@ pub struct LongResource {
     pub sums: VectorResource,
     pub rest: SinceRest,
     pub window: Window,
+}
+
+/// The settings under whose caps the seven sums stand: all flight duty minutes are capped by
+/// `fdp_total`, and where no pairing has more than 138 hours by the cap of a window too.
+pub fn settings_of_sums(settings: &Settings, fdp_total: u32) -> Settings
+    ensures { result ≡ LongVectors.settings_of_sums settings.now fdp_total }
+{
+    let fdp_cap = if settings.away_cap > 8_280 {
+        fdp_total
+    } else {
+        settings.fdp_cap.min(fdp_total)
+    };
+    Settings {
+        fdp_cap,
+        ..*settings
+    }
+}
+
+impl LongResource {
+    /// The resource over given sums: it remembers a past where the settings allow more than 138
+    /// hours.
+    pub fn new(sums: VectorResource, settings: &Settings) -> LongResource
+        ensures { result ≡ resource_over sums settings.now }
+    {
+        let is_on = settings.away_cap > 8_280;
+        LongResource {
+            sums,
+            rest: SinceRest { is_on },
+            window: Window {
+                is_on,
+                cap: i64::from(settings.fdp_cap),
+            },
+        }
+    }
 }
 
 impl Resource for LongResource {
