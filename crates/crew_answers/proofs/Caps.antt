@@ -1,5 +1,5 @@
 -- What is legal by settings doesn't hang on their caps on flight duty and on minutes away.
-use Rattle.std.proofs.Common.{◌≡◌, ℕ, true, List, [], ◌∷◌, refl}
+use Rattle.std.proofs.Common.{ℕ, List, [], ◌∷◌}
 use Rattle.crew_flights.specs.declared.flight.Flight.{Flight}
 use Rattle.crew_rules.specs.declared.settings.Settings.{Settings}
 use Rattle.crew_resource.specs.Members.{Each}

@@ -1,8 +1,7 @@
 -- Under each pairing lies a clean one that costs no more, so that the best costs the least of all.
-use Rattle.std.proofs.Common.{◌≡◌, ℕ, true, ℤ, pos, ◌+ℤ◌, ◌-ℤ◌, ◌*ℤ◌, ◌&&◌, int_le, List, [], ◌∷◌, Some, None, inl, inr, sym, ◌∙◌, ap, refl, subst, ⊎_elim, arith}
+use Rattle.std.proofs.Common.{◌≡◌, ℕ, true, ℤ, pos, ◌+ℤ◌, ◌-ℤ◌, ◌*ℤ◌, List, [], ◌∷◌, Some, None, inl, inr, sym, ◌∙◌, ap, refl, subst, ⊎_elim, arith}
 use Rattle.std.specs.Prelude.{◌≤ℤ◌}
 use Rattle.std.specs.Ordering.{eq_by_cmp}
-use Rattle.std.proofs.lemmas.Bool.{and_parts}
 use Rattle.std.proofs.lemmas.Int.{ints}
 use Rattle.crew_flights.specs.Codes.{code_cmp}
 use Rattle.crew_flights.specs.Timetable.{IsSound, Timetable}
@@ -15,16 +14,13 @@ use Rattle.crew_pairing.specs.Pairings.{IsDuty, is_pairing, last_duty, minutes_a
 use Rattle.crew_pairing.specs.Vectors.{cost_of, pay_of, prices, reduced_cost}
 use Rattle.crew_pairing.specs.declared.duty.Duty.{Duty}
 use Rattle.crew_vector.specs.Bests.{NoDearer}
-use Rattle.crew_vector.specs.Dominance as Plain
 use Rattle.crew_vector.specs.Dominance.{cost_respects}
 use Rattle.crew_vector.specs.Fronts.{walk_of}
 use Rattle.crew_vector.specs.declared.priced.PricedPairing.{PricedPairing}
 use Rattle.crew_vector.proofs.Cuts.{append-nothing}
 use Rattle.crew_vector.proofs.Fitting.{cost-is}
 use Rattle.crew_vector.proofs.Orders.{code-itself, same-code, walk-order}
-use Rattle.crew_history.specs.Histories.{is_no_more}
 use Rattle.crew_answers.specs.Bests.{AreFronts, IsBest, IsCleanPairing, IsHomeEntry, IsPairing}
-use Rattle.crew_answers.specs.Dominance.{is_at_most}
 use Rattle.crew_answers.specs.Fronts.{At}
 use Rattle.crew_answers.specs.LongVectors.{LongVector, long_vector_of}
 use Rattle.crew_answers.specs.Ranges.{IsInRange}

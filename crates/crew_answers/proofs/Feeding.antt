@@ -1,21 +1,20 @@
 -- Entries that are local, given the fronts of the nodes before, are the node's front; and a front is local.
 use Rattle.std.proofs.Common.{◌≡◌, ℕ, Bool, true, false, cond, List, [], ◌∷◌, map, inl, inr, Option, Some, None, ℤ, pos, ◌+ℤ◌, ◌-ℤ◌, refl, sym, ◌∙◌, ap, subst, ⊎_elim, arith}
-use Rattle.std.specs.Prelude.{◌≤ℤ◌, ◌<ℤ◌}
+use Rattle.std.specs.Prelude.{◌<ℤ◌}
 use Rattle.std.proofs.lemmas.Int.{ints}
 use Rattle.crew_flights.specs.Timetable.{IsSound, Timetable}
 use Rattle.crew_rules.specs.declared.settings.Settings.{Settings}
-use Rattle.crew_resource.specs.Labels.{IsFront, IsLocal}
+use Rattle.crew_resource.specs.Labels.{IsLocal}
 use Rattle.crew_resource.specs.Members.{Member}
 use Rattle.crew_resource.proofs.Local.{local_from_front}
 use Rattle.crew_resource.proofs.Members.{Member-filter_in, Member-filter_out}
-use Rattle.crew_resource.proofs.Scratch.{covers_from_front}
 use Rattle.crew_resource.proofs.Step.{Step}
 use Rattle.crew_pairing.specs.Duties.{flights_of}
 use Rattle.crew_pairing.specs.Keys.{walk_at_most}
 use Rattle.crew_pairing.specs.Legs.{Leg}
 use Rattle.crew_pairing.specs.Pairings.{IsDuty, last_duty, may_stand_after}
 use Rattle.crew_pairing.specs.declared.duty.Duty.{Duty}
-use Rattle.crew_vector.proofs.Orders.{code-itself, same-code, walk-either, walk-order}
+use Rattle.crew_vector.proofs.Orders.{code-itself, same-code, walk-order}
 use Rattle.crew_history.specs.Histories.{EndsBefore, follows}
 use Rattle.crew_history.specs.Limits.{IsTimed, arrival, history_of, period_of}
 use Rattle.crew_history.proofs.Histories.{ends_before_cut, follows_decides}
@@ -24,10 +23,9 @@ use Rattle.crew_answers.specs.Dominance.{is_at_most}
 use Rattle.crew_answers.specs.Fronts.{IsFrontAt}
 use Rattle.crew_answers.specs.Locals.{AreFrontsBefore, Candidate, Feed, IsLocalAt, grown, is_within_limits}
 use Rattle.crew_answers.specs.LongVectors.{LongVector, is_long}
-use Rattle.crew_answers.specs.Machinery.Ranks.{rank_of}
 use Rattle.crew_answers.specs.Ranges.{IsInRange}
-use Rattle.crew_answers.proofs.Growth.{periods-end, start-in, start-out, step-in, step-out}
-use Rattle.crew_answers.proofs.PlainNodes.{CleanAt, More, One, Opening, PathAt, Preds, Value, arcs-rise, at_most, duties, extends, known-legal, node-known, node-rules, opens, path-listed, paths-compared, same-shown, shown, shown-front, some, value-order}
+use Rattle.crew_answers.proofs.Growth.{Value, periods-end, start-in, start-out, step-in, step-out}
+use Rattle.crew_answers.proofs.PlainNodes.{CleanAt, More, One, Opening, PathAt, Preds, at_most, duties, extends, known-legal, node-known, node-rules, opens, path-listed, paths-compared, same-shown, shown, shown-front, some, value-order}
 use Rattle.crew_answers.proofs.Ranking.{later-report}
 use Rattle.crew_answers.proofs.Told.{shown-in, shown-out, shown_entries}
 use Rattle.crew_answers.proofs.Unique.{same-front}

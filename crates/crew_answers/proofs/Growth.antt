@@ -1,5 +1,5 @@
 -- A step of the parts is a vector with one more duty, within the limits.
-use Rattle.std.proofs.Common.{◌≡◌, ℕ, Bool, true, false, not, ◌&&◌, ◌||◌, cond, List, [], ◌∷◌, ◌++◌, map, inl, inr, Option, Some, None, ℤ, pos, ◌+ℤ◌, ◌-ℤ◌, int_le, refl, sym, ◌∙◌, ap, subst, ⊎_elim, arith}
+use Rattle.std.proofs.Common.{◌≡◌, ℕ, Bool, true, false, ◌&&◌, cond, List, [], ◌∷◌, map, Option, Some, None, ℤ, pos, ◌+ℤ◌, ◌-ℤ◌, int_le, refl, sym, ◌∙◌, ap, subst, arith}
 use Rattle.std.specs.Prelude.{◌≤ℤ◌, ◌<ℤ◌}
 use Rattle.std.proofs.lemmas.Bool.{and_from, and_parts, cases_Bool}
 use Rattle.std.proofs.lemmas.Int.{ints}
@@ -7,7 +7,7 @@ use Rattle.crew_resource.specs.Machinery.Both.{both}
 use Rattle.crew_resource.specs.Machinery.BothLaws.{both_parts}
 use Rattle.crew_rules.specs.declared.settings.Settings.{Settings}
 use Rattle.crew_pairing.specs.Events.{arrival_of, departure_of}
-use Rattle.crew_pairing.specs.Pairings.{is_within_caps, last_duty, rest}
+use Rattle.crew_pairing.specs.Pairings.{last_duty, rest}
 use Rattle.crew_pairing.specs.Vectors.{vector_of}
 use Rattle.crew_pairing.specs.declared.duty.Duty.{Duty}
 use Rattle.crew_pairing.specs.declared.vector.PairingVector.{PairingVector}
@@ -17,7 +17,7 @@ use Rattle.crew_vector.proofs.Steps as SumsSteps
 use Rattle.crew_history.specs.Histories.{EndsBefore, fits_window, follows, grown, may_board, minutes_after}
 use Rattle.crew_history.specs.Limits.{AreInOrder, IsTimed, arrival, period_of}
 use Rattle.crew_history.proofs.Histories.{follows_decides}
-use Rattle.crew_history.proofs.OfDuties.{head_timed, lasts}
+use Rattle.crew_history.proofs.OfDuties.{lasts}
 use Rattle.crew_long.specs.RestEnds.{rest_end_at, wait_rest}
 use Rattle.crew_long.specs.Machinery.RestStages.{extend_rest, open_rest}
 use Rattle.crew_long.specs.declared.rest_end.RestEnd.{RestEnd}

@@ -1,5 +1,5 @@
 -- Histories of any length, with what keeps them in order, step by step: what the theory asks of the third part of a value.
-use Rattle.std.proofs.Common.{◌≡◌, ℕ, ◌≤◌, Bool, true, false, cond, List, [], ◌∷◌, map, length, ◌⊎◌, inl, inr, Option, Some, None, ℤ, pos, refl, sym, ◌∙◌, ap, subst}
+use Rattle.std.proofs.Common.{◌≡◌, Bool, true, false, cond, List, [], ◌∷◌, map, ◌⊎◌, inl, inr, Option, Some, None, ℤ, pos, refl, sym, ◌∙◌, ap, subst}
 use Rattle.std.specs.Prelude.{◌≤ℤ◌}
 use Rattle.std.specs.Option.{option_and_then}
 use Rattle.std.proofs.lemmas.Bool.{and_parts, cases_Bool, false≢true}

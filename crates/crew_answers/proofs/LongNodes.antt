@@ -31,7 +31,7 @@ use Rattle.crew_long.specs.Machinery.RestStages.{extend_rest, open_rest, rest_st
 use Rattle.crew_long.specs.declared.recent.Recent.{Recent}
 use Rattle.crew_long.specs.declared.rest_end.RestEnd.{RestEnd}
 use Rattle.crew_answers.specs.Fronts.{IsFrontAt}
-use Rattle.crew_answers.specs.LongVectors.{is_long, long_vector_of, settings_of_sums}
+use Rattle.crew_answers.specs.LongVectors.{is_long, settings_of_sums}
 use Rattle.crew_answers.specs.Machinery.Joined.{joined, parts_of}
 use Rattle.crew_answers.specs.Machinery.JoinedLaws.{joined_order, joined_steps, unjoined}
 use Rattle.crew_answers.specs.Ranges.{IsInRange}

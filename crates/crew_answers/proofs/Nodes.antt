@@ -1,5 +1,5 @@
 -- The theory of fronts at the nodes of a timetable, by values that tell partials.
-use Rattle.std.proofs.Common.{◌≡◌, ℕ, ◌<◌, Bool, true, false, List, [], ◌∷◌, ◌++◌, length, Option, Some, ℤ, sym, ◌∙◌, subst}
+use Rattle.std.proofs.Common.{◌≡◌, ℕ, ◌<◌, Bool, true, List, [], ◌∷◌, ◌++◌, length, Option, Some, ℤ, sym, ◌∙◌, subst}
 use Rattle.crew_flights.specs.Timetable.{IsSound, Timetable}
 use Rattle.crew_rules.specs.declared.settings.Settings.{Settings}
 use Rattle.crew_resource.specs.Labels.{IsFront}
@@ -22,7 +22,7 @@ use Rattle.crew_answers.specs.Fronts.{At, Clean, IsFrontAt, IsUndominated}
 use Rattle.crew_answers.specs.LongVectors.{LongVector}
 use Rattle.crew_answers.specs.Machinery.Ranks.{rank_of}
 use Rattle.crew_answers.proofs.Ranking.{rank-rises}
-use Rattle.crew_answers.proofs.Told.{CleanPath, Path, Tells, at-legal, clean-from, compared, front-from, from-path, key_of, known-legal, legal-known, may_start, shown_entries, to-path, undominated-from, undominated-to}
+use Rattle.crew_answers.proofs.Told.{CleanPath, Path, Tells, at-legal, clean-from, compared, front-from, key_of, known-legal, legal-known, may_start, shown_entries, to-path, undominated-from, undominated-to}
 
 module _ (s : Settings) (fdp_total : ℕ) (t : Timetable) (base : List ℕ) (price : ℤ) (sound : IsSound t) (duties : List Duty) (are : AreDuties s t duties)
     (V : Type 0) (opens : Duty → Option V) (extends : V → Duty → Duty → Option V) (le : V → V → Bool) (value_of : List Duty → Option V)

@@ -4,7 +4,6 @@ use Rattle.std.proofs.lemmas.Int.{ints}
 use Rattle.crew_flights.specs.Timetable.{IsSound, Timetable}
 use Rattle.crew_rules.specs.declared.settings.Settings.{Settings}
 use Rattle.crew_pairing.specs.Duties.{flights_of}
-use Rattle.crew_pairing.specs.declared.duty.Duty.{Duty}
 use Rattle.crew_vector.specs.Bests as Plain
 use Rattle.crew_vector.specs.Bests.{NoDearer}
 use Rattle.crew_vector.specs.declared.priced.PricedPairing.{PricedPairing}

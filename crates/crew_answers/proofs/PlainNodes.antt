@@ -4,7 +4,7 @@ use Rattle.std.proofs.lemmas.Bool.{and_from, and_parts}
 use Rattle.std.proofs.lemmas.Int.{ints}
 use Rattle.crew_flights.specs.Timetable.{IsSound, Timetable}
 use Rattle.crew_rules.specs.declared.settings.Settings.{Settings}
-use Rattle.crew_resource.specs.Machinery.Both.{both, both_extend}
+use Rattle.crew_resource.specs.Machinery.Both.{both}
 use Rattle.crew_resource.specs.Machinery.BothLaws.{both_steps}
 use Rattle.crew_resource.specs.Resource.{StepLaws}
 use Rattle.crew_resource.specs.Labels.{IsFront}
@@ -19,7 +19,6 @@ use Rattle.crew_pairing.specs.Legs.{Leg}
 use Rattle.crew_pairing.specs.Machinery.Listing.{all_duties}
 use Rattle.crew_pairing.specs.Pairings.{IsDuty}
 use Rattle.crew_pairing.specs.declared.duty.Duty.{Duty}
-use Rattle.crew_pairing.specs.declared.vector.PairingVector.{PairingVector}
 use Rattle.crew_pairing.proofs.InOrder.{all-duties}
 use Rattle.crew_pairing.proofs.Timetables.{flights-of-timetable}
 use Rattle.crew_vector.specs.Dominance as Plain
@@ -30,13 +29,13 @@ use Rattle.crew_long.specs.RestEnds.{rest_end_at_most}
 use Rattle.crew_long.specs.Machinery.Folds.{value_by}
 use Rattle.crew_long.specs.Machinery.RestOrder.{rest_end_order}
 use Rattle.crew_long.specs.Machinery.RestStages.{extend_rest, open_rest, rest_steps}
-use Rattle.crew_long.specs.declared.rest_end.RestEnd.{RestEnd}
 use Rattle.crew_answers.specs.Dominance.{is_at_most}
 use Rattle.crew_answers.specs.Fronts.{At, Clean, IsFrontAt, IsUndominated}
 use Rattle.crew_answers.specs.LongVectors.{LongVector, is_long, settings_of_sums}
 use Rattle.crew_answers.specs.Machinery.Ranks.{rank_of}
 use Rattle.crew_answers.specs.Ranges.{IsInRange}
-use Rattle.crew_answers.proofs.KeptHistories.{Kept, extend_kept, kept-keeps, kept-off, kept-order, kept-steps, kept-value, kept_at_most, kept_of, none-kept, none-periods, open_kept}
+use Rattle.crew_answers.proofs.Growth.{Value, started, stepped}
+use Rattle.crew_answers.proofs.KeptHistories.{Kept, kept-keeps, kept-off, kept-order, kept-steps, kept-value, kept_at_most, kept_of, none-kept, none-periods}
 use Rattle.crew_answers.proofs.Nodes as Nodes
 use Rattle.crew_answers.proofs.Parts as Parts
 use Rattle.crew_answers.proofs.Parts.{Recalls}
@@ -56,9 +55,6 @@ both-order la lb p q = record {
       ap (λ z. (z, a.1)) (p.antisymmetric a.0 b.0 f.0 g.0) ∙ ap (λ z. (b.0, z)) (q.antisymmetric a.1 b.1 f.1 g.1);
 }
 
-abbrev pub Value : Type 0
-Value = PairingVector × (RestEnd × Kept)
-
 abbrev pub at_most : Value → Value → Bool
 at_most a b = Plain.is_at_most a.0 b.0 && (rest_end_at_most a.1.0 b.1.0 && kept_at_most a.1.1 b.1.1)
 
@@ -68,10 +64,10 @@ value-order = both-order Plain.is_at_most (λ x y. rest_end_at_most x.0 y.0 && k
 
 module _ (s : Settings) (fdp_total : ℕ) (price : ℤ) where
   abbrev pub opens : Duty → Option Value
-  opens d = both (Sums.opens (settings_of_sums s fdp_total) price d) (both (open_rest (is_long s) d) (open_kept (is_long s) (pos s.fdp_cap) d))
+  opens = started s fdp_total price
 
   abbrev pub extends : Value → Duty → Duty → Option Value
-  extends = both_extend (Sums.extends (settings_of_sums s fdp_total)) (both_extend (extend_rest (is_long s)) (extend_kept (is_long s) (pos s.fdp_cap)))
+  extends = stepped s fdp_total
 
   abbrev pub all_of : List Duty → Option Value
   all_of ds = both (value_of (settings_of_sums s fdp_total) price ds) (both (value_by (open_rest (is_long s)) (extend_rest (is_long s)) ds) (kept_of (is_long s) (pos s.fdp_cap) ds))

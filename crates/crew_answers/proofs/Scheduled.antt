@@ -1,9 +1,9 @@
 -- The legal duties of a timetable are a schedule, over which covered passes show fronts.
-use Rattle.std.proofs.Common.{◌≡◌, ℕ, Bool, true, ◌&&◌, List, Some, ℤ, pos, refl, sym, ap}
+use Rattle.std.proofs.Common.{◌≡◌, ℕ, true, List, refl, ap}
 use Rattle.std.proofs.lemmas.Bool.{and_parts}
 use Rattle.crew_flights.specs.Timetable.{IsSound, Timetable}
 use Rattle.crew_rules.specs.declared.settings.Settings.{Settings}
-use Rattle.crew_pairing.specs.Duties.{AreDuties, flights_of}
+use Rattle.crew_pairing.specs.Duties.{AreDuties}
 use Rattle.crew_pairing.specs.Events.{arrival_of, departure_of}
 use Rattle.crew_pairing.specs.Keys.{key_total}
 use Rattle.crew_pairing.specs.declared.duty.Duty.{Duty}

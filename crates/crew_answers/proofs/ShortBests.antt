@@ -1,5 +1,5 @@
 -- Where settings allow no pairing of more than 138 hours, the best pairing and scratch are those of the shorter rules.
-use Rattle.std.proofs.Common.{◌≡◌, ℕ, false, List, Option, Some, None, ℤ}
+use Rattle.std.proofs.Common.{◌≡◌, ℕ, false, List, Option, Some, None}
 use Rattle.crew_flights.specs.Timetable.{IsSound, Timetable}
 use Rattle.crew_rules.specs.declared.settings.Settings.{Settings}
 use Rattle.crew_pairing.specs.Duties.{flights_of}

@@ -1,5 +1,5 @@
 -- Pairings of at most 138 hours among those of up to 240: their vectors have no past.
-use Rattle.std.specs.Prelude.{ℤ, pos, List, [], map}
+use Rattle.std.specs.Prelude.{pos, List, [], map}
 use Rattle.crew_pairing.specs.Legs.{Leg}
 use Rattle.crew_pairing.specs.declared.vector.PairingVector.{PairingVector}
 use Rattle.crew_answers.specs.LongVectors.{LongVector}

@@ -264,6 +264,16 @@ pub fn values_tell_partials()
         ≡ is_at_most (shown s (last_duty first others) u) (shown s (last_duty first others) v) }
 {}
 
+/// A value has at most `max_duties` duties, and sums over that many fit.
+pub fn sums_fit()
+    ensures most { (s : Settings) (fdp_total : ℕ) (price : ℤ)
+        → ⟦<LongResource as Staged<Duty>>⟧.most (long_resource s fdp_total price)
+        ≡ Some s.max_duties }
+    ensures fits { (s : Settings) (fdp_total : ℕ) (price : ℤ) (n : ℕ) → IsInRange s fdp_total
+        → TimetableSpec.IsBasePrice price → n ≤ 100_000
+        → ⟦<LongResource as Staged<Duty>>⟧.fits (long_resource s fdp_total price) n }
+{}
+
 /// A front of values, over all legal lists of a schedule, shows the node's front.
 pub fn fronts_of_values_show_the_fronts()
     ensures { (s : Settings) (fdp_total : ℕ) (t : Timetable) (base : List ℕ) (price : ℤ)

@@ -5,7 +5,7 @@ use Rattle.std.proofs.Common.{refl, ◌∙◌, ap}
 use Rattle.std.proofs.lemmas.Bool.{and_from, and_parts}
 use Rattle.std.specs.declared.cmp.Ordering.{Ordering}
 use Rattle.crew_forgetful.specs.Forgetful.{Forgetful}
-use Rattle.crew_resource.specs.Resource.{GradesOrder, OrderLaws, StepLaws}
+use Rattle.crew_resource.specs.Resource.{OrderLaws, StepLaws}
 use Rattle.crew_resource.specs.Stages.{BoundLaws, CountingLaws, ShiftLaws, StagedLaws}
 use Rattle.crew_resource.specs.Machinery.Both.{both_board, both_wait}
 use Rattle.crew_resource.specs.Machinery.BothLaws.{both_parts}
@@ -26,7 +26,6 @@ joined-then f None = refl
 joined-then f (Some p) = refl
 
 module _ (below : Parts → Parts → Bool) where
-
   abbrev pub below_by_name : LongValue → LongValue → Bool
   below_by_name a b = below (parts_of a) (parts_of b)
 

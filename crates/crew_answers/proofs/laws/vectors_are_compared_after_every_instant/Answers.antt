@@ -1,9 +1,6 @@
-use Rattle.std.proofs.Common.{◌≡◌, true, ℤ, List, sym, ◌∙◌, ap, subst}
+use Rattle.std.proofs.Common.{◌≡◌, true, sym, subst}
 use Rattle.std.specs.Prelude.{◌≤ℤ◌}
 use Rattle.crew_history.specs.Histories.{IsNoMore}
-use Rattle.crew_history.specs.Limits.{AreInOrder}
-use Rattle.crew_pairing.specs.declared.duty.Duty.{Duty}
-use Rattle.crew_rules.specs.declared.settings.Settings.{Settings}
 use Rattle.crew_vector.specs.Dominance as Plain
 use Rattle.crew_answers.specs.Dominance.{is_at_most}
 use Rattle.crew_answers.specs.LongVectors.{LongVector, long_vector_of}
