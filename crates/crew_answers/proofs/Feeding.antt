@@ -1,7 +1,5 @@
 -- Entries that are local, given the fronts of the nodes before, are the node's front; and a front is local.
-use Rattle.std.proofs.Common.{◌≡◌, ℕ, Bool, true, false, cond, List, [], ◌∷◌, map, inl, inr, Option, Some, None, ℤ, pos, ◌+ℤ◌, ◌-ℤ◌, refl, sym, ◌∙◌, ap, subst, ⊎_elim, arith}
-use Rattle.std.specs.Prelude.{◌<ℤ◌}
-use Rattle.std.proofs.lemmas.Int.{ints}
+use Rattle.std.proofs.Common.{◌≡◌, ℕ, Bool, true, false, cond, List, [], inl, inr, Option, Some, None, ℤ, refl, sym, ◌∙◌, ap, subst, ⊎_elim}
 use Rattle.crew_flights.specs.Timetable.{IsSound, Timetable}
 use Rattle.crew_rules.specs.declared.settings.Settings.{Settings}
 use Rattle.crew_resource.specs.Labels.{IsLocal}
@@ -12,21 +10,19 @@ use Rattle.crew_resource.proofs.Step.{Step}
 use Rattle.crew_pairing.specs.Duties.{flights_of}
 use Rattle.crew_pairing.specs.Keys.{walk_at_most}
 use Rattle.crew_pairing.specs.Legs.{Leg}
-use Rattle.crew_pairing.specs.Pairings.{IsDuty, last_duty, may_stand_after}
+use Rattle.crew_pairing.specs.Pairings.{IsDuty, may_stand_after}
 use Rattle.crew_pairing.specs.declared.duty.Duty.{Duty}
 use Rattle.crew_vector.proofs.Orders.{code-itself, same-code, walk-order}
-use Rattle.crew_history.specs.Histories.{EndsBefore, follows}
-use Rattle.crew_history.specs.Limits.{IsTimed, arrival, history_of, period_of}
-use Rattle.crew_history.proofs.Histories.{ends_before_cut, follows_decides}
-use Rattle.crew_history.proofs.LegalOrder.{in_order}
+use Rattle.crew_history.specs.Histories.{follows}
+use Rattle.crew_history.specs.Limits.{period_of}
 use Rattle.crew_answers.specs.Dominance.{is_at_most}
 use Rattle.crew_answers.specs.Fronts.{IsFrontAt}
 use Rattle.crew_answers.specs.Locals.{AreFrontsBefore, Candidate, Feed, IsLocalAt, grown, is_within_limits}
 use Rattle.crew_answers.specs.LongVectors.{LongVector, is_long}
 use Rattle.crew_answers.specs.Ranges.{IsInRange}
-use Rattle.crew_answers.proofs.Growth.{Value, periods-end, start-in, start-out, step-in, step-out}
+use Rattle.crew_answers.proofs.Growth.{Value, start-in, start-out, step-in, step-out}
+use Rattle.crew_answers.proofs.Grown.{past, timed}
 use Rattle.crew_answers.proofs.PlainNodes.{CleanAt, More, One, Opening, PathAt, Preds, at_most, duties, extends, known-legal, node-known, node-rules, opens, path-listed, paths-compared, same-shown, shown, shown-front, some, value-order}
-use Rattle.crew_answers.proofs.Ranking.{later-report}
 use Rattle.crew_answers.proofs.Told.{shown-in, shown-out, shown_entries}
 use Rattle.crew_answers.proofs.Unique.{same-front}
 
@@ -67,9 +63,6 @@ module _ (s : Settings) (fdp_total : ℕ) (t : Timetable) (base : List ℕ) (pri
   abbrev Shown : Duty → Value → LongVector
   Shown = shown s fdp_total t base price range sound
 
-  timed : (d : Duty) → IsDuty s (flights_of t) d → IsTimed d
-  timed d legal = in_order s t d [] sound (legal, tt) tt
-
   shown-some : (e : Duty) → IsDuty s (flights_of t) e → IsFrontAt s fdp_total t base price e (shown_entries (Shown e) (fronts e))
   shown-some e legal = shown-front s fdp_total t base price range sound e legal (fronts e) (some s fdp_total t base price range sound e).1.0
 
@@ -81,22 +74,11 @@ module _ (s : Settings) (fdp_total : ℕ) (t : Timetable) (base : List ℕ) (pri
       (⊎_elim inl (λ k. inr (k.0, k.1, k.2, k.3, entry-path k.0 k.1 k.2 k.4, k.5, k.6)) c)
 
   -- what the value of a list before d knows of the past
-  past : (e d : Duty) → IsDuty s (flights_of t) e → IsDuty s (flights_of t) d → may_stand_after s e d ≡ true → (u : Value) (y : List (List Leg)) → PathAt s fdp_total t base price range sound e u y
+  past-of : (e d : Duty) → IsDuty s (flights_of t) e → IsDuty s (flights_of t) d → may_stand_after s e d ≡ true → (u : Value) (y : List (List Leg)) → PathAt s fdp_total t base price range sound e u y
       → (is_long s ≡ true → follows u.1.1.periods (period_of d) ≡ true) × (is_long s ≡ false → u.1.1.periods ≡ [])
-  past e d legal_e legal_d after u y p =
+  past-of e d legal_e legal_d after u y p =
       let l = path-listed s fdp_total t base price range sound e (node-known s fdp_total t base price range sound e legal_e) u y p in
-      let history : u.1.1.periods ≡ cond (is_long s) (history_of l.first l.others) [] = ap (λ (z : LongVector). z.history) l.vector in
-      let order = in_order s t l.first l.others sound l.partial.legal l.partial.rested in
-      let later : (last_duty l.first l.others).release <ℤ d.report = subst (λ z. z.release <ℤ d.report) (sym l.ends) (later-report s e d after) in
-      let ends = ends_before_cut (arrival (last_duty l.first l.others) -ℤ pos 10_080) (map period_of (l.first ∷ l.others)) d.report (periods-end l.first l.others d.report order later) in
-      let nonempty = (timed d legal_d).nonempty in (
-        λ on. (follows_decides u.1.1.periods (period_of d) u.1.1.in_order).1
-            (subst (λ h. EndsBefore h d.report) (sym (history ∙ ap (λ b. cond b (history_of l.first l.others) []) on)) ends) (less d.report d.fdp nonempty),
-        λ off. history ∙ ap (λ b. cond b (history_of l.first l.others) []) off,
-      )
-    where
-      less : (r f : ℤ) → pos 0 <ℤ f → r <ℤ (r +ℤ f)
-      less r f h = omega (arith, ints)
+      past s fdp_total t base price sound l.first l.others d l.partial legal_d (subst (λ z. may_stand_after s z d ≡ true) (sym l.ends) after) u (ap (λ (z : LongVector). z.history) l.vector)
 
   module _ (d : Duty) (legal : IsDuty s (flights_of t) d) (feed : Feed) (fed : AreFrontsBefore s fdp_total t base price d feed) where
     known : Member (duties s fdp_total t base price range sound) d
@@ -104,7 +86,7 @@ module _ (s : Settings) (fdp_total : ℕ) (t : Timetable) (base : List ℕ) (pri
 
     to-step : (x : LongVector) (w : List (List Leg)) → Candidate s fdp_total base price d feed x w → (v : Value) × OneStep d v w × (Shown d v ≡ x)
     to-step x w (inl c) =
-        let z = start-in s fdp_total price d (timed d legal) c.1 in
+        let z = start-in s fdp_total price d (timed s fdp_total t base price sound d legal) c.1 in
         (z.0, inl (c.3, ap (λ b. cond b (opens s fdp_total price d) None) (code-itself d.from base c.0) ∙ z.1), z.2 ∙ sym c.2)
     to-step x w (inr c) =
         let r = fed.right c.0 c.1 c.4 in
@@ -112,9 +94,9 @@ module _ (s : Settings) (fdp_total : ℕ) (t : Timetable) (base : List ℕ) (pri
         let arc = Member-filter_in (λ e. may_stand_after s e d) (duties s fdp_total t base price range sound) c.0 known_e r.1 in
         let there = same-front s fdp_total t base price c.0 c.1 (shown_entries (Shown c.0) (fronts c.0)) r.2 (shown-some c.0 r.0) c.2 c.3 c.5 in
         let u = shown-out (Shown c.0) (fronts c.0) c.2 c.3 there in
-        let k = past c.0 d r.0 legal r.1 u.0 c.3 (entry-path c.0 u.0 c.3 u.1) in
+        let k = past-of c.0 d r.0 legal r.1 u.0 c.3 (entry-path c.0 u.0 c.3 u.1) in
         let z = step-in s fdp_total u.0 c.0 d k.0 k.1 (subst (λ z. is_within_limits s fdp_total d (grown s c.0 d z) ≡ true) (sym u.2) c.6) in
-        (z.0, inr (c.0, u.0, c.3, arc, u.1, z.1, c.8), z.2 ∙ (ap (grown s c.0 d) u.2 ∙ sym c.7))
+        (z.0, inr (c.0, u.0, c.3, arc, u.1, z.1, c.8), subst (λ y. Shown d z.0 ≡ y) (sym c.7) (subst (λ y. Shown d z.0 ≡ grown s c.0 d y) u.2 z.2))
 
     from-step : (v : Value) (w : List (List Leg)) → OneStep d v w → Candidate s fdp_total base price d feed (Shown d v) w
     from-step v w (inl p) =
@@ -127,7 +109,7 @@ module _ (s : Settings) (fdp_total : ℕ) (t : Timetable) (base : List ℕ) (pri
         let m = fed.every q.0 legal_e a.1 in
         let r = fed.right q.0 m.0 m.1 in
         let there = same-front s fdp_total t base price q.0 (shown_entries (Shown q.0) (fronts q.0)) m.0 (shown-some q.0 legal_e) r.2 (Shown q.0 q.1) q.2 (shown-in (Shown q.0) (fronts q.0) q.1 q.2 q.4) in
-        let k = past q.0 d legal_e legal a.1 q.1 q.2 (entry-path q.0 q.1 q.2 q.4) in
+        let k = past-of q.0 d legal_e legal a.1 q.1 q.2 (entry-path q.0 q.1 q.2 q.4) in
         let o = step-out s fdp_total q.1 v q.0 d k.1 q.5 in
         inr (q.0, m.0, Shown q.0 q.1, q.2, m.1, there, o.0, o.1, q.6)
 

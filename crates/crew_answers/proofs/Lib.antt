@@ -11,10 +11,12 @@ pub mod Parts
 pub mod KeptHistories
 pub mod PlainNodes
 pub mod Growth
+pub mod Grown
 pub mod Feeding
 pub mod Unique
 pub mod Cheapest
 pub mod OneBest
 pub mod Recalled
 pub mod LongNodes
+pub mod LongSteps
 pub mod Scheduled

@@ -1,5 +1,5 @@
 //! Laws over the definitions alone.
-ghost use Rattle.std.specs.Prelude.{◌≡◌, true, ◌≤◌, ◌≤ℤ◌, ℕ, ℤ, pos, ◌+ℤ◌, ◌-ℤ◌, ◌*ℤ◌, List, ◌∷◌, Option, Some, None};
+ghost use Rattle.std.specs.Prelude.{◌≡◌, true, ◌≤◌, ◌≤ℤ◌, ℕ, ℤ, pos, ◌+ℤ◌, ◌-ℤ◌, ◌*ℤ◌, List, [], ◌∷◌, ◌++◌, Option, Some, None};
 ghost use Rattle.crew_flights.specs.Timetable as TimetableSpec;
 ghost use Rattle.crew_flights.specs.Timetable.{Timetable};
 ghost use Rattle.crew_rules.specs.declared.settings.Settings.{Settings};
@@ -10,7 +10,7 @@ ghost use Rattle.crew_pairing.specs.declared.events.Departure.{Departure};
 ghost use Rattle.crew_forgetful.specs.Sweeps.{IsCoveredPass, IsFrontOf, IsSchedule, TellCount};
 ghost use Rattle.crew_forgetful.specs.Sweeps as Sweeps;
 ghost use Rattle.crew_resource.specs.Members.{Each, Member};
-ghost use Rattle.crew_pairing.specs.Pairings.{AllRested, IsDuty, IsPartial, last_duty};
+ghost use Rattle.crew_pairing.specs.Pairings.{AllRested, IsDuty, IsPartial, last_duty, may_stand_after};
 ghost use Rattle.crew_pairing.specs.Vectors.{cost_of, reduced_cost, vector_of};
 ghost use Rattle.crew_pairing.specs.declared.duty.Duty.{Duty};
 ghost use Rattle.crew_pairing.specs.Keys.{walk_at_most};
@@ -27,7 +27,7 @@ ghost use Rattle.crew_history.specs.LongPairings.{IsLongPartial};
 ghost use Rattle.crew_answers.specs.Bests.{AreFronts, IsBest, IsCleanPairing, IsHomeEntry, IsPairing, IsScratch};
 ghost use Rattle.crew_answers.specs.Dominance.{is_at_most};
 ghost use Rattle.crew_answers.specs.Fronts.{At, Clean, IsFrontAt, IsUndominated, RiseByVector};
-ghost use Rattle.crew_answers.specs.Locals.{AreFrontsBefore, Feed, IsLocalAt};
+ghost use Rattle.crew_answers.specs.Locals.{AreFrontsBefore, Feed, IsLocalAt, grown, is_within_limits};
 ghost use Rattle.crew_answers.specs.LongVectors.{LongVector, long_vector_of, settings_of_sums};
 ghost use Rattle.crew_answers.specs.Ranges.{IsInRange};
 ghost use Rattle.crew_answers.specs.Schedules.{IsDated, schedule_of};
@@ -207,6 +207,37 @@ pub fn best_is_the_least_entry_at_home()
         → IsHomeEntry s t front base v w → ⊥) → IsBest s fdp_total t None }
 {}
 
+/// Whole lists and steps are one: a duty that leaves the base is a partial where its vector is
+/// within the limits; a partial with a duty after it is one where its vector with that duty is, and
+/// has that vector; and each beginning of a partial is one.
+pub fn partials_grow_duty_by_duty()
+    ensures first { (s : Settings) (fdp_total : ℕ) (t : Timetable) (base : List ℕ) (price : ℤ)
+        (d : Duty) → IsInRange s fdp_total → TimetableSpec.IsSound t → IsDuty s (flights_of t) d
+        → d.from ≡ base
+        → (is_within_limits s fdp_total d (long_vector_of s price d []) ≡ true
+        → IsLongPartial s (pos fdp_total) (flights_of t) base d [])
+        × (IsLongPartial s (pos fdp_total) (flights_of t) base d []
+        → is_within_limits s fdp_total d (long_vector_of s price d []) ≡ true) }
+    ensures next { (s : Settings) (fdp_total : ℕ) (t : Timetable) (base : List ℕ) (price : ℤ)
+        (first : Duty) (others : List Duty) (d : Duty) → IsInRange s fdp_total
+        → TimetableSpec.IsSound t
+        → IsLongPartial s (pos fdp_total) (flights_of t) base first others
+        → IsDuty s (flights_of t) d → may_stand_after s (last_duty first others) d ≡ true
+        → (is_within_limits s fdp_total d
+        (grown s (last_duty first others) d (long_vector_of s price first others)) ≡ true
+        → IsLongPartial s (pos fdp_total) (flights_of t) base first (others ++ d ∷ []))
+        × (IsLongPartial s (pos fdp_total) (flights_of t) base first (others ++ d ∷ [])
+        → (is_within_limits s fdp_total d
+        (grown s (last_duty first others) d (long_vector_of s price first others)) ≡ true)
+        × (long_vector_of s price first (others ++ d ∷ [])
+        ≡ grown s (last_duty first others) d (long_vector_of s price first others))) }
+    ensures beginning { (s : Settings) (fdp_total : ℕ) (t : Timetable) (base : List ℕ)
+        (first : Duty) (taken left : List Duty) → IsInRange s fdp_total
+        → TimetableSpec.IsSound t
+        → IsLongPartial s (pos fdp_total) (flights_of t) base first (taken ++ left)
+        → IsLongPartial s (pos fdp_total) (flights_of t) base first taken }
+{}
+
 /// Local and front are one: given the fronts of the nodes before, entries are local exactly where
 /// they are the node's front. So a node that is fed alike in two timetables has one front in both.
 pub fn local_entries_are_the_front()
@@ -262,6 +293,37 @@ pub fn values_tell_partials()
         → last_duty first others ≡ last_duty other_first other_others
         → ⟦<LongResource as Resource>⟧.below u v
         ≡ is_at_most (shown s (last_duty first others) u) (shown s (last_duty first others) v) }
+{}
+
+/// The resource's start and step of a duty are those of the vectors that its values show: there is
+/// a value where the vector is within the limits, and it shows that vector.
+pub fn steps_show_grown_vectors()
+    ensures start { (s : Settings) (fdp_total : ℕ) (t : Timetable) (base : List ℕ) (price : ℤ)
+        (d : Duty) → IsInRange s fdp_total → TimetableSpec.IsSound t → IsDated t
+        → IsDuty s (flights_of t) d → d.from ≡ base
+        → (is_within_limits s fdp_total d (long_vector_of s price d []) ≡ true
+        → (v : LongValue)
+        × (⟦<LongResource as Resource>⟧.opens (long_resource s fdp_total price) d ≡ Some v)
+        × (shown s d v ≡ long_vector_of s price d []))
+        × ((v : LongValue)
+        → ⟦<LongResource as Resource>⟧.opens (long_resource s fdp_total price) d ≡ Some v
+        → (is_within_limits s fdp_total d (long_vector_of s price d []) ≡ true)
+        × (shown s d v ≡ long_vector_of s price d [])) }
+    ensures step { (s : Settings) (fdp_total : ℕ) (t : Timetable) (base : List ℕ) (price : ℤ)
+        (first : Duty) (others : List Duty) (last d : Duty) (u : LongValue)
+        → IsInRange s fdp_total → TimetableSpec.IsSound t → IsDated t
+        → IsLongPartial s (pos fdp_total) (flights_of t) base first others
+        → ⟦<LongResource as Resource>⟧.value_of (long_resource s fdp_total price)
+        (first ∷ others) ≡ Some u → last_duty first others ≡ last → IsDuty s (flights_of t) d
+        → may_stand_after s last d ≡ true
+        → (is_within_limits s fdp_total d (grown s last d (shown s last u)) ≡ true
+        → (v : LongValue) × (⟦<LongResource as Resource>⟧.extends
+        (long_resource s fdp_total price) u last d ≡ Some v)
+        × (shown s d v ≡ grown s last d (shown s last u)))
+        × ((v : LongValue) → ⟦<LongResource as Resource>⟧.extends
+        (long_resource s fdp_total price) u last d ≡ Some v
+        → (is_within_limits s fdp_total d (grown s last d (shown s last u)) ≡ true)
+        × (shown s d v ≡ grown s last d (shown s last u))) }
 {}
 
 /// A value has at most `max_duties` duties, and sums over that many fit.
