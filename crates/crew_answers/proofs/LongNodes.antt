@@ -66,19 +66,19 @@ module _ (r : LongResource) where
       (both_steps _ _ _ _ _ _ _ _ (rest_steps r.rest.is_on) (recent_steps r.window.is_on r.window.cap)))
 
 module _ (s : Settings) (fdp_total : ℕ) (t : Timetable) (base : List ℕ) (price : ℤ) (range : IsInRange s fdp_total) (sound : IsSound t) (dated : IsDated t) where
-  abbrev Sums : Settings
+  abbrev pub Sums : Settings
   Sums = settings_of_sums s fdp_total
 
-  abbrev rest_of : List Duty → Option RestEnd
+  abbrev pub rest_of : List Duty → Option RestEnd
   rest_of ds = value_by (open_rest (is_long s)) (extend_rest (is_long s)) ds
 
-  abbrev third_of : List Duty → Option Recent
+  abbrev pub third_of : List Duty → Option Recent
   third_of ds = value_by (open_recent (is_long s) (pos s.fdp_cap)) (extend_recent (is_long s) (pos s.fdp_cap)) ds
 
-  abbrev all : List Duty → Option LongValue
+  abbrev pub all : List Duty → Option LongValue
   all = all_of (long_resource s fdp_total price)
 
-  out : (ds : List Duty) (v : LongValue) → all ds ≡ Some v → both (value_of Sums price ds) (both (rest_of ds) (third_of ds)) ≡ Some (parts_of v)
+  pub out : (ds : List Duty) (v : LongValue) → all ds ≡ Some v → both (value_of Sums price ds) (both (rest_of ds) (third_of ds)) ≡ Some (parts_of v)
   out ds v e =
       ap (λ z. both z (both (rest_of ds) (third_of ds))) (sym (composed-value Sums price ds))
       ∙ unjoined (both (option_map named (Sides.summed (long_resource s fdp_total price).sums ds)) (both (rest_of ds) (third_of ds))) v e

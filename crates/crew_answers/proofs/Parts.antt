@@ -37,13 +37,9 @@ use Rattle.crew_answers.specs.Ranges.{IsInRange}
 use Rattle.crew_answers.proofs.Caps.{same-duties, same-legal, same-rests}
 use Rattle.crew_answers.proofs.Missing.{same-some, three}
 use Rattle.crew_answers.proofs.ShortPartials.{partial-from-long, partial-to-long}
+use Rattle.crew_answers.proofs.Tests.{same-tests}
 use Rattle.crew_answers.proofs.Told.{Tells}
 use Rattle.crew_answers.proofs.Vectors.{same-vector}
-
-same-tests : (a b : Bool) → (a ≡ true → b ≡ true) → (b ≡ true → a ≡ true) → a ≡ b
-same-tests true b f g = sym (f refl)
-same-tests false true f g = g refl
-same-tests false false f g = refl
 
 and-under : (p q q' r r' : Bool) → q ≡ q' → (p ≡ true → r ≡ r') → p && (q && r) ≡ (p && (q' && r'))
 and-under true q q' r r' e f = ap (λ z. z && r) e ∙ ap (λ z. q' && z) (f refl)

@@ -56,7 +56,7 @@ module _ (s : Settings) (fdp_total : ℕ) (t : Timetable) (base : List ℕ) (pri
       subst (λ z. is_dated z ≡ true) (sym l.3) (and_from (int_le (pos 0) (duty_of s l.0 l.1).report) (int_le (duty_of s l.0 l.1).report (pos 2_000_000_000))
       (int-yes (pos 0) (duty_of s l.0 l.1).report k.0) (int-yes (duty_of s l.0 l.1).report (pos 2_000_000_000) k.1))
 
-  all-dated : (ds : List Duty) → Each (IsDuty s (flights_of t)) ds → Each (λ d. is_dated d ≡ true) ds
+  pub all-dated : (ds : List Duty) → Each (IsDuty s (flights_of t)) ds → Each (λ d. is_dated d ≡ true) ds
   all-dated [] h = tt
   all-dated (d ∷ ds) h = (duty-dated d h.0, all-dated ds h.1)
 
@@ -85,7 +85,7 @@ module _ (s : Settings) (fdp_total : ℕ) (t : Timetable) (base : List ℕ) (pri
       let q : u ≡ z.0 = same-some u z.0 (sym k ∙ z.1) in
       ap (λ x. x.duties) q ∙ z.3
 
-  fewer : (first : Duty) (others : List Duty) (other_first : Duty) (other_others : List Duty) (u v : Recent)
+  pub fewer : (first : Duty) (others : List Duty) (other_first : Duty) (other_others : List Duty) (u v : Recent)
       → IsLongPartial s (pos fdp_total) (flights_of t) base first others → IsLongPartial s (pos fdp_total) (flights_of t) base other_first other_others
       → third_of (first ∷ others) ≡ Some u → third_of (other_first ∷ other_others) ≡ Some v → length (first ∷ others) ≤ length (other_first ∷ other_others) → u.duties ≤ v.duties
   fewer first others other_first other_others u v p q e f h = ⊎_elim

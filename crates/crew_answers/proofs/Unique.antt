@@ -14,11 +14,9 @@ use Rattle.crew_vector.specs.Fronts as Plain
 use Rattle.crew_vector.proofs.Orders.{walk-order}
 use Rattle.crew_vector.proofs.Unique.{same-entries}
 use Rattle.crew_answers.specs.Dominance.{is_at_most}
-use Rattle.crew_answers.specs.Fronts.{At, Clean, IsFrontAt, RiseByVector, period_cmp, vector_cmp}
+use Rattle.crew_answers.specs.Fronts.{At, Clean, IsFrontAt, RiseByVector, vector_cmp}
 use Rattle.crew_answers.specs.LongVectors.{LongVector}
-
-period-total : IsTotalOrder period_cmp
-period-total = then_total (on_total (λ (p : ℤ × ℤ). p.0) int_cmp_total) (on_total (λ (p : ℤ × ℤ). p.1) int_cmp_total)
+use Rattle.crew_answers.proofs.Listed.{period-total}
 
 sums-total : IsTotalOrder Plain.vector_cmp
 sums-total =

@@ -26,7 +26,7 @@ ghost use Rattle.crew_history.specs.Limits.{AreInOrder};
 ghost use Rattle.crew_history.specs.LongPairings.{IsLongPartial};
 ghost use Rattle.crew_answers.specs.Bests.{AreFronts, IsBest, IsCleanPairing, IsHomeEntry, IsPairing, IsScratch};
 ghost use Rattle.crew_answers.specs.Dominance.{is_at_most};
-ghost use Rattle.crew_answers.specs.Fronts.{At, Clean, IsFrontAt, IsUndominated, RiseByVector};
+ghost use Rattle.crew_answers.specs.Fronts.{At, Clean, IsFrontAt, IsUndominated, RiseByVector, vector_cmp};
 ghost use Rattle.crew_answers.specs.Locals.{AreFrontsBefore, Feed, IsLocalAt, grown, is_within_limits};
 ghost use Rattle.crew_answers.specs.LongVectors.{LongVector, long_vector_of, settings_of_sums};
 ghost use Rattle.crew_answers.specs.Ranges.{IsInRange};
@@ -36,7 +36,7 @@ ghost use Rattle.crew_answers.specs.declared.resource.LongResource.{LongResource
 ghost use Rattle.crew_answers.specs.declared.value.LongValue.{LongValue};
 ghost use Rattle.crew_answers.specs.ShortPairings.{sums_of, with_no_past, with_no_pasts};
 
-use crate::LongResource;
+use crate::{LongResource, LongValue};
 use crew_forgetful::Forgets;
 use crew_pairing::{Duty, Key};
 use crew_resource::{Placed, Resource, Staged};
@@ -293,6 +293,22 @@ pub fn values_tell_partials()
         → last_duty first others ≡ last_duty other_first other_others
         → ⟦<LongResource as Resource>⟧.below u v
         ≡ is_at_most (shown s (last_duty first others) u) (shown s (last_duty first others) v) }
+{}
+
+/// Of two partials that end with one duty the values are listed as the vectors are.
+pub fn values_are_listed_as_their_vectors()
+    ensures { (s : Settings) (fdp_total : ℕ) (t : Timetable) (base : List ℕ) (price : ℤ)
+        (first : Duty) (others : List Duty) (other_first : Duty) (other_others : List Duty)
+        (u v : LongValue) → IsInRange s fdp_total → TimetableSpec.IsSound t → IsDated t
+        → IsLongPartial s (pos fdp_total) (flights_of t) base first others
+        → IsLongPartial s (pos fdp_total) (flights_of t) base other_first other_others
+        → ⟦<LongResource as Resource>⟧.value_of (long_resource s fdp_total price)
+        (first ∷ others) ≡ Some u
+        → ⟦<LongResource as Resource>⟧.value_of (long_resource s fdp_total price)
+        (other_first ∷ other_others) ≡ Some v
+        → last_duty other_first other_others ≡ last_duty first others
+        → ⟦<LongValue as Ord>⟧.cmp u v
+        ≡ vector_cmp (shown s (last_duty first others) u) (shown s (last_duty first others) v) }
 {}
 
 /// The resource's start and step of a duty are those of the vectors that its values show: there is
