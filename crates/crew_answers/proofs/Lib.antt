@@ -5,6 +5,7 @@ pub mod Caps
 pub mod ShortPartials
 pub mod ShortFronts
 pub mod ShortBests
+pub mod ShortLocals
 pub mod Ranking
 pub mod Told
 pub mod Nodes

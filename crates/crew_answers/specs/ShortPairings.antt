@@ -2,6 +2,8 @@
 use Rattle.std.specs.Prelude.{pos, List, [], map}
 use Rattle.crew_pairing.specs.Legs.{Leg}
 use Rattle.crew_pairing.specs.declared.vector.PairingVector.{PairingVector}
+use Rattle.crew_vector.specs.Locals as Plain
+use Rattle.crew_answers.specs.Locals as Long
 use Rattle.crew_answers.specs.LongVectors.{LongVector}
 
 abbrev pub with_no_past : PairingVector → LongVector
@@ -13,3 +15,7 @@ with_no_pasts entries = map (λ e. (with_no_past e.0, e.1)) entries
 
 abbrev pub sums_of : List (LongVector × List (List Leg)) → List (PairingVector × List (List Leg))
 sums_of entries = map (λ e. (e.0.sums, e.1)) entries
+
+-- duties with such entries
+abbrev pub fed_with_no_past : Plain.Feed → Long.Feed
+fed_with_no_past feed = map (λ f. (f.0, with_no_pasts f.1)) feed

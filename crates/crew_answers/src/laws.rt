@@ -20,6 +20,7 @@ ghost use Rattle.crew_vector.specs.Bests as PlainBests;
 ghost use Rattle.crew_vector.specs.Bests.{NoDearer};
 ghost use Rattle.crew_vector.specs.Dominance as PlainOrder;
 ghost use Rattle.crew_vector.specs.Fronts as PlainFronts;
+ghost use Rattle.crew_vector.specs.Locals as PlainLocals;
 ghost use Rattle.crew_vector.specs.declared.priced.PricedPairing.{PricedPairing};
 ghost use Rattle.crew_history.specs.Histories.{IsNoMore};
 ghost use Rattle.crew_history.specs.Limits.{AreInOrder};
@@ -34,7 +35,7 @@ ghost use Rattle.crew_answers.specs.Schedules.{IsDated, schedule_of};
 ghost use Rattle.crew_answers.specs.Shown.{long_resource, shown, shown_entries};
 ghost use Rattle.crew_answers.specs.declared.resource.LongResource.{LongResource};
 ghost use Rattle.crew_answers.specs.declared.value.LongValue.{LongValue};
-ghost use Rattle.crew_answers.specs.ShortPairings.{sums_of, with_no_past, with_no_pasts};
+ghost use Rattle.crew_answers.specs.ShortPairings.{fed_with_no_past, sums_of, with_no_past, with_no_pasts};
 
 use crate::{LongResource, LongValue};
 use crew_forgetful::Forgets;
@@ -91,6 +92,21 @@ pub fn short_fronts_are_as_before()
         (d : Duty) (entries : List (LongVector × List (List Leg))) → TimetableSpec.IsSound t
         → s.away_cap ≤ 8_280 → IsFrontAt s fdp_total t base price d entries
         → PlainFronts.IsFrontAt (settings_of_sums s fdp_total) t base price d (sums_of entries)
+        × (with_no_pasts (sums_of entries) ≡ entries) }
+{}
+
+/// And what is local to a node.
+pub fn short_local_entries_are_as_before()
+    ensures long { (s : Settings) (fdp_total : ℕ) (base : List ℕ) (price : ℤ) (d : Duty)
+        (feed : PlainLocals.Feed) (entries : List (PairingVector × List (List Leg)))
+        → s.away_cap ≤ 8_280
+        → PlainLocals.IsLocalAt (settings_of_sums s fdp_total) base price d feed entries
+        → IsLocalAt s fdp_total base price d (fed_with_no_past feed) (with_no_pasts entries) }
+    ensures short { (s : Settings) (fdp_total : ℕ) (base : List ℕ) (price : ℤ) (d : Duty)
+        (feed : PlainLocals.Feed) (entries : List (LongVector × List (List Leg)))
+        → s.away_cap ≤ 8_280
+        → IsLocalAt s fdp_total base price d (fed_with_no_past feed) entries
+        → PlainLocals.IsLocalAt (settings_of_sums s fdp_total) base price d feed (sums_of entries)
         × (with_no_pasts (sums_of entries) ≡ entries) }
 {}
 
