@@ -1,0 +1,10 @@
+pub mod LongVectors
+pub mod Dominance
+pub mod Fronts
+pub mod Locals
+pub mod Bests
+pub mod Ranges
+pub mod Shown
+pub mod Schedules
+pub mod ShortPairings
+pub mod Machinery

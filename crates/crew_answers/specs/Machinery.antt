@@ -1,0 +1,4 @@
+-- What code and laws need, and no definition rests on.
+pub mod Joined
+pub mod JoinedLaws
+pub mod Ranks
