@@ -169,8 +169,8 @@ impl<'a, R: Wait, G: Gate> Desk<'a, R, G> {
         }
     }
 
-    // Obeys a command, and shows what it comes to.
-    fn obey_line<S: Print + Threads + Sync>(
+    /// Obeys a command, and shows what it comes to.
+    pub fn obey_line<S: Print + Threads + Sync>(
         &mut self,
         rt: &S,
         wait: &R,

@@ -6,7 +6,9 @@
 //! A case begins with `#` and its name; other lines before its words are remarks. The line that
 //! begins with `$` has its words. `service SEATS VIEWERS WORKERS` is a service with so many of each:
 //! what follows are commands, each written again with what it comes to. `meet WORKERS` is a service
-//! whose gates hold whoever comes first until another comes.
+//! whose gates hold whoever comes first until another comes. `watch WORKERS` is a service with a
+//! seat, beside whose planner a query thread takes view after view; its commands may be `rest MS` and
+//! `looks` too. What that tells depends on the machine, so it is for measuring, and no stored case.
 #![tactic(auto)]
 
 mod desk;
@@ -14,6 +16,7 @@ mod edits;
 mod meeting;
 mod serving;
 mod sights;
+mod watching;
 mod words;
 
 use std::alloc::Global;
@@ -51,6 +54,7 @@ fn play_words<R: Print + Threads + Wait + Sync + Clock>(
             serving::play(rt, alloc, counts, count_of(workers), input)
         }
         ["meet", workers] => meeting::play(rt, alloc, count_of(workers)),
+        ["watch", workers] => watching::play(rt, alloc, count_of(workers), input),
         _ => Err(io::Error::from(io::ErrorKind::InvalidData)),
     }
 }
