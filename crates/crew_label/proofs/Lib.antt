@@ -1,1 +1,5 @@
 pub mod WalkOrder
+pub mod Listed
+pub mod RisingLists
+pub mod Interleaved
+pub mod MergedPools

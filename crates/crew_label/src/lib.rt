@@ -1,9 +1,21 @@
-//! Labels whose walks are links: a label is its value, and the duty boarded last with the place of
-//! the label before it.
+//! Pools of labels whose walks are links.
+//!
+//! A label is its value and a link: the duty boarded last, and the place of the label that boarded
+//! it in the pool of the departure which that duty leaves from. So a walk is read by following
+//! links, there is no table of walks beside the pools, and a pool that is made once never changes:
+//! it may be shared by threads and by versions. Labels stand for others by the rule that looks at
+//! walks (`crew_forgetful`), so a resource may forget a part of its values.
 #![tactic(auto)]
 
+mod interleave;
 mod label;
+mod merge;
+mod pool;
+mod room;
+mod stand;
 mod trails;
 
 pub use label::{Label, Link};
+pub use pool::Pool;
+pub use room::Room;
 pub use trails::{Trails, compare_walks};
