@@ -2,4 +2,8 @@ pub mod WalkOrder
 pub mod Listed
 pub mod RisingLists
 pub mod Interleaved
+pub mod RuleLaws
 pub mod MergedPools
+pub mod Halves
+pub mod FrontPools
+pub mod Boarded

@@ -1,5 +1,5 @@
 -- What the first elements of a list pass, one more at a time.
-use Rattle.std.proofs.Common.{◌≡◌, ℕ, ◌+◌, ◌<◌, ◌≤◌, Bool, true, false, List, [], ◌∷◌, ◌++◌, ◌||◌, length, get_or, take, inl, inr, refl, sym, ◌∙◌, ap, arith, append-nil}
+use Rattle.std.proofs.Common.{◌≡◌, ℕ, ◌+◌, ◌<◌, ◌≤◌, Bool, true, false, List, [], ◌∷◌, ◌++◌, ◌||◌, length, get_or, map, take, inl, inr, refl, sym, ◌∙◌, ap, subst, arith, append-nil}
 use Rattle.std.specs.List.{filter, list_any}
 use Rattle.std.proofs.lemmas.List.{take_all, take_more}
 use Rattle.std.proofs.lemmas.List.Elements.{filter-append}
@@ -36,3 +36,13 @@ any_all p xs n h f = ap (list_any p) (sym (take_all n xs h)) ∙ f
 
 pub filter_all : {X : Type 0} (p : X → Bool) (xs : List X) (n : ℕ) → length xs ≤ n → filter p (take n xs) ≡ filter p xs
 filter_all p xs n h = ap (filter p) (take_all n xs h)
+
+pub mapped_all : {X Y : Type 0} (f : X → Y) (now xs : List X) (n : ℕ) → now ≡ xs → length now ≤ n → map f (take n xs) ≡ map f xs
+mapped_all f now xs n e h = let k = ap length e in ap (map f) (take_all n xs (omega (arith, k, h)))
+
+-- the same of a list that is the same
+pub at_same : {X : Type 0} (now xs : List X) (i : ℕ) (x : X) → now ≡ xs → i < length now → x ≡ get_or now i x → (i < length xs) × (x ≡ get_or xs i x)
+at_same {X} now xs i x e h is = (subst (λ (ys : List X). i < length ys) e h, is ∙ ap (λ ys. get_or ys i x) e)
+
+pub taken_all : {X : Type 0} (now xs : List X) (n : ℕ) → now ≡ xs → length now ≤ n → take n xs ≡ xs
+taken_all now xs n e h = let k = ap length e in take_all n xs (omega (arith, k, h))

@@ -154,7 +154,7 @@ either Less r e = inl refl
 either Equal r e = inl refl
 either Greater r e = inr (ap is_le e)
 
-ranks_total : (v w : List ℕ) → (ranks_at_most v w ≡ true) ⊎ (ranks_at_most w v ≡ true)
+pub ranks_total : (v w : List ℕ) → (ranks_at_most v w ≡ true) ⊎ (ranks_at_most w v ≡ true)
 ranks_total v w = either (slice_cmp nat_cmp v w) (slice_cmp nat_cmp w v) ((lists_total nat_cmp_total).antisymm w v)
 
 module _ {V : Type 0} (le same : V → V → Bool) (trail : Link → List ℕ) (order : IsOrder le) (same_itself : (a : V) → same a a ≡ true)

@@ -1,3 +1,4 @@
 pub mod Walks
 pub mod Pools
+pub mod Boarding
 pub mod Machinery

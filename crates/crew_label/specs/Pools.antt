@@ -18,7 +18,7 @@ abbrev pub stands_label : {V : Type 0} → (V → V → Bool) → (V → V → B
     → Label V → Label V → Bool
 stands_label below same trail a b =
     stands below same ranks_at_most a.value (walk_of trail a.before) b.value
-        (walk_of trail b.before)
+    (walk_of trail b.before)
 
 -- the labels are those candidates for which no other may stand
 abbrev pub ArePoolOf : {V : Type 0} → (V → V → Bool) → (V → V → Bool) → (Link → List ℕ)
@@ -27,12 +27,12 @@ ArePoolOf below same trail candidates labels =
     IsPool below same ranks_at_most (λ v w. Member candidates (v, w)) (map (shown trail) labels)
 
 -- the label's link leads to a label, and its value counts the duties of its walk
-pub record IsCounted {V : Type 0} (count : V → ℤ) (leads : Link → Type 0) (trail : Link → List ℕ)
+pub record IsCounted {V : Type 0} (count : V → ℤ) (leads : Link → Bool) (trail : Link → List ℕ)
     (l : Label V) : Type 0 where
   pub leading : Leads leads l.before
   pub counts : count l.value ≡ pos (length (walk_of trail l.before))
 
-abbrev pub AreCounted : {V : Type 0} → (V → ℤ) → (Link → Type 0) → (Link → List ℕ)
+abbrev pub AreCounted : {V : Type 0} → (V → ℤ) → (Link → Bool) → (Link → List ℕ)
     → List (Label V) → Type 0
 AreCounted {V} count leads trail labels = (l : Label V) → Member labels l
     → IsCounted count leads trail l

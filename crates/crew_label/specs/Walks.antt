@@ -1,5 +1,5 @@
 -- Walks that are read along links.
-use Rattle.std.specs.Prelude.{ℕ, Bool, List, [], Option, Some, None}
+use Rattle.std.specs.Prelude.{◌≡◌, ℕ, Bool, true, List, [], Option, Some, None}
 use Rattle.std.specs.Cmp.Lexicographic.{slice_cmp}
 use Rattle.std.specs.Ordering.{is_le, nat_cmp}
 use Rattle.crew_label.specs.declared.label.Label.{Label}
@@ -11,9 +11,9 @@ walk_of trail None = []
 walk_of trail (Some link) = trail link
 
 -- the link, if there is one, leads to a label
-abbrev pub Leads : (Link → Type 0) → Option Link → Type 0
+abbrev pub Leads : (Link → Bool) → Option Link → Type 0
 Leads leads None = Unit {0}
-Leads leads (Some link) = leads link
+Leads leads (Some link) = leads link ≡ true
 
 -- a label's value and walk
 abbrev pub shown : {V : Type 0} → (Link → List ℕ) → Label V → V × List ℕ

@@ -7,6 +7,8 @@
 //! walks (`crew_forgetful`), so a resource may forget a part of its values.
 #![tactic(auto)]
 
+mod board;
+mod gather;
 mod interleave;
 mod label;
 mod merge;
@@ -15,6 +17,7 @@ mod room;
 mod stand;
 mod trails;
 
+pub use board::{board_pool, wait_pool};
 pub use label::{Label, Link};
 pub use pool::Pool;
 pub use room::Room;

@@ -2,13 +2,14 @@
 ghost use Rattle.std.specs.Prelude.{◌≡◌, ◌⊎◌, ◌++◌, ℕ, List, OnOk};
 ghost use Rattle.crew_resource.specs.Members.{Member};
 ghost use Rattle.crew_forgetful.specs.Sweeps.{TellCount};
+ghost use Rattle.crew_label.specs.Machinery.Rules.{same_by};
 ghost use Rattle.crew_label.specs.Pools.{AreCounted, ArePoolOf, AreRising};
 ghost use Rattle.crew_label.specs.declared.label.Label.{Label};
 
 use crate::interleave::interleave;
 use crate::label::Label;
 use crate::room::Room;
-use crate::stand::take_free;
+use crate::stand::{Rule, take_free};
 use crate::trails::Trails;
 use crew_forgetful::Forgets;
 use crew_resource::{Placed, Resource};
@@ -19,6 +20,7 @@ use std::alloc::AllocError;
 pub(crate) fn merge_lists<P: Placed, R: Forgets<P>, T: Trails>(
     resource: &R,
     trails: &T,
+    rule: Rule,
     room: &mut Room<R::Value>,
     one: &[Label<R::Value>],
     two: &[Label<R::Value>],
@@ -32,15 +34,15 @@ pub(crate) fn merge_lists<P: Placed, R: Forgets<P>, T: Trails>(
         (T.trail trails.now) two.now }
     ensures rises { OnOk result (AreRising R.Value.cmp room.new.whole.items) }
     ensures pool { OnOk result ((firsts seconds : List (R.Value × List ℕ))
-        → ArePoolOf R.below R.same_sums (T.trail trails.now) firsts one.now
-        → ArePoolOf R.below R.same_sums (T.trail trails.now) seconds two.now
-        → ArePoolOf R.below R.same_sums (T.trail trails.now) (firsts ++ seconds)
+        → ArePoolOf R.below (same_by R.below R.same_sums rule) (T.trail trails.now) firsts one.now
+        → ArePoolOf R.below (same_by R.below R.same_sums rule) (T.trail trails.now) seconds two.now
+        → ArePoolOf R.below (same_by R.below R.same_sums rule) (T.trail trails.now) (firsts ++ seconds)
         room.new.whole.items) }
     ensures from { OnOk result ((l : Label R.Value) → Member room.new.whole.items l
         → Member one.now l ⊎ Member two.now l) }
 {
-    take_free::<P, R, T>(resource, trails, &mut room.free, two, one)?;
-    take_free::<P, R, T>(resource, trails, &mut room.kept, one, &room.free)?;
+    take_free::<P, R, T>(resource, trails, rule, &mut room.free, two, one)?;
+    take_free::<P, R, T>(resource, trails, rule, &mut room.kept, one, &room.free)?;
     interleave(resource, &mut room.whole, &room.kept, &room.free)?;
     Ok(())
 }

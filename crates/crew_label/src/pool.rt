@@ -1,13 +1,17 @@
 //! Pools.
-ghost use Rattle.std.specs.Prelude.{◌≡◌, ◌↔◌, ◌⊎◌, ◌++◌, ℕ, List, [], length, slice_get, IsTrue, MatchOption, None, Some, OnOk, OnErr};
+ghost use Rattle.std.specs.Prelude.{◌≡◌, ◌↔◌, ◌⊎◌, ◌++◌, ℕ, List, [], length, slice_get, IsTrue, MatchOption, None, Some, map, IfOk, OnOk, OnErr};
+ghost use Rattle.crew_resource.specs.Labels.{IsLocal};
 ghost use Rattle.crew_resource.specs.Members.{Member};
 ghost use Rattle.crew_forgetful.specs.Sweeps.{TellCount};
 ghost use Rattle.crew_label.specs.Pools.{AreCounted, ArePoolOf, AreRising};
+ghost use Rattle.crew_label.specs.Walks.{ranks_at_most, shown};
 ghost use Rattle.crew_label.specs.declared.label.Label.{Label};
 
+use crate::gather::gather;
 use crate::label::Label;
 use crate::merge::merge_lists;
 use crate::room::Room;
+use crate::stand::Rule;
 use crate::trails::Trails;
 use crew_forgetful::Forgets;
 use crew_resource::{Placed, Resource};
@@ -111,11 +115,58 @@ impl<R: Resource> Pool<R> {
         merge_lists::<P, R, T>(
             resource,
             trails,
+            Rule::Sums,
             room,
             self.labels.as_slice(),
             list.as_slice(),
         )?;
         swap(&mut self.labels, &mut room.whole);
         Ok(())
+    }
+
+    /// The pool of any labels, as of those that have waited.
+    pub fn of_labels<P: Placed, T: Trails>(
+        alloc: Global,
+        resource: &R,
+        trails: &T,
+        labels: &[Label<R::Value>],
+    ) -> Result<Self, AllocError>
+    where
+        R: Forgets<P>,
+        requires tell { TellCount R.same_sums (R.count_of resource.now) }
+        requires counts { AreCounted (R.count_of resource.now) (T.leads trails.now)
+            (T.trail trails.now) labels.now }
+        ensures pool { IfOk result (λ pool. ArePoolOf R.below R.same_sums (T.trail trails.now)
+            (map (shown (T.trail trails.now)) labels.now) pool) }
+        ensures from { IfOk result (λ pool. (l : Label R.Value) → Member pool l
+            → Member labels.now l) }
+    {
+        let labels = gather::<P, R, T>(alloc, resource, trails, Rule::Sums, labels)?;
+        Ok(Pool { labels })
+    }
+
+    /// The front of any labels, as of a view: what dominance by values leaves of them, each value
+    /// with its least walk. It is a pool of its own labels, and so may be merged.
+    pub fn front_of<P: Placed, T: Trails>(
+        alloc: Global,
+        resource: &R,
+        trails: &T,
+        labels: &[Label<R::Value>],
+    ) -> Result<Self, AllocError>
+    where
+        R: Forgets<P>,
+        requires tell { TellCount R.same_sums (R.count_of resource.now) }
+        requires counts { AreCounted (R.count_of resource.now) (T.leads trails.now)
+            (T.trail trails.now) labels.now }
+        ensures front { IfOk result (λ front. IsLocal R.below ranks_at_most
+            (λ v w. Member (map (shown (T.trail trails.now)) labels.now) (v, w))
+            (map (shown (T.trail trails.now)) front)) }
+        ensures itself { IfOk result (λ front. ArePoolOf R.below R.same_sums (T.trail trails.now)
+            (map (shown (T.trail trails.now)) front) front) }
+        ensures from { IfOk result (λ front. (l : Label R.Value) → Member front l
+            → Member labels.now l) }
+    {
+        let labels = gather::<P, R, T>(alloc, resource, trails, Rule::Values, labels)?;
+        Ok(Pool { labels })
     }
 }

@@ -2,6 +2,7 @@
 ghost use Rattle.std.specs.Prelude.{◌≡◌, List, [], ◌∷◌, ◌++◌, not, OnOk};
 ghost use Rattle.std.specs.List.{filter, list_any};
 ghost use Rattle.crew_forgetful.specs.Sweeps.{TellCount};
+ghost use Rattle.crew_label.specs.Machinery.Rules.{same_by};
 ghost use Rattle.crew_label.specs.Pools.{AreCounted, IsCounted, stands_label};
 
 use crate::label::Label;
@@ -10,11 +11,30 @@ use crew_forgetful::Forgets;
 use crew_resource::{Placed, Resource};
 use std::alloc::AllocError;
 
-// Whether a label may stand for another: its value is at most the other's, and its walk too unless
-// their sums differ. Walks are compared only then.
+// Where a label that stands for another must have the lesser walk: at values with the same sums, as
+// at an event, or only at the same value, as in a front.
+#[derive(Clone, Copy)]
+pub(crate) enum Rule {
+    Sums,
+    Values,
+}
+
+// Whether walks decide between two values.
+fn is_same<P: Placed, R: Forgets<P>>(resource: &R, rule: Rule, a: &R::Value, b: &R::Value) -> bool
+    ensures { result ≡ same_by R.below R.same_sums rule a.now b.now }
+{
+    match rule {
+        Rule::Sums => resource.has_same_sums(a, b),
+        Rule::Values => resource.at_most(a, b) && resource.at_most(b, a),
+    }
+}
+
+// Whether a label may stand for another: its value is at most the other's, and its walk too where
+// the rule asks it. Walks are compared only there.
 fn may_stand<P: Placed, R: Forgets<P>, T: Trails>(
     resource: &R,
     trails: &T,
+    rule: Rule,
     a: &Label<R::Value>,
     b: &Label<R::Value>,
 ) -> bool
@@ -23,10 +43,10 @@ fn may_stand<P: Placed, R: Forgets<P>, T: Trails>(
         (T.trail trails.now) a.now }
     requires second { IsCounted (R.count_of resource.now) (T.leads trails.now)
         (T.trail trails.now) b.now }
-    ensures { result ≡ stands_label R.below R.same_sums (T.trail trails.now) a.now b.now }
+    ensures { result ≡ stands_label R.below (same_by R.below R.same_sums rule) (T.trail trails.now) a.now b.now }
 {
     resource.at_most(&a.value, &b.value)
-        && (!resource.has_same_sums(&a.value, &b.value)
+        && (!is_same::<P, R>(resource, rule, &a.value, &b.value)
             || walk_at_most(trails, a.before, b.before))
 }
 
@@ -34,6 +54,7 @@ fn may_stand<P: Placed, R: Forgets<P>, T: Trails>(
 fn is_reached<P: Placed, R: Forgets<P>, T: Trails>(
     resource: &R,
     trails: &T,
+    rule: Rule,
     labels: &[Label<R::Value>],
     label: &Label<R::Value>,
 ) -> bool
@@ -43,10 +64,10 @@ fn is_reached<P: Placed, R: Forgets<P>, T: Trails>(
     requires label { IsCounted (R.count_of resource.now) (T.leads trails.now)
         (T.trail trails.now) label.now }
     ensures { result ≡ list_any
-        (λ l. stands_label R.below R.same_sums (T.trail trails.now) l label.now) labels.now }
+        (λ l. stands_label R.below (same_by R.below R.same_sums rule) (T.trail trails.now) l label.now) labels.now }
 {
     for held in labels {
-        if may_stand::<P, R, T>(resource, trails, held, label) {
+        if may_stand::<P, R, T>(resource, trails, rule, held, label) {
             return true;
         }
     }
@@ -57,6 +78,7 @@ fn is_reached<P: Placed, R: Forgets<P>, T: Trails>(
 pub(crate) fn take_free<P: Placed, R: Forgets<P>, T: Trails>(
     resource: &R,
     trails: &T,
+    rule: Rule,
     free: &mut Vec<Label<R::Value>>,
     list: &[Label<R::Value>],
     others: &[Label<R::Value>],
@@ -67,11 +89,11 @@ pub(crate) fn take_free<P: Placed, R: Forgets<P>, T: Trails>(
     requires others { AreCounted (R.count_of resource.now) (T.leads trails.now)
         (T.trail trails.now) others.now }
     ensures { OnOk result (free.new.items ≡ filter (λ m. not (list_any
-        (λ l. stands_label R.below R.same_sums (T.trail trails.now) l m) others.now)) list.now) }
+        (λ l. stands_label R.below (same_by R.below R.same_sums rule) (T.trail trails.now) l m) others.now)) list.now) }
 {
     free.clear();
     for label in list {
-        if !is_reached::<P, R, T>(resource, trails, others, label) {
+        if !is_reached::<P, R, T>(resource, trails, rule, others, label) {
             push_copy(resource, free, label)?;
         }
     }

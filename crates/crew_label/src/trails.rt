@@ -1,5 +1,5 @@
 //! Walks, read along links.
-ghost use Rattle.std.specs.Prelude.{◌≡◌, ◌↔◌, ℕ, List, [], ◌∷◌, ◌++◌, length, IsTrue};
+ghost use Rattle.std.specs.Prelude.{◌≡◌, ◌↔◌, ℕ, Bool, true, List, [], ◌∷◌, ◌++◌, length, IsTrue};
 ghost use Rattle.std.specs.Cmp.Lexicographic.{slice_cmp};
 ghost use Rattle.std.specs.Ordering.{nat_cmp};
 ghost use Rattle.crew_label.specs.Walks.{Leads, walk_of, ranks_at_most};
@@ -12,14 +12,14 @@ pub trait Trails {
     ghost use Rattle.crew_label.specs.declared.label.Link.{Link};
 
     /// The link leads to a label.
-    ghost leads: { Self → Link → Type 0 };
+    ghost leads: { Self → Link → Bool };
 
     /// The walk that ends with the link, duty by duty, by rank.
     ghost trail: { Self → Link → List ℕ };
 
     /// What the walk of the label that a link leads to ends with.
     fn before(&self, link: Link) -> Option<Link>
-        requires { leads self.now link }
+        requires { leads self.now link ≡ true }
         ensures walk { trail self.now link ≡ walk_of (trail self.now) result ++ link.duty ∷ [] }
         ensures leads { Leads (leads self.now) result };
 }
