@@ -1,10 +1,9 @@
 -- Fronts are pools of their own labels.
-use Rattle.std.proofs.Common.{◌≡◌, ℕ, Bool, true, List, map}
+use Rattle.std.proofs.Common.{◌≡◌, ℕ, Bool, true, List}
 use Rattle.std.proofs.lemmas.Bool.{and_parts}
 use Rattle.crew_resource.specs.Labels.{IsLocal}
 use Rattle.crew_resource.specs.Members.{Member}
 use Rattle.crew_resource.specs.Resource.{OrderLaws}
-use Rattle.crew_resource.proofs.Order.{IsOrder}
 use Rattle.crew_resource.proofs.Values.{below_order}
 use Rattle.std.specs.declared.cmp.Ordering.{Ordering}
 use Rattle.crew_forgetful.specs.Forgetful.{IsPool}

@@ -1,12 +1,11 @@
 -- The halves of a list, and lists of at most one label.
-use Rattle.std.proofs.Common.{◌≡◌, ℕ, ◌<◌, ◌≤◌, ◌-◌, ◌/◌, Bool, true, List, [], ◌∷◌, ◌++◌, inl, inr, length, map, take, drop, refl, sym, ◌∙◌, ap, subst, arith, Ordering, length-drop, length-take}
+use Rattle.std.proofs.Common.{◌≡◌, ℕ, ◌<◌, ◌≤◌, ◌-◌, ◌/◌, Bool, true, List, [], ◌∷◌, ◌++◌, inl, inr, length, map, take, drop, sym, ◌∙◌, ap, subst, arith, Ordering, length-drop, length-take}
 use Rattle.std.proofs.lemmas.List.{take_all, take-append-drop, map-append}
 use Rattle.crew_resource.specs.Members.{Member}
 use Rattle.crew_resource.proofs.Members.{Member-append_left, Member-append_right, Member-map_out}
 use Rattle.crew_resource.proofs.Order.{IsOrder}
-use Rattle.crew_forgetful.specs.Forgetful.{IsPool, StandsFor}
 use Rattle.crew_forgetful.proofs.Covered.{stands_refl}
-use Rattle.crew_label.specs.Walks.{ranks_at_most, shown, walk_of}
+use Rattle.crew_label.specs.Walks.{ranks_at_most, shown}
 use Rattle.crew_label.specs.Pools.{ArePoolOf, AreRising}
 use Rattle.crew_label.specs.declared.label.Label.{Label}
 use Rattle.crew_label.specs.declared.label.Link.{Link}

@@ -1,5 +1,5 @@
 -- Two lists of labels that rise, as one: the labels that are left, label by label.
-use Rattle.std.proofs.Common.{◌≡◌, ℕ, Bool, true, false, suc, ◌+◌, ◌-◌, ◌<◌, ◌≤◌, List, [], ◌∷◌, ◌++◌, ◌⊎◌, length, get_or, drop, Option, Some, inl, inr, refl, sym, ◌∙◌, ap, subst, ⊎_elim, arith, length-drop, Ordering}
+use Rattle.std.proofs.Common.{◌≡◌, ℕ, true, false, suc, ◌+◌, ◌-◌, ◌<◌, ◌≤◌, List, [], ◌∷◌, ◌++◌, length, get_or, drop, Some, inl, inr, refl, sym, ◌∙◌, ap, subst, ⊎_elim, arith, length-drop, Ordering}
 use Rattle.std.specs.Prelude.{slice_get}
 use Rattle.std.specs.Cmp.{IsTotalOrder}
 use Rattle.std.specs.Ordering.{is_lt, ordering_reverse}
@@ -8,10 +8,10 @@ use Rattle.std.specs.declared.cmp.Ordering.TheVariants.{Less, Equal, Greater}
 use Rattle.std.proofs.Math.Seq.{drop-cons}
 use Rattle.std.proofs.lemmas.Grind.{common_steps}
 use Rattle.std.proofs.lemmas.Option.{slice_get-get_or}
-use Rattle.crew_resource.specs.Members.{Each, Member}
+use Rattle.crew_resource.specs.Members.{Member}
 use Rattle.crew_resource.proofs.Members.{Member-append, Member-append_left, Member-append_right}
 use Rattle.crew_label.specs.Pools.{AreRising}
-use Rattle.crew_label.specs.Machinery.Merges.{AllBefore, ComesFirst, IsMerged, IsMerging}
+use Rattle.crew_label.specs.Machinery.Merges.{ComesFirst, IsMerged, IsMerging}
 use Rattle.crew_label.specs.declared.label.Label.{Label}
 use Rattle.crew_label.proofs.RisingLists.{each-member, rising-append}
 

@@ -7,3 +7,4 @@ pub mod MergedPools
 pub mod Halves
 pub mod FrontPools
 pub mod Boarded
+pub mod Tabled

@@ -2,7 +2,6 @@
 use Rattle.std.proofs.Common.{◌≡◌, ℕ, Bool, true, Ordering, pos, ap}
 use Rattle.std.proofs.lemmas.Bool.{and_from, and_parts}
 use Rattle.crew_resource.specs.Resource.{OrderLaws}
-use Rattle.crew_forgetful.specs.Machinery.Sums.{is_same}
 use Rattle.crew_label.specs.Machinery.Rules.{same_by}
 use Rattle.crew_label.specs.declared.stand.Rule.{Rule}
 use Rattle.crew_label.specs.declared.stand.Rule.TheVariants.{Sums, Values}

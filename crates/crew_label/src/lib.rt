@@ -15,10 +15,12 @@ mod merge;
 mod pool;
 mod room;
 mod stand;
+mod table;
 mod trails;
 
 pub use board::{board_pool, wait_pool};
 pub use label::{Label, Link};
 pub use pool::Pool;
 pub use room::Room;
+pub use table::Table;
 pub use trails::{Trails, compare_walks};

@@ -1,9 +1,9 @@
-use Rattle.std.proofs.Common.{◌≡◌, ◌<◌, ◌≤◌, ◌/◌, ℕ, List, ◌++◌, ◌⊎◌, inl, inr, length, map, take, drop, sym, ◌∙◌, ap, subst, ⊎_elim, arith}
+use Rattle.std.proofs.Common.{◌<◌, ℕ, List, length, map, sym, subst, ⊎_elim, arith}
 use Rattle.std.proofs.lemmas.Result.{IfOk-weaker}
 use Rattle.crew_resource.specs.Members.{Member}
 use Rattle.crew_resource.proofs.Values.{below_order}
 use Rattle.crew_label.specs.Machinery.Rules.{same_by}
-use Rattle.crew_label.specs.Pools.{AreCounted, ArePoolOf, AreRising, IsCounted}
+use Rattle.crew_label.specs.Pools.{AreCounted, ArePoolOf, AreRising}
 use Rattle.crew_label.specs.Walks.{shown}
 use Rattle.crew_label.specs.declared.label.Label.{Label}
 use Rattle.crew_label.proofs.Halves.{few_pool, few_rise, first_half, second_half, halves, shorter_first, shorter_second, member_first, member_second}

@@ -1,7 +1,7 @@
-use Rattle.std.proofs.Common.{◌≡◌, ◌<◌, ◌+◌, List, drop, length, refl, sym, subst, arith}
+use Rattle.std.proofs.Common.{◌<◌, ◌+◌, List, drop, length, refl, sym, subst, arith}
 use Rattle.crew_label.specs.Machinery.Merges.{IsMerging}
 use Rattle.crew_label.specs.declared.label.Label.{Label}
-use Rattle.crew_label.proofs.Interleaved.{merged-all, merging-at, merging-none, merging-turned}
+use Rattle.crew_label.proofs.Interleaved.{merging-at, merging-turned}
 use Rattle.crew_label.proofs.interleave.interleave.Goals as goal
 
 pub loop-i-preserved-then-is_from_one : goal.loop-i-preserved-then-is_from_one

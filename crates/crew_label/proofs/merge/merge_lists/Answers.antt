@@ -1,8 +1,8 @@
-use Rattle.std.proofs.Common.{◌≡◌, List, inl, inr, sym, ◌∙◌, ap, subst, ⊎_elim}
+use Rattle.std.proofs.Common.{List, inl, inr, sym, ◌∙◌, ap, subst, ⊎_elim}
 use Rattle.crew_resource.specs.Members.{Member}
 use Rattle.crew_resource.proofs.Values.{below_order}
 use Rattle.crew_label.specs.Machinery.Rules.{same_by}
-use Rattle.crew_label.specs.Pools.{AreCounted, AreRising, stands_label}
+use Rattle.crew_label.specs.Pools.{AreRising}
 use Rattle.crew_label.specs.declared.label.Label.{Label}
 use Rattle.crew_label.proofs.MergedPools.{free_of, free_out, kept_apart, merged_pool, rising_free}
 use Rattle.crew_label.proofs.RuleLaws.{rule_laws}

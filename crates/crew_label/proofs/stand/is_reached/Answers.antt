@@ -1,8 +1,5 @@
-use Rattle.std.proofs.Common.{◌≡◌, Bool, true, false, sym, ◌∙◌}
+use Rattle.std.proofs.Common.{sym}
 use Rattle.crew_resource.proofs.Members.{Member-get_or}
-use Rattle.crew_label.proofs.Listed.{any_all, any_here, any_more}
-use Rattle.crew_label.specs.Pools.{stands_label}
-use Rattle.crew_label.specs.declared.label.Label.{Label}
 use Rattle.crew_label.proofs.stand.is_reached.Goals as goal
 
 pub may_stand-requires-clause-first : goal.may_stand-requires-clause-first

@@ -1,4 +1,4 @@
-use Rattle.std.proofs.Common.{◌≡◌, length, pos, sym, ◌∙◌}
+use Rattle.std.proofs.Common.{length, sym, ◌∙◌}
 use Rattle.crew_label.specs.Walks.{walk_of}
 use Rattle.crew_label.proofs.RuleLaws.{as_long, rule_tells}
 use Rattle.crew_label.proofs.stand.may_stand.Goals as goal

@@ -1,5 +1,5 @@
-use Rattle.std.proofs.Common.{◌≡◌, Bool, true, false, not, List, [], ◌∷◌, ◌++◌, Vec, Global, sym, ◌∙◌, ap}
-use Rattle.std.specs.List.{filter, list_any}
+use Rattle.std.proofs.Common.{not, List, [], ◌∷◌, ◌++◌, Vec, Global, sym, ◌∙◌, ap}
+use Rattle.std.specs.List.{list_any}
 use Rattle.std.proofs.lemmas.Bool.{not_from_false}
 use Rattle.crew_resource.proofs.Members.{Member-get_or}
 use Rattle.crew_label.specs.Machinery.Rules.{same_by}
