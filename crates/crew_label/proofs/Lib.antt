@@ -8,3 +8,4 @@ pub mod Halves
 pub mod FrontPools
 pub mod Boarded
 pub mod Tabled
+pub mod Shifts

@@ -11,6 +11,7 @@ mod board;
 mod gather;
 mod interleave;
 mod label;
+pub mod laws;
 mod merge;
 mod pool;
 mod room;

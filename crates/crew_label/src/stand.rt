@@ -43,7 +43,8 @@ fn may_stand<P: Placed, R: Forgets<P>, T: Trails>(
         (T.trail trails.now) a.now }
     requires second { IsCounted (R.count_of resource.now) (T.leads trails.now)
         (T.trail trails.now) b.now }
-    ensures { result ≡ stands_label R.below (same_by R.below R.same_sums rule) (T.trail trails.now) a.now b.now }
+    ensures { result ≡ stands_label R.below (same_by R.below R.same_sums rule)
+        (T.trail trails.now) a.now b.now }
 {
     resource.at_most(&a.value, &b.value)
         && (!is_same::<P, R>(resource, rule, &a.value, &b.value)
@@ -64,7 +65,8 @@ fn is_reached<P: Placed, R: Forgets<P>, T: Trails>(
     requires label { IsCounted (R.count_of resource.now) (T.leads trails.now)
         (T.trail trails.now) label.now }
     ensures { result ≡ list_any
-        (λ l. stands_label R.below (same_by R.below R.same_sums rule) (T.trail trails.now) l label.now) labels.now }
+        (λ l. stands_label R.below (same_by R.below R.same_sums rule) (T.trail trails.now) l
+        label.now) labels.now }
 {
     for held in labels {
         if may_stand::<P, R, T>(resource, trails, rule, held, label) {
@@ -89,7 +91,8 @@ pub(crate) fn take_free<P: Placed, R: Forgets<P>, T: Trails>(
     requires others { AreCounted (R.count_of resource.now) (T.leads trails.now)
         (T.trail trails.now) others.now }
     ensures { OnOk result (free.new.items ≡ filter (λ m. not (list_any
-        (λ l. stands_label R.below (same_by R.below R.same_sums rule) (T.trail trails.now) l m) others.now)) list.now) }
+        (λ l. stands_label R.below (same_by R.below R.same_sums rule) (T.trail trails.now) l m)
+        others.now)) list.now) }
 {
     free.clear();
     for label in list {
