@@ -15,8 +15,8 @@ use crew_forgetful::Forgets;
 use crew_resource::{Placed, Resource};
 use std::alloc::AllocError;
 
-// Merges two lists of labels that rise into the room's whole list: of the second one those for which
-// none of the first may stand, and of the first those for which none of these may.
+// Merges two lists of labels that rise into the room's whole list: of the second one those for
+// which none of the first may stand, and of the first those for which none of these may.
 pub(crate) fn merge_lists<P: Placed, R: Forgets<P>, T: Trails>(
     resource: &R,
     trails: &T,
