@@ -1,0 +1,11 @@
+pub mod WalkOrder
+pub mod Listed
+pub mod RisingLists
+pub mod Interleaved
+pub mod RuleLaws
+pub mod MergedPools
+pub mod Halves
+pub mod FrontPools
+pub mod Boarded
+pub mod Tabled
+pub mod Shifts

@@ -1,0 +1,29 @@
+use Rattle.std.proofs.Common.{List, sym, ◌∙◌, subst}
+use Rattle.crew_resource.specs.Members.{Member}
+use Rattle.crew_resource.proofs.Members.{Member-get_or}
+use Rattle.crew_label.specs.Boarding.{waited_label}
+use Rattle.crew_label.specs.Pools.{AreCounted, AreRising}
+use Rattle.crew_label.specs.declared.label.Label.{Label}
+use Rattle.crew_label.proofs.Boarded.{waited_counted, waited_rises}
+use Rattle.crew_label.proofs.Listed.{mapped_all}
+use Rattle.crew_label.proofs.board.wait_pool.Goals as goal
+
+pub wait-value-requires : goal.wait-value-requires
+wait-value-requires g c =
+    c.requires c.label-item.result (subst (λ (ls : List (Label g.row.R-Value.Denot)). Member ls c.label-item.result) c.as_slice-label-items.ensures.all
+    (Member-get_or c.as_slice-label-items.result.now c.loop-label.label-index c.label-item.result c.loop-label-test.true (sym c.label-item.is)))
+
+pub returns-clause-counts : goal.returns-clause-counts
+returns-clause-counts g c most leads trail m h =
+    let r = c.args.resource.now in
+    let wait = λ (v : g.row.R-Value.Denot). g.R.Staged.waited r v c.args.arrival.now c.args.departure.now in
+    let count = g.R.Staged.count_of r in
+    subst (AreCounted count leads trail) (sym (c.loop-label.invariant ∙ mapped_all (waited_label wait) c.as_slice-label-items.result.now c.args.pool.now c.loop-label.label-index c.as_slice-label-items.ensures.all c.loop-label-test.false))
+    (waited_counted wait count (λ v. (g.met.R.Staged.counting r most m).none_more v c.args.arrival.now c.args.departure.now) leads trail c.args.pool.now h)
+
+pub returns-clause-rises : goal.returns-clause-rises
+returns-clause-rises g c s =
+    let r = c.args.resource.now in
+    let wait = λ (v : g.row.R-Value.Denot). g.R.Staged.waited r v c.args.arrival.now c.args.departure.now in
+    subst (AreRising g.R.Value.Ord.cmp) (sym (c.loop-label.invariant ∙ mapped_all (waited_label wait) c.as_slice-label-items.result.now c.args.pool.now c.loop-label.label-index c.as_slice-label-items.ensures.all c.loop-label-test.false))
+    (waited_rises wait g.R.Value.Ord.cmp (λ a b. (g.met.R.Staged.shifting r s).wait_listed a b c.args.arrival.now c.args.departure.now) c.args.pool.now c.as_slice-label-items.ensures.rises)

@@ -1,0 +1,5 @@
+pub mod Walks
+pub mod Pools
+pub mod Boarding
+pub mod Tables
+pub mod Machinery

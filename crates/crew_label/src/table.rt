@@ -1,0 +1,106 @@
+//! The pools of departures, as a table.
+ghost use Rattle.std.specs.Prelude.{◌≡◌, ◌++◌, ◌∷◌, [], ℕ, List, Some, None, length, map, slice_get, ◌<◌, true, MatchOption, OnOk, OnErr};
+ghost use Rattle.std.specs.Arc.{arc_value};
+ghost use Rattle.crew_resource.specs.Members.{Member};
+ghost use Rattle.crew_label.specs.Boarding.{LeadInto};
+ghost use Rattle.crew_label.specs.Tables.{AreLinked, Tabled, leads_in, trail_in};
+ghost use Rattle.crew_label.specs.Walks.{Leads};
+ghost use Rattle.crew_label.specs.declared.label.Label.{Label};
+ghost use Rattle.crew_label.specs.declared.label.Link.{Link};
+
+use crate::label::Link;
+use crate::pool::Pool;
+use crate::trails::Trails;
+use crew_resource::Resource;
+use std::alloc::{AllocError, Global};
+use std::marker::Model;
+use std::sync::Arc;
+
+/// The pools of departures, in order: each is shared, and leads to labels of earlier ones.
+///
+/// A contract sees for each duty by rank the departure that it leaves from, and the pools.
+#[derive(Drop)]
+pub struct Table<'a, R: Resource> {
+    leaves: &'a [u32],
+    pools: Vec<Arc<Pool<R>, Global>>,
+}
+
+impl<'a, R: Resource> Model for Table<'a, R> {
+    ghost Value = { Tabled R.Value };
+
+    ghost view = { λ t. record { leaves = t.leaves.now; pools = map arc_value t.pools.items } };
+
+    ghost invariant = { λ t. AreLinked t.leaves.now [] (map arc_value t.pools.items) };
+}
+
+impl<'a, R: Resource> Table<'a, R> {
+    /// No pools yet, over duties that leave from these departures.
+    pub fn new(alloc: Global, leaves: &'a [u32]) -> Self
+        ensures { result ≡ record { leaves = leaves.now; pools = [] } }
+    {
+        Table {
+            leaves,
+            pools: Vec::new(alloc),
+        }
+    }
+
+    /// How many departures have their pools.
+    pub fn len(&self) -> usize
+        ensures { result ≡ length self.now.pools }
+    {
+        self.pools.len()
+    }
+
+    /// The pool of a departure.
+    pub fn get(&self, departure: usize) -> Option<&Arc<Pool<R>, Global>>
+        ensures { MatchOption result (slice_get self.now.pools departure ≡ None)
+            (λ pool. slice_get self.now.pools departure ≡ Some (arc_value pool.now)) }
+    {
+        self.pools.get(departure)
+    }
+
+    /// The next departure's pool, whose labels lead to earlier departures.
+    ///
+    /// What led to a label leads to it still, with the same walk, and the links of the duties that
+    /// leave from this departure lead to its labels. On want of memory nothing changes.
+    pub fn add(&mut self, pool: Arc<Pool<R>, Global>) -> Result<(), AllocError>
+        requires { (l : Label R.Value) → Member (arc_value pool) l
+            → Leads (leads_in self.old.leaves self.old.pools) l.before }
+        ensures added { OnOk result (self.new ≡ record {
+          leaves = self.old.leaves;
+          pools = self.old.pools ++ arc_value pool ∷ [];
+        }) }
+        ensures stays { OnOk result ((link : Link)
+            → leads_in self.old.leaves self.old.pools link ≡ true
+            → (leads_in self.new.leaves self.new.pools link ≡ true)
+            × (trail_in self.new.leaves self.new.pools link
+            ≡ trail_in self.old.leaves self.old.pools link)) }
+        ensures into { OnOk result ((duty : ℕ)
+            → slice_get self.old.leaves duty ≡ Some (length self.old.pools)
+            → LeadInto (leads_in self.new.leaves self.new.pools)
+            (trail_in self.new.leaves self.new.pools) duty (arc_value pool)) }
+        ensures err { OnErr result (self.new ≡ self.old) }
+    {
+        self.pools.push(pool)?;
+        Ok(())
+    }
+}
+
+impl<'a, R: Resource> Trails for Table<'a, R> {
+    ghost leads = { λ t link. leads_in t.leaves t.pools link };
+
+    ghost trail = { λ t link. trail_in t.leaves t.pools link };
+
+    fn before(&self, link: Link) -> Option<Link> {
+        let departure = self.leaves[link.duty as usize];
+        before_of(&self.pools[departure as usize], link.place)
+    }
+}
+
+// What the walk of a pool's label ends with.
+fn before_of<R: Resource>(pool: &Pool<R>, place: u32) -> Option<Link>
+    requires { place < length pool.now }
+    ensures { (l : Label R.Value) → slice_get pool.now place ≡ Some l → result ≡ l.before }
+{
+    pool.as_slice()[place as usize].before
+}
