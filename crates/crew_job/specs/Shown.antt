@@ -4,6 +4,8 @@ use Rattle.crew_flights.specs.Timetable.{Timetable}
 use Rattle.crew_job.specs.Grounds.{Ground, data_of, node_at, nodes_in, sealed_data_of}
 use Rattle.crew_machine.specs.Crew.{DutyNode, Entries, IsFrontOf, IsNodeOf, MayPrecede, crew}
 use Rattle.crew_machine.specs.Worlds.{IsBefore}
+use Rattle.crew_pairing.specs.Events.{departure_of}
+use Rattle.crew_pairing.specs.declared.events.Departure.{Departure}
 use Rattle.crew_resource.specs.Members.{Member}
 use Rattle.crew_rules.specs.declared.settings.Settings.{Settings}
 use Rattle.crew_sweep.specs.Sweeps.{BaseSweep, front_at}
@@ -22,6 +24,14 @@ pub record IsAsSealed (g : Ground) (n : DutyNode) : Type 0 where
   pub there : IsNodeOf g.settings (sealed_data_of g) n
   pub front : (f : Entries) → IsFrontOf g.settings (sealed_data_of g) n f
       → IsFrontOf g.settings (data_of g) n f
+
+-- where duties leave at a departure, each node of the base that the version before the round has too
+-- has the same front in both
+abbrev pub LeavesAsSealed : Ground → List ℕ → Departure → Type 0
+LeavesAsSealed g base at = (n : DutyNode) → n.base ≡ base → departure_of n.duty ≡ at
+    → IsNodeOf g.settings (sealed_data_of g) n
+    → (f : Entries) → IsFrontOf g.settings (data_of g) n f
+    → IsFrontOf g.settings (sealed_data_of g) n f
 
 -- what shows a node's front is right: a sweep, or none where the version before has the same front
 abbrev pub IsShown : Ground → DutyNode → Option BaseSweep → Type 0

@@ -2,6 +2,7 @@
 ghost use Rattle.std.specs.Arc.{arc_value};
 ghost use Rattle.std.specs.Option.{option_copied};
 ghost use Rattle.std.specs.Prelude.{◌≡◌, IfOk, IfSome, None, map};
+ghost use Rattle.crew_pairing.specs.declared.duty.Duty.{Duty as DutyOf};
 ghost use Rattle.crew_resource.specs.Members.{Each, Member};
 ghost use Rattle.crew_flights.specs.Timetable.{IsSound, Timetable};
 ghost use Rattle.crew_rules.specs.Settings.{IsChecked};
@@ -10,6 +11,7 @@ ghost use Rattle.crew_solve.specs.Apart.{AreApart};
 ghost use Rattle.crew_solve.specs.Cheapest.{AreCheapest};
 ghost use Rattle.crew_solve.specs.Plans.{AreSweepsIn, IsSolutionIn};
 ghost use Rattle.crew_solve.specs.Solutions.{HasNetOf, IsFrontOf, front_of};
+ghost use Rattle.crew_sweep.specs.Sweeps.{front_at};
 ghost use Rattle.crew_vector.specs.Bests.{AreFronts};
 
 use crate::apart::apart_of;
@@ -136,6 +138,8 @@ impl Solution {
     pub fn base(&self, base: Code) -> Option<&BaseFronts>
         ensures own { IfSome result (λ found. (found.now.base ≡ base)
             × (found.now.net ≡ self.now.net)) }
+        ensures fronts { IfSome result (λ found. (d : DutyOf)
+            → front_of self.now base d ≡ front_at found.now d) }
         ensures none { result ≡ None → Member self.now.net.bases base → ⊥ }
     {
         let _fronts = self.fronts();
