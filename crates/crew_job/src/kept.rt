@@ -1,11 +1,8 @@
 //! Nodes of a ground that a job, or the version that was sealed last, has too.
 ghost use Rattle.std.specs.Prelude.{◌≡◌, ◌↔◌, ℕ, IsTrue, MatchOption, Some, slice_get};
-ghost use Rattle.crew_job.specs.Grounds.{nodes_in, sealed_data_of};
+ghost use Rattle.crew_job.specs.Grounds.{nodes_in};
 ghost use Rattle.crew_job.specs.Jobs.{IsKeptAt, job_node};
-ghost use Rattle.crew_job.specs.Shown.{LeavesAsSealed};
-ghost use Rattle.crew_machine.specs.Crew.{DutyNode, IsFrontOf, IsNodeOf};
-ghost use Rattle.crew_pairing.specs.Events.{departure_of};
-ghost use Rattle.crew_solve.specs.Plans.{IsSweepIn};
+ghost use Rattle.crew_machine.specs.Crew.{IsFrontOf, IsNodeOf};
 ghost use Rattle.crew_version.specs.Versions.{timetable_of};
 
 use crate::before::duty_rank;
@@ -16,11 +13,11 @@ use crate::places::{base_place, node_in, place_in};
 use crate::shown::sealed_front;
 use crew_flights::Code;
 use crew_pairing::Duty;
-use crew_solve::{BaseFronts, FrontView};
+use crew_solve::FrontView;
 use crew_version::Version;
 
-// Whether a base and a duty are a node of a version.
-fn has_node(sealed: &Version, code: Code, duty: &Duty) -> bool
+/// Whether a base and a duty are a node of a version.
+pub(crate) fn has_node(sealed: &Version, code: Code, duty: &Duty) -> bool
     ensures { IsTrue result ↔ IsNodeOf sealed.now.settings (timetable_of sealed.now.entries)
         (record { base = code; duty = duty.now }) }
 {
@@ -70,41 +67,5 @@ impl Ground {
         };
         let duty = &net.duties().as_slice()[rank];
         has_front(self.sealed(), net.bases()[base], duty, front)
-    }
-
-    /// Whether the version that was sealed last leaves as this does where a duty leaves, by the fronts
-    /// of the duty's base: then each node of the base that leaves there, and that the version has too,
-    /// has the same front in both. `false` says nothing. It takes no memory.
-    pub fn leaves_as_sealed(&self, base: usize, fronts: &BaseFronts, duty: &Duty) -> bool
-        requires { IsSweepIn self.now.plan base fronts.now }
-        ensures { IsTrue result → LeavesAsSealed self.now fronts.now.base (departure_of duty.now) }
-    {
-        let sealed = self.sealed();
-        let Some(solution) = sealed.solution() else {
-            return false;
-        };
-        let Some(before) = solution.base(fronts.base()) else {
-            return false;
-        };
-        before.price() == fronts.price() && fronts.leaves_alike(before, duty)
-    }
-
-    /// As `has_kept`, where it is known already whether the version has this very front, if it has the
-    /// node: then fronts aren't compared.
-    pub fn has_kept_known(&self, place: usize, front: &FrontView<'_>, is_known: bool) -> bool
-        requires { IsTrue is_known → (n : DutyNode) → slice_get (nodes_in self.now.plan.net) place ≡ Some n
-            → IsNodeOf self.now.settings (sealed_data_of self.now) n
-            → IsFrontOf self.now.settings (sealed_data_of self.now) n front.now }
-        ensures { IsTrue result ↔ IsKeptAt self.now place front.now }
-    {
-        if !is_known {
-            return self.has_kept(place, front);
-        }
-        let net = self.net();
-        let Some((base, rank)) = node_in(net, place) else {
-            return false;
-        };
-        let duty = &net.duties().as_slice()[rank];
-        has_node(self.sealed(), net.bases()[base], duty)
     }
 }

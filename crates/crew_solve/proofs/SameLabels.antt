@@ -1,22 +1,18 @@
 -- Sweeps that have the same labels at a departure show the same at each duty that leaves there.
-use Rattle.std.proofs.Common.{◌≡◌, ◌⊎◌, ◌+◌, zero, suc, slice_index_or, ◌<◌, ◌≤◌, ◌∙◌, ℕ, ℤ, List, [], ◌∷◌, ◌++◌, get_or, length, map, take, refl, sym, ap, subst, arith, inl, inr}
-use Rattle.std.specs.Prelude.{cond, nat_eq}
+use Rattle.std.proofs.Common.{◌≡◌, ◌⊎◌, ◌+◌, zero, suc, slice_index_or, ◌<◌, ◌≤◌, ℕ, ℤ, List, [], ◌∷◌, ◌++◌, get_or, length, map, take, refl, sym, ap, subst, arith, inl, inr}
 use Rattle.std.specs.List.{flat_map}
 use Rattle.crew_anchor.specs.Anchors.{shown as shown_as_of}
 use Rattle.crew_anchor.specs.Stages.{anchored_board, anchored_resource}
-use Rattle.crew_net.specs.Nets.{Net}
 use Rattle.crew_pairing.specs.Events.{departure_of}
 use Rattle.crew_pairing.specs.Legs.{Leg}
 use Rattle.crew_pairing.specs.declared.duty.Duty.{Duty}
 use Rattle.crew_pairing.specs.declared.events.Departure.{Departure}
 use Rattle.crew_pairing.specs.declared.vector.PairingVector.{PairingVector}
-use Rattle.crew_pool.specs.Counted.{AreCounted}
 use Rattle.crew_pool.specs.LabelWalks.{shown}
-use Rattle.crew_pool.specs.Ranks.{AreRanked}
 use Rattle.crew_pool.specs.declared.label_walk.LabelWalk.{LabelWalk}
 use Rattle.crew_resource.proofs.Members.{Member-flat_map_in, Member-flat_map_out, Member-map_in, Member-map_out}
 use Rattle.crew_resource.specs.Events.{labelled}
-use Rattle.crew_resource.specs.Members.{Each, Member}
+use Rattle.crew_resource.specs.Members.{Member}
 use Rattle.crew_rules.specs.declared.settings.Settings.{Settings}
 use Rattle.crew_solve.specs.Machinery.Homes.{resource_of}
 use Rattle.crew_solve.specs.Machinery.Keyed.{AreReadable, keyed_label}

@@ -1,4 +1,4 @@
-use Rattle.std.proofs.Common.{◌∙◌, inl, inr, map, sym, subst}
+use Rattle.std.proofs.Common.{inl, inr, map, sym, subst}
 use Rattle.crew_resource.proofs.Members.{Member-map_out}
 use Rattle.crew_resource.specs.Members.{Member}
 use Rattle.crew_solve.proofs.SameLabels.{index-member, one-more, take-whole}
