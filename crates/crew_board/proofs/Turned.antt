@@ -135,6 +135,18 @@ module _ (r : Marked) (over : IsMarkedOver r) where
     pub job-within : (place : ℕ) → slice_get (nodes_in r.ground.plan.net) place ≡ job_node job → place < length r.marks.marks
     job-within place e = let n = node-named job placed in in-marks place n.0 (e ∙ n.1)
 
+    -- what is done is the front of the node at its own place
+    pub own-front : (place : ℕ) (front : Entries) → IsOwnPlace r job place → ((w : DutyWork) → IsJobOf job w → IsLocalOf w front) → (n : DutyNode) → slice_get (nodes_in r.ground.plan.net) place ≡ Some n
+        → IsFrontOf r.ground.settings (data_of r.ground) n front
+    own-front place front own local n at =
+        let g = r.ground in
+        let s = g.settings in
+        let w = some-work-of job ground placed in
+        let here = own.own w.0 w.1 in
+        let node : w.0.node ≡ n = Some-same w.0.node n (sym here.node ∙ at) in
+        let first : IsFrontOf s (data_of g) w.0.node front = (crew-laws s over.ground.checked).local_in g.entries w.0 front (node-is-of g over.ground place w.0.node here.node) here.own (local w.0 w.1) in
+        subst (λ (z : DutyNode). IsFrontOf s (data_of g) z front) node first
+
     -- whether the version before has the node with the front that is done
     pub kept-told : (place : ℕ) (front : Entries) → IsOwnPlace r job place → ((w : DutyWork) → IsJobOf job w → IsLocalOf w front) → (n : DutyNode) → slice_get (nodes_in r.ground.plan.net) place ≡ Some n
         → IsKeptAt r.ground place front ↔ IsAsSealed r.ground n

@@ -9,9 +9,10 @@ ghost use Rattle.crew_board.specs.Machinery.Turns.{ClaimsEach, HasAdded, HasClai
 ghost use Rattle.crew_job.specs.Grounds.{IsGround, nodes_in};
 ghost use Rattle.crew_job.specs.Jobs.{IsJobOf, IsOwnAt, IsPlaced, job_node};
 ghost use Rattle.crew_job.specs.Lots.{StandOn};
-ghost use Rattle.crew_job.specs.Shown.{IsAsSealed};
+ghost use Rattle.crew_job.specs.Shown.{IsAsSealed, IsLeftOf, LeavesAsSealed};
 ghost use Rattle.crew_machine.specs.Crew.{DutyNode, DutyWork};
 ghost use Rattle.crew_machine.specs.declared.rounds.Brought.{Brought};
+ghost use Rattle.crew_pairing.specs.Events.{departure_of};
 ghost use Rattle.crew_round.specs.Marks.{AllDone, AreDoneBefore, AreSameBefore, IsFirstUndone, IsMarked, IsReady, IsUndone, NoneReady, node_count};
 ghost use Rattle.crew_round.specs.Marks as Spec;
 ghost use Rattle.crew_round.specs.declared.mark.Mark.TheVariants.{Done as DoneMark, Out as OutMark};
@@ -21,7 +22,7 @@ ghost use Rattle.crew_solve.specs.Plans.{AreSweepsIn, IsSweepIn};
 use crate::alike::{Likeness, is_same_plan, is_unknown, likeness_of};
 use crate::before::are_same_before;
 use crate::tally::{Tally, count, count_if, none_counted};
-use crew_job::{Done, DoneLot, Ground, Job, Lot, is_own_by_work};
+use crew_job::{Done, DoneLot, Ground, Job, Left, Lot, is_own_by_work};
 use crew_machine::Brought;
 use crew_net::Node;
 use crew_round::{Mark, Marks, Progress};
@@ -386,7 +387,7 @@ impl Round {
         ensures { TakesIn self.old done result self.new }
     {
         let like = likeness_of(done.job().ground(), &self.ground);
-        self.take_in(done, like)
+        self.take_in(done, like, &mut None)
     }
 
     /// Takes the results of a lot in, in order, and tells how many came to what.
@@ -396,17 +397,21 @@ impl Round {
     {
         let like = self.likeness_to(done.ground());
         let _count = done.len();
+        let mut left = None;
         let mut tally = none_counted();
         for one in done.into_results() {
-            tally = count(self.take_in(one, like), tally);
+            tally = count(self.take_in(one, like, &mut left), tally);
         }
         tally
     }
 
-    // Takes a result in, whose job's ground is so like the round's.
-    fn take_in(&mut self, done: Done, like: Likeness) -> Brought
-        requires { AreLike like done.ground self.old.ground }
-        ensures { TakesIn self.old done result self.new }
+    // Takes a result in, whose job's ground is so like the round's, with what is known of the departure
+    // that was looked at last.
+    fn take_in(&mut self, done: Done, like: Likeness, left: &mut Option<Left>) -> Brought
+        requires like { AreLike like done.ground self.old.ground }
+        requires left { IsLeftOf self.old.ground left.old }
+        ensures taken { TakesIn self.old done result self.new }
+        ensures left { IsLeftOf self.old.ground left.new }
     {
         let Some(place) = self.own_place(done.job(), like) else {
             return Brought::Stale;
@@ -415,20 +420,48 @@ impl Round {
         if was_done {
             return Brought::Again;
         }
-        let same = self.is_as_sealed(place, &done);
+        let alike = self.leaves_as_sealed(place, &done, like, left);
+        let same = self.is_as_sealed(place, &done, alike);
         self.store(place, same, done, like);
         Brought::Stored
     }
 
-    // Whether the version before the round has the node at a place with the front that is done.
-    fn is_as_sealed(&self, place: usize, done: &Done) -> bool
-        requires { IsOwnPlace self.now done.now place }
+    // Whether it is known that the version before the round leaves as the round does where the node at
+    // a place leaves, by the sweep of a result, if that is one of the round's.
+    fn leaves_as_sealed(
+        &self,
+        place: usize,
+        done: &Done,
+        like: Likeness,
+        left: &mut Option<Left>,
+    ) -> bool
+        requires like { AreLike like done.now.ground self.now.ground }
+        requires left { IsLeftOf self.now.ground left.old }
+        ensures alike { IsTrue result → (n : DutyNode)
+            → slice_get (nodes_in self.now.ground.plan.net) place ≡ Some n
+            → LeavesAsSealed self.now.ground n.base (departure_of n.duty) }
+        ensures left { IsLeftOf self.now.ground left.new }
+    {
+        if !is_same_plan(like) {
+            return false;
+        }
+        let _ground = done.job().ground();
+        self.ground.leaves_as_sealed(place, done.sweep(), left)
+    }
+
+    // Whether the version before the round has the node at a place with the front that is done, where
+    // it may be known already that it leaves there as the round does.
+    fn is_as_sealed(&self, place: usize, done: &Done, alike: bool) -> bool
+        requires own { IsOwnPlace self.now done.now place }
+        requires alike { IsTrue alike → (n : DutyNode)
+            → slice_get (nodes_in self.now.ground.plan.net) place ≡ Some n
+            → LeavesAsSealed self.now.ground n.base (departure_of n.duty) }
         ensures { (n : DutyNode) → slice_get (nodes_in self.now.ground.plan.net) place ≡ Some n
             → (IsTrue result ↔ IsAsSealed self.now.ground n) }
     {
         let _ground = done.job().ground();
         let front = done.front();
-        self.ground.has_kept(place, &front)
+        self.ground.has_kept_beside(place, &front, alike)
     }
 
     // Marks a node done whose own job is done, and what is unchanged with it. Its sweep is one of the

@@ -25,7 +25,9 @@ use Rattle.crew_machine.specs.Worlds.{IsBefore}
 use Rattle.crew_machine.specs.Crew.{DutyNode, DutyWork, Entries, IsFrontOf, IsLocalOf, IsNodeOf, crew}
 use Rattle.crew_net.specs.Nets.{Net}
 use Rattle.crew_pairing.specs.Duties.{AreDuties, flights_of}
+use Rattle.crew_pairing.specs.Legs.{Leg}
 use Rattle.crew_pairing.specs.Pairings.{IsDuty}
+use Rattle.crew_pairing.specs.declared.vector.PairingVector.{PairingVector}
 use Rattle.crew_pairing.specs.declared.duty.Duty.{Duty}
 use Rattle.crew_pool.proofs.Permuted.{Member-permuted}
 use Rattle.crew_resource.proofs.Members.{Member-at}
@@ -34,6 +36,17 @@ use Rattle.crew_rules.specs.declared.settings.Settings.{Settings}
 use Rattle.crew_sweep.specs.Sweeps.{BaseSweep, ShowsFronts, front_at}
 use Rattle.crew_vector.specs.Fronts.{IsFrontAt, RiseByVector}
 use Rattle.crew_solve.specs.Plans.{IsSweepIn}
+
+-- the entries of a front are all that counts
+pub front-members : (s : Settings) (t : Timetable) (base : List ℕ) (price : ℤ) (d : Duty) (xs ys : Entries)
+    → ((e : PairingVector × List (List Leg)) → (Member xs e → Member ys e) × (Member ys e → Member xs e))
+    → IsFrontAt s t base price d xs → IsFrontAt s t base price d ys
+front-members s t base price d xs ys same h = record {
+  clean = λ v w m. h.clean v w ((same (v, w)).1 m);
+  undominated = λ v w m. h.undominated v w ((same (v, w)).1 m);
+  least = λ v w y m. h.least v w y ((same (v, w)).1 m);
+  every = λ v u. let found = h.every v u in (found.0, (same (v, found.0)).0 found.1);
+}
 
 -- the order of entries is no part of a front
 front-permuted : (s : Settings) (t : Timetable) (base : List ℕ) (price : ℤ) (d : Duty) (xs ys : Entries) → IsPermutation xs ys → IsFrontAt s t base price d xs → IsFrontAt s t base price d ys
@@ -48,7 +61,7 @@ front-permuted s t base price d xs ys p h =
     }
 
 -- the price of the base at a place
-priced-at : (t : Timetable) (place : ℕ) (base : List ℕ) (price : ℤ) → slice_get (fin.entries t.bases) place ≡ Some (base, price) → fin.get t.bases base ≡ Some price
+pub priced-at : (t : Timetable) (place : ℕ) (base : List ℕ) (price : ℤ) → slice_get (fin.entries t.bases) place ≡ Some (base, price) → fin.get t.bases base ≡ Some price
 priced-at t place base price h =
     fin.get-entries t.bases base ∙ (find_lookup code_cmp base (fin.entries t.bases) ∙ lookup_from_place (eq_by_cmp_equiv code_cmp_total) (fin.entries t.bases) place base price (IsDistinct-from_sorted code_cmp _ (keys_rise code_cmp t.bases)) h)
 

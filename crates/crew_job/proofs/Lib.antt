@@ -11,3 +11,4 @@ pub mod Planned
 pub mod SealedNodes
 pub mod Standing
 pub mod Works
+pub mod Leaving

@@ -1,9 +1,12 @@
 -- Where the front of a node is read from without memory: a sweep, or the version before the round.
-use Rattle.std.specs.Prelude.{◌≡◌, ℕ, List, Option, Some, None, IsPermutation, get_or, slice_get}
+use Rattle.std.specs.Prelude.{◌≡◌, ℕ, true, List, Option, Some, None, IsPermutation, get_or, slice_get}
 use Rattle.crew_flights.specs.Timetable.{Timetable}
+use Rattle.crew_job.specs.declared.left.Left.{Left}
 use Rattle.crew_job.specs.Grounds.{Ground, data_of, node_at, nodes_in, sealed_data_of}
 use Rattle.crew_machine.specs.Crew.{DutyNode, Entries, IsFrontOf, IsNodeOf, MayPrecede, crew}
 use Rattle.crew_machine.specs.Worlds.{IsBefore}
+use Rattle.crew_pairing.specs.Events.{departure_of}
+use Rattle.crew_pairing.specs.declared.events.Departure.{Departure}
 use Rattle.crew_resource.specs.Members.{Member}
 use Rattle.crew_rules.specs.declared.settings.Settings.{Settings}
 use Rattle.crew_sweep.specs.Sweeps.{BaseSweep, front_at}
@@ -22,6 +25,22 @@ pub record IsAsSealed (g : Ground) (n : DutyNode) : Type 0 where
   pub there : IsNodeOf g.settings (sealed_data_of g) n
   pub front : (f : Entries) → IsFrontOf g.settings (sealed_data_of g) n f
       → IsFrontOf g.settings (data_of g) n f
+
+-- of the nodes that leave at a departure, the version before the round has those of its that the
+-- round has too with the round's fronts
+abbrev pub LeavesAsSealed : Ground → List ℕ → Departure → Type 0
+LeavesAsSealed g base at = (n : DutyNode) → n.base ≡ base → departure_of n.duty ≡ at
+    → IsNodeOf g.settings (data_of g) n → IsNodeOf g.settings (sealed_data_of g) n
+    → (f : Entries) → IsFrontOf g.settings (data_of g) n f
+    → IsFrontOf g.settings (sealed_data_of g) n f
+
+-- what is known of a departure that was looked at
+abbrev pub IsLeft : Ground → Left → Type 0
+IsLeft g left = left.alike ≡ true → LeavesAsSealed g left.base left.departure
+
+abbrev pub IsLeftOf : Ground → Option Left → Type 0
+IsLeftOf g None = Unit {0}
+IsLeftOf g (Some left) = IsLeft g left
 
 -- what shows a node's front is right: a sweep, or none where the version before has the same front
 abbrev pub IsShown : Ground → DutyNode → Option BaseSweep → Type 0

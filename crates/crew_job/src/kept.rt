@@ -16,8 +16,8 @@ use crew_pairing::Duty;
 use crew_solve::FrontView;
 use crew_version::Version;
 
-// Whether a base and a duty are a node of a version.
-fn has_node(sealed: &Version, code: Code, duty: &Duty) -> bool
+/// Whether a base and a duty are a node of a version.
+pub(crate) fn has_node(sealed: &Version, code: Code, duty: &Duty) -> bool
     ensures { IsTrue result ↔ IsNodeOf sealed.now.settings (timetable_of sealed.now.entries)
         (record { base = code; duty = duty.now }) }
 {

@@ -10,7 +10,6 @@ use Rattle.crew_resource.specs.Members.{Member}
 use Rattle.crew_solve.proofs.Keeping.{in-order-among, in-order-each, in-order-rise, kept-beside, sorted, sorted-out, take-out}
 use Rattle.crew_solve.proofs.OneList.{rising}
 use Rattle.crew_solve.proofs.Taking.{Whole, gains, rise-filter, whole-ended, whole-kept}
-use Rattle.crew_solve.specs.Apart.{taken_from}
 use Rattle.crew_solve.specs.Cheapest.{RiseByCost, pairing_cmp, pairing_total}
 use Rattle.crew_solve.specs.Machinery.Keeps.{least_beside}
 use Rattle.crew_solve.specs.Machinery.Takes.{AreInOrder, Taken, looked_at, may_take}

@@ -29,3 +29,4 @@ pub mod OneList
 pub mod Below
 pub mod Sharing
 pub mod Choosing
+pub mod SameLabels

@@ -1,6 +1,6 @@
 -- Pairings that share few flights: there is one list of them, a greater limit goes on, and with room
 -- for all they are the cheapest.
-use Rattle.std.proofs.Common.{◌≡◌, ◌∙◌, ◌≤◌, ◌<◌, ◌+◌, ℕ, zero, suc, Bool, true, false, cond, ◌&&◌, ◌||◌, List, [], ◌∷◌, ◌++◌, inl, inr, refl, sym, ap, subst, ⊎_elim, arith, append_assoc, length, length-append, take, drop}
+use Rattle.std.proofs.Common.{◌≡◌, ◌∙◌, ◌≤◌, ◌<◌, ◌+◌, ℕ, zero, suc, Bool, true, false, cond, ◌&&◌, ◌||◌, List, [], ◌∷◌, ◌++◌, refl, sym, ap, subst, arith, append_assoc, length, length-append, take, drop}
 use Rattle.std.specs.Prelude.{count_by, nat_eq, nat_lt}
 use Rattle.std.specs.List.{list_all, list_any}
 use Rattle.std.proofs.lemmas.Bool.Decides.{nat_tests}
@@ -8,13 +8,12 @@ use Rattle.std.proofs.lemmas.List.{append-nil}
 use Rattle.std.proofs.lemmas.List.Sums.{count_by-le-length, sum_by-append}
 use Rattle.crew_flights.specs.Timetable.{Timetable}
 use Rattle.crew_resource.proofs.Rising.{same-rising}
-use Rattle.crew_resource.specs.Members.{Each, Member}
 use Rattle.crew_rules.specs.declared.settings.Settings.{Settings}
 use Rattle.crew_solve.proofs.Keeping.{rise-take, take-few, take-or, take-out}
 use Rattle.crew_solve.proofs.Taking.{take-drop}
 use Rattle.crew_solve.proofs.OneList.{one-list, rising}
 use Rattle.crew_solve.specs.Apart.{AreAll, AreApart, flies, flown, is_apart, taken_from}
-use Rattle.crew_solve.specs.Cheapest.{AreCheapest, RiseByCost, pairing_cmp, pairing_total}
+use Rattle.crew_solve.specs.Cheapest.{AreCheapest, pairing_cmp, pairing_total}
 use Rattle.crew_vector.specs.declared.priced.PricedPairing.{PricedPairing}
 
 abbrev Ps : Type 0

@@ -3,6 +3,7 @@ pub mod Early
 pub mod Floors
 pub mod Homes
 pub mod Keeps
+pub mod Keyed
 pub mod Lent
 pub mod Planned
 pub mod Solved

@@ -40,3 +40,9 @@ IsFrontOf s base key None = (d : Duty) → Member s.net.bases base → Member s.
     → d.key ≡ key → ⊥
 IsFrontOf s base key (Some entries) = (d : Duty) × Member s.net.bases base × Member s.net.duties d
     × (d.key ≡ key) × IsPermutation (front_of s base d) entries × RiseByVector entries
+
+-- two sweeps show the same entries at a duty
+abbrev pub ShowSame : BaseSweep → BaseSweep → Duty → Type 0
+ShowSame a b d = (e : PairingVector × List (List Leg))
+    → (Member (front_at a d) e → Member (front_at b d) e)
+    × (Member (front_at b d) e → Member (front_at a d) e)

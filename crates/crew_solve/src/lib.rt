@@ -18,6 +18,7 @@ mod lookup;
 mod past;
 mod plan;
 mod same_front;
+mod same_labels;
 mod scratch;
 mod shown_entries;
 mod solution;

@@ -52,7 +52,7 @@ fn is_same_vector(one: &PairingVector, other: &PairingVector) -> bool
 }
 
 // Whether two entries are one.
-fn is_same_entry(one: &Entry<'_>, other: &Entry<'_>) -> bool
+pub(crate) fn is_same_entry(one: &Entry<'_>, other: &Entry<'_>) -> bool
     ensures { IsTrue result ↔ (one.now ≡ other.now) }
 {
     is_same_vector(&one.0, &other.0) && one.1.is_same(&other.1)

@@ -1,8 +1,9 @@
 //! What a timetable gives.
 ghost use Rattle.std.specs.Arc.{arc_value};
 ghost use Rattle.std.specs.Option.{option_copied};
-ghost use Rattle.std.specs.Prelude.{◌≡◌, IfOk, map};
-ghost use Rattle.crew_resource.specs.Members.{Each};
+ghost use Rattle.std.specs.Prelude.{◌≡◌, IfOk, IfSome, None, map};
+ghost use Rattle.crew_pairing.specs.declared.duty.Duty.{Duty as DutyOf};
+ghost use Rattle.crew_resource.specs.Members.{Each, Member};
 ghost use Rattle.crew_flights.specs.Timetable.{IsSound, Timetable};
 ghost use Rattle.crew_rules.specs.Settings.{IsChecked};
 ghost use Rattle.crew_rules.specs.declared.settings.Settings.{Settings};
@@ -10,6 +11,7 @@ ghost use Rattle.crew_solve.specs.Apart.{AreApart};
 ghost use Rattle.crew_solve.specs.Cheapest.{AreCheapest};
 ghost use Rattle.crew_solve.specs.Plans.{AreSweepsIn, IsSolutionIn};
 ghost use Rattle.crew_solve.specs.Solutions.{HasNetOf, IsFrontOf, front_of};
+ghost use Rattle.crew_sweep.specs.Sweeps.{front_at};
 ghost use Rattle.crew_vector.specs.Bests.{AreFronts};
 
 use crate::apart::apart_of;
@@ -130,6 +132,21 @@ impl Solution {
         let trip_rig = self.net.settings().trip_rig;
         let pairings = apart_of(alloc, &self.fronts, trip_rig, limit, share)?;
         Ok(pairings)
+    }
+
+    /// The fronts of a base; `None` where the code is no base.
+    pub fn base(&self, base: Code) -> Option<&BaseFronts>
+        ensures own { IfSome result (λ found. (found.now.base ≡ base)
+            × (found.now.net ≡ self.now.net)) }
+        ensures fronts { IfSome result (λ found. (d : DutyOf)
+            → front_of self.now base d ≡ front_at found.now d) }
+        ensures none { result ≡ None → Member self.now.net.bases base → ⊥ }
+    {
+        let _fronts = self.fronts();
+        match fronts_of(&self.fronts, base) {
+            Some(found) => Some(&**found),
+            None => None,
+        }
     }
 
     /// The front of a base and the duty of a key, in order of vector: each vector with its walk.

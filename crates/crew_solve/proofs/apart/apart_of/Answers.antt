@@ -1,8 +1,8 @@
-use Rattle.std.proofs.Common.{◌≡◌, ◌∙◌, ◌<◌, ◌≤◌, ap, arith, length, map, take}
+use Rattle.std.proofs.Common.{◌∙◌, ◌<◌, ◌≤◌, ap, arith, length, map, take}
 use Rattle.std.specs.Arc.{arc_value}
 use Rattle.std.specs.List.{flat_map}
 use Rattle.crew_solve.proofs.Choosing.{all-whole, more-each, still-whole}
-use Rattle.crew_solve.proofs.Taking.{Whole, whole-begun, whole-first}
+use Rattle.crew_solve.proofs.Taking.{Whole, whole-begun}
 use Rattle.crew_solve.specs.Machinery.Homes.{home_of}
 use Rattle.crew_solve.specs.Machinery.Keeps.{least_beside}
 use Rattle.crew_solve.specs.Machinery.Takes.{Taken}

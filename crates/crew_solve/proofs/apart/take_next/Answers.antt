@@ -1,9 +1,9 @@
-use Rattle.std.proofs.Common.{◌≡◌, ◌∙◌, Option, Some, None, ap, map, sym}
+use Rattle.std.proofs.Common.{◌≡◌, ◌∙◌, Some, None, ap, map, sym}
 use Rattle.std.specs.Arc.{arc_value}
 use Rattle.std.specs.List.{flat_map}
 use Rattle.crew_solve.specs.Machinery.Homes.{home_of}
 use Rattle.crew_solve.specs.Machinery.Keeps.{Kept, keep_all, nothing_beside}
-use Rattle.crew_solve.specs.Machinery.Takes.{Taken, looked_at}
+use Rattle.crew_solve.specs.Machinery.Takes.{looked_at}
 use Rattle.crew_solve.proofs.Keeping.{still-beside}
 use Rattle.crew_sweep.specs.Sweeps.{BaseSweep}
 use Rattle.crew_solve.proofs.apart.take_next.Goals as goal

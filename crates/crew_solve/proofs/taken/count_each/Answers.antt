@@ -1,4 +1,4 @@
-use Rattle.std.proofs.Common.{◌≡◌, ◌∙◌, ◌<◌, ◌+◌, ap, arith, get_or, length, sym, take, cond}
+use Rattle.std.proofs.Common.{◌∙◌, ◌<◌, ◌+◌, ap, arith, get_or, length, sym, take, cond}
 use Rattle.std.specs.Prelude.{nat_eq, nat_lt}
 use Rattle.std.specs.List.{list_any}
 use Rattle.crew_solve.proofs.Flown.{again, all-at, as-often, first, is-less}

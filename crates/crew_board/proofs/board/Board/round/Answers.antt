@@ -1,7 +1,6 @@
 use Rattle.std.proofs.Common.{◌∙◌, sym, ap}
 use Rattle.std.specs.Option.{option_map}
 use Rattle.crew_board.specs.Boards.{ShownBoard}
-use Rattle.crew_board.specs.Machinery.Held.{Marked}
 use Rattle.crew_board.specs.Machinery.Settled.{shown_marked}
 use Rattle.crew_job.specs.Grounds.{Ground}
 use Rattle.crew_board.proofs.board.Board.round.Goals as goal

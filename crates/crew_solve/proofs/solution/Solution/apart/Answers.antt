@@ -1,9 +1,9 @@
-use Rattle.std.proofs.Common.{◌≡◌, List, [], ap, map, sym, subst, take}
+use Rattle.std.proofs.Common.{List, [], ap, map, sym, subst}
 use Rattle.std.specs.Arc.{arc_value}
 use Rattle.std.specs.List.{flat_map}
 use Rattle.crew_solve.proofs.Cheapest.{are-apart, in-order}
 use Rattle.crew_solve.proofs.Keeping.{sorted}
-use Rattle.crew_solve.specs.Apart.{AreApart, taken_from}
+use Rattle.crew_solve.specs.Apart.{AreApart}
 use Rattle.crew_solve.specs.Machinery.Homes.{home_of}
 use Rattle.crew_solve.specs.Machinery.Takes.{AreInOrder}
 use Rattle.crew_solve.specs.Solutions.{HasNetOf, Solution, front_of}
