@@ -1,9 +1,7 @@
 """The plan as a planner reads it."""
-from engine import Pairing
+from pairing import Pairing
 from master import Plan
-from timetable import Flight, Timetable
-
-POINTS = 14  # a paid minute
+from timetable import POINTS, Flight, Timetable
 
 
 def clock(minutes: float) -> str:
