@@ -4,15 +4,18 @@ from dataclasses import dataclass
 
 @dataclass(frozen=True)
 class Pairing:
-    """A legal pairing: its base, its duties as flight numbers, its pay in points, its minutes away."""
+    """A legal pairing: its base, its duties as flight numbers, its pay in points, its minutes away, and which of its
+    flights the crew rides as passengers."""
     base: str
     walk: tuple[tuple[int, ...], ...]
     pay: int
     away: int
+    ridden: frozenset[int] = frozenset()
 
     @property
     def flights(self) -> tuple[int, ...]:
-        return tuple(number for duty in self.walk for number in duty)
+        """Those that the crew flies: what the pairing covers."""
+        return tuple(number for duty in self.walk for number in duty if number not in self.ridden)
 
 
 def pairing_of(line: str) -> Pairing | None:
@@ -21,4 +24,7 @@ def pairing_of(line: str) -> Pairing | None:
     if words == ['best', 'none']:
         return None
     _, base, _, _, _, pay, _, away, *walk = words
-    return Pairing(base, tuple(tuple(map(int, duty.split('-'))) for duty in walk), int(pay), int(away))
+    duties = [duty.split('-') for duty in walk]
+    ridden = frozenset(int(leg[:-1]) for duty in duties for leg in duty if leg.endswith('d'))
+    numbers = tuple(tuple(int(leg.removesuffix('d')) for leg in duty) for duty in duties)
+    return Pairing(base, numbers, int(pay), int(away), ridden)

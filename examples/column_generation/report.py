@@ -24,7 +24,8 @@ def print_pairing(timetable: Timetable, number: int, pairing: Pairing) -> None:
     print(f'\n{pairing.base} pairing {number}: {duties} {"duty" if duties == 1 else "duties"}, '
           f'pay {hours(pairing.pay)}, away {clock(pairing.away)}')
     for duty in pairing.walk:
-        lines = [flight_line(timetable, timetable.flights[leg]) for leg in duty]
+        lines = [flight_line(timetable, timetable.flights[leg]) + ('  rides' if leg in pairing.ridden else '')
+                 for leg in duty]
         print('   duty ' + '\n        '.join(lines))
 
 
