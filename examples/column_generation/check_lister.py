@@ -6,7 +6,8 @@ Usage: check_lister.py [PROGRAM]
 Of each timetable the program says which pairing is best, how many there are, and which its fronts show. The
 lister has to list as many, and one of the program's best's base, walk, pay and minutes away, which costs
 what the program says it does and no more than any other; and the same pairings of fronts, in the same
-order, all of them and the first three. Ends with status 0 where all timetables agree.
+order, all of them and the first three; and of these the ones of which so many at most fly a flight, for
+several limits. Ends with status 0 where all timetables agree.
 """
 
 import os
@@ -14,6 +15,7 @@ import random
 import re
 import subprocess
 import sys
+from collections.abc import Iterator
 from dataclasses import dataclass
 from datetime import datetime, timedelta
 
@@ -22,7 +24,8 @@ import lister
 HERE = os.path.dirname(os.path.abspath(__file__))
 PATIENCE = 60.0
 SEED = 114
-TIMETABLES = 40
+# How many timetables, and of how many flights each: few, and so many that pairings share them.
+TIMETABLES = ((40, (4, 9)), (20, (16, 28)))
 
 ZONES = {
     "YYT": "NST3:30NDT,M3.2.0,M11.1.0",
@@ -44,6 +47,9 @@ SETTINGS = (
     {"fly_cap": 480, "away_cap": 1800},
 )
 LENGTHS = (45, 45, 60, 75, 75, 130, 160, 240, 240, 241, 300)  # of a flight: pairs of some reach Table A
+# Of `pairings,LIMIT` and of `pairings,LIMIT,SHARE`.
+LIMITS = (10000, 3)
+SHARES = ((10000, 1), (10000, 2), (10000, 3), (1, 1), (2, 1), (4, 2), (7, 3), (5, 10000))
 PERIODS = (540, 600, 660, 690, 720, 750, 780, 840)  # from report to an arrival: the limits of Table B
 
 BEST = re.compile(r"best ([A-Z]{3}) cost (-?\d+) pay (\d+) away (\d+) ([\d -]+)")
@@ -84,12 +90,12 @@ def arrival(draw: random.Random, crew: Crew, leaves: datetime) -> datetime:
     return leaves + minutes(draw.choice(LENGTHS))
 
 
-def timetable(draw: random.Random, settings: dict[str, int]) -> str:
-    """The records of four to nine flights, of one crew or more, among two or three airports."""
+def timetable(draw: random.Random, settings: dict[str, int], flights: tuple[int, int]) -> str:
+    """The records of so many flights, of one crew or more, among two or three airports."""
     limits = lister.DEFAULTS | settings
     airports = draw.sample(sorted(ZONES), draw.choice((2, 3)))
     bases = draw.sample(airports, draw.choice((1, 2)))
-    numbers = draw.sample(range(1, 1000), draw.randint(4, 9))
+    numbers = draw.sample(range(1, 1000), draw.randint(*flights))
     day = draw.choice(DAYS)
     lines = [f'zone,{airport},"{ZONES[airport]}"' for airport in airports]
     lines += [f"base,{base},{draw.randrange(-1000, 1001, 500)}" for base in bases]
@@ -110,7 +116,9 @@ def timetable(draw: random.Random, settings: dict[str, int]) -> str:
 def answers(program: str, text: str, settings: dict[str, int]) -> list[str]:
     """The lines that the program writes for the version, its best, its audit and its pairings."""
     words = [word for name, value in settings.items() for word in ("--" + name.replace("_", "-"), str(value))]
-    ended = subprocess.run([program, "run", *words], input=text + "settle\nbest\naudit,100000\npairings,10000\npairings,3\n",
+    asked = ["settle", "best", "audit,100000", *(f"pairings,{limit}" for limit in LIMITS),
+             *(f"pairings,{limit},{share}" for limit, share in SHARES)]
+    ended = subprocess.run([program, "run", *words], input=text + "".join(record + "\n" for record in asked),
                            capture_output=True, text=True, timeout=PATIENCE)
     lines = ended.stdout.splitlines()
     if ended.returncode != 0 or ended.stderr or len(lines) < 5:
@@ -125,14 +133,27 @@ def pairings_lines(pairings: list[lister.Pairing], timetable: lister.Timetable) 
         + " ".join("-".join(map(str, duty)) for duty in pairing.walk) for pairing in pairings]
 
 
+def sharing(pairings: list[lister.Pairing], share: int) -> list[lister.Pairing]:
+    """Goes through the pairings in order, and takes each unless so many taken ones fly a flight that it flies."""
+    taken: list[lister.Pairing] = []
+    for pairing in pairings:
+        flown = [sum(flight in duty for other in taken for duty in other.walk)
+                 for duty in pairing.walk for flight in duty]
+        if all(count < share for count in flown):
+            taken.append(pairing)
+    return taken
+
+
 def difference(lines: list[str], text: str, settings: dict[str, int]) -> str | None:
     """Where the program's lines differ from the lister's pairings; None where they agree."""
     listed = lister.pairings(text, settings)
     least = lister.best(text, settings)
     read = lister.read(text, settings)
-    shown = pairings_lines(lister.shown(text, settings), read)
-    if lines[3:] != shown + [f"pairings {min(3, len(shown) - 1)}"] + shown[1:4]:
-        return f"{lines[3:]!r}, and of fronts are listed {shown!r}"
+    shown = lister.shown(text, settings)
+    wanted = [shown[:limit] for limit in LIMITS] + [sharing(shown, share)[:limit] for limit, share in SHARES]
+    wanted_lines = [line for pairings in wanted for line in pairings_lines(pairings, read)]
+    if lines[3:] != wanted_lines:
+        return f"{lines[3:]!r}, and of fronts are listed {wanted_lines!r}"
     audit = AUDIT.fullmatch(lines[2])
     if audit is None or int(audit[1]) != len(listed):
         return f"{lines[2]!r}, and {len(listed)} are listed"
@@ -150,24 +171,30 @@ def difference(lines: list[str], text: str, settings: dict[str, int]) -> str | N
     return None
 
 
+def timetables(draw: random.Random, kinds: tuple) -> Iterator[tuple[str, dict[str, int]]]:
+    """The records of timetables, of so many of each kind, with settings in turn."""
+    for count, flights in kinds:
+        for place in range(count):
+            settings = SETTINGS[place % len(SETTINGS)]
+            yield timetable(draw, settings, flights), settings
+
+
 def main() -> int:
     program = sys.argv[1] if len(sys.argv) > 1 else os.path.join(HERE, "..", "..", "crewprice")
-    draw = random.Random(SEED)
-    agreed, listed, overnight = 0, 0, 0
-    for place in range(TIMETABLES):
-        settings = SETTINGS[place % len(SETTINGS)]
-        text = timetable(draw, settings)
+    agreed, listed, overnight, left_out = 0, 0, 0, 0
+    for place, (text, settings) in enumerate(timetables(random.Random(SEED), TIMETABLES), 1):
         found = difference(answers(program, text, settings), text, settings)
         if found is None:
             agreed += 1
         else:
-            print(f"timetable {place + 1}, settings {settings}: {found}\n{text}", file=sys.stderr)
-        pairings = lister.pairings(text, settings)
+            print(f"timetable {place}, settings {settings}: {found}\n{text}", file=sys.stderr)
+        pairings, shown = lister.pairings(text, settings), lister.shown(text, settings)
         listed += len(pairings)
         overnight += any(len(pairing.walk) > 1 for pairing in pairings)
-    print(f"{agreed} of {TIMETABLES} timetables agreed: {listed} pairings, "
-          f"with a rest in them in {overnight} timetables")
-    return 0 if agreed == TIMETABLES else 1
+        left_out += len(sharing(shown, 3)) < len(shown)
+    print(f"{agreed} of {place} timetables agreed: {listed} pairings, with a rest in them in {overnight} timetables, "
+          f"and more than three that share a flight in {left_out}")
+    return 0 if agreed == place else 1
 
 
 if __name__ == "__main__":

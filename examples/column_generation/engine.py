@@ -1,34 +1,13 @@
 """The pricing engine: `crewprice run`, started once, with its pipes open."""
 import subprocess
-from dataclasses import dataclass
 
+from pairing import Pairing, pairing_of
+from prices import Prices
 from timetable import Timetable
 
 
 class EngineError(Exception):
     """The engine refused a record, or ended."""
-
-
-@dataclass(frozen=True)
-class Pairing:
-    """A legal pairing: its base, its duties as flight numbers, its pay in points, its minutes away."""
-    base: str
-    walk: tuple[tuple[int, ...], ...]
-    pay: int
-    away: int
-
-    @property
-    def flights(self) -> tuple[int, ...]:
-        return tuple(number for duty in self.walk for number in duty)
-
-
-def pairing_of(line: str) -> Pairing | None:
-    """The pairing of a line `best CODE cost C pay P away A WALK`, or `pairing ..`, and none of `best none`."""
-    words = line.split()
-    if words == ['best', 'none']:
-        return None
-    _, base, _, _, _, pay, _, away, *walk = words
-    return Pairing(base, tuple(tuple(map(int, duty.split('-'))) for duty in walk), int(pay), int(away))
 
 
 class Engine:
@@ -82,6 +61,12 @@ class Engine:
             self.send(f'baseprice,{base},{price}')
             self.base_prices[base] = price
 
+    def set_prices(self, prices: Prices) -> None:
+        for number, price in prices.flights.items():
+            self.set_price(number, price)
+        for base, price in prices.bases.items():
+            self.set_base_price(base, price)
+
     def cheapest(self) -> Pairing | None:
         """The legal pairing of least reduced cost at the prices that stand now."""
         self.send('settle')
@@ -89,10 +74,11 @@ class Engine:
         self.send('best')
         return pairing_of(self.answer())
 
-    def cheapest_of(self, most: int) -> list[Pairing]:
-        """The pairings of fronts that cost least at the prices that stand now, up to so many, the best first."""
+    def cheapest_of(self, most: int, share: int) -> list[Pairing]:
+        """The pairings of fronts that cost least at the prices that stand now, up to so many, the best first; where
+        `share` isn't 0, without those that fly a flight which so many of them fly already."""
         self.send('settle')
         self.answer()
-        self.send(f'pairings,{most}')
+        self.send(f'pairings,{most},{share}' if share else f'pairings,{most}')
         _, count = self.answer().split()
         return [pairing_of(self.answer()) for _ in range(int(count))]

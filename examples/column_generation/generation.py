@@ -1,11 +1,14 @@
 """Column generation: the master problem's duals price the flights, the engine's cheapest pairings are columns."""
 import math
 import time
-from collections.abc import Callable
+from collections.abc import Callable, Iterator
 from dataclasses import dataclass
 
-from engine import Engine, Pairing
+from engine import Engine
 from master import Master, Relaxed
+from pairing import Pairing
+from prices import Prices
+from smoothing import Centre
 from timetable import Timetable
 
 # No pairing with such a flight has a negative cost, whatever the others' prices are.
@@ -14,12 +17,30 @@ EPSILON = 1e-6
 
 
 @dataclass(frozen=True)
+class Ways:
+    """How a run goes. A round takes up to `pairings` columns from one settle, of which no more than `share` fly a
+    flight (any number for 0); or, where `columns` is given, up to so many that share no flight, from a settle each.
+    `smooth` is the part of the best prices so far in those that are sent. A column that is dearer than `dear` in
+    `patience` rounds in a row is dropped. The run ends where the objective is at most `gap` of the bound above it."""
+    pairings: int = 400
+    share: int = 8
+    columns: int | None = None
+    smooth: float = 0.0
+    dear: float = math.inf
+    patience: int = 10
+    gap: float = 0.0
+
+
+@dataclass(frozen=True)
 class Round:
-    """One turn: the master's optimum, the least reduced cost that the engine found, and the seconds of both."""
+    """One turn: the master's optimum and its iterations, the bound so far, the least reduced cost of the columns that
+    the engine found, how many columns there are then, and the seconds of both."""
     number: int
     objective: float
+    bound: float
     least: float
     columns: int
+    iterations: int
     master_seconds: float
     pricing_seconds: float
 
@@ -33,78 +54,80 @@ class Result:
     rounds: list[Round]
 
 
-def reduced(pairing: Pairing, flights: dict[int, float], bases: dict[str, float]) -> float:
-    return pairing.pay - sum(flights[number] for number in pairing.flights) - bases[pairing.base]
+class Pricing:
+    """Asks the engine for columns that improve.
 
-
-def bound_of(master: Master, engine: Engine) -> float:
-    """The value of the prices that stand: where no pairing has a negative cost under them, no cover costs less."""
-    bases = sum(engine.base_prices.values()) * (master.capacity or 0)
-    return sum(engine.prices.values()) + bases
-
-
-def set_prices(engine: Engine, relaxed: Relaxed, whole: Callable[[float], int]) -> None:
-    """Duals as prices: the engine takes whole points."""
-    for number, dual in relaxed.flights.items():
-        engine.set_price(number, whole(dual))
-    for base, dual in relaxed.bases.items():
-        engine.set_base_price(base, whole(dual))
-
-
-def improves(pairing: Pairing, relaxed: Relaxed) -> bool:
-    return reduced(pairing, relaxed.flights, relaxed.bases) <= -EPSILON
-
-
-def cheapest(engine: Engine, relaxed: Relaxed, most: int) -> list[Pairing]:
-    """Of the cheapest pairings of one settle those that improve."""
-    return [pairing for pairing in engine.cheapest_of(most) if improves(pairing, relaxed)]
-
-
-def priced_out(engine: Engine, relaxed: Relaxed, most: int) -> list[Pairing]:
-    """The cheapest pairing, then the cheapest that shares no flight with it, and so on, while they improve."""
-    found: list[Pairing] = []
-    while len(found) < most:
-        pairing = engine.cheapest()
-        if pairing is None or not improves(pairing, relaxed):
-            break
-        found.append(pairing)
-        for number in pairing.flights:
-            engine.set_price(number, BARRED)
-    return found
-
-
-def generate(timetable: Timetable, program: str, options: list[str], *, pairings: int = 200,
-             columns: int | None = None, penalty: float = 100_000.0, capacity: int | None = None,
-             tell: Callable[[Round], None] = lambda _: None) -> Result:
-    """Runs to the optimum of the linear relaxation.
-
-    A round takes up to `pairings` columns from one settle; or, where `columns` is given, up to so many that share
-    no flight, from a settle each.
-
-    Duals are rounded down, so a pairing that the engine calls improving is: when it finds none, the prices are
-    feasible duals, and their value is a bound. It lies below the optimum by less than a point for each flight and
-    each place of a base. Then duals are rounded up, and what still improves is taken too.
+    The prices that are sent lie between the duals and the centre, which has those of the greatest bound so far. Where
+    they bring no column that improves, the duals are sent themselves. Prices are whole points, so duals are rounded
+    down: then a pairing that the engine calls improving is, and when it finds none, the prices are feasible duals,
+    and their value is a bound. It lies below the optimum by less than a point for each flight and each place of a
+    base. From then on duals are rounded up, and what still improves is taken too.
     """
-    master = Master(timetable, penalty, capacity)
+
+    def __init__(self, engine: Engine, ways: Ways, centre: Centre):
+        self.engine = engine
+        self.ways = ways
+        self.centre = centre
+        self.part = 0.0  # of the centre's prices: none at first, when they know of no pairing
+        self.is_up = False
+
+    def improving(self, duals: Prices, columns: set[Pairing]) -> list[Pairing]:
+        """Pairings beside these columns that improve under these duals: none only where no legal one does."""
+        for prices in self.attempts(duals):
+            self.engine.set_prices(prices)
+            offered = self.listed() if self.ways.columns is None else self.priced_out(duals)
+            self.centre.offer(prices, prices.reduced(offered[0]) if offered else 0)
+            if found := [pairing for pairing in offered if improves(pairing, duals) and pairing not in columns]:
+                return found
+        return []
+
+    def attempts(self, duals: Prices) -> Iterator[Prices]:
+        if not self.is_up:
+            part, self.part = self.part, self.ways.smooth
+            if part:
+                yield duals.towards(self.centre.prices, part).each(math.floor)
+            yield duals.each(math.floor)
+            self.is_up = True
+        yield duals.each(math.ceil)
+
+    def listed(self) -> list[Pairing]:
+        return self.engine.cheapest_of(self.ways.pairings, self.ways.share)
+
+    def priced_out(self, duals: Prices) -> list[Pairing]:
+        """The cheapest pairing, then the cheapest that shares no flight with it, and so on, while they improve."""
+        found: list[Pairing] = []
+        while len(found) < self.ways.columns and (pairing := self.engine.cheapest()):
+            found.append(pairing)
+            if not improves(pairing, duals):
+                break
+            for number in pairing.flights:
+                self.engine.set_price(number, BARRED)
+        return found
+
+
+def improves(pairing: Pairing, duals: Prices) -> bool:
+    return duals.reduced(pairing) <= -EPSILON
+
+
+def generate(timetable: Timetable, program: str, options: list[str], ways: Ways = Ways(), *,
+             penalty: float = 100_000.0, capacity: int | None = None,
+             tell: Callable[[Round], None] = lambda _: None) -> Result:
+    """Runs to the optimum of the linear relaxation, or to within the gap of it."""
+    master = Master(timetable, penalty, capacity, ways.dear, ways.patience)
+    centre = Centre(timetable, penalty, capacity)
     rounds: list[Round] = []
-    bound = -math.inf
-    whole: Callable[[float], int] = math.floor
     with Engine(program, options, timetable) as engine:
+        pricing = Pricing(engine, ways, centre)
         while True:
             start = time.perf_counter()
             relaxed = master.relax()
             solved = time.perf_counter()
-            set_prices(engine, relaxed, whole)
-            improving = (cheapest(engine, relaxed, pairings) if columns is None
-                         else priced_out(engine, relaxed, columns))
-            found = [pairing for pairing in improving if master.add(pairing)]
-            least = min((reduced(pairing, relaxed.flights, relaxed.bases) for pairing in found), default=0.0)
-            priced = time.perf_counter()
-            rounds.append(Round(len(rounds) + 1, relaxed.objective, least, len(master.pairings), solved - start,
-                                priced - solved))
+            found = pricing.improving(relaxed.duals, master.columns)
+            for pairing in found:
+                master.add(pairing)
+            least = min(map(relaxed.duals.reduced, found), default=0.0)
+            rounds.append(Round(len(rounds) + 1, relaxed.objective, centre.bound, least, len(master.columns),
+                                relaxed.iterations, solved - start, time.perf_counter() - solved))
             tell(rounds[-1])
-            if not found and whole is math.ceil:
-                return Result(relaxed, bound, master, rounds)
-            if not found:
-                bound = max(bound, bound_of(master, engine))
-                whole = math.ceil
+            if not found or relaxed.objective <= (1 + ways.gap) * centre.bound:
+                return Result(relaxed, centre.bound, master, rounds)

@@ -5,11 +5,10 @@ import matplotlib
 matplotlib.use('Agg')
 from matplotlib import dates, pyplot
 
-from engine import Pairing
+from pairing import Pairing
 from generation import Result
 from master import Plan
-from report import POINTS
-from timetable import Timetable, instant
+from timetable import POINTS, Timetable, instant
 
 
 def draw_rounds(path: Path, result: Result) -> None:

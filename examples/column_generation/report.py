@@ -1,9 +1,7 @@
 """The plan as a planner reads it."""
-from engine import Pairing
+from pairing import Pairing
 from master import Plan
-from timetable import Flight, Timetable
-
-POINTS = 14  # a paid minute
+from timetable import POINTS, Flight, Timetable
 
 
 def clock(minutes: float) -> str:
@@ -26,7 +24,8 @@ def print_pairing(timetable: Timetable, number: int, pairing: Pairing) -> None:
     print(f'\n{pairing.base} pairing {number}: {duties} {"duty" if duties == 1 else "duties"}, '
           f'pay {hours(pairing.pay)}, away {clock(pairing.away)}')
     for duty in pairing.walk:
-        lines = [flight_line(timetable, timetable.flights[leg]) for leg in duty]
+        lines = [flight_line(timetable, timetable.flights[leg]) + ('  rides' if leg in pairing.ridden else '')
+                 for leg in duty]
         print('   duty ' + '\n        '.join(lines))
 
 

@@ -6,6 +6,7 @@ from dataclasses import dataclass, field
 from datetime import datetime, timedelta, timezone
 
 Minutes = int  # after 1970-01-01T00:00 UTC
+POINTS = 14  # a paid minute
 
 
 @dataclass(frozen=True)
