@@ -24,7 +24,8 @@ struct Looks {
 }
 
 // Takes view after view, until it is to end.
-fn watch(looks: &Looks, viewer: &mut Viewer) {
+fn watch(looks: &Looks, viewer: Viewer) {
+    let mut viewer = viewer;
     for _ in 0..u64::MAX {
         if looks.over.load(Ordering::SeqCst) > 0 {
             return;
@@ -70,7 +71,7 @@ fn serve<R: Print + Threads + Wait + Sync + Clock, G: Gate>(
     alloc: Global,
     shared: &Shared,
     desk: &mut Desk<'_, R, G>,
-    viewer: &mut Viewer,
+    viewer: Viewer,
     workers: usize,
     input: &str,
 ) -> io::Result<()> {
@@ -107,11 +108,11 @@ fn play_over<R: Print + Threads + Wait + Sync + Clock>(
         seats,
         mut viewers,
     } = service;
-    let Some(mut viewer) = viewers.pop() else {
+    let Some(viewer) = viewers.pop() else {
         return Ok(());
     };
     let mut desk = Desk::new(alloc, &shared, planner, seats, viewers);
-    serve(rt, alloc, &shared, &mut desk, &mut viewer, workers, input)
+    serve(rt, alloc, &shared, &mut desk, viewer, workers, input)
 }
 
 /// Plays the commands of a case over a service with a seat, beside so many workers and a query
