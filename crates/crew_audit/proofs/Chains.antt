@@ -1,5 +1,5 @@
 -- Lists of duties: their last, their caps, and their sums.
-use Rattle.std.proofs.Common.{◌≡◌, ◌≤◌, ◌<◌, ◌+◌, ◌-◌, ◌*◌, ◌&&◌, ℕ, suc, ℤ, pos, negsuc, ◌+ℤ◌, ◌-ℤ◌, ◌*ℤ◌, ◌≤ℤ◌, ◌<ℤ◌, int_le, Bool, true, false, List, [], ◌∷◌, ◌++◌, Some, length, refl, sym, ap, subst, ◌∙◌, arith, get_or, length-append, of_z, take, to_z, w32, w64, add-one}
+use Rattle.std.proofs.Common.{◌≡◌, ◌≤◌, ◌<◌, ◌+◌, ◌-◌, ◌*◌, ◌&&◌, ℕ, suc, ℤ, pos, negsuc, ◌+ℤ◌, ◌-ℤ◌, ◌*ℤ◌, ◌≤ℤ◌, ◌<ℤ◌, int_le, Bool, true, false, List, [], ◌∷◌, ◌++◌, Some, None, length, refl, sym, ap, subst, ◌∙◌, arith, get_or, length-append, of_z, take, to_z, w32, w64, add-one}
 use Rattle.std.specs.Prelude.{slice_get}
 use mir.Val.{SFits}
 use Rattle.std.specs.Ordering.{eq_by_cmp}
@@ -7,7 +7,8 @@ use Rattle.std.proofs.Math.Nat.{mul-le-mul_left, mul-suc}
 use Rattle.std.proofs.lemmas.Bool.{and_parts}
 use Rattle.std.proofs.lemmas.Int.{ints}
 use Rattle.std.proofs.lemmas.Option.{slice_get-get_or}
-use Rattle.crew_flights.specs.Codes.{code_cmp}
+use Rattle.std.specs.Cmp.{eq_by_cmp_equiv}
+use Rattle.crew_flights.specs.Codes.{code_cmp, code_cmp_total}
 use Rattle.crew_rules.specs.Settings.{IsChecked}
 use Rattle.crew_rules.specs.declared.settings.Settings.{Settings}
 use Rattle.crew_pairing.specs.Legality.{AllConnect, duty_of, flight_time, price_of, release, report, total}
@@ -19,7 +20,6 @@ use Rattle.crew_pairing.proofs.Sums.{total-push, total-take}
 use Rattle.crew_pairing.proofs.Tree.{Each-member, slice_get-Member}
 use Rattle.crew_pairing.proofs.Paid.{legs-paid}
 use Rattle.crew_pairing.proofs.Times.{AllSound, ends-later, flown-total}
-use Rattle.crew_audit.specs.Machinery.Leaving.{airport_after}
 use Rattle.crew_audit.specs.Machinery.Listing.{comes_back, may_join}
 use Rattle.crew_audit.specs.Machinery.Ranges.{IsInRange}
 
@@ -38,9 +38,11 @@ pub join-last : (base : List ℕ) (s : Settings) (before : List Duty) (last next
 join-last base s [] last next e = cc
 join-last base s (first ∷ others) last next e = ap (λ (d : Duty). may_stand_after s d next) (sym (last_duty-get first others last e))
 
-pub airport-last : (base : List ℕ) (before : List Duty) (last : Duty) → slice_get before (length before - 1) ≡ Some last → last.to ≡ airport_after base before
-airport-last base [] last e = cc
-airport-last base (first ∷ others) last e = ap (λ (d : Duty). d.to) (sym (last_duty-get first others last e))
+pub join-none : (base : List ℕ) (s : Settings) (before : List Duty) (first : TimedLeg) → slice_get before (length before - 1) ≡ None → may_join base s before (duty_of s first []) ≡ true → eq_by_cmp code_cmp base first.flight.from ≡ true
+join-none base s [] first e t = (eq_by_cmp_equiv code_cmp_total).symm base first.flight.from ∙ t
+join-none base s (d ∷ ds) first e t =
+    let there = slice_get-get_or (d ∷ ds) (length (d ∷ ds) - 1) d (omega arith) in
+    cc
 
 pub back-last : (base : List ℕ) (ds : List Duty) (last : Duty) → slice_get ds (length ds - 1) ≡ Some last → eq_by_cmp code_cmp last.to base ≡ comes_back base ds
 back-last base [] last e = cc

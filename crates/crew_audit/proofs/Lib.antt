@@ -9,3 +9,4 @@ pub mod Sound
 pub mod Steps
 pub mod Taking
 pub mod Whole
+pub mod Spans

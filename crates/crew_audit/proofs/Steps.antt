@@ -1,5 +1,5 @@
 -- One step of the tree of partials.
-use Rattle.std.proofs.Common.{◌≡◌, ◌≤◌, ◌<◌, ◌+◌, ◌-◌, ◌&&◌, ℕ, suc, ℤ, ◌≤ℤ◌, Bool, true, false, List, [], ◌∷◌, ◌++◌, length, refl, ap, ◌∙◌, arith, append-nil, length-append, filter, inl, inr, if◌then◌else◌}
+use Rattle.std.proofs.Common.{◌≡◌, ◌≤◌, ◌<◌, ◌+◌, ◌-◌, ◌&&◌, ℕ, suc, ℤ, ◌≤ℤ◌, Bool, true, false, List, [], ◌∷◌, ◌++◌, length, refl, ap, sym, ◌∙◌, arith, append-nil, length-append, filter, inl, inr, if◌then◌else◌}
 use Rattle.std.specs.List.{flat_map}
 use Rattle.std.proofs.lemmas.Grind.{flat_map-append}
 use Rattle.std.proofs.lemmas.Int.{ints}
@@ -19,13 +19,13 @@ use Rattle.crew_pairing.proofs.Legal.{AllConnect-after, Each-after, known-sound,
 use Rattle.crew_pairing.proofs.Sums.{total-append}
 use Rattle.crew_pairing.proofs.Times.{AllSound, ends-later, flown-total, no-earlier}
 use Rattle.crew_pairing.proofs.Tree.{Each-push, listing-at}
-use Rattle.crew_audit.specs.Machinery.Leaving.{IsLeaving, airport_after, leaves}
+use Rattle.crew_audit.specs.Machinery.Leaving.{AreAmong}
 use Rattle.crew_audit.specs.Machinery.Listing.{after, goes_on, listed, may_join, with_next}
 use Rattle.crew_audit.specs.Machinery.Ranges.{IsInRange}
 use Rattle.crew_audit.specs.declared.partial.Partial.{Partial}
 use Rattle.crew_audit.proofs.Chains.{both-on, caps-shorter}
 use Rattle.crew_audit.proofs.Flat.{flat-filter, flat-flat, flat-none}
-use Rattle.crew_audit.proofs.Leaving.{elsewhere, first-off, flat-leaving}
+use Rattle.crew_audit.proofs.Leaving.{first-off, flat-among}
 
 pub after-none : (s : Settings) (flights : List Flight) (base : List ℕ) (price : ℤ) (before : List Duty) → after 0 s flights base price before ≡ []
 unfolding after
@@ -190,18 +190,19 @@ longer-few before longer d most e h = omega (arith, h, ap length e, length-appen
 pub longer-ranges : (before longer : List Duty) (d : Duty) → longer ≡ before ++ d ∷ [] → Each IsInRange before → IsInRange d → Each IsInRange longer
 longer-ranges before longer d e ranges range = rw e (Each-push IsInRange before d ranges range)
 
--- flight by flight of those that leave where the next duty begins
-pub after-leaving : (n : ℕ) (s : Settings) (flights : List Flight) (base : List ℕ) (price : ℤ) (before : List Duty) (near : List Flight) → IsLeaving (airport_after base before) flights near
+-- flight by flight of those that may begin the next duty
+pub after-near : (n : ℕ) (s : Settings) (flights : List Flight) (base : List ℕ) (price : ℤ) (before : List Duty) (near : List Flight)
+    → AreAmong (λ f. may_join base s before (duty_of s (timed false f) [])) flights near
     → flat_map (λ f. flat_map (with_next n s flights base price before) (from_flight s flights f)) near
     ≡ flat_map (λ f. flat_map (with_next n s flights base price before) (from_flight s flights f)) flights
-after-leaving n s flights base price before near i =
-    flat-leaving (airport_after base before) (λ f. flat_map (with_next n s flights base price before) (from_flight s flights f)) flights near i
-    (λ f known e. not-joined n s flights base price before f known (elsewhere s base before f e))
+after-near n s flights base price before near i =
+    flat-among (λ f. may_join base s before (duty_of s (timed false f) [])) (λ f. flat_map (with_next n s flights base price before) (from_flight s flights f)) flights near i
+    (λ f known e. not-joined n s flights base price before f known e)
 
--- flight by flight of those that leave where the legs come to
-pub legs-leaving : (room : ℕ) (s : Settings) (flights : List Flight) (base : List ℕ) (price : ℤ) (before : List Duty) (first : TimedLeg) (others : List TimedLeg) (near : List Flight)
-    → IsLeaving (last_of first others).flight.to flights near
+-- flight by flight of those that may come next
+pub legs-near : (room : ℕ) (s : Settings) (flights : List Flight) (base : List ℕ) (price : ℤ) (before : List Duty) (first : TimedLeg) (others : List TimedLeg) (last : TimedLeg) (near : List Flight)
+    → last ≡ last_of first others → AreAmong (may_follow s last.flight) flights near
     → flat_map (onward room s flights base price before first others) near ≡ flat_map (onward room s flights base price before first others) flights
-legs-leaving room s flights base price before first others near i =
-    flat-leaving (last_of first others).flight.to (onward room s flights base price before first others) flights near i
-    (λ f known e. onward-off room s flights base price before first others f (first-off (leaves (last_of first others).flight.to f) _ e))
+legs-near room s flights base price before first others last near is i =
+    flat-among (may_follow s last.flight) (onward room s flights base price before first others) flights near i
+    (λ f known e. onward-off room s flights base price before first others f (ap (λ (l : TimedLeg). may_follow s l.flight f) (sym is) ∙ e))

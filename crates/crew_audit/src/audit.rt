@@ -27,11 +27,15 @@ fn held_flights(alloc: Global, timetable: &Timetable) -> Result<Vec<Flight>, All
 }
 
 // The flights of a timetable, by number and by airport.
-fn flights_at_hand(alloc: Global, timetable: &Timetable) -> Result<FlightList, AllocError>
+fn flights_at_hand(
+    alloc: Global,
+    settings: &Settings,
+    timetable: &Timetable,
+) -> Result<FlightList, AllocError>
     ensures held { IfOk result (λ flights. flights ≡ flights_of timetable.now) }
     ensures sound { IsSound timetable.now }
 {
-    FlightList::new(alloc, held_flights(alloc, timetable)?)
+    FlightList::new(alloc, settings, held_flights(alloc, timetable)?)
 }
 
 // Finds all partials of a timetable.
@@ -52,7 +56,7 @@ fn find<F: Sink>(
     ensures over { result ≡ Err AuditFault.OverLimit
         → HasMoreThan settings.now timetable.now limit }
 {
-    let flights = flights_at_hand(alloc, timetable)?;
+    let flights = flights_at_hand(alloc, settings, timetable)?;
     for (base, base_price) in timetable.bases() {
         let scope = Scope {
             settings,
@@ -87,9 +91,10 @@ pub fn enumerate(
     Ok(partials)
 }
 
-/// What `enumerate` lists, counted and not kept: it takes memory for the flights, twice, the bases
-/// and one partial at a time, however many there are. `OverLimit` exactly where there are more than
-/// `limit`, as soon as one more is found, and `Memory` only where a growth was refused.
+/// What `enumerate` lists, counted and not kept: it takes memory for the flights, by where and when
+/// they leave, the bases and one list of duties at a time, however many partials there are.
+/// `OverLimit` exactly where there are more than `limit`, as soon as one more is found, and `Memory`
+/// only where a growth was refused.
 pub fn tally_all(
     alloc: Global,
     settings: &Settings,

@@ -10,7 +10,6 @@ ghost use Rattle.crew_resource.specs.Members.{Each};
 ghost use Rattle.crew_pairing.specs.Pairings.{is_within_caps, may_stand_after};
 ghost use Rattle.crew_pairing.specs.Pairings as Spec;
 ghost use Rattle.crew_pairing.specs.Vectors.{vector_of};
-ghost use Rattle.crew_audit.specs.Machinery.Leaving.{airport_after};
 ghost use Rattle.crew_audit.specs.Machinery.Listing.{comes_back, listed, may_join};
 ghost use Rattle.crew_audit.specs.Machinery.Ranges.{IsInRange};
 
@@ -21,7 +20,7 @@ use crew_rules::{Settings, guaranteed, rated};
 use std::alloc::{AllocError, Global};
 
 /// The least rest between two duties, in minutes: 14 CFR 117.25(e).
-const LEAST_REST: i64 = 600;
+pub(crate) const LEAST_REST: i64 = 600;
 
 // The minutes from the release of a duty to the report of one that begins with this flight.
 fn rest_before(settings: &Settings, last: &Duty, flight: &Flight) -> i64
@@ -56,16 +55,6 @@ pub(crate) fn may_leave(settings: &Settings, base: Code, before: &[Duty], flight
     match before.last() {
         None => flight.from == base,
         Some(last) => may_rest(settings, last, flight),
-    }
-}
-
-/// Where the duty after these leaves: the base, where there are none.
-pub(crate) fn next_airport(base: Code, before: &[Duty]) -> Code
-    ensures { result ≡ airport_after base before.now }
-{
-    match before.last() {
-        None => base,
-        Some(last) => last.to,
     }
 }
 
@@ -142,8 +131,8 @@ pub(crate) fn keep_within_caps(settings: &Settings, duties: &[Duty]) -> bool
     minutes_away(duties) <= i64::from(settings.away_cap)
 }
 
-// The vector of these duties.
-fn vector_of(settings: &Settings, base_price: i64, duties: &[Duty]) -> PairingVector
+/// The vector of these duties.
+pub(crate) fn vector_of(settings: &Settings, base_price: i64, duties: &[Duty]) -> PairingVector
     requires checked { IsChecked settings.now }
     requires price { IsBasePrice base_price }
     requires few { length duties.now ≤ 13 }
@@ -175,8 +164,8 @@ fn walk_of(alloc: Global, duties: &[Duty]) -> Result<Walk, AllocError>
     Ok(Walk::new(keys))
 }
 
-// Whether these duties arrive at the base in the end.
-fn is_back(base: Code, duties: &[Duty]) -> bool
+/// Whether these duties arrive at the base in the end.
+pub(crate) fn is_back(base: Code, duties: &[Duty]) -> bool
     ensures { result ≡ comes_back base duties.now }
 {
     match duties.last() {

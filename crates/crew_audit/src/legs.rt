@@ -1,6 +1,6 @@
 //! Lists of legs: which may go on, which can begin a duty, and the duty of such a list.
 
-ghost use Rattle.std.specs.Prelude.{◌≡◌, ◌≤◌, ◌++◌, ◌∷◌, [], IfOk, length};
+ghost use Rattle.std.specs.Prelude.{◌≡◌, ◌≤◌, ◌++◌, ◌∷◌, [], length};
 ghost use Rattle.crew_flights.specs.Timetable.{IsFlight};
 ghost use Rattle.crew_rules.specs.Settings.{IsChecked};
 ghost use Rattle.crew_pairing.specs.Legality.{AllConnect, duty_of, may_follow};
@@ -8,23 +8,16 @@ ghost use Rattle.crew_pairing.specs.Machinery.Listing.{is_hopeless, timed};
 ghost use Rattle.crew_resource.specs.Members.{Each};
 ghost use Rattle.crew_audit.specs.Machinery.Ranges.{IsInRange};
 
-use crew_flights::{Code, Flight};
+use crew_flights::Flight;
 use crew_pairing::facts::{
     deadheads, flight_duty_period, flight_time, last_leg, price, release, report, segments,
 };
 use crew_pairing::{Duty, Key, TimedLeg};
 use crew_rules::{Settings, duty_pay, table_a, table_b};
-use std::alloc::{AllocError, Global};
+use std::marker::Model;
 
 /// The most legs of a duty.
 pub(crate) const LEGS: usize = 8;
-
-/// Where a leg comes to.
-pub(crate) fn comes_to(leg: &TimedLeg) -> Code
-    ensures { result ≡ leg.now.flight.to }
-{
-    leg.flight.to
-}
 
 /// Whether a flight may come next after another.
 pub(crate) fn may_come_next(settings: &Settings, before: &Flight, next: &Flight) -> bool
@@ -79,20 +72,67 @@ pub(crate) fn duty_from(settings: &Settings, first: &TimedLeg, others: &[TimedLe
     }
 }
 
+/// Legs in order, eight at most, in place.
+///
+/// A contract sees the list of them.
+#[derive(Drop)]
+pub(crate) struct Legs {
+    legs: [TimedLeg; LEGS],
+    count: u8,
+}
+
+impl Model for Legs {
+    ghost use Rattle.std.specs.Prelude.{◌≤◌, List, take};
+    ghost use Rattle.crew_pairing.specs.declared.leg.TimedLeg.{TimedLeg};
+
+    ghost Value = { List TimedLeg };
+
+    ghost view = { λ l. take l.count l.legs };
+
+    ghost invariant = { λ l. l.count ≤ 8 };
+}
+
+impl Legs {
+    // None; the leg fills their places.
+    fn none(leg: &TimedLeg) -> Legs
+        ensures { result ≡ [] }
+    {
+        Legs {
+            legs: [*leg; LEGS],
+            count: 0,
+        }
+    }
+
+    /// The legs.
+    pub(crate) fn as_slice(&self) -> &[TimedLeg]
+        ensures { result.now ≡ self.now }
+    {
+        &self.legs[..self.count as usize]
+    }
+
+    // Appends a leg.
+    fn push(&mut self, leg: &TimedLeg)
+        requires { length self.old ≤ 7 }
+        ensures { self.new ≡ self.old ++ leg.now ∷ [] }
+    {
+        self.legs[self.count as usize] = *leg;
+        self.count += 1;
+    }
+}
+
 /// These legs, and then one more.
-pub(crate) fn followed_by(
-    alloc: Global,
-    legs: &[TimedLeg],
-    flight: &Flight,
-    deadhead: bool,
-) -> Result<Vec<TimedLeg>, AllocError>
-    ensures { IfOk result (λ longer. longer.items ≡ legs.now ++ timed deadhead flight.now ∷ []) }
+pub(crate) fn followed_by(legs: &[TimedLeg], flight: &Flight, deadhead: bool) -> Legs
+    requires { length legs.now ≤ 7 }
+    ensures { result ≡ legs.now ++ timed deadhead flight.now ∷ [] }
 {
-    let mut longer = Vec::with_capacity(alloc, LEGS)?;
-    longer.extend_from_slice(legs)?;
-    longer.push(TimedLeg {
+    let last = TimedLeg {
         flight: *flight,
         deadhead,
-    })?;
-    Ok(longer)
+    };
+    let mut longer = Legs::none(&last);
+    for leg in legs {
+        longer.push(leg);
+    }
+    longer.push(&last);
+    longer
 }

@@ -13,9 +13,9 @@ ghost use Rattle.crew_audit.specs.Machinery.Listing.{after, listed, may_join, wi
 ghost use Rattle.crew_audit.specs.Machinery.Ranges.{IsInRange};
 ghost use Rattle.crew_audit.specs.Machinery.Taking.{Took};
 
-use crate::chain::{self, keep_within_caps, may_leave, next_airport, partial_from};
+use crate::chain::{self, keep_within_caps, may_leave};
 use crate::flight_list::FlightList;
-use crate::legs::{self, LEGS, cannot_begin, comes_to, duty_from, may_come_next};
+use crate::legs::{self, LEGS, cannot_begin, duty_from, may_come_next};
 use crate::partial::AuditFault;
 use crate::sink::Sink;
 use crew_flights::{Code, Flight};
@@ -55,8 +55,7 @@ fn list_one<F: Sink>(
     if found.taken() >= scope.limit {
         return Err(AuditFault::OverLimit);
     }
-    let partial = partial_from(alloc, scope.settings, scope.base, scope.base_price, duties)?;
-    found.take(partial)?;
+    found.take(alloc, scope, duties)?;
     Ok(())
 }
 
@@ -84,7 +83,7 @@ pub(crate) fn list_after<F: Sink>(
     if before.len() >= scope.settings.max_duties as usize {
         return Ok(());
     }
-    let leaving = scope.flights.leaving(next_airport(scope.base, before));
+    let leaving = scope.flights.next_duties(scope.settings, scope.base, before);
     for flight in leaving {
         if may_leave(scope.settings, scope.base, before, flight) {
             list_from(alloc, found, scope, before, flight)?;
@@ -174,7 +173,7 @@ fn list_legs<F: Sink>(
     }
     let last = last_leg(first, others);
     list_own(alloc, found, scope, &longer, last.deadhead)?;
-    let leaving = scope.flights.leaving(comes_to(&last));
+    let leaving = scope.flights.next_legs(scope.settings, &last.flight);
     for flight in leaving {
         if may_come_next(scope.settings, &last.flight, flight) {
             list_below(alloc, found, scope, before, first, others, flight)?;
@@ -254,8 +253,8 @@ fn list_below<F: Sink>(
         (below (7 - length others.now) scope.now.settings.now scope.now.flights.now first.now
         others.now flight.now)) }
 {
-    let flown = legs::followed_by(alloc, others, flight, false)?;
-    list_legs(alloc, found, scope, before, first, &flown)?;
-    let ridden = legs::followed_by(alloc, others, flight, true)?;
-    list_legs(alloc, found, scope, before, first, &ridden)
+    let flown = legs::followed_by(others, flight, false);
+    list_legs(alloc, found, scope, before, first, flown.as_slice())?;
+    let ridden = legs::followed_by(others, flight, true);
+    list_legs(alloc, found, scope, before, first, ridden.as_slice())
 }

@@ -4,10 +4,18 @@ ghost use Rattle.std.specs.Prelude.{◌≡◌, ◌<◌, ◌≤◌, ℕ, List, []
 ghost use Rattle.crew_audit.specs.declared.partial.Partial.{Partial};
 ghost use Rattle.crew_audit.specs.Machinery.Taking.{Took};
 ghost use Rattle.crew_audit.specs.Tallies.{IsTally};
+ghost use Rattle.crew_audit.specs.Machinery.Listing.{listed};
+ghost use Rattle.crew_audit.specs.Machinery.Ranges.{IsInRange};
+ghost use Rattle.crew_flights.specs.Timetable.{IsBasePrice};
+ghost use Rattle.crew_resource.specs.Members.{Each};
+ghost use Rattle.crew_rules.specs.Settings.{IsChecked};
 
+use crate::chain::{is_back, partial_from, vector_of};
 use crate::partial::Partial;
+use crate::search::Scope;
 use crate::tally::Tally;
-use std::alloc::AllocError;
+use crew_pairing::Duty;
+use std::alloc::{AllocError, Global};
 
 /// What takes partials.
 pub(crate) trait Sink: Drop {
@@ -21,10 +29,20 @@ pub(crate) trait Sink: Drop {
     fn taken(&self) -> usize
         ensures { result ≡ count self.now };
 
-    /// Takes one more.
-    fn take(&mut self, partial: Partial) -> Result<(), AllocError>
-        requires { count self.old < usize.MAX }
-        ensures { OnOk result (Took count holds self.old self.new (partial ∷ [])) };
+    /// Takes these duties, as a partial of a base with its price.
+    fn take(
+        &mut self,
+        alloc: Global,
+        scope: &Scope<'_>,
+        duties: &[Duty],
+    ) -> Result<(), AllocError>
+        requires checked { IsChecked scope.now.settings.now }
+        requires price { IsBasePrice scope.now.base_price }
+        requires few { length duties.now ≤ 13 }
+        requires ranges { Each IsInRange duties.now }
+        requires room { count self.old < usize.MAX }
+        ensures { OnOk result (Took count holds self.old self.new
+            (listed scope.now.settings.now scope.now.base scope.now.base_price duties.now ∷ [])) };
 }
 
 impl Sink for Vec<Partial> {
@@ -36,7 +54,13 @@ impl Sink for Vec<Partial> {
         self.len()
     }
 
-    fn take(&mut self, partial: Partial) -> Result<(), AllocError> {
+    fn take(
+        &mut self,
+        alloc: Global,
+        scope: &Scope<'_>,
+        duties: &[Duty],
+    ) -> Result<(), AllocError> {
+        let partial = partial_from(alloc, scope.settings, scope.base, scope.base_price, duties)?;
         self.push(partial)?;
         Ok(())
     }
@@ -73,8 +97,15 @@ impl Sink for Running {
         self.tally.partials
     }
 
-    fn take(&mut self, partial: Partial) -> Result<(), AllocError> {
-        let tally = self.tally.with(&partial);
+    fn take(
+        &mut self,
+        _alloc: Global,
+        scope: &Scope<'_>,
+        duties: &[Duty],
+    ) -> Result<(), AllocError> {
+        let vector = vector_of(scope.settings, scope.base_price, duties);
+        let pairing = is_back(scope.base, duties);
+        let tally = self.tally.with(pairing, vector.reduced_cost());
         *self = Running { tally };
         Ok(())
     }

@@ -2,6 +2,7 @@
 
 ghost use Rattle.std.specs.Prelude.{◌≡◌, ◌<◌, ◌≤◌, ◌+◌, if◌then◌else◌};
 ghost use Rattle.crew_audit.specs.Tallies.{IsTally, cost_in, least_with};
+ghost use Rattle.crew_audit.specs.declared.partial.Partial.{Partial as Counted};
 
 use crate::partial::Partial;
 
@@ -26,33 +27,33 @@ impl Partial {
     }
 }
 
-// The least cost so far, and with this partial.
-fn least(cost: Option<i64>, partial: &Partial) -> Option<i64>
-    ensures { result ≡ least_with cost partial.now }
+// The least cost so far, and with one partial more, which may be a pairing, of this cost.
+fn least(cost: Option<i64>, pairing: bool, own: i64) -> Option<i64>
+    ensures { (p : Counted) → p.pairing ≡ pairing → cost_in p ≡ own → result ≡ least_with cost p }
 {
-    if !partial.pairing {
+    if !pairing {
         return cost;
     }
     match cost {
-        Some(least) => Some(least.min(partial.cost())),
-        None => Some(partial.cost()),
+        Some(least) => Some(least.min(own)),
+        None => Some(own),
     }
 }
 
 impl Tally {
-    /// What is counted with one partial more.
-    pub(crate) fn with(&self, partial: &Partial) -> Tally
+    /// What is counted with one partial more, which may be a pairing, of this cost.
+    pub(crate) fn with(&self, pairing: bool, cost: i64) -> Tally
         requires room { self.now.partials < usize.MAX }
         requires fewer { self.now.pairings ≤ self.now.partials }
         ensures partials { result.partials ≡ self.now.partials + 1 }
-        ensures pairings { result.pairings
-            ≡ self.now.pairings + (if partial.now.pairing then 1 else 0) }
-        ensures cost { result.cost ≡ least_with self.now.cost partial.now }
+        ensures pairings { result.pairings ≡ self.now.pairings + (if pairing then 1 else 0) }
+        ensures cost { (p : Counted) → p.pairing ≡ pairing → cost_in p ≡ cost
+            → result.cost ≡ least_with self.now.cost p }
     {
         Tally {
             partials: self.partials + 1,
-            pairings: self.pairings + usize::from(partial.pairing),
-            cost: least(self.cost, partial),
+            pairings: self.pairings + usize::from(pairing),
+            cost: least(self.cost, pairing, cost),
         }
     }
 
@@ -62,7 +63,7 @@ impl Tally {
     {
         let mut cost = None;
         for partial in partials {
-            cost = least(cost, partial);
+            cost = least(cost, partial.pairing, partial.cost());
         }
         Tally {
             partials: partials.len(),

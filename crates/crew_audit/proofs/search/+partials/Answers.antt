@@ -1,4 +1,4 @@
-use Rattle.std.proofs.Common.{refl, ◌≡◌, ◌≤◌, ◌+◌, ◌-◌, ◌++◌, ◌∷◌, [], ◌∙◌, List, true, false, sym, ap, subst, arith, length, length-append, take, ℕ}
+use Rattle.std.proofs.Common.{refl, ◌≡◌, ◌≤◌, ◌+◌, ◌-◌, ◌++◌, ◌∷◌, [], ◌∙◌, List, true, false, sym, ap, arith, length, length-append, take}
 use Rattle.std.specs.List.{flat_map}
 use Rattle.std.proofs.lemmas.List.{take_all}
 use Rattle.std.proofs.lemmas.Result.{err_from_is_err_and, on_ok_weaker}
@@ -9,13 +9,12 @@ use Rattle.crew_pairing.specs.declared.duty.Duty.{Duty}
 use Rattle.crew_pairing.specs.declared.leg.TimedLeg.{TimedLeg}
 use Rattle.crew_pairing.proofs.Legal.{known-sound}
 use Rattle.crew_pairing.proofs.Tree.{IsBeginning-more, listing-closed, listing-longer, listing-none}
-use Rattle.crew_audit.specs.Machinery.Leaving.{IsLeaving}
 use Rattle.crew_audit.specs.Machinery.Listing.{with_next}
 use Rattle.crew_audit.specs.declared.partial.Partial.{Partial}
 use Rattle.crew_pairing.specs.Pairings.{is_within_caps}
 use Rattle.crew_audit.proofs.Flat.{item-at, item-known}
 use Rattle.crew_audit.proofs.Taking.{joined-up, over-after, over-first, over-second, took-at, took-both, took-join, took-none, took-over, took-skip}
-use Rattle.crew_audit.proofs.Steps.{after-flights, after-full, after-leaving, join-legs, legs-leaving, legs-open, longer-few, longer-ranges, more-than, not-joined, not-within, onward, onward-off, onward-on, own-listed}
+use Rattle.crew_audit.proofs.Steps.{after-flights, after-full, after-near, join-legs, legs-near, legs-open, longer-few, longer-ranges, more-than, not-joined, not-within, onward, onward-off, onward-on, own-listed}
 use Rattle.crew_audit.proofs.search.+partials.Goals as goal
 use Rattle.crew_audit.proofs.search.+partials.Goals.{list_after-then-may_leave+in_ok-list_from, list_after-else-may_leave, list_legs-then-others-ge-LEGS-via-then-others-ge-LEGS, list_legs-then-others-ge-LEGS-via-else-others-ge-LEGS+then-cannot_begin, list_legs-then-may_come_next+in_ok-list_below, list_legs-else-may_come_next}
 
@@ -30,8 +29,8 @@ list_after-list_from-requires bound t c =
     let flights = c.args.scope.now.flights.now in
     let i = c.loop-flight.flight-index in
     let f = c.flight-item.result in
-    let near = c.leaving-leaving.result.now in
-    let known = c.leaving-leaving.ensures.known f (item-known near i f c.loop-flight-test.true c.flight-item.is) in
+    let near = c.next_duties-leaving.result.now in
+    let known = c.next_duties-leaving.ensures.known f (item-known near i f c.loop-flight-test.true c.flight-item.is) in
     λ κs within. (omega arith, (within, (c.requires.checked, (c.requires.flights, (c.requires.price, (c.if-before-scope.false, (c.requires.ranges, (known, (sym c.may_leave.ensures ∙ c.if-may_leave.true, c.loop-flight.invariant.room)))))))))
 
 pub list_after-returns-in_err-list_from-clause-over : goal.list_after-returns-in_err-list_from-clause-over
@@ -44,11 +43,11 @@ list_after-returns-in_err-list_from-clause-over bound t c =
     let n = s.max_duties - (length before + 1) in
     let i = c.loop-flight.flight-index in
     let f = c.flight-item.result in
-    let near = c.leaving-leaving.result.now in
+    let near = c.next_duties-leaving.result.now in
     let at = item-at near i f c.loop-flight-test.true c.flight-item.is in
     let opened = after-flights s.max_duties (length before) s flights base price before c.if-before-scope.false in
     let p = err_from_is_err_and c.from_residual.result c.from_residual.ensures.1 in
-    let whole = after-leaving n s flights base price before near (subst (λ (a : List ℕ). IsLeaving a flights near) c.next_airport.ensures c.leaving-leaving.ensures) in
+    let whole = after-near n s flights base price before near c.next_duties-leaving.ensures in
     λ e. rw opened (rw (← whole)
     (took-over bound.F.Sink.count bound.F.Sink.holds (λ (g : Flight). flat_map (with_next n s flights base price before) (from_flight s flights g)) near i f c.args.found.now c.loop-flight.found c.args.scope.now.limit at
     c.loop-flight.invariant.found (c.in_err-list_from.ensures.over (cc))))
@@ -63,9 +62,9 @@ list_after-loop-flight-preserved bound t c =
     let n = s.max_duties - (length before + 1) in
     let i = c.loop-flight.flight-index in
     let f = c.flight-item.result in
-    let near = c.leaving-leaving.result.now in
+    let near = c.next_duties-leaving.result.now in
     let at = item-at near i f c.loop-flight-test.true c.flight-item.is in
-    let known = c.leaving-leaving.ensures.known f (item-known near i f c.loop-flight-test.true c.flight-item.is) in
+    let known = c.next_duties-leaving.ensures.known f (item-known near i f c.loop-flight-test.true c.flight-item.is) in
     let F : Flight → List Partial = λ g. flat_map (with_next n s flights base price before) (from_flight s flights g) in
     elim c.if-may_leave.branch [
       | list_after-then-may_leave+in_ok-list_from w ↦
@@ -91,10 +90,10 @@ list_after-returns-clause-ok bound t c =
     let price = c.args.scope.now.base_price in
     let before = c.args.before.now in
     let opened = after-flights s.max_duties (length before) s flights base price before c.if-before-scope.false in
-    let near = c.leaving-leaving.result.now in
+    let near = c.next_duties-leaving.result.now in
     let all : take c.loop-flight.flight-index near ≡ near = take_all c.loop-flight.flight-index near (omega arith) in
     let n = s.max_duties - (length before + 1) in
-    let whole = after-leaving n s flights base price before near (subst (λ (a : List ℕ). IsLeaving a flights near) c.next_airport.ensures c.leaving-leaving.ensures) in
+    let whole = after-near n s flights base price before near c.next_duties-leaving.ensures in
     rw opened (rw (← whole) (rw all at c.loop-flight.invariant.found))
 
 pub list_below-list_legs-requires : goal.list_below-list_legs-requires
@@ -104,9 +103,9 @@ list_below-list_legs-requires bound t c =
     let first = c.args.first.now in
     let others = c.args.others.now in
     let g = c.args.flight.now in
-    let flown : c.deref.result.now ≡ others ++ timed false g ∷ [] = c.deref.ensures.value ∙ c.in_ok-flown.ensures in
-    let long : length c.deref.result.now ≡ length others + 1 = ap length flown ∙ length-append others (timed false g ∷ []) in
-    let joins = join-legs c.args.scope.now.base s c.args.before.now first c.deref.result.now others ∙ c.requires.joins in
+    let flown : c.as_slice.result.now ≡ others ++ timed false g ∷ [] = c.as_slice.ensures ∙ c.followed_by-flown.ensures in
+    let long : length c.as_slice.result.now ≡ length others + 1 = ap length flown ∙ length-append others (timed false g ∷ []) in
+    let joins = join-legs c.args.scope.now.base s c.args.before.now first c.as_slice.result.now others ∙ c.requires.joins in
     let more = IsBeginning-more s flights first others false g c.requires.beginning c.requires.follows c.requires.known in
     λ κs within. (omega arith, (within, (c.requires.checked, (c.requires.flights, (c.requires.price, (c.requires.few, (c.requires.ranges, (joins, (rw flown more, (omega arith, c.requires.room))))))))))
 
@@ -117,9 +116,9 @@ list_below-list_legs-requires-2 bound t c =
     let first = c.args.first.now in
     let others = c.args.others.now in
     let g = c.args.flight.now in
-    let ridden : c.deref-2.result.now ≡ others ++ timed true g ∷ [] = c.deref-2.ensures.value ∙ c.in_ok-ridden.ensures in
-    let long : length c.deref-2.result.now ≡ length others + 1 = ap length ridden ∙ length-append others (timed true g ∷ []) in
-    let joins = join-legs c.args.scope.now.base s c.args.before.now first c.deref-2.result.now others ∙ c.requires.joins in
+    let ridden : c.as_slice-2.result.now ≡ others ++ timed true g ∷ [] = c.as_slice-2.ensures ∙ c.followed_by-ridden.ensures in
+    let long : length c.as_slice-2.result.now ≡ length others + 1 = ap length ridden ∙ length-append others (timed true g ∷ []) in
+    let joins = join-legs c.args.scope.now.base s c.args.before.now first c.as_slice-2.result.now others ∙ c.requires.joins in
     let more = IsBeginning-more s flights first others true g c.requires.beginning c.requires.follows c.requires.known in
     λ κs within. (omega arith, (within, (c.requires.checked, (c.requires.flights, (c.requires.price, (c.requires.few, (c.requires.ranges, (joins, (rw ridden more, (omega arith, c.in_ok-list_legs.ensures.room))))))))))
 
@@ -179,8 +178,8 @@ list_legs-list_below-requires bound t c =
     let flights = c.args.scope.now.flights.now in
     let i = c.loop-flight.flight-index in
     let g = c.flight-item.result in
-    let near = c.leaving-leaving.result.now in
-    let known = c.leaving-leaving.ensures.known g (item-known near i g c.loop-flight-test.true c.flight-item.is) in
+    let near = c.next_legs-leaving.result.now in
+    let known = c.next_legs-leaving.ensures.known g (item-known near i g c.loop-flight-test.true c.flight-item.is) in
     let follows : may_follow s (last_of c.args.first.now c.args.others.now).flight g ≡ true =
     ap (λ (l : TimedLeg). may_follow s l.flight g) (sym c.last_leg-last.ensures) ∙ sym c.may_come_next.ensures ∙ c.if-may_come_next.true in
     λ κs within. (omega arith, (within, (c.requires.checked, (c.requires.flights, (c.requires.price, (c.requires.few, (c.requires.ranges, (c.requires.joins, (c.requires.beginning, (c.if-others-ge-LEGS.false, (known, (follows, c.loop-flight.invariant.room))))))))))))
@@ -197,10 +196,9 @@ list_legs-returns-in_err-list_below-clause-over bound t c =
     let room = s.max_duties - (length before + 1) in
     let i = c.loop-flight.flight-index in
     let g = c.flight-item.result in
-    let near = c.leaving-leaving.result.now in
+    let near = c.next_legs-leaving.result.now in
     let at = item-at near i g c.loop-flight-test.true c.flight-item.is in
-    let airport = c.comes_to.ensures ∙ ap (λ (l : TimedLeg). l.flight.to) c.last_leg-last.ensures in
-    let whole = legs-leaving room s flights base price before first others near (subst (λ (a : List ℕ). IsLeaving a flights near) airport c.leaving-leaving.ensures) in
+    let whole = legs-near room s flights base price before first others c.last_leg-last.result near c.last_leg-last.ensures c.next_legs-leaving.ensures in
     let longer : c.deref.result.now ≡ before ++ duty_of s first others ∷ [] =
     c.deref.ensures.value ∙ c.in_ok-longer.ensures ∙ ap (λ (d : Duty). before ++ d ∷ []) c.duty_from-next.ensures.value in
     let longer-2 : c.deref-2.result.now ≡ before ++ duty_of s first others ∷ [] =
@@ -228,7 +226,7 @@ list_legs-loop-flight-preserved bound t c =
     let room = s.max_duties - (length before + 1) in
     let i = c.loop-flight.flight-index in
     let g = c.flight-item.result in
-    let near = c.leaving-leaving.result.now in
+    let near = c.next_legs-leaving.result.now in
     let at = item-at near i g c.loop-flight-test.true c.flight-item.is in
     let test : may_follow s (last_of first others).flight g ≡ c.may_come_next.result = ap (λ (l : TimedLeg). may_follow s l.flight g) (sym c.last_leg-last.ensures) ∙ sym c.may_come_next.ensures in
     let F : Flight → List Partial = onward room s flights base price before first others in
@@ -266,9 +264,8 @@ list_legs-returns-clause-ok bound t c =
     let caps : is_within_caps s (before ++ duty_of s first others ∷ []) ≡ true = ap (is_within_caps s) (sym longer) ∙ sym c.keep_within_caps.ensures ∙ c.if-not-keep_within_caps.false in
     let opened = legs-open room s flights base price before first others c.if-others-ge-LEGS.false (sym c.cannot_begin.ensures ∙ c.if-cannot_begin.false) c.requires.joins caps in
     let own-is = own-listed room s flights base price before (duty_of s first others) c.deref-2.result.now c.last_leg-last.result (last_of first others) longer-2 c.last_leg-last.ensures in
-    let near = c.leaving-leaving.result.now in
-    let airport = c.comes_to.ensures ∙ ap (λ (l : TimedLeg). l.flight.to) c.last_leg-last.ensures in
-    let whole = legs-leaving room s flights base price before first others near (subst (λ (a : List ℕ). IsLeaving a flights near) airport c.leaving-leaving.ensures) in
+    let near = c.next_legs-leaving.result.now in
+    let whole = legs-near room s flights base price before first others c.last_leg-last.result near c.last_leg-last.ensures c.next_legs-leaving.ensures in
     let all : take c.loop-flight.flight-index near ≡ near = take_all c.loop-flight.flight-index near (omega arith) in
     let done = rw whole at (rw all at c.loop-flight.invariant.found) in
     rw opened (joined-up bound.F.Sink.count bound.F.Sink.holds c.args.found.now c.list_own.new.found c.loop-flight.found _ _ (flat_map (onward room s flights base price before first others) flights) own-is c.in_ok-list_own.ensures.ok done)
@@ -284,8 +281,8 @@ list_below-returns-in_err-list_legs-clause-over bound t c =
     let first = c.args.first.now in
     let others = c.args.others.now in
     let g = c.args.flight.now in
-    let flown = listing-longer s flights first others c.deref.result.now (timed false g) (c.deref.ensures.value ∙ c.in_ok-flown.ensures) in
-    let p = err_from_is_err_and c.from_residual-in_err-list_legs.result c.from_residual-in_err-list_legs.ensures.1 in
+    let flown = listing-longer s flights first others c.as_slice.result.now (timed false g) (c.as_slice.ensures ∙ c.followed_by-flown.ensures) in
+    let p = err_from_is_err_and c.from_residual.result c.from_residual.ensures.1 in
     λ e. over-first W c.args.scope.now.limit _ _ _ _ flown (c.in_err-list_legs.ensures.over (cc))
 
 pub list_below-returns-clause-ok : goal.list_below-returns-clause-ok
@@ -299,8 +296,8 @@ list_below-returns-clause-ok bound t c =
     let first = c.args.first.now in
     let others = c.args.others.now in
     let g = c.args.flight.now in
-    let flown = listing-longer s flights first others c.deref.result.now (timed false g) (c.deref.ensures.value ∙ c.in_ok-flown.ensures) in
-    let ridden = listing-longer s flights first others c.deref-2.result.now (timed true g) (c.deref-2.ensures.value ∙ c.in_ok-ridden.ensures) in
+    let flown = listing-longer s flights first others c.as_slice.result.now (timed false g) (c.as_slice.ensures ∙ c.followed_by-flown.ensures) in
+    let ridden = listing-longer s flights first others c.as_slice-2.result.now (timed true g) (c.as_slice-2.ensures ∙ c.followed_by-ridden.ensures) in
     on_ok_weaker c.list_legs-2.result (λ more. took-both bound.F.Sink.count bound.F.Sink.holds W c.args.found.now c.list_legs.new.found c.list_legs-2.new.found _ _ _ _ flown ridden c.in_ok-list_legs.ensures.ok more)
     c.list_legs-2.ensures.ok
 
@@ -315,8 +312,8 @@ list_below-returns-clause-over bound t c =
     let first = c.args.first.now in
     let others = c.args.others.now in
     let g = c.args.flight.now in
-    let flown = listing-longer s flights first others c.deref.result.now (timed false g) (c.deref.ensures.value ∙ c.in_ok-flown.ensures) in
-    let ridden = listing-longer s flights first others c.deref-2.result.now (timed true g) (c.deref-2.ensures.value ∙ c.in_ok-ridden.ensures) in
+    let flown = listing-longer s flights first others c.as_slice.result.now (timed false g) (c.as_slice.ensures ∙ c.followed_by-flown.ensures) in
+    let ridden = listing-longer s flights first others c.as_slice-2.result.now (timed true g) (c.as_slice-2.ensures ∙ c.followed_by-ridden.ensures) in
     λ e. over-second bound.F.Sink.count bound.F.Sink.holds W c.args.found.now c.list_legs.new.found c.args.scope.now.limit _ _ _ _ flown ridden c.in_ok-list_legs.ensures.ok (c.list_legs-2.ensures.over e)
 
 pub list_from-returns-in_err-list_legs-clause-over : goal.list_from-returns-in_err-list_legs-clause-over
