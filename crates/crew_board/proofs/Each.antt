@@ -1,12 +1,12 @@
 -- Calls for lots: from the turns of a round, one after another, to the machine's steps.
-use Rattle.std.proofs.Common.{◌≡◌, ◌≤◌, ◌<◌, ◌∙◌, ◌++◌, ◌∷◌, [], ◌+◌, ℕ, Bool, true, false, List, Result, Ok, Err, IfOk, OnErr, Some, None, length, map, refl, sym, ap, subst, arith, true≢false}
-use Rattle.std.specs.Result.{result_unwrap_or}
+use Rattle.std.proofs.Common.{◌≡◌, ◌≤◌, ◌<◌, ◌∙◌, ◌++◌, ◌∷◌, [], ◌+◌, ℕ, Bool, true, false, List, Result, Ok, Err, IfOk, OnErr, OnOk, Some, None, length, map, refl, sym, ap, subst, arith, true≢false}
+use Rattle.std.specs.Result.{is_err}
 use Rattle.crew_board.proofs.Answered.{brought, brought-keeps, claimed, claimed-keeps, given-back, given-back-keeps, none-brought, none-claimed, none-given-back}
 use Rattle.crew_board.specs.Boards.{IsBoardOf}
 use Rattle.crew_board.specs.Lots.{AreResultsOf, AreWorksOf, BringsEach, GivesBackEach, HandsOutEach, HasBroughtLot, HasClaimedLot, HasGivenBackLot, counted, freed_of, tally_of}
 use Rattle.crew_board.specs.Machinery.Held.{Marked}
 use Rattle.crew_board.specs.Machinery.Settled.{IsRoundOver, board_of}
-use Rattle.crew_board.specs.Machinery.Turns.{ClaimsAt, ClaimsEach, HasAdded, HasBrought, HasGivenBack, TakesBack, TakesBackEach, TakesIn, TakesInEach}
+use Rattle.crew_board.specs.Machinery.Turns.{ClaimsAt, ClaimsEach, HasBrought, HasGivenBack, TakesBack, TakesBackEach, TakesIn, TakesInEach}
 use Rattle.crew_board.specs.declared.tally.Tally.{Tally}
 use Rattle.crew_job.specs.Jobs.{Job}
 use Rattle.crew_machine.specs.Crew.{CrewBoard, DutyWork, Entries}
@@ -104,10 +104,10 @@ freed-few false = omega arith
 
 -- ---- with a round open
 
--- it is told that there is one job more
-pub added : {E : Type 0} (result : Result Bool E) (told : Bool) (old : Marked) (jobs : List Job) (new : Marked) (more : List Job) → told ≡ result_unwrap_or result false → told ≡ true → IfOk result (λ a. HasAdded old jobs a new more) → HasAdded old jobs true new more
-added (Ok a) told old jobs new more e t h = subst (λ b. HasAdded old jobs b new more) (sym e ∙ t) h
-added (Err fault) told old jobs new more e t h = absurd (true≢false (sym t ∙ e))
+-- what doesn't fail has what it is to have
+pub unless-failed : {X E : Type 0} (result : Result X E) (P : Type 0) → false ≡ is_err result → OnOk result P → P
+unless-failed (Ok x) P e h = h
+unless-failed (Err fault) P e h = absurd (true≢false (sym e))
 
 pub handed-each : (s : Snapshot) (r : Marked) → IsRoundOver s r → (jobs : List Job) (new : Marked) → ClaimsEach r jobs new → (b : CrewBoard) → IsBoardOf (board_of s (Some r)) b
     → (after : CrewBoard) × HandsOutEach (board_of s (Some r)) b jobs (board_of s (Some new)) after × IsBoardOf (board_of s (Some new)) after

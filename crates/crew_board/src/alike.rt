@@ -2,6 +2,7 @@
 ghost use Rattle.std.specs.Prelude.{◌≡◌, ◌↔◌, IsTrue, true};
 ghost use Rattle.crew_board.specs.Machinery.Likes.{AreLike};
 ghost use Rattle.crew_board.specs.declared.alike.Likeness.TheVariants as Is;
+ghost use Rattle.crew_job.specs.Grounds.{sealed_data_of};
 
 use crew_job::Ground;
 
@@ -12,9 +13,9 @@ pub(crate) enum Likeness {
     Unknown,
     /// The settings and the timetables are the same: so are the works of their nodes.
     SameData,
-    /// The plans are the same too: nodes have the same places, and a sweep of the one is a sweep of
-    /// the other.
-    SamePlan,
+    /// The plans are the same too, and the timetables before: nodes have the same places, a sweep of
+    /// the one is a sweep of the other, and what has its front of before in one has it in the other.
+    SameRound,
 }
 
 // Whether two lists of places are one.
@@ -22,6 +23,16 @@ fn are_same_places(one: &[u32], other: &[u32]) -> bool
     ensures { result ≡ true → one.now ≡ other.now }
 {
     one == other
+}
+
+// Whether two grounds, whose data are the same, go through departures in one order, after versions
+// with one timetable.
+fn are_of_one_round(one: &Ground, other: &Ground) -> bool
+    ensures order { result ≡ true → one.now.plan.net.by_report ≡ other.now.plan.net.by_report }
+    ensures sealed { result ≡ true → sealed_data_of one.now ≡ sealed_data_of other.now }
+{
+    are_same_places(one.net().by_report(), other.net().by_report())
+        && one.is_same_sealed_data(other)
 }
 
 /// How like two grounds are. They have one plan where their data are the same, and departures are
@@ -32,8 +43,9 @@ pub(crate) fn likeness_of(one: &Ground, other: &Ground) -> Likeness
     if !one.is_same_data(other) {
         return Likeness::Unknown;
     }
-    if are_same_places(one.net().by_report(), other.net().by_report()) {
-        Likeness::SamePlan
+    let (_own, _others) = (one.net(), other.net());
+    if are_of_one_round(one, other) {
+        Likeness::SameRound
     } else {
         Likeness::SameData
     }
@@ -46,9 +58,9 @@ pub(crate) fn is_unknown(like: Likeness) -> bool
     matches!(like, Likeness::Unknown)
 }
 
-/// Whether the plans are the same.
-pub(crate) fn is_same_plan(like: Likeness) -> bool
-    ensures { IsTrue result ↔ (like ≡ Is.SamePlan) }
+/// Whether the plans are the same, and the timetables before.
+pub(crate) fn is_same_round(like: Likeness) -> bool
+    ensures { IsTrue result ↔ (like ≡ Is.SameRound) }
 {
-    matches!(like, Likeness::SamePlan)
+    matches!(like, Likeness::SameRound)
 }

@@ -1,5 +1,5 @@
 //! A round: its ground, what is known of its nodes, and what shows the fronts of those that are done.
-ghost use Rattle.std.specs.Prelude.{◌≡◌, ◌↔◌, ◌⊎◌, ◌+◌, ◌<◌, ◌≤◌, [], ℕ, Bool, IfOk, IfSome, IsTrue, List, MatchOption, None, OnErr, Some, filter, get_or, length, map, slice_get, slice_set, true};
+ghost use Rattle.std.specs.Prelude.{◌≡◌, ◌↔◌, ◌⊎◌, ◌+◌, ◌<◌, ◌≤◌, [], ℕ, Bool, IfOk, IfSome, IsTrue, List, MatchOption, None, OnErr, OnOk, Some, filter, get_or, length, map, slice_get, slice_set, true};
 ghost use Rattle.std.specs.Arc.{arc_value};
 ghost use Rattle.std.specs.Option.{option_map};
 ghost use Rattle.crew_board.specs.Lots.{freed_of, tally_of};
@@ -9,20 +9,19 @@ ghost use Rattle.crew_board.specs.Machinery.Turns.{ClaimsEach, HasAdded, HasClai
 ghost use Rattle.crew_job.specs.Grounds.{IsGround, nodes_in};
 ghost use Rattle.crew_job.specs.Jobs.{IsJobOf, IsOwnAt, IsPlaced, job_node};
 ghost use Rattle.crew_job.specs.Lots.{StandOn};
-ghost use Rattle.crew_job.specs.Shown.{IsAsSealed, IsLeftOf, LeavesAsSealed};
+ghost use Rattle.crew_job.specs.Shown.{IsAsSealed};
 ghost use Rattle.crew_machine.specs.Crew.{DutyNode, DutyWork};
 ghost use Rattle.crew_machine.specs.declared.rounds.Brought.{Brought};
-ghost use Rattle.crew_pairing.specs.Events.{departure_of};
-ghost use Rattle.crew_round.specs.Marks.{AllDone, AreDoneBefore, AreSameBefore, IsFirstUndone, IsMarked, IsReady, IsUndone, NoneReady, node_count};
+ghost use Rattle.crew_round.specs.Marks.{AllDone, AreDoneBefore, AreSameBefore, IsFirstReady, IsFirstUndone, IsMarked, IsReady, IsUndone, NoneReady, node_count};
 ghost use Rattle.crew_round.specs.Marks as Spec;
 ghost use Rattle.crew_round.specs.declared.mark.Mark.TheVariants.{Done as DoneMark, Out as OutMark};
 ghost use Rattle.crew_version.specs.Versions.{IsRight};
 ghost use Rattle.crew_solve.specs.Plans.{AreSweepsIn, IsSweepIn};
 
-use crate::alike::{Likeness, is_same_plan, is_unknown, likeness_of};
+use crate::alike::{Likeness, is_same_round, is_unknown, likeness_of};
 use crate::before::are_same_before;
 use crate::tally::{Tally, count, count_if, none_counted};
-use crew_job::{Done, DoneLot, Ground, Job, Left, Lot, is_own_by_work};
+use crew_job::{Done, DoneLot, Ground, Job, Lot, is_own_by_work};
 use crew_machine::Brought;
 use crew_net::Node;
 use crew_round::{Mark, Marks, Progress};
@@ -33,7 +32,7 @@ use std::marker::Model;
 use std::sync::Arc;
 
 // How many jobs a lot has at most, once its base has a sweep.
-const LOT: usize = 256;
+const LOT: usize = 2_048;
 
 /// A round over a ground.
 ///
@@ -210,21 +209,42 @@ impl Round {
         let Some(first) = self.marks.first_ready() else {
             return Ok(false);
         };
-        let job = self.job_at(alloc, first)?;
-        lot.push(job)?;
-        self.marks.claim(first);
+        self.claim_at(alloc, first, lot)?;
         Ok(true)
     }
 
-    // Whether the least ready node may go with a lot: it is of the base of the lot's last job, and the
-    // lot is short or the base has no sweep yet. A lot is of one base, so that whoever works it out
-    // makes the sweep of one base at most.
-    fn goes_on(&self, lot: &Lot) -> bool {
+    // Hands out the job of the node at a place, the least ready one, into a lot of the round's.
+    fn claim_at(&mut self, alloc: Global, first: usize, lot: &mut Lot) -> Result<(), AllocError>
+        requires first { IsFirstReady self.old.marks first }
+        requires lot { StandOn self.old.ground lot.old }
+        ensures ok { OnOk result (HasAdded self.old lot.old true self.new lot.new) }
+        ensures err { OnErr result (self.new ≡ self.old) }
+        ensures left { OnErr result (lot.new ≡ lot.old) }
+    {
+        let job = self.job_at(alloc, first)?;
+        lot.push(job)?;
+        self.marks.claim(first);
+        Ok(())
+    }
+
+    // The least ready node, where it may go with a lot.
+    fn next_for(&self, lot: &Lot) -> Option<usize>
+        ensures { IfSome result (IsFirstReady self.now.marks) }
+    {
+        let next = self.marks.first_ready()?;
+        if self.goes_on(lot, next) {
+            Some(next)
+        } else {
+            None
+        }
+    }
+
+    // Whether the node at a place may go with a lot: it is of the base of the lot's last job, and the lot
+    // is short or the base has no sweep yet. A lot is of one base, so that whoever works it out makes
+    // the sweep of one base at most.
+    fn goes_on(&self, lot: &Lot, next: usize) -> bool {
         let Some(last) = lot.jobs().last() else {
             return true;
-        };
-        let Some(next) = self.marks.first_ready() else {
-            return false;
         };
         let base = last.base();
         let is_one = next.checked_div(self.ground.net().duty_count()) == Some(base);
@@ -247,11 +267,10 @@ impl Round {
         ensures most { length lot.new ≤ most }
     {
         while lot.len() < most {
-            if !self.goes_on(lot) {
+            let Some(next) = self.next_for(lot) else {
                 return;
-            }
-            let added = self.claim_into(alloc, lot).unwrap_or(false);
-            if !added {
+            };
+            if self.claim_at(alloc, next, lot).is_err() {
                 return;
             }
         }
@@ -328,7 +347,7 @@ impl Round {
             (λ place. slice_get (nodes_in self.now.ground.plan.net) place ≡ job_node job.now) }
     {
         let _ground = job.ground();
-        if is_same_plan(like) {
+        if is_same_round(like) {
             Some(job.place())
         } else {
             self.ground.place_of(job)
@@ -387,7 +406,7 @@ impl Round {
         ensures { TakesIn self.old done result self.new }
     {
         let like = likeness_of(done.job().ground(), &self.ground);
-        self.take_in(done, like, &mut None)
+        self.take_in(done, like)
     }
 
     /// Takes the results of a lot in, in order, and tells how many came to what.
@@ -397,21 +416,17 @@ impl Round {
     {
         let like = self.likeness_to(done.ground());
         let _count = done.len();
-        let mut left = None;
         let mut tally = none_counted();
         for one in done.into_results() {
-            tally = count(self.take_in(one, like, &mut left), tally);
+            tally = count(self.take_in(one, like), tally);
         }
         tally
     }
 
-    // Takes a result in, whose job's ground is so like the round's, with what is known of the departure
-    // that was looked at last.
-    fn take_in(&mut self, done: Done, like: Likeness, left: &mut Option<Left>) -> Brought
-        requires like { AreLike like done.ground self.old.ground }
-        requires left { IsLeftOf self.old.ground left.old }
-        ensures taken { TakesIn self.old done result self.new }
-        ensures left { IsLeftOf self.old.ground left.new }
+    // Takes a result in, whose job's ground is so like the round's.
+    fn take_in(&mut self, done: Done, like: Likeness) -> Brought
+        requires { AreLike like done.ground self.old.ground }
+        ensures { TakesIn self.old done result self.new }
     {
         let Some(place) = self.own_place(done.job(), like) else {
             return Brought::Stale;
@@ -420,48 +435,36 @@ impl Round {
         if was_done {
             return Brought::Again;
         }
-        let alike = self.leaves_as_sealed(place, &done, like, left);
-        let same = self.is_as_sealed(place, &done, alike);
+        let same = self.is_kept(place, &done, like);
         self.store(place, same, done, like);
         Brought::Stored
     }
 
-    // Whether it is known that the version before the round leaves as the round does where the node at
-    // a place leaves, by the sweep of a result, if that is one of the round's.
-    fn leaves_as_sealed(
-        &self,
-        place: usize,
-        done: &Done,
-        like: Likeness,
-        left: &mut Option<Left>,
-    ) -> bool
+    // Whether the version before the round has the node at a place with the front that is done: that is
+    // known with what is done where its ground is of this round, and else the two are compared.
+    fn is_kept(&self, place: usize, done: &Done, like: Likeness) -> bool
         requires like { AreLike like done.now.ground self.now.ground }
-        requires left { IsLeftOf self.now.ground left.old }
-        ensures alike { IsTrue result → (n : DutyNode)
-            → slice_get (nodes_in self.now.ground.plan.net) place ≡ Some n
-            → LeavesAsSealed self.now.ground n.base (departure_of n.duty) }
-        ensures left { IsLeftOf self.now.ground left.new }
+        requires own { IsOwnPlace self.now done.now place }
+        ensures { (n : DutyNode) → slice_get (nodes_in self.now.ground.plan.net) place ≡ Some n
+            → (IsTrue result ↔ IsAsSealed self.now.ground n) }
     {
-        if !is_same_plan(like) {
-            return false;
-        }
         let _ground = done.job().ground();
-        self.ground.leaves_as_sealed(place, done.sweep(), left)
+        if is_same_round(like) {
+            done.is_kept()
+        } else {
+            self.is_as_sealed(place, done)
+        }
     }
 
-    // Whether the version before the round has the node at a place with the front that is done, where
-    // it may be known already that it leaves there as the round does.
-    fn is_as_sealed(&self, place: usize, done: &Done, alike: bool) -> bool
-        requires own { IsOwnPlace self.now done.now place }
-        requires alike { IsTrue alike → (n : DutyNode)
-            → slice_get (nodes_in self.now.ground.plan.net) place ≡ Some n
-            → LeavesAsSealed self.now.ground n.base (departure_of n.duty) }
+    // The same, by comparing.
+    fn is_as_sealed(&self, place: usize, done: &Done) -> bool
+        requires { IsOwnPlace self.now done.now place }
         ensures { (n : DutyNode) → slice_get (nodes_in self.now.ground.plan.net) place ≡ Some n
             → (IsTrue result ↔ IsAsSealed self.now.ground n) }
     {
         let _ground = done.job().ground();
         let front = done.front();
-        self.ground.has_kept_beside(place, &front, alike)
+        self.ground.has_kept(place, &front)
     }
 
     // Marks a node done whose own job is done, and what is unchanged with it. Its sweep is one of the
@@ -474,7 +477,7 @@ impl Round {
             → (same ≡ true) ↔ IsAsSealed self.old.ground n }
         ensures { IsStored self.old place same self.new }
     {
-        let own = is_same_plan(like);
+        let own = is_same_round(like);
         let _ground = done.job().ground();
         let base = done.job().base();
         show(&mut self.shown, place, done.into_sweep());

@@ -1,4 +1,5 @@
 pub mod Alongside
+pub mod AsBefore
 pub mod BaseSweeps
 pub mod Comparing
 pub mod FoundDuties

@@ -1,6 +1,7 @@
 -- Lists of jobs that stand on one ground.
 use Rattle.std.specs.Prelude.{◌==◌}
-use Rattle.std.proofs.Common.{◌≡◌, ◌<◌, ◌∙◌, ◌++◌, ◌∷◌, [], inl, inr, ℕ, zero, suc, List, ap, arith, false, refl, sym, take, ⊎_elim}
+use Rattle.std.proofs.Common.{◌≡◌, ◌<◌, ◌∙◌, ◌++◌, ◌∷◌, ◌+◌, [], inl, inr, ℕ, zero, suc, List, ap, arith, false, get_or, length, refl, sym, take, ⊎_elim}
+use Rattle.std.proofs.Math.Seq.{take-suc}
 use Rattle.crew_job.specs.Grounds.{Ground}
 use Rattle.crew_job.specs.Jobs.{Job}
 use Rattle.crew_job.specs.Lots.{IsLot, StandOn}
@@ -41,3 +42,9 @@ member-taken (suc k) (y ∷ xs) x (inr m) = inr (member-taken k xs x m)
 -- the first of them stand on the ground of each
 pub stand-taken : (k : ℕ) (jobs : List Job) (job : Job) → IsLot jobs → Member jobs job → StandOn job.ground (take k jobs)
 stand-taken k jobs job is m other n = is other job (member-taken k jobs other n) m
+
+-- one more of them
+pub one-more : {X : Type 0} (xs : List X) (k : ℕ) (x : X) → k < length xs → x ≡ get_or xs k x → take (k + 1) xs ≡ take k xs ++ x ∷ []
+one-more xs k x low is =
+    let next : k + 1 ≡ suc k = omega arith in
+    ap (λ n. take n xs) next ∙ (take-suc xs k x low ∙ ap (λ y. take k xs ++ y ∷ []) (sym is))

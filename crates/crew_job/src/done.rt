@@ -1,13 +1,14 @@
 //! What is done.
 ghost use Rattle.std.specs.Arc.{arc_value};
-ghost use Rattle.std.specs.Prelude.{◌≡◌, IfOk, Some};
+ghost use Rattle.std.specs.Prelude.{◌≡◌, ◌↔◌, IfOk, IsTrue, Some};
 ghost use Rattle.crew_job.specs.Grounds.{data_of};
 ghost use Rattle.crew_job.specs.Jobs.{IsJobOf, job_node};
-ghost use Rattle.crew_job.specs.Shown.{ShowsFrontOf};
+ghost use Rattle.crew_job.specs.Shown.{IsAsSealed, IsLeftOf, ShowsFrontOf};
 ghost use Rattle.crew_machine.specs.Crew.{DutyNode, DutyWork, IsFrontOf, IsLocalOf};
 ghost use Rattle.crew_solve.specs.Plans.{IsSweepIn};
 
 use crate::job::Job;
+use crate::left::Left;
 use crew_solve::{BaseFronts, FrontView};
 use std::alloc::{AllocError, Global};
 use std::marker::Model;
@@ -20,17 +21,19 @@ use std::sync::Arc;
 pub struct Done {
     job: Job,
     sweep: Arc<BaseFronts, Global>,
+    // Whether the version that was sealed last has the node with the same front.
+    kept: bool,
 }
 
 impl Model for Done {
     ghost use Rattle.crew_job.specs.Jobs as Spec;
-    ghost use Rattle.crew_job.specs.Machinery.Held.{IsSwept};
+    ghost use Rattle.crew_job.specs.Machinery.Held.{IsSwept, TellsKept};
 
     ghost Value = { Spec.Job };
 
     ghost view = { λ d. d.job };
 
-    ghost invariant = { λ d. IsSwept d.job d.sweep.value };
+    ghost invariant = { λ d. IsSwept d.job d.sweep.value × TellsKept d.job d.kept };
 }
 
 /// Does a job: its base's sweep shows its front, that which the job has, or where it has none a
@@ -39,16 +42,25 @@ pub fn work(alloc: Global, job: &Job) -> Result<Done, AllocError>
     ensures { IfOk result (λ done. done ≡ job.now) }
 {
     let sweep = job.sweep_of(alloc)?;
-    done_by(job, sweep)
+    done_by(job, sweep, &mut None)
 }
 
-// What is done of a job by its base's sweep.
-pub(crate) fn done_by(job: &Job, sweep: Arc<BaseFronts, Global>) -> Result<Done, AllocError>
-    requires { IsSweepIn job.now.ground.plan job.now.base (arc_value sweep) }
-    ensures { IfOk result (λ done. done ≡ job.now) }
+// What is done of a job by its base's sweep, with what is known of the departure that was looked at
+// last. Whether the node's front is as it was is found out here, by whoever works, so that nobody has
+// to look at fronts when the result is brought.
+pub(crate) fn done_by(
+    job: &Job,
+    sweep: Arc<BaseFronts, Global>,
+    left: &mut Option<Left>,
+) -> Result<Done, AllocError>
+    requires sweep { IsSweepIn job.now.ground.plan job.now.base (arc_value sweep) }
+    requires left { IsLeftOf job.now.ground left.old }
+    ensures done { IfOk result (λ done. done ≡ job.now) }
+    ensures left { IsLeftOf job.now.ground left.new }
 {
+    let kept = job.is_kept(&sweep, left);
     let job = job.copy()?;
-    Ok(Done { job, sweep })
+    Ok(Done { job, sweep, kept })
 }
 
 impl Done {
@@ -66,6 +78,15 @@ impl Done {
             → IsFrontOf self.now.ground.settings (data_of self.now.ground) n result }
     {
         self.sweep.front(self.job.rank())
+    }
+
+    /// Whether the version that was sealed last before the job's round has the node with this very
+    /// front.
+    pub fn is_kept(&self) -> bool
+        ensures { (n : DutyNode) → job_node self.now ≡ Some n
+            → (IsTrue result ↔ IsAsSealed self.now.ground n) }
+    {
+        self.kept
     }
 
     /// The sweep of the job's base.

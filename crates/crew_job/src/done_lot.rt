@@ -74,9 +74,10 @@ pub fn work_lot(alloc: Global, lot: &Lot) -> Result<DoneLot, AllocError>
 {
     let jobs = lot.jobs();
     let mut results = Vec::with_capacity(alloc, jobs.len())?;
+    let mut left = None;
     for job in jobs {
         let sweep = sweep_beside(alloc, job, &results)?;
-        results.push(done_by(job, sweep)?)?;
+        results.push(done_by(job, sweep, &mut left)?)?;
     }
     Ok(DoneLot { results })
 }

@@ -291,6 +291,14 @@ impl Ground {
         Arc::new(alloc, version).map_err(|_| AllocError)
     }
 
+    /// Whether the version that was sealed last has the timetable of the one before another ground. It
+    /// takes no memory.
+    pub fn is_same_sealed_data(&self, other: &Ground) -> bool
+        ensures { IsTrue result ↔ (sealed_data_of self.now ≡ sealed_data_of other.now) }
+    {
+        are_same_timetables(self.sealed().timetable(), other.sealed().timetable())
+    }
+
     /// Whether the settings and the timetable are another ground's. It takes no memory.
     pub fn is_same_data(&self, other: &Ground) -> bool
         ensures { IsTrue result ↔ ((self.now.settings ≡ other.now.settings)

@@ -1,31 +1,36 @@
-//! What is known of the departure that was looked at last.
-ghost use Rattle.std.specs.Prelude.{◌≡◌, ◌↔◌, ℕ, IfSome, IsTrue, Some, slice_get, true};
-ghost use Rattle.crew_job.specs.Grounds.{data_of, nodes_in, sealed_data_of};
-ghost use Rattle.crew_job.specs.Jobs.{IsKeptAt};
+//! Whether a job's node has the front that it had, with what is known of the departure that was looked
+//! at last.
+ghost use Rattle.std.specs.Prelude.{◌≡◌, ◌↔◌, ℕ, IfSome, IsTrue, Some};
+ghost use Rattle.crew_job.specs.Grounds.{sealed_data_of};
+ghost use Rattle.crew_job.specs.Jobs.{job_node};
+ghost use Rattle.crew_job.specs.Machinery.Held.{TellsKept};
 ghost use Rattle.crew_job.specs.Shown.{IsLeftOf, LeavesAsSealed};
 ghost use Rattle.crew_job.specs.declared.left.Left.{Left as LeftOf};
-ghost use Rattle.crew_machine.specs.Crew.{DutyNode, IsFrontOf};
+ghost use Rattle.crew_machine.specs.Crew.{DutyNode, IsNodeOf};
 ghost use Rattle.crew_pairing.specs.Events.{departure_of};
 ghost use Rattle.crew_solve.specs.Plans.{IsSweepIn};
 
+use crate::fronts::is_same_front;
 use crate::ground::Ground;
+use crate::job::Job;
 use crate::kept::has_node;
-use crate::places::{is_same_code, node_in};
+use crate::places::is_same_code;
+use crate::shown::sealed_front;
 use crew_flights::Code;
 use crew_pairing::{Departure, Duty};
 use crew_resource::Placed;
-use crew_solve::{BaseFronts, FrontView};
+use crew_solve::BaseFronts;
 
 /// Whether the version that was sealed last leaves as a ground does at a departure of a base.
-#[derive(Clone, Copy, Debug)]
-pub struct Left {
+#[derive(Clone, Copy)]
+pub(crate) struct Left {
     /// The base.
-    pub base: Code,
+    pub(crate) base: Code,
     /// The departure.
-    pub departure: Departure,
+    pub(crate) departure: Departure,
     /// Whether it is known that each node which leaves there, and which the version has too, has the
     /// same front in both.
-    pub alike: bool,
+    pub(crate) alike: bool,
 }
 
 // Whether two numbers are one.
@@ -123,53 +128,41 @@ impl Ground {
         keep(last, base, duty, alike);
         alike
     }
+}
 
-    /// Whether the version that was sealed last leaves as this does where the node at a place leaves,
-    /// by the fronts of its base: then each node of the base that leaves there, and that the version
-    /// has too, has the same front in both. `false` says nothing. It takes no memory.
-    ///
-    /// What is found is kept for the next one: nodes in a row that leave at one departure take one
-    /// look at its labels.
-    pub fn leaves_as_sealed(
-        &self,
-        place: usize,
-        fronts: &BaseFronts,
-        last: &mut Option<Left>,
-    ) -> bool
-        requires sweep { (base : ℕ) × IsSweepIn self.now.plan base fronts.now }
-        requires last { IsLeftOf self.now last.old }
-        ensures alike { IsTrue result → (n : DutyNode)
-            → slice_get (nodes_in self.now.plan.net) place ≡ Some n
-            → LeavesAsSealed self.now n.base (departure_of n.duty) }
-        ensures last { IsLeftOf self.now last.new }
+impl Job {
+    // Whether the version that was sealed last has the job's node, with the front that a sweep of its
+    // base shows. What is found of the departure that the node leaves at is kept for the next one, so
+    // nodes in a row that leave at one departure take one look at its labels: where the version leaves
+    // there as the ground does, no fronts are compared. It takes no memory.
+    pub(crate) fn is_kept(&self, fronts: &BaseFronts, last: &mut Option<Left>) -> bool
+        requires sweep { IsSweepIn self.now.ground.plan self.now.base fronts.now }
+        requires last { IsLeftOf self.now.ground last.old }
+        ensures kept { TellsKept self.now result }
+        ensures last { IsLeftOf self.now.ground last.new }
     {
-        let net = self.net();
-        let Some((base, rank)) = node_in(net, place) else {
+        let ground = self.ground();
+        let (base, duty) = (self.code(), self.duty());
+        if !has_node(ground.sealed(), base, duty) {
             return false;
-        };
-        let base = net.bases()[base];
-        let duty = &net.duties().as_slice()[rank];
-        self.look_at(fronts, base, duty, last)
+        }
+        if ground.look_at(fronts, base, duty, last) {
+            return true;
+        }
+        self.has_front_of(fronts)
     }
 
-    /// As `has_kept`, of the front that the node at a place has, where it may be known already that the
-    /// version leaves there as this does: then no fronts are compared.
-    pub fn has_kept_beside(&self, place: usize, front: &FrontView<'_>, alike: bool) -> bool
-        requires front { (n : DutyNode) → slice_get (nodes_in self.now.plan.net) place ≡ Some n
-            → IsFrontOf self.now.settings (data_of self.now) n front.now }
-        requires alike { IsTrue alike → (n : DutyNode)
-            → slice_get (nodes_in self.now.plan.net) place ≡ Some n
-            → LeavesAsSealed self.now n.base (departure_of n.duty) }
-        ensures { IsTrue result ↔ IsKeptAt self.now place front.now }
+    // Whether the version that was sealed last, which has the job's node, has it with the front that a
+    // sweep of its base shows.
+    fn has_front_of(&self, fronts: &BaseFronts) -> bool
+        requires sweep { IsSweepIn self.now.ground.plan self.now.base fronts.now }
+        requires there { (n : DutyNode) → job_node self.now ≡ Some n
+            → IsNodeOf self.now.ground.settings (sealed_data_of self.now.ground) n }
+        ensures { TellsKept self.now result }
     {
-        if !alike {
-            return self.has_kept(place, front);
-        }
-        let net = self.net();
-        let Some((base, rank)) = node_in(net, place) else {
-            return false;
-        };
-        let duty = &net.duties().as_slice()[rank];
-        has_node(self.sealed(), net.bases()[base], duty)
+        let sealed = self.ground().sealed();
+        let _count = fronts.net().duty_count();
+        let before = sealed_front(sealed, self.code(), self.duty());
+        is_same_front(&before, &fronts.front(self.rank()))
     }
 }

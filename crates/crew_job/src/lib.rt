@@ -31,6 +31,5 @@ pub use done_lot::{DoneLot, work_lot};
 pub use fault::GroundFault;
 pub use ground::Ground;
 pub use job::Job;
-pub use left::Left;
 pub use lot::Lot;
 pub use own::{is_own, is_own_by_data, is_own_by_work};

@@ -5,6 +5,7 @@
 
 mod bits;
 mod counts;
+mod level;
 mod place_set;
 mod row;
 

@@ -3,21 +3,21 @@ ghost use Rattle.std.specs.Prelude.{◌≡◌, ◌<◌, ◌≤◌, IfOk, MatchOp
 ghost use Rattle.crew_ready.specs.Firsts.{IsFirst, NoneSet};
 
 use crate::bits::{clear_words, first_in, has_bit, rows_of, with_bit};
-use crate::row::Row;
+use crate::level::Level;
 use std::alloc::{AllocError, Global};
 use std::marker::Model;
 
 /// A set of the places below a number, with the least one at hand. Once made it takes no memory.
 ///
 /// A contract sees a list of flags, one for each place. Each place is a bit of a word, and a row
-/// above has a bit for each word, which is set where the word isn't nought. A change takes two
-/// steps. The least place is found by going over the words of the row above, one for each 4,096
-/// places: 49 for 200,000 places, and 782 for 3,200,000.
+/// above has a bit for each word, which is set where the word isn't nought; so has a row above that
+/// for its words. A change takes three steps. The least place is found by going over the words of
+/// the row at the top, one for each 262,144 places: 1 for 200,000 places, and 13 for 3,200,000.
 #[derive(Drop)]
 pub struct PlaceSet {
     count: usize,
     words: Vec<u64>,
-    above: Row,
+    above: Level,
 }
 
 impl Model for PlaceSet {
@@ -41,7 +41,7 @@ impl PlaceSet {
     {
         let rows = rows_of(count);
         let words = clear_words(alloc, rows)?;
-        let above = Row::new(alloc, rows)?;
+        let above = Level::new(alloc, rows)?;
         Ok(PlaceSet {
             count,
             words,

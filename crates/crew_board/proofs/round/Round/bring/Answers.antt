@@ -5,8 +5,8 @@ use Rattle.crew_job.specs.Grounds.{Ground}
 use Rattle.crew_job.specs.Jobs.{Job}
 use Rattle.crew_board.proofs.round.Round.bring.Goals as goal
 
-pub take_in-requires-clause-like : goal.take_in-requires-clause-like
-take_in-requires-clause-like c =
+pub take_in-requires : goal.take_in-requires
+take_in-requires c =
     let like = c.likeness_of-like.result in
     let value = c.ground.ensures.value ∙ ap (λ (j : Job). j.ground) c.job.ensures in
     let own = c.deref.ensures ∙ ap (λ (z : Marked). z.ground) c.self.view_is in

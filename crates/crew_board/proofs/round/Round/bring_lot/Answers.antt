@@ -8,13 +8,12 @@ use Rattle.crew_board.specs.Machinery.Likes.{AreLike}
 use Rattle.crew_board.specs.declared.tally.Tally.{Tally}
 use Rattle.crew_job.specs.Grounds.{Ground}
 use Rattle.crew_job.specs.Jobs.{Job}
-use Rattle.crew_job.specs.Shown.{IsLeftOf}
 use Rattle.crew_resource.proofs.Members.{Member-get_or}
 use Rattle.crew_resource.specs.Members.{Member}
 use Rattle.crew_board.proofs.round.Round.bring_lot.Goals as goal
 
-pub take_in-requires-clause-like : goal.take_in-requires-clause-like
-take_in-requires-clause-like c =
+pub take_in-requires : goal.take_in-requires
+take_in-requires c =
     let v = c.into_results-one-items.result in
     let gives = c.into_iter-one-iterator.ensures.into_iter_gives in
     let one = c.in-Some.one in
@@ -24,9 +23,6 @@ take_in-requires-clause-like c =
     let there = subst (λ (l : List Job). Member l one) c.into_results-one-items.ensures.results here in
     let own = like-each c.ground.result (λ g. g.now) like c.args.done c.args.self.now.ground c.ground.ensures c.likeness_to-like.ensures one there in
     subst (λ (g : Ground). AreLike like one.ground g) (sym c.loop-one.invariant.0) own
-
-pub take_in-requires-clause-left : goal.take_in-requires-clause-left
-take_in-requires-clause-left c = subst (λ (g : Ground). IsLeftOf g c.loop-one.left) (sym c.loop-one.invariant.0) c.loop-one.invariant.2
 
 pub count-tally-requires : goal.count-tally-requires
 count-tally-requires c =
@@ -49,11 +45,10 @@ loop-one-preserved c =
     let new = c.take_in.new.self in
     let what = c.take_in.result in
     let was = c.loop-one.invariant in (
-      takes-ground c.loop-one.self one what new c.take_in.ensures.taken ∙ was.0,
+      takes-ground c.loop-one.self one what new c.take_in.ensures ∙ was.0,
       (
         was.1.0 ++ what ∷ [],
-        takes-more c.args.self.now c.loop-one.self new c.loop-one.yielded was.1.0 one what was.1.1 c.take_in.ensures.taken,
+        takes-more c.args.self.now c.loop-one.self new c.loop-one.yielded was.1.0 one what was.1.1 c.take_in.ensures,
         c.count-tally.ensures ∙ (ap (counted what) was.1.2 ∙ sym (tally-more was.1.0 what)),
       ),
-      subst (λ (g : Ground). IsLeftOf g c.take_in.new.left) was.0 c.take_in.ensures.left,
     )

@@ -1,29 +1,11 @@
-use Rattle.std.proofs.Common.{sym, subst}
+use Rattle.std.proofs.Common.{subst}
 use Rattle.crew_board.proofs.Answered.{told-of-err}
-use Rattle.crew_board.proofs.Inside.{marked_of, shown_of}
-use Rattle.crew_board.proofs.Keeping.{held-with}
-use Rattle.crew_board.specs.Machinery.Held.{IsHeld, Marked}
-use Rattle.crew_board.specs.Machinery.Turns.{with_marks}
-use Rattle.crew_round.specs.Marks.{IsReady, Marks}
-use Rattle.crew_round.specs.declared.mark.Mark.TheVariants.{Out, Waiting}
+use Rattle.crew_board.specs.Machinery.Held.{Marked}
+use Rattle.crew_round.specs.Marks.{IsReady}
 use Rattle.crew_board.proofs.round.Round.claim_into.Goals as goal
 
-pub returns-in_err-job-clause-ready : goal.returns-in_err-job-clause-ready
-returns-in_err-job-clause-ready c =
+pub returns-in_err-claim_at-clause-ready : goal.returns-in_err-claim_at-clause-ready
+returns-in_err-claim_at-clause-ready c =
     let place = c.in-Some.first in
     let ready = subst (λ (z : Marked). IsReady z.marks place) c.self.view_is c.in-Some.ensures.ready in
     told-of-err c.from_residual.result (place, ready)
-
-pub returns-in_err-push-clause-ready : goal.returns-in_err-push-clause-ready
-returns-in_err-push-clause-ready c =
-    let place = c.in-Some.first in
-    let ready = subst (λ (z : Marked). IsReady z.marks place) c.self.view_is c.in-Some.ensures.ready in
-    told-of-err c.from_residual-in_err-push.result (place, ready)
-
-pub invariant_of-self : goal.invariant_of-self
-invariant_of-self c =
-    let r = marked_of c.self.inside in
-    let h = c.self.invariant in
-    let place = c.in-Some.first in
-    let held = held-with r h.marked place Waiting Out c.in-Some.ensures.ready.0 (λ e. (let q : ⊥ = (cc) in q)) (λ e. (let q : ⊥ = (cc) in q)) (shown_of c.self.inside) c.self.inside.swept.items h in
-    subst (λ (m : Marks). IsHeld (with_marks r m) (shown_of c.self.inside) c.self.inside.swept.items) (sym c.claim.ensures) held

@@ -1,7 +1,7 @@
-use Rattle.std.proofs.Common.{◌∙◌, List, ap, arith, length, subst, sym}
+use Rattle.std.proofs.Common.{◌∙◌, true, List, ap, arith, length, subst, sym}
 use Rattle.std.proofs.lemmas.List.{length_push}
-use Rattle.crew_board.proofs.Each.{added, claims-ground, claims-more}
-use Rattle.crew_board.specs.Machinery.Turns.{ClaimsEach}
+use Rattle.crew_board.proofs.Each.{unless-failed, claims-ground, claims-more}
+use Rattle.crew_board.specs.Machinery.Turns.{ClaimsEach, HasAdded}
 use Rattle.crew_job.proofs.Lots.{stand-more}
 use Rattle.crew_job.specs.Grounds.{Ground}
 use Rattle.crew_job.specs.Jobs.{Job}
@@ -12,10 +12,10 @@ pub loop-alloc-preserved : goal.loop-alloc-preserved
 loop-alloc-preserved c =
     let old = c.loop-alloc.self in
     let jobs = c.loop-alloc.lot in
-    let new = c.claim_into.new.self in
-    let more = c.claim_into.new.lot in
+    let new = c.claim_at.new.self in
+    let more = c.claim_at.new.lot in
     let was = c.loop-alloc.invariant in
-    let h = added c.claim_into.result c.unwrap_or-added.result old jobs new more c.unwrap_or-added.ensures c.if-not-added.false c.claim_into.ensures.ok in
+    let h = unless-failed c.claim_at.result (HasAdded old jobs true new more) c.if-is_err.ensures.value c.claim_at.ensures.ok in
     let ground = claims-ground old h.0 new h.1 in
     let stand : StandOn new.ground more = subst (StandOn new.ground) (sym h.2) (stand-more new.ground jobs h.0 (subst (λ (g : Ground). StandOn g jobs) (sym ground) was.0) (h.1.ground ∙ sym ground)) in
     let long = ap length h.2 ∙ length_push jobs h.0 in

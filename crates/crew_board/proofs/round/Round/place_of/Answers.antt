@@ -10,14 +10,14 @@ use Rattle.crew_job.specs.Jobs.{job_node}
 use Rattle.crew_solve.specs.Plans.{Plan}
 use Rattle.crew_board.proofs.round.Round.place_of.Goals as goal
 
-pub returns-then-is_same_plan : goal.returns-then-is_same_plan
-returns-then-is_same_plan c =
+pub returns-then-is_same_round : goal.returns-then-is_same_round
+returns-then-is_same_round c =
     let job = c.args.job.now in
-    let plan = like-plan c.args.like job.ground c.args.self.now.ground (c.is_same_plan.ensures.0 c.if-is_same_plan.true) c.requires in
+    let plan = like-plan c.args.like job.ground c.args.self.now.ground (c.is_same_round.ensures.0 c.if-is_same_round.true) c.requires in
     subst (λ (p : Plan). slice_get (nodes_in p.net) c.place.result ≡ job_node job) plan c.place.ensures.place
 
-pub returns-else-is_same_plan : goal.returns-else-is_same_plan
-returns-else-is_same_plan c =
+pub returns-else-is_same_round : goal.returns-else-is_same_round
+returns-else-is_same_round c =
     let r = marked_of c.self.inside in
     let job = c.args.job.now in
     let found = c.place_of.result in

@@ -28,7 +28,7 @@ note-requires c told =
     let placed = subst IsPlaced c.job.ensures c.ground-ground.ensures.placed in
     let ground = subst (λ (j : Job). IsGround j.ground) c.job.ensures c.ground-ground.ensures.ground in
     let like = subst (λ (z : Marked). AreLike c.args.like job.ground z.ground) (sym c.self.view_is) c.requires.like in
-    let plan : job.ground.plan ≡ r.ground.plan = like-plan c.args.like job.ground r.ground (c.is_same_plan-own.ensures.0 told) like in
+    let plan : job.ground.plan ≡ r.ground.plan = like-plan c.args.like job.ground r.ground (c.is_same_round-own.ensures.0 told) like in
     let base = c.base-base.ensures.value ∙ ap (λ (j : Job). j.base) c.job-2.ensures in
     let low = placed.base in
     let many = as-many job.ground.settings (data_of job.ground) job.ground.plan ground.planned in
@@ -60,9 +60,9 @@ invariant_of-self c =
       after = refl;
     } in
     let b = arc_value c.into_sweep.result in
-    let sweep : (k : ℕ) → k ≡ c.base-base.result → c.is_same_plan-own.result ≡ true → IsSweepIn r.ground.plan k b = λ k e told.
+    let sweep : (k : ℕ) → k ≡ c.base-base.result → c.is_same_round-own.result ≡ true → IsSweepIn r.ground.plan k b = λ k e told.
     (
-    let plan : job.ground.plan ≡ r.ground.plan = like-plan c.args.like job.ground r.ground (c.is_same_plan-own.ensures.0 told) like in
+    let plan : job.ground.plan ≡ r.ground.plan = like-plan c.args.like job.ground r.ground (c.is_same_round-own.ensures.0 told) like in
     subst (λ j. IsSweepIn r.ground.plan j b) (sym (e ∙ base)) (subst (λ (p : Plan). IsSweepIn p job.base b) plan c.into_sweep.ensures.swept)) in
     let swept = c.note.new.swept in
     let long = c.note.ensures.long ∙ ap length c.deref_mut-2.ensures.value in

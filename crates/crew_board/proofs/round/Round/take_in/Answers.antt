@@ -7,16 +7,16 @@ use Rattle.crew_round.specs.Marks.{IsMarked, IsUndone}
 use Rattle.crew_round.specs.declared.mark.Mark.TheVariants.{Done}
 use Rattle.crew_board.proofs.round.Round.take_in.Goals as goal
 
-pub returns-in_default-clause-taken : goal.returns-in_default-clause-taken
-returns-in_default-clause-taken c =
+pub returns-in_default : goal.returns-in_default
+returns-in_default c =
     record {
       ground = subst (λ (j : Job). IsGround j.ground) c.job.ensures c.own_place.ensures.ground;
       placed = subst IsPlaced c.job.ensures c.own_place.ensures.placed;
       turn = (subst (λ (j : Job). IsNowhere c.args.self.now j) c.job.ensures c.in_default.ensures.own, refl);
     }
 
-pub returns-then-was_done-clause-taken : goal.returns-then-was_done-clause-taken
-returns-then-was_done-clause-taken c =
+pub returns-then-was_done : goal.returns-then-was_done
+returns-then-was_done c =
     let place = c.in-Some.place in
     let marked = sym c.mark.ensures ∙ c.is_done-was_done.ensures.0 c.if-was_done.true in
     record {
@@ -41,8 +41,8 @@ store-requires-clause-undone c = (
       let q : ⊥ = (cc) in q),
 )
 
-pub returns-clause-taken : goal.returns-clause-taken
-returns-clause-taken c =
+pub returns : goal.returns
+returns c =
     let place = c.in-Some.place in
     let undone : IsUndone c.args.self.now.marks place = (
       c.in-Some.ensures.low,
@@ -57,8 +57,8 @@ returns-clause-taken c =
       place = place;
       own = c.in-Some.ensures.own;
       undone = undone;
-      same = c.is_as_sealed-same.result;
-      told = c.is_as_sealed-same.ensures;
+      same = c.is_kept-same.result;
+      told = c.is_kept-same.ensures;
       marks = c.store.ensures.marks;
       stores = c.store.ensures.stores;
       after = c.store.ensures.after;

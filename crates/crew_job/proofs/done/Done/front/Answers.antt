@@ -14,11 +14,11 @@ returns-clause-local c =
     let job = c.self.inside.job in
     let b = c.self.inside.sweep.value in
     let shown = subst (λ (z : BaseSweep). (d : Duty) → slice_get z.net.duties c.rank.result ≡ Some d → IsPermutation (front_at z d) c.front.result × RiseByVector c.front.result) c.deref.ensures c.front.ensures in
-    subst (λ (j : Job). (work : DutyWork) → IsJobOf j work → IsLocalOf work c.front.result) c.self.view_is (done-local job b c.self.invariant c.rank.result c.front.result c.rank.ensures.value shown)
+    subst (λ (j : Job). (work : DutyWork) → IsJobOf j work → IsLocalOf work c.front.result) c.self.view_is (done-local job b c.self.invariant.0 c.rank.result c.front.result c.rank.ensures.value shown)
 
 pub returns-clause-front : goal.returns-clause-front
 returns-clause-front c =
     let job = c.self.inside.job in
     let b = c.self.inside.sweep.value in
     let shown = subst (λ (z : BaseSweep). (d : Duty) → slice_get z.net.duties c.rank.result ≡ Some d → IsPermutation (front_at z d) c.front.result × RiseByVector c.front.result) c.deref.ensures c.front.ensures in
-    subst (λ (j : Job). (n : DutyNode) → job_node j ≡ Some n → IsFrontOf j.ground.settings (data_of j.ground) n c.front.result) c.self.view_is (done-front job b c.self.invariant c.rank.result c.front.result c.rank.ensures.value shown)
+    subst (λ (j : Job). (n : DutyNode) → job_node j ≡ Some n → IsFrontOf j.ground.settings (data_of j.ground) n c.front.result) c.self.view_is (done-front job b c.self.invariant.0 c.rank.result c.front.result c.rank.ensures.value shown)

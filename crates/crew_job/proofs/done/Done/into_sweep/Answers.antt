@@ -11,4 +11,4 @@ returns-clause-shown c =
     let job = c.self.inside.job in
     let b = c.self.inside.sweep.value in
     subst (λ (j : Job). (n : DutyNode) → job_node j ≡ Some n → ShowsFrontOf j.ground.settings (data_of j.ground) n b) c.self.view_is
-    (λ n e. shows-front job.ground c.self.invariant.right job.base job.rank b n c.self.invariant.swept e)
+    (λ n e. shows-front job.ground c.self.invariant.0.right job.base job.rank b n c.self.invariant.0.swept e)
