@@ -4,7 +4,7 @@ use Rattle.std.specs.Prelude.{filter}
 use Rattle.std.specs.Ordering.{ordering_reverse}
 use Rattle.std.specs.declared.cmp.Ordering.TheVariants.{Less, Equal, Greater}
 use Rattle.crew_pairing.proofs.Tree.{Each-member}
-use Rattle.crew_resource.proofs.Members.{Member-filter_in, Member-filter_out}
+use Rattle.crew_resource.proofs.Members.{Member-append, Member-append_right, Member-filter_in, Member-filter_out}
 use Rattle.crew_resource.proofs.Rising.{same-rising}
 use Rattle.crew_resource.specs.Members.{Member}
 use Rattle.crew_solve.proofs.Keeping.{in-order-among, in-order-each, in-order-rise, kept-beside, sorted, sorted-out, take-out}
@@ -111,3 +111,12 @@ might-look t found p h e =
 
 pub might-before : (n : ℕ) (t next : Taken) (ps : Ps) → next ≡ looked_at t (least_beside n t ps) → (p : PricedPairing) → may_take next p ≡ true → may_take t p ≡ true
 might-before n t next ps e p may = might-look t (least_beside n t ps) p (found-may n t ps) (ap (λ x. may_take x p) (sym e) ∙ may)
+
+-- ---- some of a list that are gone through once more
+
+pub again-in-order : (qs ps all : Ps) → ((p : PricedPairing) → Member qs p → Member ps p) → AreInOrder ps all → AreInOrder (qs ++ ps) all
+again-in-order qs ps all among are = record {
+  rise = are.rise;
+  among = λ p m. Member-append_right qs ps p (are.among p m);
+  each = λ p m. ⊎_elim {C = Member all p} (λ n. are.each p (among p n)) (are.each p) (Member-append qs ps p m);
+}

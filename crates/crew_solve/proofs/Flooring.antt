@@ -1,7 +1,9 @@
 -- What the pairings of departures cost at least.
-use Rattle.std.proofs.Common.{◌≡◌, ◌≢◌, ◌∙◌, ◌⊎◌, ◌<◌, ℕ, zero, suc, Bool, true, false, cond, ◌&&◌, List, [], ◌∷◌, ◌++◌, Option, Some, None, ℤ, inl, inr, refl, sym, ap, subst, arith, get_or, length, map, replicate, set, take, ⊎_elim}
+use Rattle.std.proofs.Common.{◌≡◌, ◌≢◌, ◌∙◌, ◌⊎◌, ◌<◌, ◌+◌, ℕ, zero, suc, Bool, true, false, cond, ◌&&◌, List, [], ◌∷◌, ◌++◌, Option, Some, None, ℤ, inl, inr, refl, sym, ap, subst, arith, get_or, length, map, replicate, set, take, ⊎_elim}
 use Rattle.std.specs.Prelude.{◌≤ℤ◌, slice_get}
 use Rattle.std.specs.Int.{int_min}
+use Rattle.std.specs.List.{range_with_len}
+use Rattle.std.proofs.lemmas.List.FromFn.{get_or-range_with_len, length-range_with_len}
 use Rattle.std.specs.BTreeSet.{insert_key}
 use Rattle.std.proofs.lemmas.Int.{ints}
 use Rattle.std.proofs.lemmas.List.{get_or-set_other, get_or-set_same, length-set}
@@ -10,16 +12,16 @@ use Rattle.crew_anchor.specs.Stages.{anchored_board}
 use Rattle.crew_pairing.specs.Legs.{Leg}
 use Rattle.crew_pairing.specs.declared.duty.Duty.{Duty}
 use Rattle.crew_pairing.specs.declared.vector.PairingVector.{PairingVector}
-use Rattle.crew_resource.proofs.Members.{Member-flat_map_out, Member-map_out}
+use Rattle.crew_resource.proofs.Members.{Member-append, Member-flat_map_in, Member-flat_map_out, Member-get, Member-map_out}
 use Rattle.crew_resource.specs.Events.{labelled}
 use Rattle.crew_resource.specs.Members.{Member}
 use Rattle.crew_solve.proofs.Floored.{keep-all-none}
-use Rattle.crew_solve.proofs.Keeping.{still-beside}
+use Rattle.crew_solve.proofs.Keeping.{keep-append, still-beside}
 use Rattle.crew_solve.proofs.Listed.{get-same}
 use Rattle.crew_solve.specs.Cheapest.{pairing_cmp}
 use Rattle.crew_solve.specs.Machinery.Floors.{AreFloors, AreFloorsOf, CostFrom, MayCost}
-use Rattle.crew_solve.specs.Machinery.Homes.{boarding, ended_by, home_from, priced, resource_of}
-use Rattle.crew_solve.specs.Machinery.Keeps.{Kept, is_wanted, keep, keep_all}
+use Rattle.crew_solve.specs.Machinery.Homes.{boarding, ended_by, home_from, home_of, priced, resource_of}
+use Rattle.crew_solve.specs.Machinery.Keeps.{Kept, KeepsSome, is_wanted, keep, keep_all}
 use Rattle.crew_solve.specs.Machinery.Takes.{Taken}
 use Rattle.crew_sweep.specs.Sweeps.{BaseSweep, keyed}
 use Rattle.crew_vector.specs.declared.priced.PricedPairing.{PricedPairing}
@@ -207,3 +209,31 @@ floors-stay t next ss fs less h = record {
   many = h.many;
   right = λ place b e. let k = h.right place b e in record { many = k.many; right = λ index. stays t next (get_or (get_or fs place []) index None) (home_from b index) less (k.right index) };
 }
+
+-- ---- some of a list
+
+pub keeps-none : (ps : Ps) (k : Kept) → KeepsSome ps k k
+keeps-none ps k = record { some = []; among = λ p m. absurd m; kept = refl }
+
+pub keeps-all : (ps : Ps) (k j : Kept) → j ≡ keep_all k ps → KeepsSome ps k j
+keeps-all ps k j e = record { some = ps; among = λ p m. m; kept = e }
+
+pub keeps-more : (ps qs : Ps) (k j i : Kept) → KeepsSome ps k j → KeepsSome qs j i → ((p : PricedPairing) → Member qs p → Member ps p) → KeepsSome ps k i
+keeps-more ps qs k j i h g among = record {
+  some = h.some ++ g.some;
+  among = λ p m. ⊎_elim {C = Member ps p} (h.among p) (λ n. among p (g.among p n)) (Member-append h.some g.some p m);
+  kept = g.kept ∙ (ap (λ z. keep_all z g.some) h.kept ∙ sym (keep-append k h.some g.some));
+}
+
+pub some-beside : (ps : Ps) (k j : Kept) → KeepsSome ps k j → j.beside ≡ k.beside
+some-beside ps k j h = ap (λ (z : Kept). z.beside) h.kept ∙ still-beside k h.some
+
+pub range-member : (n i : ℕ) → i < n → Member (range_with_len 0 n) i
+range-member n i h =
+    let long = length-range_with_len 0 n in
+    let at = get_or-range_with_len 0 n i 0 h in
+    let own : 0 + i ≡ i = omega arith in
+    subst (Member (range_with_len 0 n)) (at ∙ own) (Member-get (range_with_len 0 n) i 0 (omega (arith, h, long)))
+
+pub home-among : (b : BaseSweep) (index : ℕ) → index < length b.net.by_report → (p : PricedPairing) → Member (home_from b index) p → Member (home_of b) p
+home-among b index h p m = Member-flat_map_in (home_from b) (range_with_len 0 (length b.net.by_report)) index p (range-member (length b.net.by_report) index h) m

@@ -1,18 +1,18 @@
 //! The least pairings of all that comes home that share few flights.
 
-ghost use Rattle.std.specs.Prelude.{◌≡◌, ◌<◌, List, [], IfOk, Some, length, map, take};
+ghost use Rattle.std.specs.Prelude.{◌≡◌, ◌<◌, List, [], IfOk, Some, map, take};
 ghost use Rattle.std.specs.Arc.{arc_value};
 ghost use Rattle.std.specs.List.{flat_map};
 ghost use Rattle.crew_resource.specs.Members.{Each};
 ghost use Rattle.crew_solve.specs.Apart.{taken_from};
 ghost use Rattle.crew_solve.specs.Machinery.Floors.{AreFloorsOf};
 ghost use Rattle.crew_solve.specs.Machinery.Homes.{home_of};
-ghost use Rattle.crew_solve.specs.Machinery.Keeps.{least_beside};
-ghost use Rattle.crew_solve.specs.Machinery.Takes.{AreInOrder, looked_at};
+ghost use Rattle.crew_solve.specs.Machinery.Keeps.{IsLook};
+ghost use Rattle.crew_solve.specs.Machinery.Takes.{AreInOrder};
 ghost use Rattle.crew_vector.specs.declared.priced.PricedPairing.{PricedPairing as Pairing};
 
 use crate::base_fronts::BaseFronts;
-use crate::floors::{Floors, keep_above_floors, unknown};
+use crate::floors::{Floors, keep_above_floors, keep_low_floors, low_floor, unknown};
 use crate::kept::Kept;
 use crate::taken::Taken;
 use crew_vector::PricedPairing;
@@ -21,6 +21,9 @@ use std::sync::Arc;
 
 // How many to look at first, and at least.
 const LEAST: usize = 32;
+
+// How many floors are low, for each that is looked at.
+const LOW: usize = 2;
 
 // How many to look at after so many, of which some were taken.
 fn more_than(many: usize, taken: usize) -> usize
@@ -48,14 +51,14 @@ fn take_next(
 ) -> Result<(Taken, usize), AllocError>
     requires rate { Each (λ b. trip_rig ≡ b.net.settings.trip_rig) (map arc_value fronts.now) }
     requires floors { AreFloorsOf (Some taken) (map arc_value fronts.now) floors.old }
-    ensures taken { IfOk result (λ next. next.0 ≡ looked_at taken
-        (least_beside many taken (flat_map home_of (map arc_value fronts.now)))) }
-    ensures many { IfOk result (λ next. next.1
-        ≡ length (least_beside many taken (flat_map home_of (map arc_value fronts.now)))) }
+    ensures look { IfOk result (λ next.
+        IsLook many (flat_map home_of (map arc_value fronts.now)) taken next.0 next.1) }
     ensures floors { IfOk result (λ next.
         AreFloorsOf (Some next.0) (map arc_value fronts.now) floors.new) }
 {
     let mut kept = Kept::beside(alloc, many, taken);
+    let most = low_floor(alloc, floors, many.saturating_mul(LOW))?;
+    keep_low_floors(alloc, fronts, trip_rig, most, floors, &mut kept)?;
     keep_above_floors(alloc, fronts, trip_rig, floors, &mut kept)?;
     let (beside, pairings) = kept.into_parts(alloc)?;
     let found = pairings.len();
