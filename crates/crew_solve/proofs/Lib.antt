@@ -24,6 +24,8 @@ pub mod OneNet
 pub mod Keeping
 pub mod Taking
 pub mod Flown
+pub mod Rooms
+pub mod Flooring
 pub mod Cheapest
 pub mod OneList
 pub mod Below

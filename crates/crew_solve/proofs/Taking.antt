@@ -106,6 +106,9 @@ not-true : (a b : Bool) → (b ≡ true → a ≡ true) → a ≡ false → b �
 not-true a true h e = sym (h refl) ∙ e
 not-true a false h e = refl
 
+pub apart-from-fewer : (share : ℕ) (t w : Ps) (x : PricedPairing) → AtLeast t w → is_apart share w x ≡ true → is_apart share t x ≡ true
+apart-from-fewer share t w x h = all-fewer share (λ f. count_by (flies f) t) (λ f. count_by (flies f) w) h.each (flown x.walk)
+
 not-apart : (share : ℕ) (t w : Ps) (x : PricedPairing) → AtLeast t w → is_apart share t x ≡ false → is_apart share w x ≡ false
 not-apart share t w x h = not-true (is_apart share t x) (is_apart share w x)
     (all-fewer share (λ f. count_by (flies f) t) (λ f. count_by (flies f) w) h.each (flown x.walk))
@@ -182,12 +185,12 @@ before-last : (o : Option PricedPairing) (x : PricedPairing) (xs : Ps) → is_pa
 before-last None x xs e h = let z : true ≡ false = e in (cc)
 before-last (Some l) x xs e h = last-after x l xs e h
 
-later-by : (o : Ordering) → is_lt o ≡ true → o ≡ Less
+pub later-by : (o : Ordering) → is_lt o ≡ true → o ≡ Less
 later-by Less e = refl
 later-by Equal e = cc
 later-by Greater e = cc
 
-past-later : (o : Option PricedPairing) (x y : PricedPairing) → is_past o x ≡ true → pairing_cmp x y ≡ Less → is_past o y ≡ true
+pub past-later : (o : Option PricedPairing) (x y : PricedPairing) → is_past o x ≡ true → pairing_cmp x y ≡ Less → is_past o y ≡ true
 past-later None x y e h = refl
 past-later (Some l) x y e h = ap is_lt (pairing_total.trans l x y (later-by (pairing_cmp l x) e) h)
 

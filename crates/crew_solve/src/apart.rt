@@ -1,28 +1,42 @@
 //! The least pairings of all that comes home that share few flights.
 
-ghost use Rattle.std.specs.Prelude.{◌≡◌, ◌<◌, List, [], IfOk, length, map, take};
+ghost use Rattle.std.specs.Prelude.{◌≡◌, ◌<◌, List, [], IfOk, Some, map, take};
 ghost use Rattle.std.specs.Arc.{arc_value};
 ghost use Rattle.std.specs.List.{flat_map};
 ghost use Rattle.crew_resource.specs.Members.{Each};
 ghost use Rattle.crew_solve.specs.Apart.{taken_from};
+ghost use Rattle.crew_solve.specs.Machinery.Floors.{AreFloorsOf};
 ghost use Rattle.crew_solve.specs.Machinery.Homes.{home_of};
-ghost use Rattle.crew_solve.specs.Machinery.Keeps.{least_beside};
-ghost use Rattle.crew_solve.specs.Machinery.Takes.{AreInOrder, looked_at};
+ghost use Rattle.crew_solve.specs.Machinery.Keeps.{IsLook};
+ghost use Rattle.crew_solve.specs.Machinery.Takes.{AreInOrder};
 ghost use Rattle.crew_vector.specs.declared.priced.PricedPairing.{PricedPairing as Pairing};
 
 use crate::base_fronts::BaseFronts;
-use crate::best::keep_home;
+use crate::floors::{Floors, keep_above_floors, keep_low_floors, low_floor, unknown};
 use crate::kept::Kept;
 use crate::taken::Taken;
 use crew_vector::PricedPairing;
 use std::alloc::{AllocError, Global};
 use std::sync::Arc;
 
-// How many to look at after so many.
-fn more_than(many: usize) -> usize
+// How many to look at first, and at least.
+const LEAST: usize = 32;
+
+// How many floors are low, for each that is looked at.
+const LOW: usize = 2;
+
+// How many to look at after so many, of which some were taken.
+fn more_than(many: usize, taken: usize) -> usize
     ensures { 0 < result }
 {
-    many.max(250).saturating_mul(4)
+    let next = if taken > many / 2 {
+        many.saturating_mul(2)
+    } else if taken < many / 8 {
+        many / 2
+    } else {
+        many
+    };
+    next.max(LEAST)
 }
 
 // Looks at the least of what comes home that may still be taken, so many or all, and says how many
@@ -33,15 +47,19 @@ fn take_next(
     trip_rig: u32,
     many: usize,
     taken: Taken,
+    floors: &mut [Floors],
 ) -> Result<(Taken, usize), AllocError>
-    requires { Each (λ b. trip_rig ≡ b.net.settings.trip_rig) (map arc_value fronts.now) }
-    ensures taken { IfOk result (λ next. next.0 ≡ looked_at taken
-        (least_beside many taken (flat_map home_of (map arc_value fronts.now)))) }
-    ensures many { IfOk result (λ next. next.1
-        ≡ length (least_beside many taken (flat_map home_of (map arc_value fronts.now)))) }
+    requires rate { Each (λ b. trip_rig ≡ b.net.settings.trip_rig) (map arc_value fronts.now) }
+    requires floors { AreFloorsOf (Some taken) (map arc_value fronts.now) floors.old }
+    ensures look { IfOk result (λ next.
+        IsLook many (flat_map home_of (map arc_value fronts.now)) taken next.0 next.1) }
+    ensures floors { IfOk result (λ next.
+        AreFloorsOf (Some next.0) (map arc_value fronts.now) floors.new) }
 {
     let mut kept = Kept::beside(alloc, many, taken);
-    keep_home(alloc, fronts, trip_rig, &mut kept)?;
+    let most = low_floor(alloc, floors, many.saturating_mul(LOW))?;
+    keep_low_floors(alloc, fronts, trip_rig, most, floors, &mut kept)?;
+    keep_above_floors(alloc, fronts, trip_rig, floors, &mut kept)?;
     let (beside, pairings) = kept.into_parts(alloc)?;
     let found = pairings.len();
     match beside {
@@ -68,14 +86,16 @@ pub(crate) fn apart_of(
         → pairings.items ≡ take limit (taken_from share [] all)) }
 {
     let mut taken = Taken::new(alloc, share)?;
-    let mut many = more_than(limit);
+    let mut floors = unknown(alloc, fronts)?;
+    let mut many = LEAST;
     while taken.len() < limit {
-        let (next, found) = take_next(alloc, fronts, trip_rig, many, taken)?;
+        let before = taken.len();
+        let (next, found) = take_next(alloc, fronts, trip_rig, many, taken, &mut floors)?;
         taken = next;
         if found < many {
             return Ok(taken.into_first(limit));
         }
-        many = more_than(many);
+        many = more_than(many, taken.len().saturating_sub(before));
     }
     Ok(taken.into_first(limit))
 }

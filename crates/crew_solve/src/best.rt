@@ -1,5 +1,5 @@
 //! The least pairings of all that comes home.
-ghost use Rattle.std.specs.Prelude.{◌≡◌, ◌<◌, ◌≤◌, ℕ, IfOk, None, OnOk, Some, [], get_or, length, map, slice_get};
+ghost use Rattle.std.specs.Prelude.{◌≡◌, ◌<◌, ◌≤◌, ◌∷◌, ℕ, IfOk, None, OnOk, Some, [], get_or, length, map, slice_get};
 ghost use Rattle.std.specs.Arc.{arc_value};
 ghost use Rattle.std.specs.List.{flat_map};
 ghost use Rattle.crew_pairing.specs.Events.{IsSound, departure_of};
@@ -8,7 +8,7 @@ ghost use Rattle.crew_pool.specs.LabelWalks.{walk_of_label};
 ghost use Rattle.crew_resource.specs.Machinery.Sum.{LiesWithin};
 ghost use Rattle.crew_resource.specs.Members.{Each, Member};
 ghost use Rattle.crew_solve.specs.Machinery.Floors as Floors;
-ghost use Rattle.crew_solve.specs.Machinery.Floors.{IsFloor};
+ghost use Rattle.crew_solve.specs.Machinery.Floors.{CostFrom, IsFloor};
 ghost use Rattle.crew_solve.specs.Machinery.Homes as Spec;
 ghost use Rattle.crew_solve.specs.Machinery.Keeps.{keep, keep_all};
 ghost use Rattle.crew_solve.specs.Machinery.Homes.{HasPay, IsFit, IsShowable};
@@ -16,6 +16,7 @@ ghost use Rattle.crew_sweep.specs.Sweeps.{in_order};
 
 use crate::base_fronts::BaseFronts;
 use crate::kept::Kept;
+use crate::walk_view::WalkView;
 use crew_flights::Code;
 use crew_pairing::{Duty, PairingVector, Walk};
 use crew_pool::{LabelWalk, View};
@@ -83,21 +84,29 @@ fn keep_label(
     minute: i64,
     kept: &mut Kept,
     label: &(PairingVector, LabelWalk),
-) -> Result<(), AllocError>
+) -> Result<i64, AllocError>
     requires rate { trip_rig ≡ sweep.now.net.settings.trip_rig }
     requires minute { LiesWithin 2_147_483_648 minute }
     requires showable { IsShowable sweep.now minute label.now.0 }
     requires there { label.now.1.walk < length sweep.now.walks }
     requires ranked { Each (λ rank. rank < length sweep.now.net.duties)
         (walk_of_label sweep.now.walks label.now.1) }
-    ensures { OnOk result (kept.new ≡ keep kept.old (Spec.pairing_at sweep.now minute label.now)) }
+    ensures kept { OnOk result
+        (kept.new ≡ keep kept.old (Spec.pairing_at sweep.now minute label.now)) }
+    ensures floor { IfOk result (λ floor. CostFrom kept.old.beside floor
+        (Spec.pairing_at sweep.now minute label.now ∷ [])) }
 {
     let vector = sweep.resource().show(&label.0, minute);
-    if !kept.wants(vector.reduced_cost()) {
-        return Ok(());
+    let cost = vector.reduced_cost();
+    if !kept.wants(cost) {
+        return Ok(cost);
+    }
+    if !kept.may_pass(cost, &WalkView::new(sweep, label.1)) {
+        return Ok(i64::MAX);
     }
     let pairing = pairing_of(alloc, sweep, trip_rig, &vector, label.1)?;
-    kept.keep(alloc, pairing)
+    kept.keep(alloc, pairing)?;
+    Ok(cost)
 }
 
 // Keeps the least of the pairings of the labels that board a duty.
@@ -110,7 +119,7 @@ fn keep_boarding(
     duty: &Duty,
     minute: i64,
     kept: &mut Kept,
-) -> Result<(), AllocError>
+) -> Result<i64, AllocError>
     requires rate { trip_rig ≡ sweep.now.net.settings.trip_rig }
     requires index { index < length sweep.now.net.by_report }
     requires duty { slice_get sweep.now.net.duties rank ≡ Some duty.now }
@@ -119,13 +128,18 @@ fn keep_boarding(
     requires within { LiesWithin 2_147_483_648 minute }
     requires sound { IsSound duty.now }
     requires fit { IsFit sweep.now }
-    ensures { OnOk result (kept.new ≡ keep_all kept.old (Spec.ended_by sweep.now index duty.now)) }
+    ensures kept { OnOk result
+        (kept.new ≡ keep_all kept.old (Spec.ended_by sweep.now index duty.now)) }
+    ensures floor { IfOk result (λ floor.
+        CostFrom kept.old.beside floor (Spec.ended_by sweep.now index duty.now)) }
 {
     let view = View::new(sweep.resource(), sweep.pool(index), duty, rank);
+    let mut floor = i64::MAX;
     for label in view.iter() {
-        keep_label(alloc, sweep, trip_rig, minute, kept, &label)?;
+        let cost = keep_label(alloc, sweep, trip_rig, minute, kept, &label)?;
+        floor = floor.min(cost);
     }
-    Ok(())
+    Ok(floor)
 }
 
 // What the pairings that a duty ends cost at least.
@@ -146,7 +160,7 @@ fn keep_by(
     duty: &Duty,
     floor: i64,
     kept: &mut Kept,
-) -> Result<(), AllocError>
+) -> Result<i64, AllocError>
     requires rate { trip_rig ≡ sweep.now.net.settings.trip_rig }
     requires index { index < length sweep.now.net.by_report }
     requires duty { slice_get sweep.now.net.duties rank ≡ Some duty.now }
@@ -154,11 +168,18 @@ fn keep_by(
     requires sound { IsSound duty.now }
     requires floor { IsFloor floor (get_or sweep.now.pools index []) }
     requires fit { IsFit sweep.now }
-    ensures { OnOk result (kept.new ≡ keep_all kept.old (Spec.ended_by sweep.now index duty.now)) }
+    ensures kept { OnOk result
+        (kept.new ≡ keep_all kept.old (Spec.ended_by sweep.now index duty.now)) }
+    ensures floor { IfOk result (λ floor.
+        CostFrom kept.old.beside floor (Spec.ended_by sweep.now index duty.now)) }
 {
     let minute = i64::from(duty.release);
-    if !kept.wants(least_by(duty, floor)) {
-        return Ok(());
+    let least = least_by(duty, floor);
+    if !kept.wants(least) {
+        return Ok(least);
+    }
+    if !kept.may_end(&duty.key) {
+        return Ok(i64::MAX);
     }
     keep_boarding(alloc, sweep, trip_rig, index, rank, duty, minute, kept)
 }
@@ -172,7 +193,7 @@ fn keep_at(
     rank: u32,
     floor: i64,
     kept: &mut Kept,
-) -> Result<(), AllocError>
+) -> Result<i64, AllocError>
     requires rate { trip_rig ≡ sweep.now.net.settings.trip_rig }
     requires index { index < length sweep.now.net.by_report }
     requires rank { rank < length sweep.now.net.duties }
@@ -180,11 +201,14 @@ fn keep_at(
         → slice_get (in_order sweep.now.net) index ≡ Some (departure_of d) }
     requires floor { IsFloor floor (get_or sweep.now.pools index []) }
     requires fit { IsFit sweep.now }
-    ensures { OnOk result (kept.new ≡ keep_all kept.old (Spec.home_at sweep.now index rank)) }
+    ensures kept { OnOk result
+        (kept.new ≡ keep_all kept.old (Spec.home_at sweep.now index rank)) }
+    ensures floor { IfOk result (λ floor.
+        CostFrom kept.old.beside floor (Spec.home_at sweep.now index rank)) }
 {
     let duty = &sweep.net().duties().as_slice()[rank as usize];
     if duty.to != sweep.base() {
-        return Ok(());
+        return Ok(i64::MAX);
     }
     keep_by(alloc, sweep, trip_rig, index, rank, duty, floor, kept)
 }
@@ -226,25 +250,29 @@ fn floor_at(sweep: &Sweep, index: usize, ranks: &[u32]) -> i64
 }
 
 // Keeps the least of what comes home by the duties of a departure.
-fn keep_from(
+pub(crate) fn keep_from(
     alloc: Global,
     sweep: &Sweep,
     trip_rig: u32,
     index: usize,
     kept: &mut Kept,
-) -> Result<(), AllocError>
+) -> Result<i64, AllocError>
     requires rate { trip_rig ≡ sweep.now.net.settings.trip_rig }
     requires index { index < length sweep.now.net.by_report }
     requires fit { IsFit sweep.now }
-    ensures { OnOk result (kept.new ≡ keep_all kept.old (Spec.home_from sweep.now index)) }
+    ensures kept { OnOk result (kept.new ≡ keep_all kept.old (Spec.home_from sweep.now index)) }
+    ensures floor { IfOk result (λ floor.
+        CostFrom kept.old.beside floor (Spec.home_from sweep.now index)) }
 {
     let place = sweep.net().by_report()[index] as usize;
     let ranks = sweep.net().leaving(place);
     let floor = floor_at(sweep, index, ranks);
+    let mut least = i64::MAX;
     for &rank in ranks {
-        keep_at(alloc, sweep, trip_rig, index, rank, floor, kept)?;
+        let cost = keep_at(alloc, sweep, trip_rig, index, rank, floor, kept)?;
+        least = least.min(cost);
     }
-    Ok(())
+    Ok(least)
 }
 
 // Keeps the least of all that comes home to a base.

@@ -1,13 +1,16 @@
 //! The least of many pairings.
 
-ghost use Rattle.std.specs.Prelude.{◌≡◌, ◌≤ℤ◌, IfOk, OnOk, false, slice_get};
+ghost use Rattle.std.specs.Prelude.{◌≡◌, ◌≤ℤ◌, ◌++◌, ◌∷◌, IfOk, List, OnOk, [], false, slice_get};
 ghost use Rattle.std.proofs.Common.{refl};
 ghost use Rattle.std.specs.Ordering.{as_partial_cmp, eq_by_cmp};
 ghost use Rattle.std.specs.Cmp.{eq_by_cmp_equiv, partial_equiv_from_equiv, partial_order_from_total};
+ghost use Rattle.crew_pairing.specs.Legs.{Leg};
 ghost use Rattle.crew_solve.specs.Cheapest.{pairing_cmp, pairing_total};
 ghost use Rattle.crew_vector.specs.declared.priced.PricedPairing.{PricedPairing as PairingOf};
 
 use crate::taken::Taken;
+use crate::walk_view::WalkView;
+use crew_pairing::Key;
 use crew_vector::PricedPairing;
 use std::alloc::{AllocError, Global};
 use std::cmp::Ordering;
@@ -151,6 +154,29 @@ impl Kept {
         match self.pairings.last() {
             None => false,
             Some(last) => cost <= last.pairing.cost,
+        }
+    }
+
+    /// Whether a pairing that ends with the duty of a key may be among those that are asked for.
+    pub(crate) fn may_end(&self, key: &Key) -> bool
+        ensures { result ≡ false → (p : PairingOf) (before : List (List Leg))
+            → p.walk ≡ before ++ key.now ∷ [] → Spec.is_wanted self.now.beside p ≡ false }
+    {
+        match &self.beside {
+            None => true,
+            Some(taken) => taken.may_end(key),
+        }
+    }
+
+    /// Whether a pairing of this cost and walk may be among those that are asked for. It takes no
+    /// memory.
+    pub(crate) fn may_pass(&self, cost: i64, walk: &WalkView<'_>) -> bool
+        ensures { result ≡ false → (p : PairingOf) → p.cost ≡ cost → p.walk ≡ walk.now
+            → Spec.is_wanted self.now.beside p ≡ false }
+    {
+        match &self.beside {
+            None => true,
+            Some(taken) => taken.may_pass(cost, walk),
         }
     }
 

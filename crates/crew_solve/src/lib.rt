@@ -11,6 +11,7 @@ mod apart;
 mod base_fronts;
 mod best;
 mod entries;
+mod floors;
 mod front_view;
 mod kept;
 pub mod laws;

@@ -1,14 +1,16 @@
 //! Pairings taken one after another that share few flights.
 
-ghost use Rattle.std.specs.Prelude.{◌≡◌, ◌≤◌, ◌<◌, ◌+◌, ◌++◌, ℕ, IfOk, OnOk, cond, get_or, length, nat_eq, nat_lt, take, true};
+ghost use Rattle.std.specs.Prelude.{◌≡◌, ◌≤◌, ◌<◌, ◌+◌, ◌++◌, ◌∷◌, ℕ, IfOk, List, OnOk, [], cond, false, get_or, length, nat_eq, nat_lt, take, true};
 ghost use Rattle.std.specs.List.{flat_map, list_all, list_any};
 ghost use Rattle.std.specs.Ordering.{is_lt};
+ghost use Rattle.crew_pairing.specs.Legs.{Leg as LegOf};
 ghost use Rattle.crew_resource.specs.Members.{Each};
 ghost use Rattle.crew_solve.specs.Apart as Apart;
 ghost use Rattle.crew_solve.specs.Apart.{is_apart};
 ghost use Rattle.crew_solve.specs.Cheapest.{pairing_cmp};
 ghost use Rattle.crew_vector.specs.declared.priced.PricedPairing.{PricedPairing as Pairing};
 
+use crate::walk_view::WalkView;
 use crew_pairing::{Key, Leg, Walk};
 use crew_vector::PricedPairing;
 use std::alloc::{AllocError, Global};
@@ -117,6 +119,38 @@ fn have_room(counts: &[u32], flights: &[u32], share: u32) -> bool
     true
 }
 
+// Whether the flight of a leg, where the crew flies it, is counted fewer times than so many.
+fn leg_has_room(counts: &[u32], leg: Leg, share: u32) -> bool
+    ensures { result ≡ list_all (λ flight. nat_lt (get_or counts.now flight 0) share)
+        (Apart.flown_on leg) }
+{
+    leg.is_deadhead() || count_of(counts, leg.flight().get()) < share
+}
+
+// Whether each flight that the crew flies on these legs is counted fewer times than so many.
+fn legs_have_room(counts: &[u32], legs: &[Leg], share: u32) -> bool
+    ensures { result ≡ list_all (λ flight. nat_lt (get_or counts.now flight 0) share)
+        (flat_map Apart.flown_on legs.now) }
+{
+    for &leg in legs {
+        if !leg_has_room(counts, leg, share) {
+            return false;
+        }
+    }
+    true
+}
+
+// Whether each flight that a walk flies is counted fewer times than so many.
+fn walk_has_room(counts: &[u32], walk: &WalkView<'_>, share: u32) -> bool
+    ensures { result ≡ list_all (λ flight. nat_lt (get_or counts.now flight 0) share)
+        (Apart.flown walk.now) }
+{
+    let Some((before, last)) = walk.split_last() else {
+        return true;
+    };
+    legs_have_room(counts, last.legs(), share) && walk_has_room(counts, &before, share)
+}
+
 /// Pairings that are taken one after another, each apart from those before it.
 ///
 /// A contract sees how many of them may fly a flight, the last that was looked at, and them.
@@ -196,6 +230,33 @@ impl Taken {
     {
         let flights = flown(alloc, &pairing.walk)?;
         Ok(self.is_past(pairing) && self.have_room(&flights))
+    }
+
+    // Whether a pairing of this cost may come after the last that was looked at.
+    fn reaches(&self, cost: i64) -> bool
+        ensures { result ≡ false → (p : Pairing) → p.cost ≡ cost
+            → Spec.is_past self.now.last p ≡ false }
+    {
+        match &self.last {
+            None => true,
+            Some(last) => last.cost <= cost,
+        }
+    }
+
+    /// Whether a pairing that ends with the duty of a key may still be taken.
+    pub(crate) fn may_end(&self, key: &Key) -> bool
+        ensures { result ≡ false → (p : Pairing) (before : List (List LegOf))
+            → p.walk ≡ before ++ key.now ∷ [] → Spec.may_take self.now p ≡ false }
+    {
+        legs_have_room(&self.counts, key.legs(), self.share)
+    }
+
+    /// Whether a pairing of this cost and walk may still be taken.
+    pub(crate) fn may_pass(&self, cost: i64, walk: &WalkView<'_>) -> bool
+        ensures { result ≡ false → (p : Pairing) → p.cost ≡ cost → p.walk ≡ walk.now
+            → Spec.may_take self.now p ≡ false }
+    {
+        self.reaches(cost) && walk_has_room(&self.counts, walk, self.share)
     }
 
     // Takes a pairing where it is apart.

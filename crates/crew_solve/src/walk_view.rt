@@ -152,7 +152,7 @@ impl<'a> WalkView<'a> {
     }
 
     // The walk without its last duty, and the key of that; `None` for a walk of no duty.
-    fn split_last(&self) -> Option<(WalkView<'a>, &'a Key)>
+    pub(crate) fn split_last(&self) -> Option<(WalkView<'a>, &'a Key)>
         ensures none { IsNone result → self.now ≡ [] }
         ensures some { IfSome result (λ l. self.now ≡ l.0 ++ l.1.now ∷ []) }
     {

@@ -1,10 +1,15 @@
 -- What the pairings of a departure's labels cost at least.
-use Rattle.std.specs.Prelude.{◌≤ℤ◌, ◌+ℤ◌, ◌-ℤ◌, ℤ, List}
+use Rattle.std.specs.Prelude.{◌≡◌, ◌≤ℤ◌, ◌+ℤ◌, ◌-ℤ◌, ℕ, ℤ, true, List, [], Option, Some, None, get_or, length, slice_get}
 use Rattle.std.specs.Int.{saturate_signed, w64}
 use Rattle.crew_pairing.specs.declared.duty.Duty.{Duty}
 use Rattle.crew_pairing.specs.declared.vector.PairingVector.{PairingVector}
 use Rattle.crew_pool.specs.declared.label_walk.LabelWalk.{LabelWalk}
 use Rattle.crew_resource.specs.Members.{Member}
+use Rattle.crew_solve.specs.Machinery.Homes.{home_from}
+use Rattle.crew_solve.specs.Machinery.Keeps.{is_wanted}
+use Rattle.crew_solve.specs.Machinery.Takes.{Taken}
+use Rattle.crew_sweep.specs.Sweeps.{BaseSweep}
+use Rattle.crew_vector.specs.declared.priced.PricedPairing.{PricedPairing}
 
 -- no label's duty pay is less
 abbrev pub IsFloor : ℤ → List (PairingVector × LabelWalk) → Type 0
@@ -13,3 +18,26 @@ IsFloor floor labels = (l : PairingVector × LabelWalk) → Member labels l → 
 -- a pairing that the duty ends costs no less, where its cost fits
 abbrev pub least_by : Duty → ℤ → ℤ
 least_by d floor = saturate_signed w64 (floor +ℤ (d.pay -ℤ d.price))
+
+-- no pairing of a list that is asked for costs less
+abbrev pub CostFrom : Option Taken → ℤ → List PricedPairing → Type 0
+CostFrom beside floor ps = (p : PricedPairing) → Member ps p → is_wanted beside p ≡ true
+    → floor ≤ℤ p.cost
+
+-- where a floor is known
+abbrev pub MayCost : Option Taken → Option ℤ → List PricedPairing → Type 0
+MayCost beside None ps = Unit {0}
+MayCost beside (Some floor) ps = CostFrom beside floor ps
+
+-- the floors of what comes home to a base by each departure, by its place in order of report
+pub record AreFloors (beside : Option Taken) (b : BaseSweep) (floors : List (Option ℤ)) : Type
+    0 where
+  pub many : length floors ≡ length b.net.by_report
+  pub right : (index : ℕ) → MayCost beside (get_or floors index None) (home_from b index)
+
+-- those of each base
+pub record AreFloorsOf (beside : Option Taken) (sweeps : List BaseSweep)
+    (floors : List (List (Option ℤ))) : Type 0 where
+  pub many : length floors ≡ length sweeps
+  pub right : (place : ℕ) (b : BaseSweep) → slice_get sweeps place ≡ Some b
+      → AreFloors beside b (get_or floors place [])

@@ -1,8 +1,9 @@
 -- The least of many pairings, by cost and walk, up to a limit.
-use Rattle.std.specs.Prelude.{ℕ, Bool, true, cond, List, [], ◌∷◌, Option, Some, None, take}
+use Rattle.std.specs.Prelude.{◌≡◌, ℕ, Bool, true, cond, List, [], ◌∷◌, ◌++◌, Option, Some, None, length, take}
 use Rattle.std.specs.BTreeSet.{insert_key}
+use Rattle.crew_resource.specs.Members.{Member}
 use Rattle.crew_solve.specs.Cheapest.{pairing_cmp}
-use Rattle.crew_solve.specs.Machinery.Takes.{Taken, may_take}
+use Rattle.crew_solve.specs.Machinery.Takes.{Taken, looked_at, may_take}
 use Rattle.crew_vector.specs.declared.priced.PricedPairing.{PricedPairing}
 
 -- the least so far, in order, how many at most, and what they are to be taken beside, if anything
@@ -46,3 +47,18 @@ keep_all k (p ∷ ps) = keep_all (keep k p) ps
 -- the least of a list that may be taken beside others, so many or all
 abbrev pub least_beside : ℕ → Taken → List PricedPairing → List PricedPairing
 least_beside many taken ps = (keep_all (nothing_beside many taken) ps).pairings
+
+-- some of a list are kept, whatever their order, and however often
+pub record KeepsSome (ps : List PricedPairing) (before after : Kept) : Type 0 where
+  pub some : List PricedPairing
+  pub among : (p : PricedPairing) → Member some p → Member ps p
+  pub kept : after ≡ keep_all before some
+
+-- a look at the least of a list that may still be taken, so many or all, and how many these are;
+-- some of the list may have been gone through before
+pub record IsLook (many : ℕ) (ps : List PricedPairing) (before after : Taken) (found : ℕ) : Type
+    0 where
+  pub again : List PricedPairing
+  pub among : (p : PricedPairing) → Member again p → Member ps p
+  pub taken : after ≡ looked_at before (least_beside many before (again ++ ps))
+  pub count : found ≡ length (least_beside many before (again ++ ps))

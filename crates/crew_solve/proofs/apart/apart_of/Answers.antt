@@ -1,8 +1,10 @@
-use Rattle.std.proofs.Common.{◌∙◌, ◌<◌, ◌≤◌, ap, arith, length, map, take}
+use Rattle.std.proofs.Common.{◌≡◌, ◌∙◌, ◌<◌, ◌≤◌, ◌++◌, Some, ap, arith, length, map, subst, sym, take}
 use Rattle.std.specs.Arc.{arc_value}
 use Rattle.std.specs.List.{flat_map}
-use Rattle.crew_solve.proofs.Choosing.{all-whole, more-each, still-whole}
+use Rattle.crew_solve.proofs.Choosing.{again-in-order, all-whole, more-each, still-whole}
 use Rattle.crew_solve.proofs.Taking.{Whole, whole-begun}
+use Rattle.crew_solve.specs.Machinery.Floors.{AreFloorsOf}
+use Rattle.crew_solve.proofs.Flooring.{written}
 use Rattle.crew_solve.specs.Machinery.Homes.{home_of}
 use Rattle.crew_solve.specs.Machinery.Keeps.{least_beside}
 use Rattle.crew_solve.specs.Machinery.Takes.{Taken}
@@ -12,7 +14,8 @@ use Rattle.crew_solve.proofs.apart.apart_of.Goals as goal
 pub loop-alloc-init : goal.loop-alloc-init
 loop-alloc-init c = record {
   share = ap (λ (t : Taken). t.share) c.in_ok-taken.ensures;
-  some = c.more_than-many.ensures;
+  some = omega arith;
+  floors = c.in_ok-floors.ensures (Some c.in_ok-taken.taken);
   whole = λ all are. ap (Whole all) c.in_ok-taken.ensures ∙ whole-begun c.args.share all;
 }
 
@@ -22,9 +25,12 @@ returns-then-found-many c = λ all are.
     let many = c.loop-alloc.many in
     let t = c.loop-alloc.taken in
     let next = c.in_ok-next.next in
-    let few : length (least_beside many t homes) < many = omega (arith, c.if-found-many.true, c.in_ok-next.ensures.many) in
-    let whole = still-whole homes all are many t next c.in_ok-next.ensures.taken ∙ c.loop-alloc.invariant.whole all are in
-    c.into_first.ensures ∙ ap (take c.args.limit) (all-whole homes all are many t next c.in_ok-next.ensures.taken few ∙ whole)
+    let look = c.in_ok-next.ensures.look in
+    let seen = look.again ++ homes in
+    let few : length (least_beside many t seen) < many = omega (arith, c.if-found-many.true, look.count) in
+    let each = again-in-order look.again homes all look.among are in
+    let whole = still-whole seen all each many t next look.taken ∙ c.loop-alloc.invariant.whole all are in
+    c.into_first.ensures ∙ ap (take c.args.limit) (all-whole seen all each many t next look.taken few ∙ whole)
 
 pub loop-alloc-smaller : goal.loop-alloc-smaller
 loop-alloc-smaller c =
@@ -32,8 +38,10 @@ loop-alloc-smaller c =
     let many = c.loop-alloc.many in
     let t = c.loop-alloc.taken in
     let next = c.in_ok-next.next in
-    let full : many ≤ length (least_beside many t homes) = omega (arith, c.if-found-many.false, c.in_ok-next.ensures.many) in
-    let more = more-each many t next homes c.in_ok-next.ensures.taken c.loop-alloc.invariant.some full in
+    let look = c.in_ok-next.ensures.look in
+    let seen = look.again ++ homes in
+    let full : many ≤ length (least_beside many t seen) = omega (arith, c.if-found-many.false, look.count) in
+    let more = more-each many t next seen look.taken c.loop-alloc.invariant.some full in
     let test : length t.pairings < c.args.limit = omega (arith, c.loop-alloc-test.true, c.len.ensures) in
     omega (arith, more, test)
 
@@ -43,8 +51,13 @@ loop-alloc-preserved c =
     let many = c.loop-alloc.many in
     let t = c.loop-alloc.taken in
     let next = c.in_ok-next.next in
+    let look = c.in_ok-next.ensures.look in
+    let seen = look.again ++ homes in
+    let ss = map (arc_value {X = BaseSweep}) c.args.fronts.now in
+    let long : c.loop-alloc.floors.len ≡ length c.take_next.new.floors = omega (arith, c.loop-alloc.floors.ok.0, c.loop-alloc.invariant.floors.many, c.in_ok-next.ensures.floors.many) in
     record {
-      share = ap (λ (x : Taken). x.share) c.in_ok-next.ensures.taken ∙ c.loop-alloc.invariant.share;
-      some = c.more_than-many-in-loop-alloc.ensures;
-      whole = λ all are. still-whole homes all are many t next c.in_ok-next.ensures.taken ∙ c.loop-alloc.invariant.whole all are;
+      share = ap (λ (x : Taken). x.share) look.taken ∙ c.loop-alloc.invariant.share;
+      some = c.more_than-many.ensures;
+      floors = subst (AreFloorsOf (Some next) ss) (sym (written c.loop-alloc.floors.len c.take_next.new.floors _ long)) c.in_ok-next.ensures.floors;
+      whole = λ all are. still-whole seen all (again-in-order look.again homes all look.among are) many t next look.taken ∙ c.loop-alloc.invariant.whole all are;
     }

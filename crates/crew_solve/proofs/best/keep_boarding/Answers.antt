@@ -1,4 +1,6 @@
-use Rattle.std.proofs.Common.{◌≡◌, ◌∙◌, ◌<◌, List, ap, sym, subst, to_z, of_z, w64, arith, length, get_or, map, []}
+use Rattle.std.proofs.Common.{◌≡◌, ◌∙◌, ◌<◌, ◌++◌, ◌∷◌, List, ap, refl, sym, subst, to_z, of_z, w64, arith, length, get_or, map, []}
+use Rattle.std.proofs.lemmas.List.{map-append}
+use Rattle.std.specs.Int.{int_min}
 use Rattle.std.proofs.lemmas.Int.{ints}
 use Rattle.std.proofs.lemmas.Iterator.Consumers.{YieldsList-end, YieldsList-turn, YieldsList-from_first}
 use Rattle.crew_anchor.specs.Stages.{anchored_board}
@@ -10,10 +12,12 @@ use Rattle.crew_sweep.proofs.Numbers.{get-member, get-within}
 use Rattle.crew_pool.specs.declared.label_walk.LabelWalk.{LabelWalk}
 use Rattle.crew_resource.proofs.Members.{Member-get_or}
 use Rattle.crew_resource.specs.Members.{Member}
-use Rattle.crew_solve.specs.Machinery.Homes.{IsShowable, pairing_at, resource_of}
+use Rattle.crew_solve.specs.Machinery.Floors.{CostFrom}
+use Rattle.crew_solve.specs.Machinery.Homes.{IsShowable, ended_by, pairing_at, resource_of}
 use Rattle.crew_solve.specs.Machinery.Keeps.{Kept, keep, keep_all}
 use Rattle.crew_solve.proofs.Boarded.{are-whole, boarded-kept, boarded-pairings, boarded-shown, can-board}
 use Rattle.crew_pool.proofs.Listed.{map-itself}
+use Rattle.crew_solve.proofs.Flooring.{from-more, from-none}
 use Rattle.crew_solve.proofs.Keeping.{keep-one-more}
 use Rattle.crew_solve.proofs.best.keep_boarding.Goals as goal
 
@@ -70,18 +74,36 @@ keep_label-requires-clause-ranked c =
     let least : c.args.rank < 4294967295 = omega (arith, low, c.requires.fit.few) in
     (boarded-kept (resource_of b) _ c.args.rank _ c.pool.result.now d c.pool.ensures.kept low least label (subst (λ (ls : List (PairingVector × LabelWalk)). Member ls label) all in-view)).1
 
+pub loop-label-init : goal.loop-label-init
+loop-label-init c = record {
+  kept = refl;
+  floor = from-none c.args.kept.now.beside _;
+}
+
 pub loop-label-preserved : goal.loop-label-preserved
 loop-label-preserved c =
     let b = c.args.sweep.now in
     let d = c.args.duty.now in
     let label = c.in-Some.label in
+    let first = c.args.kept.now in
+    let f = pairing_at b d.release in
+    let ys = c.loop-label.yielded in
     let minute : to_z w64 (of_z w64 c.args.minute) ≡ d.release = omega (arith, ints, c.requires.minute) in
-    c.in_ok-keep_label.ensures
-    ∙ (ap (λ z. keep c.loop-label.kept (pairing_at b z label)) minute
-    ∙ (ap (λ (k : Kept). keep k (pairing_at b d.release label)) c.loop-label.invariant ∙ sym (keep-one-more c.args.kept.now (pairing_at b d.release) c.loop-label.yielded label)))
+    let more : map f (ys ++ label ∷ []) ≡ map f ys ++ f label ∷ [] = map-append f ys (label ∷ []) in
+    let own = c.in_ok-cost.cost in
+    let cost = subst (λ z. CostFrom c.loop-label.kept.beside own (pairing_at b z label ∷ [])) minute c.in_ok-cost.ensures.floor in
+    let low = to_z w64 c.loop-label.floor-bits in
+    let least : to_z w64 (of_z w64 c.min-floor.result) ≡ c.min-floor.result = omega (arith, ints) in
+    let same : to_z w64 (of_z w64 own) ≡ own = omega (arith, ints) in
+    record {
+      kept = c.in_ok-cost.ensures.kept
+          ∙ (ap (λ z. keep c.loop-label.kept (pairing_at b z label)) minute
+          ∙ (ap (λ (k : Kept). keep k (f label)) c.loop-label.invariant.kept ∙ sym (keep-one-more first f ys label)));
+      floor = subst (CostFrom first.beside _) (sym more) (from-more first c.loop-label.kept (map f ys) (f label ∷ []) low own _ c.loop-label.invariant.kept c.loop-label.invariant.floor cost (least ∙ (c.min-floor.ensures.value ∙ ap (int_min low) same)));
+    }
 
-pub returns : goal.returns
-returns c =
+pub returns-clause-kept : goal.returns-clause-kept
+returns-clause-kept c =
     let b = c.args.sweep.now in
     let d = c.args.duty.now in
     let all : c.new-view.result ≡ boarded_labels (λ v. anchored_board (resource_of b) v d) c.args.rank (get_or b.pools c.args.index []) =
@@ -92,4 +114,19 @@ returns c =
     let low = get-within b.net.duties c.args.rank d c.requires.duty in
     let least : c.args.rank < 4294967295 = omega (arith, low, c.requires.fit.few) in
     let whole = subst AreWhole c.pool.ensures.same (are-whole _ _ _ c.pool.result.now c.pool.ensures.kept) in
-    c.loop-label.invariant ∙ (ap (λ ls. keep_all c.args.kept.now (map (pairing_at b d.release) ls)) (yielded ∙ all) ∙ ap (keep_all c.args.kept.now) (boarded-pairings b c.args.index c.args.rank d whole least c.requires.duty))
+    c.loop-label.invariant.kept ∙ (ap (λ ls. keep_all c.args.kept.now (map (pairing_at b d.release) ls)) (yielded ∙ all) ∙ ap (keep_all c.args.kept.now) (boarded-pairings b c.args.index c.args.rank d whole least c.requires.duty))
+
+pub returns-clause-floor : goal.returns-clause-floor
+returns-clause-floor c =
+    let b = c.args.sweep.now in
+    let d = c.args.duty.now in
+    let all : c.new-view.result ≡ boarded_labels (λ v. anchored_board (resource_of b) v d) c.args.rank (get_or b.pools c.args.index []) =
+    c.new-view.ensures.labels ∙ (ap (λ (r : AnchoredResource). boarded_labels (λ v. anchored_board r v d) c.args.rank c.pool.result.now) c.resource.ensures ∙ ap (boarded_labels (λ v. anchored_board (resource_of b) v d) c.args.rank) c.pool.ensures.same) in
+    let road = YieldsList-from_first (λ x. x) (λ s. s) c.new-view.result (c.into_iter-label-iterator.ensures.into_iter_gives ∙ c.iter-label-items.ensures.all) in
+    let end = YieldsList-end road c.loop-label.yielded _ c.loop-label.yielded_by _ _ c.in-None.is c.next.ensures.steps in
+    let yielded = sym (map-itself c.loop-label.yielded) ∙ end.0 in
+    let low = get-within b.net.duties c.args.rank d c.requires.duty in
+    let least : c.args.rank < 4294967295 = omega (arith, low, c.requires.fit.few) in
+    let whole = subst AreWhole c.pool.ensures.same (are-whole _ _ _ c.pool.result.now c.pool.ensures.kept) in
+    let same : map (pairing_at b d.release) c.loop-label.yielded ≡ ended_by b c.args.index d = ap (map (pairing_at b d.release)) (yielded ∙ all) ∙ boarded-pairings b c.args.index c.args.rank d whole least c.requires.duty in
+    subst (CostFrom c.args.kept.now.beside _) same c.loop-label.invariant.floor

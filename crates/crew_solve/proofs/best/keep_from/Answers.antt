@@ -1,4 +1,6 @@
-use Rattle.std.proofs.Common.{◌≡◌, ◌∙◌, ap, sym, subst, Some, List, length, get_or, take, arith}
+use Rattle.std.proofs.Common.{◌≡◌, ◌∙◌, ap, refl, sym, subst, Some, List, length, get_or, take, to_z, of_z, w64, arith}
+use Rattle.std.specs.Int.{int_min}
+use Rattle.std.proofs.lemmas.Int.{ints}
 use Rattle.std.specs.Prelude.{slice_get}
 use Rattle.std.specs.List.{flat_map}
 use Rattle.std.proofs.lemmas.List.{take_all}
@@ -9,7 +11,9 @@ use Rattle.crew_pairing.specs.Events.{departure_of}
 use Rattle.crew_resource.proofs.Members.{Member-get}
 use Rattle.crew_resource.specs.Members.{Member}
 use Rattle.crew_sweep.proofs.Numbers.{get-within}
+use Rattle.crew_solve.specs.Machinery.Floors.{CostFrom}
 use Rattle.crew_solve.specs.Machinery.Homes.{home_at, leaving}
+use Rattle.crew_solve.proofs.Flooring.{from-more, from-none}
 use Rattle.crew_solve.proofs.Departing.{departs, leaves-own, rank-out}
 use Rattle.crew_solve.specs.Machinery.Keeps.{Kept, keep_all}
 use Rattle.crew_solve.proofs.Listed.{flat-more}
@@ -52,18 +56,34 @@ keep_at-requires-clause-own c = λ e known.
     let same : r.0 ≡ e = (let both : Some r.0 ≡ Some e = sym r.1 ∙ known in (cc)) in
     d.stands ∙ ap Some (leaves-own d.departure r.0 r.2 ∙ ap departure_of same)
 
+pub loop-rank-init : goal.loop-rank-init
+loop-rank-init c = record {
+  kept = refl;
+  floor = from-none c.args.kept.now.beside _;
+}
+
 pub loop-rank-preserved : goal.loop-rank-preserved
 loop-rank-preserved c =
     let b = c.args.sweep.now in
     let ranks = c.leaving-ranks.result.now in
     let i = c.loop-rank.rank-index in
     let f = home_at b c.args.index in
-    c.in_ok-keep_at.ensures
-    ∙ (ap (λ (k : Kept). keep_all k (f (get_or ranks i 0))) c.loop-rank.invariant
-    ∙ (sym (keep-append c.args.kept.now (flat_map f (take i ranks)) (f (get_or ranks i 0))) ∙ ap (keep_all c.args.kept.now) (sym (flat-more f ranks i 0 c.loop-rank-test.true))))
+    let first = c.args.kept.now in
+    let done = flat_map f (take i ranks) in
+    let more = sym (flat-more f ranks i 0 c.loop-rank-test.true) in
+    let own = c.in_ok-cost.cost in
+    let low = to_z w64 c.loop-rank.least-bits in
+    let least : to_z w64 (of_z w64 c.min-least.result) ≡ c.min-least.result = omega (arith, ints) in
+    let same : to_z w64 (of_z w64 own) ≡ own = omega (arith, ints) in
+    record {
+      kept = c.in_ok-cost.ensures.kept
+          ∙ (ap (λ (k : Kept). keep_all k (f (get_or ranks i 0))) c.loop-rank.invariant.kept
+          ∙ (sym (keep-append first done (f (get_or ranks i 0))) ∙ ap (keep_all first) more));
+      floor = subst (CostFrom first.beside _) more (from-more first c.loop-rank.kept done (f (get_or ranks i 0)) low own _ c.loop-rank.invariant.kept c.loop-rank.invariant.floor c.in_ok-cost.ensures.floor (least ∙ (c.min-least.ensures.value ∙ ap (int_min low) same)));
+    }
 
-pub returns : goal.returns
-returns c =
+pub returns-clause-kept : goal.returns-clause-kept
+returns-clause-kept c =
     let b = c.args.sweep.now in
     let net = b.net in
     let order = subst (λ (n : Net). AreByReport n.departures n.by_report) c.net.ensures.net c.by_report.ensures.exact in
@@ -73,4 +93,17 @@ returns c =
     let ranks = c.leaving-ranks.ensures d.departure at ∙ ap (λ (n : Net). ranks_where (leaves_at d.departure) n.duties) c.net-2.ensures.net in
     let all = take_all c.loop-rank.rank-index c.leaving-ranks.result.now c.loop-rank-test.false in
     let whole : leaving net (slice_get net.departures (get_or net.by_report c.args.index 0)) ≡ ranks_where (leaves_at d.departure) net.duties = ap (leaving net) d.own in
-    c.loop-rank.invariant ∙ ap (λ l. keep_all c.args.kept.now (flat_map (home_at b c.args.index) l)) (all ∙ (ranks ∙ sym whole))
+    c.loop-rank.invariant.kept ∙ ap (λ l. keep_all c.args.kept.now (flat_map (home_at b c.args.index) l)) (all ∙ (ranks ∙ sym whole))
+
+pub returns-clause-floor : goal.returns-clause-floor
+returns-clause-floor c =
+    let b = c.args.sweep.now in
+    let net = b.net in
+    let order = subst (λ (n : Net). AreByReport n.departures n.by_report) c.net.ensures.net c.by_report.ensures.exact in
+    let d = departs net c.args.index order c.requires.index in
+    let place = ap (λ l. get_or l c.args.index 0) (c.by_report.ensures.places ∙ ap (λ (n : Net). n.by_report) c.net.ensures.net) in
+    let at = (λ i. slice_get (c.net-2.ensures.net i).departures (place i)) ∙ d.own in
+    let ranks = c.leaving-ranks.ensures d.departure at ∙ ap (λ (n : Net). ranks_where (leaves_at d.departure) n.duties) c.net-2.ensures.net in
+    let all = take_all c.loop-rank.rank-index c.leaving-ranks.result.now c.loop-rank-test.false in
+    let whole : leaving net (slice_get net.departures (get_or net.by_report c.args.index 0)) ≡ ranks_where (leaves_at d.departure) net.duties = ap (leaving net) d.own in
+    subst (CostFrom c.args.kept.now.beside _) (ap (flat_map (home_at b c.args.index)) (all ∙ (ranks ∙ sym whole))) c.loop-rank.invariant.floor

@@ -1,10 +1,11 @@
-use Rattle.std.proofs.Common.{◌≡◌, ◌∙◌, ap, sym, subst, to_z, of_z, w64, arith}
+use Rattle.std.proofs.Common.{◌≡◌, ◌∙◌, ap, sym, subst, to_z, of_z, w64, arith, false}
 use Rattle.std.specs.Prelude.{OnOk}
 use Rattle.std.proofs.lemmas.Int.{ints}
 use Rattle.crew_pairing.specs.Vectors.{reduced_cost}
-use Rattle.crew_solve.specs.Machinery.Homes.{pairing_at}
-use Rattle.crew_solve.specs.Machinery.Keeps.{keep}
+use Rattle.crew_solve.specs.Machinery.Homes.{pairing_at, walk_by_key}
+use Rattle.crew_solve.specs.Machinery.Keeps.{is_wanted, keep}
 use Rattle.crew_solve.proofs.Floored.{as-much}
+use Rattle.crew_solve.proofs.Flooring.{from-one, from-unasked-one, keep-unasked}
 use Rattle.crew_solve.proofs.Pairings.{has-pay, paired, shown-as}
 use Rattle.crew_vector.specs.declared.priced.PricedPairing.{PricedPairing}
 use Rattle.crew_solve.proofs.best.keep_label.Goals as goal
@@ -15,21 +16,63 @@ pairing_of-requires-clause-pay c =
     let is = shown-as c.args.sweep.now c.resource.result.now _ c.args.minute c.args.label.now.0 c.show-vector.result c.show-vector.ensures c.resource.ensures whole in
     has-pay c.args.sweep.now c.args.minute c.args.label.now c.args.trip_rig c.show-vector.result c.requires.showable c.requires.rate is
 
-pub returns-then-not-wants : goal.returns-then-not-wants
-returns-then-not-wants c =
+pub returns-then-not-wants-clause-kept : goal.returns-then-not-wants-clause-kept
+returns-then-not-wants-clause-kept c =
     let b = c.args.sweep.now in
     let l = c.args.label.now in
     let whole : to_z w64 (of_z w64 c.args.minute) ≡ c.args.minute = omega (arith, ints) in
     let is = shown-as b c.resource.result.now _ c.args.minute l.0 c.show-vector.result c.show-vector.ensures c.resource.ensures whole in
-    let cost : to_z w64 (of_z w64 c.reduced_cost.result) ≡ c.reduced_cost.result = omega (arith, ints) in
-    let own = cost ∙ (c.reduced_cost.ensures ∙ ap reduced_cost is) in
+    let cost : to_z w64 (of_z w64 c.reduced_cost-cost.result) ≡ c.reduced_cost-cost.result = omega (arith, ints) in
+    let own = cost ∙ (c.reduced_cost-cost.ensures ∙ ap reduced_cost is) in
     sym (c.wants.ensures c.if-not-wants.true (pairing_at b c.args.minute l) (as-much _ _ own))
 
-pub returns : goal.returns
-returns c =
+pub returns-then-not-wants-clause-floor : goal.returns-then-not-wants-clause-floor
+returns-then-not-wants-clause-floor c =
+    let b = c.args.sweep.now in
+    let l = c.args.label.now in
+    let whole : to_z w64 (of_z w64 c.args.minute) ≡ c.args.minute = omega (arith, ints) in
+    let is = shown-as b c.resource.result.now _ c.args.minute l.0 c.show-vector.result c.show-vector.ensures c.resource.ensures whole in
+    let cost : to_z w64 (of_z w64 c.reduced_cost-cost.result) ≡ c.reduced_cost-cost.result = omega (arith, ints) in
+    let own = cost ∙ (c.reduced_cost-cost.ensures ∙ ap reduced_cost is) in
+    from-one c.args.kept.now.beside _ (pairing_at b c.args.minute l) (as-much _ _ own)
+
+pub returns-then-not-may_pass-clause-kept : goal.returns-then-not-may_pass-clause-kept
+returns-then-not-may_pass-clause-kept c =
+    let b = c.args.sweep.now in
+    let l = c.args.label.now in
+    let whole : to_z w64 (of_z w64 c.args.minute) ≡ c.args.minute = omega (arith, ints) in
+    let is = shown-as b c.resource.result.now _ c.args.minute l.0 c.show-vector.result c.show-vector.ensures c.resource.ensures whole in
+    let cost : to_z w64 (of_z w64 c.reduced_cost-cost.result) ≡ c.reduced_cost-cost.result = omega (arith, ints) in
+    let own = cost ∙ (c.reduced_cost-cost.ensures ∙ ap reduced_cost is) in
+    sym (keep-unasked c.args.kept.now (pairing_at b c.args.minute l) (c.may_pass.ensures c.if-not-may_pass.true (pairing_at b c.args.minute l) (sym own) (sym c.new.ensures)))
+
+pub returns-then-not-may_pass-clause-floor : goal.returns-then-not-may_pass-clause-floor
+returns-then-not-may_pass-clause-floor c =
+    let b = c.args.sweep.now in
+    let l = c.args.label.now in
+    let p = pairing_at b c.args.minute l in
+    let whole : to_z w64 (of_z w64 c.args.minute) ≡ c.args.minute = omega (arith, ints) in
+    let is = shown-as b c.resource.result.now _ c.args.minute l.0 c.show-vector.result c.show-vector.ensures c.resource.ensures whole in
+    let cost : to_z w64 (of_z w64 c.reduced_cost-cost.result) ≡ c.reduced_cost-cost.result = omega (arith, ints) in
+    let own = cost ∙ (c.reduced_cost-cost.ensures ∙ ap reduced_cost is) in
+    let out = c.may_pass.ensures c.if-not-may_pass.true p (sym own) (sym c.new.ensures) in
+    from-unasked-one c.args.kept.now.beside _ p out
+
+pub returns-clause-kept : goal.returns-clause-kept
+returns-clause-kept c =
     let b = c.args.sweep.now in
     let l = c.args.label.now in
     let whole : to_z w64 (of_z w64 c.args.minute) ≡ c.args.minute = omega (arith, ints) in
     let is = shown-as b c.resource.result.now _ c.args.minute l.0 c.show-vector.result c.show-vector.ensures c.resource.ensures whole in
     let p = paired b c.args.minute l c.args.trip_rig c.show-vector.result c.in_ok-pairing.pairing c.in_ok-pairing.ensures c.requires.rate is in
-    subst (λ (q : PricedPairing). OnOk c.keep.result (c.keep.new.self ≡ keep c.args.kept.now q)) p c.keep.ensures
+    c.in_ok-keep.ensures ∙ ap (keep c.args.kept.now) p
+
+pub returns-clause-floor : goal.returns-clause-floor
+returns-clause-floor c =
+    let b = c.args.sweep.now in
+    let l = c.args.label.now in
+    let whole : to_z w64 (of_z w64 c.args.minute) ≡ c.args.minute = omega (arith, ints) in
+    let is = shown-as b c.resource.result.now _ c.args.minute l.0 c.show-vector.result c.show-vector.ensures c.resource.ensures whole in
+    let cost : to_z w64 (of_z w64 c.reduced_cost-cost.result) ≡ c.reduced_cost-cost.result = omega (arith, ints) in
+    let own = cost ∙ (c.reduced_cost-cost.ensures ∙ ap reduced_cost is) in
+    from-one c.args.kept.now.beside _ (pairing_at b c.args.minute l) (as-much _ _ own)

@@ -10,6 +10,6 @@ pub loop-index-preserved : goal.loop-index-preserved
 loop-index-preserved c =
     let f = home_from c.args.sweep.now in
     let i = c.loop-index.index in
-    c.in_ok-keep_from.ensures
+    c.in_ok-keep_from.ensures.kept
     ∙ (ap (λ (k : Kept). keep_all k (f i)) c.loop-index.invariant
     ∙ (sym (keep-append c.args.kept.now (flat_map f (range_with_len 0 i)) (f i)) ∙ ap (keep_all c.args.kept.now) (sym (flat-range f i))))

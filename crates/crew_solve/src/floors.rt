@@ -1,0 +1,292 @@
+//! What the pairings of each departure cost at least that may still be taken.
+ghost use Rattle.std.specs.Prelude.{◌≡◌, ◌<◌, IfOk, List, None, OnOk, Option, false, length, map, replicate};
+ghost use Rattle.std.specs.Arc.{arc_value};
+ghost use Rattle.std.specs.List.{flat_map};
+ghost use Rattle.crew_resource.specs.Members.{Each};
+ghost use Rattle.crew_solve.specs.Machinery.Floors.{AreFloors, AreFloorsOf, MayCost};
+ghost use Rattle.crew_solve.specs.Machinery.Homes as Spec;
+ghost use Rattle.crew_solve.specs.Machinery.Homes.{IsFit};
+ghost use Rattle.crew_solve.specs.Machinery.Keeps.{KeepsSome, keep_all};
+ghost use Rattle.crew_solve.specs.Machinery.Takes.{Taken};
+ghost use Rattle.crew_vector.specs.declared.priced.PricedPairing.{PricedPairing as Pairing};
+
+use crate::base_fronts::BaseFronts;
+use crate::best::keep_from;
+use crate::kept::Kept;
+use crew_sweep::Sweep;
+use std::alloc::{AllocError, Global};
+use std::collections::BTreeSet;
+use std::marker::Model;
+use std::sync::Arc;
+
+/// The floors of a base's departures, by their places in order of report: no pairing that comes home
+/// by a departure and may still be taken costs less than its floor. What may be taken gets less with
+/// each pairing that is taken, so a floor stays true.
+///
+/// A contract sees the list of the floors.
+#[derive(Drop)]
+pub(crate) struct Floors {
+    floors: Vec<Option<i64>>,
+}
+
+impl Model for Floors {
+    ghost use Rattle.std.specs.Prelude.{ℤ, List, Option};
+
+    ghost Value = { List (Option ℤ) };
+
+    ghost view = { λ f. f.floors.items };
+}
+
+// Whether pairings may be among the least that cost no less than a floor, where it is known.
+fn may_want(kept: &Kept, floor: Option<i64>) -> bool
+    ensures { result ≡ false → (ps : List Pairing) → MayCost kept.now.beside floor ps
+        → keep_all kept.now ps ≡ kept.now }
+{
+    match floor {
+        None => true,
+        Some(least) => kept.wants(least),
+    }
+}
+
+// Keeps the least of what comes home by a departure, unless its floor is more than is asked for, and
+// gives its floor after that.
+fn keep_above(
+    alloc: Global,
+    sweep: &Sweep,
+    trip_rig: u32,
+    index: usize,
+    floor: Option<i64>,
+    kept: &mut Kept,
+) -> Result<Option<i64>, AllocError>
+    requires rate { trip_rig ≡ sweep.now.net.settings.trip_rig }
+    requires index { index < length sweep.now.net.by_report }
+    requires fit { IsFit sweep.now }
+    requires floor { MayCost kept.old.beside floor (Spec.home_from sweep.now index) }
+    ensures kept { OnOk result (kept.new ≡ keep_all kept.old (Spec.home_from sweep.now index)) }
+    ensures floor { IfOk result (λ floor.
+        MayCost kept.old.beside floor (Spec.home_from sweep.now index)) }
+{
+    if !may_want(kept, floor) {
+        return Ok(floor);
+    }
+    let least = keep_from(alloc, sweep, trip_rig, index, kept)?;
+    Ok(Some(least))
+}
+
+// Keeps the least of all that comes home to a base.
+fn keep_of(
+    alloc: Global,
+    sweep: &Sweep,
+    trip_rig: u32,
+    floors: &mut [Option<i64>],
+    kept: &mut Kept,
+) -> Result<(), AllocError>
+    requires rate { trip_rig ≡ sweep.now.net.settings.trip_rig }
+    requires fit { IsFit sweep.now }
+    requires floors { AreFloors kept.old.beside sweep.now floors.old }
+    ensures kept { OnOk result (kept.new ≡ keep_all kept.old (Spec.home_of sweep.now)) }
+    ensures floors { OnOk result (AreFloors kept.old.beside sweep.now floors.new) }
+{
+    for index in 0..sweep.net().by_report().len() {
+        let floor = keep_above(alloc, sweep, trip_rig, index, floors[index], kept)?;
+        floors[index] = floor;
+    }
+    Ok(())
+}
+
+// Whether a floor is known and not above one.
+fn is_low(floor: Option<i64>, most: i64) -> bool {
+    match floor {
+        None => false,
+        Some(least) => least <= most,
+    }
+}
+
+// Keeps the least of what comes home by a departure, if its floor is low, and gives its floor after
+// that.
+fn keep_low(
+    alloc: Global,
+    sweep: &Sweep,
+    trip_rig: u32,
+    index: usize,
+    most: i64,
+    floor: Option<i64>,
+    kept: &mut Kept,
+) -> Result<Option<i64>, AllocError>
+    requires rate { trip_rig ≡ sweep.now.net.settings.trip_rig }
+    requires index { index < length sweep.now.net.by_report }
+    requires fit { IsFit sweep.now }
+    requires floor { MayCost kept.old.beside floor (Spec.home_from sweep.now index) }
+    ensures kept { OnOk result (KeepsSome (Spec.home_from sweep.now index) kept.old kept.new) }
+    ensures floor { IfOk result (λ floor.
+        MayCost kept.old.beside floor (Spec.home_from sweep.now index)) }
+{
+    if !is_low(floor, most) {
+        return Ok(floor);
+    }
+    let floor = keep_above(alloc, sweep, trip_rig, index, floor, kept)?;
+    Ok(floor)
+}
+
+// Keeps the least of what comes home to a base by the departures whose floors are low.
+fn keep_low_of(
+    alloc: Global,
+    sweep: &Sweep,
+    trip_rig: u32,
+    most: i64,
+    floors: &mut [Option<i64>],
+    kept: &mut Kept,
+) -> Result<(), AllocError>
+    requires rate { trip_rig ≡ sweep.now.net.settings.trip_rig }
+    requires fit { IsFit sweep.now }
+    requires floors { AreFloors kept.old.beside sweep.now floors.old }
+    ensures kept { OnOk result (KeepsSome (Spec.home_of sweep.now) kept.old kept.new) }
+    ensures floors { OnOk result (AreFloors kept.old.beside sweep.now floors.new) }
+{
+    for index in 0..sweep.net().by_report().len() {
+        let floor = keep_low(alloc, sweep, trip_rig, index, most, floors[index], kept)?;
+        floors[index] = floor;
+    }
+    Ok(())
+}
+
+// Puts a floor among the least of so many different ones.
+fn put_floor(floor: i64, many: usize, least: &mut BTreeSet<i64>) -> Result<(), AllocError> {
+    least.insert(floor)?;
+    if least.len() > many {
+        least.pop_last();
+    }
+    Ok(())
+}
+
+// Puts the floors that are known among the least of so many different ones.
+fn put_floors(
+    floors: &[Option<i64>],
+    many: usize,
+    least: &mut BTreeSet<i64>,
+) -> Result<(), AllocError> {
+    let mut most = i64::MAX;
+    for &floor in floors {
+        if is_low(floor, most) {
+            put_floor(floor.unwrap_or(most), many, least)?;
+            if least.len() >= many {
+                most = least.last().copied().unwrap_or(most);
+            }
+        }
+    }
+    Ok(())
+}
+
+impl Floors {
+    // The floors of so many departures, none of which is known.
+    fn unknown(alloc: Global, many: usize) -> Result<Floors, AllocError>
+        ensures { IfOk result (λ floors. floors ≡ replicate many None) }
+    {
+        let floors = vec![in alloc; None; many]?;
+        Ok(Floors { floors })
+    }
+
+    // Keeps the least of all that comes home to the base.
+    fn keep_of(
+        &mut self,
+        alloc: Global,
+        sweep: &Sweep,
+        trip_rig: u32,
+        kept: &mut Kept,
+    ) -> Result<(), AllocError>
+        requires rate { trip_rig ≡ sweep.now.net.settings.trip_rig }
+        requires fit { IsFit sweep.now }
+        requires floors { AreFloors kept.old.beside sweep.now self.old }
+        ensures kept { OnOk result (kept.new ≡ keep_all kept.old (Spec.home_of sweep.now)) }
+        ensures floors { OnOk result (AreFloors kept.old.beside sweep.now self.new) }
+    {
+        keep_of(alloc, sweep, trip_rig, &mut self.floors, kept)
+    }
+
+    // Keeps the least of what comes home to the base by the departures whose floors are low.
+    fn keep_low_of(
+        &mut self,
+        alloc: Global,
+        sweep: &Sweep,
+        trip_rig: u32,
+        most: i64,
+        kept: &mut Kept,
+    ) -> Result<(), AllocError>
+        requires rate { trip_rig ≡ sweep.now.net.settings.trip_rig }
+        requires fit { IsFit sweep.now }
+        requires floors { AreFloors kept.old.beside sweep.now self.old }
+        ensures kept { OnOk result (KeepsSome (Spec.home_of sweep.now) kept.old kept.new) }
+        ensures floors { OnOk result (AreFloors kept.old.beside sweep.now self.new) }
+    {
+        keep_low_of(alloc, sweep, trip_rig, most, &mut self.floors, kept)
+    }
+}
+
+/// The floors of each base's departures, none of which is known.
+pub(crate) fn unknown(
+    alloc: Global,
+    fronts: &[Arc<BaseFronts, Global>],
+) -> Result<Vec<Floors>, AllocError>
+    ensures { IfOk result (λ floors. (beside : Option Taken)
+        → AreFloorsOf beside (map arc_value fronts.now) floors.items) }
+{
+    let mut floors = Vec::with_capacity(alloc, fronts.len())?;
+    for base in fronts {
+        let many = base.sweep().net().by_report().len();
+        let one = Floors::unknown(alloc, many)?;
+        floors.push(one)?;
+    }
+    Ok(floors)
+}
+
+/// A floor that at most so many different ones of those that are known don't exceed.
+pub(crate) fn low_floor(alloc: Global, floors: &[Floors], many: usize) -> Result<i64, AllocError> {
+    let mut least = BTreeSet::new(alloc);
+    for base in floors {
+        put_floors(&base.floors, many, &mut least)?;
+    }
+    Ok(least.last().copied().unwrap_or(i64::MIN))
+}
+
+/// Keeps the least of what comes home to its base by the departures whose floors are low.
+pub(crate) fn keep_low_floors(
+    alloc: Global,
+    fronts: &[Arc<BaseFronts, Global>],
+    trip_rig: u32,
+    most: i64,
+    floors: &mut [Floors],
+    kept: &mut Kept,
+) -> Result<(), AllocError>
+    requires rate { Each (λ b. trip_rig ≡ b.net.settings.trip_rig) (map arc_value fronts.now) }
+    requires floors { AreFloorsOf kept.old.beside (map arc_value fronts.now) floors.old }
+    ensures kept { OnOk result
+        (KeepsSome (flat_map Spec.home_of (map arc_value fronts.now)) kept.old kept.new) }
+    ensures floors { OnOk result
+        (AreFloorsOf kept.old.beside (map arc_value fronts.now) floors.new) }
+{
+    for (place, base) in fronts.iter().enumerate() {
+        floors[place].keep_low_of(alloc, base.sweep(), trip_rig, most, kept)?;
+    }
+    Ok(())
+}
+
+/// Keeps the least of all that comes home to its base.
+pub(crate) fn keep_above_floors(
+    alloc: Global,
+    fronts: &[Arc<BaseFronts, Global>],
+    trip_rig: u32,
+    floors: &mut [Floors],
+    kept: &mut Kept,
+) -> Result<(), AllocError>
+    requires rate { Each (λ b. trip_rig ≡ b.net.settings.trip_rig) (map arc_value fronts.now) }
+    requires floors { AreFloorsOf kept.old.beside (map arc_value fronts.now) floors.old }
+    ensures kept { OnOk result
+        (kept.new ≡ keep_all kept.old (flat_map Spec.home_of (map arc_value fronts.now))) }
+    ensures floors { OnOk result
+        (AreFloorsOf kept.old.beside (map arc_value fronts.now) floors.new) }
+{
+    for (place, base) in fronts.iter().enumerate() {
+        floors[place].keep_of(alloc, base.sweep(), trip_rig, kept)?;
+    }
+    Ok(())
+}
