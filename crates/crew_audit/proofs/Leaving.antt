@@ -99,8 +99,10 @@ within-wider span wide f a b t =
   where
     early : int_le span.from f.dep ≡ true → int_le wide.from f.dep ≡ true
     early h = grind (arith, ints, a)
+
     late : int_le f.dep span.end ≡ true → int_le f.dep wide.end ≡ true
     late h = grind (arith, ints, b)
+
     both : (p q : Bool) → p ≡ true → q ≡ true → p && q ≡ true
     both true q e g = g
     both false q e g = cc

@@ -17,6 +17,7 @@ moved least most from end at past e g t =
     both : (p q : Bool) → p ≡ true → q ≡ true → p && q ≡ true
     both true q a b = b
     both false q a b = cc
+
     by : (p q : Bool) → int_le least (at -ℤ past) ≡ p → int_le (at -ℤ past) most ≡ q → p && q ≡ true → int_le from at && int_le at end ≡ true
     by true true a b h = both (int_le from at) (int_le at end) (grind (arith, ints, e)) (grind (arith, ints, g))
     by true false a b h = cc

@@ -169,7 +169,11 @@ fn covering(blocks: &[Block], span: Span) -> Option<&Block>
 {
     let place = place_of(blocks, span.from)?;
     let block = blocks.get(place)?;
-    if covers(block, span) { Some(block) } else { None }
+    if covers(block, span) {
+        Some(block)
+    } else {
+        None
+    }
 }
 
 // Whether the flights that leave an airport are at hand.
@@ -340,12 +344,7 @@ impl FlightList {
 
     /// All flights that the first duty of a base may begin with, or the next one after others, in
     /// order, and maybe others.
-    pub(crate) fn next_duties(
-        &self,
-        settings: &Settings,
-        base: Code,
-        before: &[Duty],
-    ) -> &[Flight]
+    pub(crate) fn next_duties(&self, settings: &Settings, base: Code, before: &[Duty]) -> &[Flight]
         requires checked { IsChecked settings.now }
         requires ranges { Each IsInRange before.now }
         ensures { AreAmong (λ f. may_join base settings.now before.now

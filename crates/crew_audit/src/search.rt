@@ -83,7 +83,9 @@ pub(crate) fn list_after<F: Sink>(
     if before.len() >= scope.settings.max_duties as usize {
         return Ok(());
     }
-    let leaving = scope.flights.next_duties(scope.settings, scope.base, before);
+    let leaving = scope
+        .flights
+        .next_duties(scope.settings, scope.base, before);
     for flight in leaving {
         if may_leave(scope.settings, scope.base, before, flight) {
             list_from(alloc, found, scope, before, flight)?;

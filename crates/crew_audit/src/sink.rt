@@ -30,12 +30,7 @@ pub(crate) trait Sink: Drop {
         ensures { result ≡ count self.now };
 
     /// Takes these duties, as a partial of a base with its price.
-    fn take(
-        &mut self,
-        alloc: Global,
-        scope: &Scope<'_>,
-        duties: &[Duty],
-    ) -> Result<(), AllocError>
+    fn take(&mut self, alloc: Global, scope: &Scope<'_>, duties: &[Duty]) -> Result<(), AllocError>
         requires checked { IsChecked scope.now.settings.now }
         requires price { IsBasePrice scope.now.base_price }
         requires few { length duties.now ≤ 13 }

@@ -11,8 +11,7 @@ pub returns-then-eq : goal.returns-then-eq
 returns-then-eq c =
     let g = c.group-item.result in
     let there = Member-get_or c.deref-group-items.result.now c.loop-group.group-index g c.loop-group-test.true (sym c.group-item.is) in
-    let known = subst (λ (gs : List Leaving). Member gs g) c.deref-group-items.ensures.value there in
-    (
+    let known = subst (λ (gs : List Leaving). Member gs g) c.deref-group-items.ensures.value there in (
       subst (λ (fs : List Flight). IsGroup fs g) c.self.view_is (c.self.invariant g known),
       λ f. leaves-same g.airport c.args.airport f (sym c.eq.ensures ∙ c.if-eq.true),
     )
