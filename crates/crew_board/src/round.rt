@@ -34,6 +34,12 @@ use std::sync::Arc;
 // How many jobs a lot has at most, once its base has a sweep.
 const LOT: usize = 2_048;
 
+// How many a lot may have even where few nodes wait.
+const SHORT_LOT: usize = 64;
+
+// Which part of the nodes that wait a lot has at most, so that those who work end at about one time.
+const SHARES: usize = 8;
+
 /// A round over a ground.
 ///
 /// A contract sees the ground, and the marks of its nodes. The front of a node that is done is
@@ -239,6 +245,13 @@ impl Round {
         }
     }
 
+    // How many jobs a lot has at most now, once its base has a sweep.
+    fn lot_size(&self) -> usize {
+        let Progress { nodes, done, out } = self.marks.progress();
+        let waiting = nodes.saturating_sub(done).saturating_sub(out);
+        (waiting / SHARES).max(SHORT_LOT).min(LOT)
+    }
+
     // Whether the node at a place may go with a lot: it is of the base of the lot's last job, and the lot
     // is short or the base has no sweep yet. A lot is of one base, so that whoever works it out makes
     // the sweep of one base at most.
@@ -248,7 +261,7 @@ impl Round {
         };
         let base = last.base();
         let is_one = next.checked_div(self.ground.net().duty_count()) == Some(base);
-        is_one && (lot.len() < LOT || !self.is_swept(base))
+        is_one && (lot.len() < self.lot_size() || !self.is_swept(base))
     }
 
     // Whether a sweep of a base over the ground's plan stands.
