@@ -1,0 +1,12 @@
+pub mod Numbers
+pub mod Slices
+pub mod Orders
+pub mod DutyTurns
+pub mod Labels
+pub mod Waiting
+pub mod Fronts
+pub mod Boarding
+pub mod Departures
+pub mod Keyed
+pub mod Covering
+pub mod Alike

@@ -1,0 +1,56 @@
+use Rattle.std.proofs.Common.{◌<◌, List, [], ◌++◌, length, map, arith, refl, sym, subst}
+use Rattle.crew_label.specs.Pools.{ArePoolOf}
+use Rattle.crew_label.specs.Walks.{shown}
+use Rattle.crew_label.specs.declared.label.Label.{Label}
+use Rattle.crew_resource.proofs.Members.{Member-get_or}
+use Rattle.crew_pass.specs.Machinery.Held.{trail_of}
+use Rattle.crew_pass.specs.Machinery.Passing.{waited_entries, ways}
+use Rattle.crew_pass.proofs.Slices.{get-at, item-in}
+use Rattle.crew_pass.proofs.Waiting.{follows, one-waits}
+use Rattle.crew_pass.proofs.waits.merge_window.Goals as goal
+
+pub merge_waiting-requires-clause-follows : goal.merge_waiting-requires-clause-follows
+merge_waiting-requires-clause-follows g c =
+    let net = c.args.ground.now.net.now in
+    let at = c.loop-at.at in
+    let x = c.index-arrivals-at.result in
+    let end = c.loop-at-test.true in
+    let most = c.requires.window.within in
+    let within : at < length net.arrivals = omega (arith, end, most) in
+    let here = item-in net.arrivals c.arrivals.result.now at x within c.arrivals.ensures.events c.index-arrivals-at.is in
+    follows net.settings x c.args.departure.now c.requires.rests ((c.requires.window.exact at x here).1 (c.loop-at.auto.at, end))
+
+pub merge_waiting-requires-clause-held : goal.merge_waiting-requires-clause-held
+merge_waiting-requires-clause-held g c =
+    let net = c.args.ground.now.net.now in
+    let at = c.loop-at.at in
+    let end = c.loop-at-test.true in
+    let most = c.requires.window.within in
+    let long = c.requires.long in
+    let within : at < length c.args.arrivals.now = omega (arith, end, most, long) in
+    let labels = c.index-arrivals-at-in-loop-at.result in
+    c.requires.held labels (Member-get_or c.args.arrivals.now at labels within (sym c.index-arrivals-at-in-loop-at.is))
+
+pub loop-at-preserved : goal.loop-at-preserved
+loop-at-preserved g c =
+    let net = c.args.ground.now.net.now in
+    let r = c.args.ground.now.resource.now in
+    let w = ways g.R.Resource.below g.R.Forgets.same_sums (g.R.Staged.idle_of r) (g.R.Staged.waited r) (g.R.Staged.boards r) in
+    let trail = trail_of c.args.table.now in
+    let arrivals = c.args.arrivals.now in
+    let at = c.loop-at.at in
+    let x = c.index-arrivals-at.result in
+    let end = c.loop-at-test.true in
+    let most = c.requires.window.within in
+    let long = c.requires.long in
+    let within : at < length net.arrivals = omega (arith, end, most) in
+    let inside : at < length arrivals = omega (arith, end, most, long) in
+    let here = item-in net.arrivals c.arrivals.result.now at x within c.arrivals.ensures.events c.index-arrivals-at.is in
+    let labels = c.index-arrivals-at-in-loop-at.result in
+    let same = sym (get-at arrivals at labels [] (item-in arrivals arrivals at labels inside refl c.index-arrivals-at-in-loop-at.is)) in
+    let wait = λ (v : g.row.R-Value.Denot). g.R.Staged.waited r v x c.args.departure.now in (
+      one-waits w trail net c.args.ground.now.base arrivals c.args.departure.now c.args.window c.requires.window at x c.loop-at.pool c.merge_waiting.new.pool c.loop-at.auto.at end here c.loop-at.invariant.0
+          (λ firsts pool. subst (λ (ls : List (Label g.row.R-Value.Denot)). ArePoolOf g.R.Resource.below g.R.Forgets.same_sums trail (firsts ++ waited_entries wait (map (shown trail) ls)) c.merge_waiting.new.pool) same
+          (c.in_ok-merge_waiting.ensures.pool firsts pool)),
+      c.in_ok-merge_waiting.ensures.held,
+    )

@@ -1,0 +1,4 @@
+-- What code needs, and no definition rests on.
+pub mod Numbered
+pub mod Held
+pub mod Passing

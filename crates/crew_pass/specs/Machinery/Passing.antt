@@ -1,0 +1,178 @@
+-- What a pass over the departures of a base has made so far, with duties by rank and events by place.
+use Rattle.std.specs.Prelude.{◌≡◌, ◌<◌, ◌≤◌, ◌+◌, ◌⊎◌, ℕ, ℤ, Bool, true, cond, List, [], ◌∷◌, ◌++◌, Option, Some, None, get_or, length, map, set, slice_get}
+use Rattle.std.specs.List.{flat_map}
+use Rattle.std.specs.Ordering.{eq_by_cmp}
+use Rattle.crew_flights.specs.Codes.{code_cmp}
+use Rattle.crew_forgetful.specs.Forgetful.{Covers}
+use Rattle.crew_label.specs.Boarding.{LeadInto}
+use Rattle.crew_label.specs.Pools.{ArePoolOf}
+use Rattle.crew_label.specs.Tables.{Tabled}
+use Rattle.crew_label.specs.Walks.{ranks_at_most, shown}
+use Rattle.crew_label.specs.declared.label.Label.{Label}
+use Rattle.crew_label.specs.declared.label.Link.{Link}
+use Rattle.crew_net.specs.Events.{AreEvents, arrival_cmp, departure_cmp}
+use Rattle.crew_net.specs.Nets.{AreArrivalPlaces, AreByReport, Net}
+use Rattle.crew_pairing.specs.Duties.{RiseByKey}
+use Rattle.crew_pairing.specs.Events.{IsSound, arrival_of, departure_of, may_wait}
+use Rattle.crew_pairing.specs.declared.duty.Duty.{Duty}
+use Rattle.crew_pairing.specs.declared.events.Arrival.{Arrival}
+use Rattle.crew_pairing.specs.declared.events.Departure.{Departure}
+use Rattle.crew_resource.specs.Events.{labelled}
+use Rattle.crew_resource.specs.Labels.{IsLocal}
+use Rattle.crew_resource.specs.Members.{Member}
+use Rattle.crew_pass.specs.Machinery.Held.{AreHeld, leads_of, trail_of}
+use Rattle.crew_pass.specs.Machinery.Numbered.{AreTurns, in_order}
+
+-- a network has its events in order, its duties by key, and rests within the bound
+pub record IsCharted (net : Net) : Type 0 where
+  pub departs : AreEvents departure_of departure_cmp net.duties net.departures
+  pub arrives : AreEvents arrival_of arrival_cmp net.duties net.arrivals
+  pub ordered : AreByReport net.departures net.by_report
+  pub rise : RiseByKey net.duties
+  pub few : length net.duties ≤ 200_000
+  pub rests : net.settings.max_rest ≤ 8_280
+
+-- a network over which a pass may go, the turns of its duties, and where they arrive
+pub record IsPassable (net : Net) (turns places : List ℕ) : Type 0 where
+  pub departs : AreEvents departure_of departure_cmp net.duties net.departures
+  pub arrives : AreEvents arrival_of arrival_cmp net.duties net.arrivals
+  pub ordered : AreByReport net.departures net.by_report
+  pub rise : RiseByKey net.duties
+  pub few : length net.duties ≤ 200_000
+  pub sound : (d : Duty) → Member net.duties d → IsSound d
+  pub rests : net.settings.max_rest ≤ 8_280
+  pub are_turns : AreTurns net turns
+  pub are_places : AreArrivalPlaces net places
+
+-- how labels are compared, and what becomes of their values
+pub record Ways (V : Type 0) : Type 0 where
+  pub below : V → V → Bool
+  pub same : V → V → Bool
+  pub idle : Departure → V
+  pub wait : V → Arrival → Departure → V
+  pub board : V → Duty → Option V
+
+abbrev pub ways : {V : Type 0} → (V → V → Bool) → (V → V → Bool) → (Departure → V)
+    → (V → Arrival → Departure → V) → (V → Duty → Option V) → Ways V
+ways below same idle wait board = record {
+  below = below;
+  same = same;
+  idle = idle;
+  wait = wait;
+  board = board;
+}
+
+-- labels that cover candidates
+abbrev pub AreCovering : {V : Type 0} → Ways V → (Link → List ℕ) → (V → List ℕ → Type 0)
+    → List (Label V) → Type 0
+AreCovering w trail Candidate labels =
+    Covers w.below w.same ranks_at_most (λ v k. Member (map (shown trail) labels) (v, k)) Candidate
+
+-- labels that are the pool of candidates, which can be listed
+pub record AreGathered {V : Type 0} (w : Ways V) (trail : Link → List ℕ)
+    (Candidate : V → List ℕ → Type 0) (labels : List (Label V)) : Type 0 where
+  pub listed : List (V × List ℕ)
+  pub pool : ArePoolOf w.below w.same trail listed labels
+  pub among : (v : V) (k : List ℕ) → Member listed (v, k) → Candidate v k
+  pub every : (v : V) (k : List ℕ) → Candidate v k → Member listed (v, k)
+
+-- the empty label, if it stands there
+abbrev pub idle_labels : {V : Type 0} → Bool → V → List (Label V)
+idle_labels here v = cond here (record { value = v; before = None } ∷ []) []
+
+-- entries whose values have moved on
+abbrev pub waited_entries : {V : Type 0} → (V → V) → List (V × List ℕ) → List (V × List ℕ)
+waited_entries wait entries = map (λ e. (wait e.0, e.1)) entries
+
+-- the empty label, where the base is
+abbrev pub Idles : {V : Type 0} → Ways V → List ℕ → Departure → V → List ℕ → Type 0
+Idles w base g v k = (k ≡ []) × (eq_by_cmp code_cmp g.airport base ≡ true) × (w.idle g ≡ v)
+
+-- a label of the arrival at a place, as it stands at a departure
+abbrev pub WaitsAt : {V : Type 0} → Ways V → Net → (Link → List ℕ) → List (List (Label V))
+    → Departure → ℕ → V → List ℕ → Type 0
+WaitsAt {V} w net trail held g place v k = (x : Arrival) × (u : V)
+    × (slice_get net.arrivals place ≡ Some x) × (may_wait net.settings x g ≡ true)
+    × Member (map (shown trail) (get_or held place [])) (u, k) × (v ≡ w.wait u x g)
+
+-- what may stand there of the arrivals at the places up to one
+abbrev pub WaitsUpTo : {V : Type 0} → Ways V → Net → List ℕ → (Link → List ℕ)
+    → List (List (Label V)) → Departure → ℕ → ℕ → V → List ℕ → Type 0
+WaitsUpTo w net base trail held g from to v k = Idles w base g v k
+    ⊎ ((place : ℕ) × (from ≤ place) × (place < to) × WaitsAt w net trail held g place v k)
+
+-- what may stand at a departure
+abbrev pub Waits : {V : Type 0} → Ways V → Net → List ℕ → (Link → List ℕ)
+    → List (List (Label V)) → Departure → V → List ℕ → Type 0
+Waits w net base trail held g v k = Idles w base g v k
+    ⊎ ((place : ℕ) × WaitsAt w net trail held g place v k)
+
+-- an entry of the front of a duty so far that arrives there
+abbrev pub Arrives : {V : Type 0} → Net → (Link → List ℕ) → List (List (Label V))
+    → (ℕ → Type 0) → Arrival → V → List ℕ → Type 0
+Arrives net trail fronts Done x v k = (rank : ℕ) × (d : Duty) × Done rank
+    × (slice_get net.duties rank ≡ Some d) × (arrival_of d ≡ x)
+    × Member (map (shown trail) (get_or fronts rank [])) (v, k)
+
+-- entries that board a duty
+abbrev pub boarding : {V : Type 0} → Ways V → Duty → ℕ → List (V × List ℕ) → List (V × List ℕ)
+boarding w d rank entries =
+    flat_map (λ e. labelled (w.board e.0 d) (e.1 ++ rank ∷ [])) entries
+
+-- the labels are what dominance leaves of those that board the duty from a pool
+abbrev pub AreFront : {V : Type 0} → Ways V → (Link → List ℕ) → Duty → ℕ → List (Label V)
+    → List (Label V) → Type 0
+AreFront w trail d rank pool front = IsLocal w.below ranks_at_most
+    (λ v k. Member (boarding w d rank (map (shown trail) pool)) (v, k)) (map (shown trail) front)
+
+-- after so many departures as the table has: their pools, the pools of arrivals, and the fronts of
+-- the duties so far
+pub record IsUnderWay {V : Type 0} (w : Ways V) (count : V → ℤ) (ready arrived : ℕ → V → Type 0)
+    (most : Option ℕ) (net : Net) (base turns : List ℕ) (t : Tabled V)
+    (fronts held : List (List (Label V))) (Done : ℕ → Type 0) : Type 0 where
+  pub turned : t.leaves ≡ turns
+  pub fronts_long : length fronts ≡ length net.duties
+  pub held_long : length held ≡ length net.arrivals
+  pub pooled : (i : ℕ) (g : Departure) → i < length t.pools → slice_get (in_order net) i ≡ Some g
+      → AreCovering w (trail_of t) (Waits w net base (trail_of t) held g) (get_or t.pools i [])
+  pub gathered : (place : ℕ) (x : Arrival) → slice_get net.arrivals place ≡ Some x
+      → AreGathered w (trail_of t) (Arrives net (trail_of t) fronts Done x) (get_or held place [])
+  pub filtered : (rank : ℕ) (d : Duty) → slice_get net.duties rank ≡ Some d → Done rank
+      → AreFront w (trail_of t) d rank (get_or t.pools (get_or turns rank 0) [])
+      (get_or fronts rank [])
+  pub pools_ready : (labels : List (Label V)) → Member t.pools labels
+      → AreHeld count ready most (length net.duties) t labels
+  pub held_arrived : (labels : List (Label V)) → Member held labels
+      → AreHeld count arrived most (length net.duties) t labels
+  pub fronts_arrived : (labels : List (Label V)) → Member fronts labels
+      → AreHeld count arrived most (length net.duties) t labels
+
+-- a front has been merged into the pool of the arrival at a place
+pub record IsTakenIn {V : Type 0} (below same : V → V → Bool) (count : V → ℤ)
+    (arrived : ℕ → V → Type 0) (most : Option ℕ) (duties : ℕ) (t : Tabled V)
+    (front : List (Label V)) (place : ℕ) (before after : List (List (Label V))) : Type 0 where
+  pub merged : List (Label V)
+  pub now : after ≡ set before place merged
+  pub pool : (firsts seconds : List (V × List ℕ))
+      → ArePoolOf below same (trail_of t) firsts (get_or before place [])
+      → ArePoolOf below same (trail_of t) seconds front
+      → ArePoolOf below same (trail_of t) (firsts ++ seconds) merged
+  pub held : AreHeld count arrived most duties t merged
+
+-- the pool of the departure at a place is the last of the table's, and links of its duties lead to it
+pub record IsLatest {V : Type 0} (net : Net) (t : Tabled V) (place : ℕ) (pool : List (Label V)) :
+    Type 0 where
+  pub turn : ℕ
+  pub last : turn + 1 ≡ length t.pools
+  pub at : slice_get net.by_report turn ≡ Some place
+  pub pooled : get_or t.pools turn [] ≡ pool
+  pub into : (rank : ℕ) → slice_get t.leaves rank ≡ Some turn
+      → LeadInto (leads_of t) (trail_of t) rank pool
+
+-- all departures are passed
+pub record HasPassed {V : Type 0} (w : Ways V) (count : V → ℤ) (ready arrived : ℕ → V → Type 0)
+    (most : Option ℕ) (net : Net) (base turns : List ℕ) (t : Tabled V)
+    (fronts held : List (List (Label V))) : Type 0 where
+  pub all : length t.pools ≡ length net.by_report
+  pub way : IsUnderWay w count ready arrived most net base turns t fronts held
+      (λ rank. get_or turns rank 0 < length t.pools)

@@ -1,0 +1,126 @@
+//! The fronts of the duties of a departure.
+ghost use Rattle.std.specs.Prelude.{◌≡◌, ◌<◌, ◌+◌, ℕ, List, Some, IfOk, OnOk, get_or, length, map, set, slice_get};
+ghost use Rattle.std.specs.Arc.{arc_value};
+ghost use Rattle.crew_label.specs.Boarding.{LeadInto};
+ghost use Rattle.crew_label.specs.Pools.{ArePoolOf};
+ghost use Rattle.crew_label.specs.Walks.{shown};
+ghost use Rattle.crew_label.specs.declared.label.Label.{Label};
+ghost use Rattle.crew_net.specs.Nets.{AreArrivalPlaces};
+ghost use Rattle.crew_pairing.specs.Events.{IsSound};
+ghost use Rattle.crew_pairing.specs.declared.duty.Duty.{Duty};
+ghost use Rattle.crew_resource.specs.Members.{Member};
+ghost use Rattle.crew_pass.specs.Machinery.Held.{AreHeld, leads_of, trail_of};
+ghost use Rattle.crew_pass.specs.Machinery.Passing.{AreFront, IsLatest, IsPassable, IsTakenIn, IsUnderWay, ways};
+ghost use Rattle.crew_pass.specs.Passes.{CountsDuties};
+
+use crate::ground::{Found, Ground};
+use crew_forgetful::Forgets;
+use crew_label::{Pool, Room, Table, board_pool};
+use crew_pairing::Duty;
+use std::alloc::{AllocError, Global};
+use std::sync::Arc;
+
+// The front of the duty of a rank: what dominance leaves of the labels that board it from the pool of
+// its departure.
+fn duty_front<R: Forgets<Duty>>(
+    alloc: Global,
+    ground: &Ground<R>,
+    table: &Table<R>,
+    pool: &Pool<R>,
+    rank: u32,
+) -> Result<Pool<R>, AllocError>
+    requires sound { (d : Duty) → Member ground.now.net.now.duties d → IsSound d }
+    requires counts { CountsDuties R.same_sums (R.count_of ground.now.resource.now)
+        (R.most ground.now.resource.now) (R.fits ground.now.resource.now) }
+    requires rank { rank < length ground.now.net.now.duties }
+    requires into { LeadInto (leads_of table.now) (trail_of table.now) rank pool.now }
+    requires pool { AreHeld (R.count_of ground.now.resource.now) (R.ready ground.now.resource.now)
+        (R.most ground.now.resource.now) (length ground.now.net.now.duties) table.now pool.now }
+    ensures front { IfOk result (λ front. (d : Duty)
+        → slice_get ground.now.net.now.duties rank ≡ Some d → AreFront (ways R.below R.same_sums
+        (R.idle_of ground.now.resource.now) (R.waited ground.now.resource.now)
+        (R.boards ground.now.resource.now)) (trail_of table.now) d rank pool.now front) }
+    ensures itself { IfOk result (λ front. ArePoolOf R.below R.same_sums (trail_of table.now)
+        (map (shown (trail_of table.now)) front) front) }
+    ensures held { IfOk result (AreHeld (R.count_of ground.now.resource.now)
+        (R.arrived ground.now.resource.now) (R.most ground.now.resource.now)
+        (length ground.now.net.now.duties) table.now) }
+{
+    let duty = &ground.net.duties().as_slice()[rank as usize];
+    let view = board_pool::<Duty, R>(alloc, ground.resource, pool, duty, rank)?;
+    Pool::front_of::<Duty, Table<R>>(alloc, ground.resource, table, &view)
+}
+
+// Keeps the front of the duty of a rank, and merges it into the pool of the duty's arrival.
+fn keep_front<R: Forgets<Duty>>(
+    alloc: Global,
+    ground: &Ground<R>,
+    table: &Table<R>,
+    room: &mut Room<R::Value>,
+    found: &mut Found<R>,
+    rank: u32,
+    front: Pool<R>,
+) -> Result<(), AllocError>
+    requires places { AreArrivalPlaces ground.now.net.now ground.now.places.now }
+    requires counts { CountsDuties R.same_sums (R.count_of ground.now.resource.now)
+        (R.most ground.now.resource.now) (R.fits ground.now.resource.now) }
+    requires rank { rank < length ground.now.net.now.duties }
+    requires fronts { length found.old.fronts.items ≡ length ground.now.net.now.duties }
+    requires arrivals { length found.old.arrivals.items ≡ length ground.now.net.now.arrivals }
+    requires held { (labels : List (Label R.Value)) → Member found.old.arrivals.items labels
+        → AreHeld (R.count_of ground.now.resource.now) (R.arrived ground.now.resource.now)
+        (R.most ground.now.resource.now) (length ground.now.net.now.duties) table.now labels }
+    requires front { AreHeld (R.count_of ground.now.resource.now)
+        (R.arrived ground.now.resource.now) (R.most ground.now.resource.now)
+        (length ground.now.net.now.duties) table.now front }
+    ensures fronts { OnOk result (map arc_value found.new.fronts.items
+        ≡ set (map arc_value found.old.fronts.items) rank front) }
+    ensures arrivals { OnOk result (IsTakenIn R.below R.same_sums
+        (R.count_of ground.now.resource.now) (R.arrived ground.now.resource.now)
+        (R.most ground.now.resource.now) (length ground.now.net.now.duties) table.now front
+        (get_or ground.now.places.now rank 0) found.old.arrivals.items found.new.arrivals.items) }
+{
+    let front = Arc::new(alloc, front)?;
+    let place = ground.places[rank as usize] as usize;
+    let arrival = &mut found.arrivals[place];
+    arrival.merge::<Duty, Table<R>>(ground.resource, table, room, &front)?;
+    found.fronts[rank as usize] = front;
+    Ok(())
+}
+
+/// The fronts of the duties that leave at the departure at a place, whose pool the table had last.
+pub(crate) fn board_duties<R: Forgets<Duty>>(
+    alloc: Global,
+    ground: &Ground<R>,
+    table: &Table<R>,
+    room: &mut Room<R::Value>,
+    found: &mut Found<R>,
+    place: usize,
+    pool: &Pool<R>,
+) -> Result<(), AllocError>
+    requires passable { IsPassable ground.now.net.now ground.now.turns.now ground.now.places.now }
+    requires counts { CountsDuties R.same_sums (R.count_of ground.now.resource.now)
+        (R.most ground.now.resource.now) (R.fits ground.now.resource.now) }
+    requires latest { IsLatest ground.now.net.now table.now place pool.now }
+    requires way { IsUnderWay (ways R.below R.same_sums (R.idle_of ground.now.resource.now)
+        (R.waited ground.now.resource.now) (R.boards ground.now.resource.now))
+        (R.count_of ground.now.resource.now) (R.ready ground.now.resource.now)
+        (R.arrived ground.now.resource.now) (R.most ground.now.resource.now) ground.now.net.now
+        ground.now.base ground.now.turns.now table.now (map arc_value found.old.fronts.items)
+        found.old.arrivals.items
+        (λ rank. get_or ground.now.turns.now rank 0 + 1 < length table.now.pools) }
+    ensures { OnOk result (IsUnderWay (ways R.below R.same_sums
+        (R.idle_of ground.now.resource.now) (R.waited ground.now.resource.now)
+        (R.boards ground.now.resource.now)) (R.count_of ground.now.resource.now)
+        (R.ready ground.now.resource.now) (R.arrived ground.now.resource.now)
+        (R.most ground.now.resource.now) ground.now.net.now ground.now.base ground.now.turns.now
+        table.now (map arc_value found.new.fronts.items) found.new.arrivals.items
+        (λ rank. get_or ground.now.turns.now rank 0 < length table.now.pools)) }
+{
+    let ranks = ground.net.leaving(place);
+    for rank in ranks {
+        let front = duty_front(alloc, ground, table, pool, *rank)?;
+        keep_front(alloc, ground, table, room, found, *rank, front)?;
+    }
+    Ok(())
+}

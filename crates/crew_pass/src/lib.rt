@@ -1,0 +1,27 @@
+//! One pass over the events of a crew base, in order of time, for resources that may forget a part
+//! of their values: labels with links, pool by pool.
+//!
+//! `pass` goes through the departures of a network in order of report. A departure's pool is that of
+//! the empty label, where the base is, and of the labels of all arrivals in its window, as they
+//! stand there. What dominance leaves of the labels that board a duty is the duty's front; it is
+//! kept, and merged into the pool of the arrival where the duty ends. The crate promises that this
+//! is a covered pass (`crew_forgetful`), whatever the resource is, so that the fronts are those of
+//! all legal lists of duties; and that with the resource of pairings of up to 240 hours
+//! (`crew_answers`) they show the front of each legal duty (`long_fronts`, `laws`). What the passes
+//! of several bases share is a `Course`. Want of memory is all that ends a pass early.
+#![tactic(auto)]
+
+mod base_fronts;
+mod boards;
+mod course;
+mod ground;
+pub mod laws;
+mod long;
+mod passing;
+mod turns;
+mod waits;
+
+pub use base_fronts::BaseFronts;
+pub use course::Course;
+pub use long::long_fronts;
+pub use passing::pass;

@@ -1,0 +1,164 @@
+//! One pass over the departures of a base's network.
+ghost use Rattle.std.specs.Prelude.{◌≡◌, ◌<◌, ◌+◌, ℕ, List, Some, [], IfOk, OnOk, get_or, length, map, slice_get};
+ghost use Rattle.std.specs.Arc.{arc_value};
+ghost use Rattle.crew_answers.specs.Schedules.{schedule_of};
+ghost use Rattle.crew_forgetful.specs.Sweeps.{network_of};
+ghost use Rattle.crew_label.specs.declared.label.Label.{Label};
+ghost use Rattle.crew_pairing.specs.Events.{IsSound, arrival_of, departure_of};
+ghost use Rattle.crew_pairing.specs.declared.duty.Duty.{Duty};
+ghost use Rattle.crew_resource.specs.Members.{Member};
+ghost use Rattle.crew_pass.specs.Machinery.Passing.{HasPassed, IsPassable, IsUnderWay, ways};
+ghost use Rattle.crew_pass.specs.Passes.{CountsDuties, IsCoveredBy};
+
+use crate::base_fronts::BaseFronts;
+use crate::boards::board_duties;
+use crate::course::Course;
+use crate::ground::{Found, Ground};
+use crate::waits::departure_pool;
+use crew_flights::Code;
+use crew_forgetful::Forgets;
+use crew_label::{Pool, Room, Table};
+use crew_pairing::Duty;
+use crew_resource::Resource;
+use std::alloc::{AllocError, Global};
+use std::sync::Arc;
+
+impl<R: Resource> Found<R> {
+    // No front yet of so many duties, and no label yet at so many arrivals.
+    fn new(alloc: Global, duties: usize, arrivals: usize) -> Result<Found<R>, AllocError>
+        ensures fronts { IfOk result (λ found. length (map arc_value found.fronts.items) ≡ duties) }
+        ensures arrivals { IfOk result (λ found. length found.arrivals.items ≡ arrivals) }
+        ensures no_fronts { IfOk result (λ found. (labels : List (Label R.Value))
+            → Member (map arc_value found.fronts.items) labels → labels ≡ []) }
+        ensures no_labels { IfOk result (λ found. (labels : List (Label R.Value))
+            → Member found.arrivals.items labels → labels ≡ []) }
+    {
+        let fronts = no_fronts(alloc, duties)?;
+        let arrivals = no_labels(alloc, arrivals)?;
+        Ok(Found { fronts, arrivals })
+    }
+}
+
+// So many shared pools of no labels.
+fn no_fronts<R: Resource>(
+    alloc: Global,
+    count: usize,
+) -> Result<Vec<Arc<Pool<R>, Global>>, AllocError>
+    ensures long { IfOk result (λ fronts. length (map arc_value fronts.items) ≡ count) }
+    ensures none { IfOk result (λ fronts. (labels : List (Label R.Value))
+        → Member (map arc_value fronts.items) labels → labels ≡ []) }
+{
+    let none = Arc::new(alloc, Pool::new(alloc))?;
+    let mut fronts = Vec::with_capacity(alloc, count)?;
+    for _ in 0..count {
+        fronts.push(Arc::try_clone(&none)?)?;
+    }
+    Ok(fronts)
+}
+
+// So many pools of no labels.
+fn no_labels<R: Resource>(alloc: Global, count: usize) -> Result<Vec<Pool<R>>, AllocError>
+    ensures long { IfOk result (λ pools. length pools.items ≡ count) }
+    ensures none { IfOk result (λ pools. (labels : List (Label R.Value))
+        → Member pools.items labels → labels ≡ []) }
+{
+    let mut pools = Vec::with_capacity(alloc, count)?;
+    for _ in 0..count {
+        pools.push(Pool::new(alloc))?;
+    }
+    Ok(pools)
+}
+
+// The pass goes on by one departure: its pool, and the fronts of its duties.
+fn pass_one<R: Forgets<Duty>>(
+    alloc: Global,
+    ground: &Ground<R>,
+    table: &mut Table<R>,
+    room: &mut Room<R::Value>,
+    found: &mut Found<R>,
+    place: usize,
+) -> Result<(), AllocError>
+    requires passable { IsPassable ground.now.net.now ground.now.turns.now ground.now.places.now }
+    requires counts { CountsDuties R.same_sums (R.count_of ground.now.resource.now)
+        (R.most ground.now.resource.now) (R.fits ground.now.resource.now) }
+    requires place { slice_get ground.now.net.now.by_report (length table.old.pools) ≡ Some place }
+    requires way { IsUnderWay (ways R.below R.same_sums (R.idle_of ground.now.resource.now)
+        (R.waited ground.now.resource.now) (R.boards ground.now.resource.now))
+        (R.count_of ground.now.resource.now) (R.ready ground.now.resource.now)
+        (R.arrived ground.now.resource.now) (R.most ground.now.resource.now) ground.now.net.now
+        ground.now.base ground.now.turns.now table.old (map arc_value found.old.fronts.items)
+        found.old.arrivals.items
+        (λ rank. get_or ground.now.turns.now rank 0 < length table.old.pools) }
+    ensures more { OnOk result (length table.new.pools ≡ length table.old.pools + 1) }
+    ensures way { OnOk result (IsUnderWay (ways R.below R.same_sums
+        (R.idle_of ground.now.resource.now) (R.waited ground.now.resource.now)
+        (R.boards ground.now.resource.now)) (R.count_of ground.now.resource.now)
+        (R.ready ground.now.resource.now) (R.arrived ground.now.resource.now)
+        (R.most ground.now.resource.now) ground.now.net.now ground.now.base ground.now.turns.now
+        table.new (map arc_value found.new.fronts.items) found.new.arrivals.items
+        (λ rank. get_or ground.now.turns.now rank 0 < length table.new.pools)) }
+{
+    let pool = departure_pool(alloc, ground, table, room, &found.arrivals, place)?;
+    let pool = Arc::new(alloc, pool)?;
+    let shared = Arc::try_clone(&pool)?;
+    table.add(pool)?;
+    board_duties(alloc, ground, table, room, found, place, &shared)?;
+    Ok(())
+}
+
+/// The pass over all departures, in order of report.
+pub(crate) fn pass_all<'a, R: Forgets<Duty>>(
+    alloc: Global,
+    ground: &Ground<'a, '_, R>,
+) -> Result<(Table<'a, R>, Found<R>), AllocError>
+    requires passable { IsPassable ground.now.net.now ground.now.turns.now ground.now.places.now }
+    requires counts { CountsDuties R.same_sums (R.count_of ground.now.resource.now)
+        (R.most ground.now.resource.now) (R.fits ground.now.resource.now) }
+    ensures { IfOk result (λ passed. HasPassed (ways R.below R.same_sums
+        (R.idle_of ground.now.resource.now) (R.waited ground.now.resource.now)
+        (R.boards ground.now.resource.now)) (R.count_of ground.now.resource.now)
+        (R.ready ground.now.resource.now) (R.arrived ground.now.resource.now)
+        (R.most ground.now.resource.now) ground.now.net.now ground.now.base ground.now.turns.now
+        passed.0 (map arc_value passed.1.fronts.items) passed.1.arrivals.items) }
+{
+    let net = ground.net;
+    let mut room = Room::new(alloc);
+    let mut table = Table::new(alloc, ground.turns);
+    let mut found = Found::new(alloc, net.duty_count(), net.arrivals().len())?;
+    for place in net.by_report() {
+        let place = *place as usize;
+        pass_one(alloc, ground, &mut table, &mut room, &mut found, place)?;
+    }
+    Ok((table, found))
+}
+
+/// The pass of a base, over the network of a course: the pools of its departures, and the front of
+/// each duty.
+///
+/// Each departure's pool is made of the empty label, where the base is, and of the labels of all
+/// arrivals in its window; each front is what dominance leaves of the labels that board its duty.
+pub fn pass<'a, R: Forgets<Duty>>(
+    alloc: Global,
+    course: &'a Course<'a>,
+    resource: &R,
+    base: Code,
+) -> Result<BaseFronts<'a, R>, AllocError>
+    requires sound { (d : Duty) → Member course.now.duties d → IsSound d }
+    requires counts { CountsDuties R.same_sums (R.count_of resource.now) (R.most resource.now)
+        (R.fits resource.now) }
+    ensures net { IfOk result (λ passed. passed.net ≡ course.now) }
+    ensures covered { IfOk result (IsCoveredBy R.below R.same_sums (network_of
+        (schedule_of course.now.settings base course.now.duties) departure_of arrival_of
+        (R.idle_of resource.now) (R.waited resource.now) (R.boards resource.now))) }
+{
+    let net = course.net();
+    let ground = Ground {
+        net,
+        turns: course.turns(),
+        places: course.places(),
+        resource,
+        base,
+    };
+    let (table, found) = pass_all(alloc, &ground)?;
+    Ok(BaseFronts::new(net, table, found.fronts))
+}
