@@ -1,8 +1,8 @@
 """All legal pairings of a small timetable, by brute force, from the rules alone.
 
 This is the reference of the example: no pairing is left out for what it costs, so it is for small
-timetables. No crew rides as passengers. Sections are those of 14 CFR part 117, for two pilots. A limit may
-be reached and not passed. Times are in minutes, instants since 1970-01-01T00:00 UTC. Pay is in points.
+timetables. Sections are those of 14 CFR part 117, for two pilots. A limit may be reached and not passed.
+Times are in minutes, instants since 1970-01-01T00:00 UTC. Pay is in points.
 """
 
 import csv
@@ -14,7 +14,7 @@ from datetime import datetime, timedelta
 
 DEFAULTS = {"lead": 60, "debrief": 30, "connect": 30, "sit": 240, "max_rest": 1800, "max_duties": 4,
             "fdp_cap": 3600, "fly_cap": 6000, "away_cap": 8280,
-            "duty_rig": 7, "trip_rig": 4, "duty_min": 2520, "guarantee": 4200}
+            "duty_rig": 7, "trip_rig": 4, "duty_min": 2520, "guarantee": 4200, "deadheads": 0}
 LEAST_REST, MOST_LEGS = 600, 8
 
 # Table B: most hours of a flight duty period that starts in these hours, by 1 to 6 segments and 7 or more.
@@ -44,8 +44,28 @@ class Flight:
 
 
 @dataclass(frozen=True, eq=False)
+class Leg:
+    """A flight that the crew flies, or on which it rides as passengers: then it costs and covers nothing."""
+
+    flight: Flight
+    ridden: bool
+
+    @property
+    def origin(self) -> str:
+        return self.flight.origin
+
+    @property
+    def target(self) -> str:
+        return self.flight.target
+
+    @property
+    def fly(self) -> int:
+        return 0 if self.ridden else self.flight.arr - self.flight.dep
+
+
+@dataclass(frozen=True, eq=False)
 class Duty:
-    flights: tuple[Flight, ...]
+    legs: tuple[Leg, ...]
     origin: str
     target: str
     report: int
@@ -54,12 +74,20 @@ class Duty:
     fly: int
 
 
+Walk = tuple[tuple[tuple[int, bool], ...], ...]  # of each duty's legs the flight's number, and whether it is ridden
+
+
 @dataclass(frozen=True)
 class Pairing:
     base: str
-    walk: tuple[tuple[int, ...], ...]  # the flight numbers of each duty
+    walk: Walk
     pay: int
     away: int
+
+    @property
+    def flown(self) -> list[int]:
+        """The flights that the crew flies."""
+        return [number for duty in self.walk for number, ridden in duty if not ridden]
 
 
 Timetable = tuple[dict[int, Flight], dict[str, int]]  # flights by number, prices of bases
@@ -135,31 +163,38 @@ def lists(items: list, may_follow: Callable[..., bool], is_within: Callable[[tup
 
 
 def legal_duties(all_flights: list[Flight], limits: dict[str, int]) -> list[Duty]:
-    def duty_of(flights: tuple[Flight, ...]) -> Duty:
+    def duty_of(legs: tuple[Leg, ...]) -> Duty:
         # From report to the last arrival the duty is a flight duty period (117.3).
-        first, last = flights[0], flights[-1]
+        first, last = legs[0].flight, legs[-1].flight
         report, release = first.dep - limits["lead"], last.arr + limits["debrief"]
-        fly = sum(flight.arr - flight.dep for flight in flights)
-        return Duty(flights, first.origin, last.target, report, release, last.arr - report, fly)
+        return Duty(legs, first.origin, last.target, report, release, last.arr - report, sum(leg.fly for leg in legs))
 
-    def may_follow(before: Flight, after: Flight) -> bool:
-        return limits["connect"] <= after.dep - before.arr <= limits["sit"]
+    def may_follow(before: Leg, after: Leg) -> bool:
+        return limits["connect"] <= after.flight.dep - before.flight.arr <= limits["sit"]
 
-    def is_within(flights: tuple[Flight, ...]) -> bool:
-        duty, clock = duty_of(flights), flights[0].clock
-        return (len(flights) <= MOST_LEGS and duty.fly <= table_a(clock)
-                and duty.fdp <= table_b(clock, len(flights)))
+    def is_within(legs: tuple[Leg, ...]) -> bool:
+        duty, clock = duty_of(legs), legs[0].flight.clock
+        ridden = sum(leg.ridden for leg in legs)
+        # A leg that is ridden is no flight segment (117.3). The last one is flown, so there is one at least.
+        segments = max(len(legs) - ridden, 1)
+        return (len(legs) <= MOST_LEGS and ridden <= limits["deadheads"] and duty.fly <= table_a(clock)
+                and duty.fdp <= table_b(clock, segments))
 
-    return [duty_of(found) for found in lists(all_flights, may_follow, is_within)]
+    legs = [Leg(flight, ridden) for flight in all_flights for ridden in (False, True)]
+    return [duty_of(found) for found in lists(legs, may_follow, is_within) if not found[-1].ridden]
+
+
+def pays_of(duties: tuple[Duty, ...], limits: dict[str, int]) -> int:
+    """What the duties pay, each by its flight time, by a rig on its minutes or the least of a duty."""
+    return sum(max(14 * duty.fly, limits["duty_rig"] * (duty.release - duty.report), limits["duty_min"])
+               for duty in duties)
 
 
 def pairing_of(duties: tuple[Duty, ...], limits: dict[str, int]) -> Pairing:
     """It pays the greatest of the sum of its duties' pays, a rig on minutes away, and a guarantee a duty."""
     away = duties[-1].release - duties[0].report
-    pays = [max(14 * duty.fly, limits["duty_rig"] * (duty.release - duty.report), limits["duty_min"])
-            for duty in duties]
-    pay = max(sum(pays), limits["trip_rig"] * away, limits["guarantee"] * len(duties))
-    walk = tuple(tuple(flight.number for flight in duty.flights) for duty in duties)
+    pay = max(pays_of(duties, limits), limits["trip_rig"] * away, limits["guarantee"] * len(duties))
+    walk = tuple(tuple((leg.flight.number, leg.ridden) for leg in duty.legs) for duty in duties)
     return Pairing(duties[0].origin, walk, pay, away)
 
 
@@ -195,9 +230,9 @@ def pairings(text: str, settings: dict[str, int]) -> list[Pairing]:
 
 
 def cost(pairing: Pairing, timetable: Timetable) -> int:
-    """Pay less the prices of the flights and of the base."""
+    """Pay less the prices of the flights that the crew flies and of the base."""
     flights, bases = timetable
-    prices = sum(flights[number].price for duty in pairing.walk for number in duty)
+    prices = sum(flights[number].price for number in pairing.flown)
     return pairing.pay - prices - bases[pairing.base]
 
 
@@ -213,12 +248,12 @@ Vector = tuple[int, ...]
 
 def vector(duties: tuple[Duty, ...], timetable: Timetable, limits: dict[str, int]) -> Vector:
     """Three costs, by duties, by minutes away and by the guarantee, and what the caps limit."""
-    flights, bases = timetable
-    prices = bases[duties[0].origin] + sum(flight.price for duty in duties for flight in duty.flights)
+    _, bases = timetable
+    prices = bases[duties[0].origin] + sum(
+        leg.flight.price for duty in duties for leg in duty.legs if not leg.ridden)
     away = duties[-1].release - duties[0].report
-    pays = [max(14 * duty.fly, limits["duty_rig"] * (duty.release - duty.report), limits["duty_min"])
-            for duty in duties]
-    return (sum(pays) - prices, limits["trip_rig"] * away - prices, limits["guarantee"] * len(duties) - prices,
+    return (pays_of(duties, limits) - prices, limits["trip_rig"] * away - prices,
+            limits["guarantee"] * len(duties) - prices,
             sum(duty.fdp for duty in duties), sum(duty.fly for duty in duties), len(duties), away)
 
 

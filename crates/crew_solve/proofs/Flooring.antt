@@ -37,6 +37,12 @@ least-left a b c h = grind (arith, ints)
 least-right : (a b c : ℤ) → b ≤ℤ c → int_min a b ≤ℤ c
 least-right a b c h = grind (arith, ints)
 
+at-most : (a b c : ℤ) → a ≤ℤ b → b ≤ℤ c → a ≤ℤ c
+at-most a b c h k = omega (arith, ints)
+
+same-least : (n : ℤ) → n ≡ int_min n n
+same-least n = grind (arith, ints)
+
 pub from-none : (beside : Option Taken) (floor : ℤ) → CostFrom beside floor []
 from-none beside floor p m e = absurd m
 
@@ -50,6 +56,10 @@ pub from-more : (first k : Kept) (ps qs : Ps) (a b n : ℤ) → k ≡ keep_all f
 from-more first k ps qs a b n is h more e =
     let same : k.beside ≡ first.beside = ap (λ (z : Kept). z.beside) is ∙ still-beside first ps in
     subst (λ z. CostFrom first.beside z (ps ++ qs)) (sym e) (from-both first.beside a b ps qs h (subst (λ o. CostFrom o b qs) same more))
+
+-- with more, and a floor that is no greater
+pub from-below : (first k : Kept) (ps qs : Ps) (a n : ℤ) → k ≡ keep_all first ps → CostFrom first.beside a ps → n ≤ℤ a → CostFrom k.beside n qs → CostFrom first.beside n (ps ++ qs)
+from-below first k ps qs a n is h less more = from-more first k ps qs n n n is (λ p m e. at-most n a p.cost less (h p m e)) more (same-least n)
 
 -- where none is asked for
 pub from-unasked : (beside : Option Taken) (floor : ℤ) (ps : Ps) → ((p : PricedPairing) → Member ps p → is_wanted beside p ≡ false) → CostFrom beside floor ps

@@ -1,5 +1,5 @@
 //! The least pairings of all that comes home.
-ghost use Rattle.std.specs.Prelude.{◌≡◌, ◌<◌, ◌≤◌, ◌∷◌, ℕ, IfOk, None, OnOk, Some, [], get_or, length, map, slice_get};
+ghost use Rattle.std.specs.Prelude.{◌≡◌, ◌<◌, ◌≤◌, ◌≤ℤ◌, ◌∷◌, ℕ, IfOk, None, OnOk, Some, [], get_or, length, map, slice_get};
 ghost use Rattle.std.specs.Arc.{arc_value};
 ghost use Rattle.std.specs.List.{flat_map};
 ghost use Rattle.crew_pairing.specs.Events.{IsSound, departure_of};
@@ -13,6 +13,7 @@ ghost use Rattle.crew_solve.specs.Machinery.Homes as Spec;
 ghost use Rattle.crew_solve.specs.Machinery.Keeps.{keep, keep_all};
 ghost use Rattle.crew_solve.specs.Machinery.Homes.{HasPay, IsFit, IsShowable};
 ghost use Rattle.crew_sweep.specs.Sweeps.{in_order};
+ghost use Rattle.crew_vector.specs.declared.priced.PricedPairing.{PricedPairing as Pairing};
 
 use crate::base_fronts::BaseFronts;
 use crate::kept::Kept;
@@ -76,7 +77,23 @@ fn pairing_of(
     Ok(priced(trip_rig, sweep.base(), vector, walk))
 }
 
-// Keeps a label's pairing, whose walk is made only where it may be among the least.
+// What pairings cost at least that are asked for: those so far, and one of a cost and a walk.
+fn floor_with(kept: &Kept, cost: i64, walk: &WalkView<'_>, floor: i64) -> i64
+    ensures less { result ≤ℤ floor }
+    ensures floor { (p : Pairing) → p.cost ≡ cost → p.walk ≡ walk.now
+        → CostFrom kept.now.beside result (p ∷ []) }
+{
+    if floor <= cost {
+        return floor;
+    }
+    if !kept.may_pass(cost, walk) {
+        return floor;
+    }
+    cost
+}
+
+// Keeps a label's pairing, whose walk is made only where it may be among the least. Gives what it and
+// those so far cost at least of which that is asked for.
 fn keep_label(
     alloc: Global,
     sweep: &Sweep,
@@ -84,6 +101,7 @@ fn keep_label(
     minute: i64,
     kept: &mut Kept,
     label: &(PairingVector, LabelWalk),
+    floor: i64,
 ) -> Result<i64, AllocError>
     requires rate { trip_rig ≡ sweep.now.net.settings.trip_rig }
     requires minute { LiesWithin 2_147_483_648 minute }
@@ -93,20 +111,22 @@ fn keep_label(
         (walk_of_label sweep.now.walks label.now.1) }
     ensures kept { OnOk result
         (kept.new ≡ keep kept.old (Spec.pairing_at sweep.now minute label.now)) }
-    ensures floor { IfOk result (λ floor. CostFrom kept.old.beside floor
+    ensures less { IfOk result (λ next. next ≤ℤ floor) }
+    ensures floor { IfOk result (λ next. CostFrom kept.old.beside next
         (Spec.pairing_at sweep.now minute label.now ∷ [])) }
 {
     let vector = sweep.resource().show(&label.0, minute);
     let cost = vector.reduced_cost();
+    let walk = WalkView::new(sweep, label.1);
     if !kept.wants(cost) {
-        return Ok(cost);
+        return Ok(floor_with(kept, cost, &walk, floor));
     }
-    if !kept.may_pass(cost, &WalkView::new(sweep, label.1)) {
-        return Ok(i64::MAX);
+    if !kept.may_pass(cost, &walk) {
+        return Ok(floor);
     }
     let pairing = pairing_of(alloc, sweep, trip_rig, &vector, label.1)?;
     kept.keep(alloc, pairing)?;
-    Ok(cost)
+    Ok(floor.min(cost))
 }
 
 // Keeps the least of the pairings of the labels that board a duty.
@@ -136,8 +156,7 @@ fn keep_boarding(
     let view = View::new(sweep.resource(), sweep.pool(index), duty, rank);
     let mut floor = i64::MAX;
     for label in view.iter() {
-        let cost = keep_label(alloc, sweep, trip_rig, minute, kept, &label)?;
-        floor = floor.min(cost);
+        floor = keep_label(alloc, sweep, trip_rig, minute, kept, &label, floor)?;
     }
     Ok(floor)
 }

@@ -1,6 +1,6 @@
 use Rattle.std.proofs.Common.{◌≡◌, ◌∙◌, ◌<◌, ◌++◌, ◌∷◌, List, ap, refl, sym, subst, to_z, of_z, w64, arith, length, get_or, map, []}
 use Rattle.std.proofs.lemmas.List.{map-append}
-use Rattle.std.specs.Int.{int_min}
+use Rattle.std.specs.Prelude.{◌≤ℤ◌}
 use Rattle.std.proofs.lemmas.Int.{ints}
 use Rattle.std.proofs.lemmas.Iterator.Consumers.{YieldsList-end, YieldsList-turn, YieldsList-from_first}
 use Rattle.crew_anchor.specs.Stages.{anchored_board}
@@ -17,7 +17,7 @@ use Rattle.crew_solve.specs.Machinery.Homes.{IsShowable, ended_by, pairing_at, r
 use Rattle.crew_solve.specs.Machinery.Keeps.{Kept, keep, keep_all}
 use Rattle.crew_solve.proofs.Boarded.{are-whole, boarded-kept, boarded-pairings, boarded-shown, can-board}
 use Rattle.crew_pool.proofs.Listed.{map-itself}
-use Rattle.crew_solve.proofs.Flooring.{from-more, from-none}
+use Rattle.crew_solve.proofs.Flooring.{from-below, from-none}
 use Rattle.crew_solve.proofs.Keeping.{keep-one-more}
 use Rattle.crew_solve.proofs.best.keep_boarding.Goals as goal
 
@@ -90,16 +90,16 @@ loop-label-preserved c =
     let ys = c.loop-label.yielded in
     let minute : to_z w64 (of_z w64 c.args.minute) ≡ d.release = omega (arith, ints, c.requires.minute) in
     let more : map f (ys ++ label ∷ []) ≡ map f ys ++ f label ∷ [] = map-append f ys (label ∷ []) in
-    let own = c.in_ok-cost.cost in
-    let cost = subst (λ z. CostFrom c.loop-label.kept.beside own (pairing_at b z label ∷ [])) minute c.in_ok-cost.ensures.floor in
+    let next = to_z w64 (of_z w64 c.in_ok-floor.floor) in
+    let whole : next ≡ c.in_ok-floor.floor = omega (arith, ints) in
     let low = to_z w64 c.loop-label.floor-bits in
-    let least : to_z w64 (of_z w64 c.min-floor.result) ≡ c.min-floor.result = omega (arith, ints) in
-    let same : to_z w64 (of_z w64 own) ≡ own = omega (arith, ints) in
+    let less : next ≤ℤ low = omega (arith, ints, c.in_ok-floor.ensures.less) in
+    let cost = subst (λ z. CostFrom c.loop-label.kept.beside z (f label ∷ [])) (sym whole) (subst (λ z. CostFrom c.loop-label.kept.beside c.in_ok-floor.floor (pairing_at b z label ∷ [])) minute c.in_ok-floor.ensures.floor) in
     record {
-      kept = c.in_ok-cost.ensures.kept
+      kept = c.in_ok-floor.ensures.kept
           ∙ (ap (λ z. keep c.loop-label.kept (pairing_at b z label)) minute
           ∙ (ap (λ (k : Kept). keep k (f label)) c.loop-label.invariant.kept ∙ sym (keep-one-more first f ys label)));
-      floor = subst (CostFrom first.beside _) (sym more) (from-more first c.loop-label.kept (map f ys) (f label ∷ []) low own _ c.loop-label.invariant.kept c.loop-label.invariant.floor cost (least ∙ (c.min-floor.ensures.value ∙ ap (int_min low) same)));
+      floor = subst (CostFrom first.beside _) (sym more) (from-below first c.loop-label.kept (map f ys) (f label ∷ []) low next c.loop-label.invariant.kept c.loop-label.invariant.floor less cost);
     }
 
 pub returns-clause-kept : goal.returns-clause-kept
