@@ -34,6 +34,9 @@ use std::sync::Arc;
 // How many jobs a lot has at most, once its base has a sweep.
 const LOT: usize = 2_048;
 
+// The same, where each front is compared with that of the version before, which is most of the work.
+const COMPARED_LOT: usize = 512;
+
 // How many a lot may have even where few nodes wait.
 const SHORT_LOT: usize = 64;
 
@@ -245,11 +248,19 @@ impl Round {
         }
     }
 
-    // How many jobs a lot has at most now, once its base has a sweep.
+    // How many jobs a lot of the round has at most, once its base has a sweep.
+    fn longest_lot(&self) -> usize {
+        match self.ground.sealed().solution() {
+            Some(_) => COMPARED_LOT,
+            None => LOT,
+        }
+    }
+
+    // How many it has at most now.
     fn lot_size(&self) -> usize {
         let Progress { nodes, done, out } = self.marks.progress();
         let waiting = nodes.saturating_sub(done).saturating_sub(out);
-        (waiting / SHARES).max(SHORT_LOT).min(LOT)
+        (waiting / SHARES).max(SHORT_LOT).min(self.longest_lot())
     }
 
     // Whether the node at a place may go with a lot: it is of the base of the lot's last job, and the lot
