@@ -6,6 +6,7 @@ ghost use Rattle.std.specs.Ordering.{as_partial_cmp, eq_by_cmp};
 ghost use Rattle.std.specs.Cmp.{eq_by_cmp_equiv, partial_equiv_from_equiv, partial_order_from_total};
 ghost use Rattle.crew_pairing.specs.Legs.{Leg};
 ghost use Rattle.crew_solve.specs.Cheapest.{pairing_cmp, pairing_total};
+ghost use Rattle.crew_solve.specs.Machinery.Floors.{may_begin};
 ghost use Rattle.crew_solve.specs.Machinery.Keeps.{IsBound};
 ghost use Rattle.crew_solve.specs.Machinery.Takes.{Taken as TakenOf};
 ghost use Rattle.crew_vector.specs.declared.priced.PricedPairing.{PricedPairing as PairingOf};
@@ -172,6 +173,17 @@ impl Kept {
         match self.bound {
             None => true,
             Some(bound) => cost <= bound,
+        }
+    }
+
+    /// Whether pairings that begin with a walk may be among those that are asked for. It takes no
+    /// memory.
+    pub(crate) fn may_begin(&self, walk: &WalkView<'_>) -> bool
+        ensures { result ≡ may_begin self.now.beside walk.now }
+    {
+        match &self.beside {
+            None => true,
+            Some(taken) => taken.may_begin(walk),
         }
     }
 
