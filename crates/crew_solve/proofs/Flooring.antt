@@ -15,7 +15,7 @@ use Rattle.crew_pairing.specs.declared.vector.PairingVector.{PairingVector}
 use Rattle.crew_resource.proofs.Members.{Member-append, Member-flat_map_in, Member-flat_map_out, Member-get, Member-map_out}
 use Rattle.crew_resource.specs.Events.{labelled}
 use Rattle.crew_resource.specs.Members.{Member}
-use Rattle.crew_solve.proofs.Floored.{keep-all-none}
+use Rattle.crew_solve.proofs.Floored.{keep-all-none, labelled-walk}
 use Rattle.crew_solve.proofs.Keeping.{keep-append, still-beside}
 use Rattle.crew_solve.proofs.Listed.{get-same}
 use Rattle.crew_solve.specs.Cheapest.{pairing_cmp}
@@ -90,11 +90,6 @@ pub keep-all-unasked : (k : Kept) (ps : Ps) → ((p : PricedPairing) → Member 
 keep-all-unasked k ps h = keep-all-none k ps (λ p m. keep-unasked k p (h p m))
 
 -- ---- the last duty of a pairing that a duty ends
-
-labelled-walk : (o : Option PairingVector) (w : List (List Leg)) (e : PairingVector × List (List Leg)) → Member (labelled o w) e → w ≡ e.1
-labelled-walk None w e m = absurd m
-labelled-walk (Some v) w e (inl q) = ap (λ (z : PairingVector × List (List Leg)). z.1) q
-labelled-walk (Some v) w e (inr m) = absurd m
 
 abbrev pub EndsWith : List Leg → PricedPairing → Type 0
 EndsWith key p = (before : List (List Leg)) × (p.walk ≡ before ++ key ∷ [])

@@ -1,5 +1,5 @@
 //! The least pairings of all that comes home.
-ghost use Rattle.std.specs.Prelude.{◌≡◌, ◌<◌, ◌≤◌, ◌≤ℤ◌, ◌∷◌, ℕ, IfOk, None, OnOk, Some, [], get_or, length, map, slice_get};
+ghost use Rattle.std.specs.Prelude.{◌≡◌, ◌<◌, ◌≤◌, ◌≤ℤ◌, ◌∷◌, ℕ, IfOk, None, OnOk, Some, [], get_or, length, map, slice_get, true};
 ghost use Rattle.std.specs.Arc.{arc_value};
 ghost use Rattle.std.specs.List.{flat_map};
 ghost use Rattle.crew_pairing.specs.Events.{IsSound, departure_of};
@@ -8,9 +8,10 @@ ghost use Rattle.crew_pool.specs.LabelWalks.{walk_of_label};
 ghost use Rattle.crew_resource.specs.Machinery.Sum.{LiesWithin};
 ghost use Rattle.crew_resource.specs.Members.{Each, Member};
 ghost use Rattle.crew_solve.specs.Machinery.Floors as Floors;
-ghost use Rattle.crew_solve.specs.Machinery.Floors.{CostFrom, IsFloor};
+ghost use Rattle.crew_solve.specs.Machinery.Floors.{CostFrom, IsFloor, may_begin};
 ghost use Rattle.crew_solve.specs.Machinery.Homes as Spec;
 ghost use Rattle.crew_solve.specs.Machinery.Keeps.{keep, keep_all};
+ghost use Rattle.crew_solve.specs.Machinery.Keyed.{AreReadable};
 ghost use Rattle.crew_solve.specs.Machinery.Homes.{HasPay, IsFit, IsShowable};
 ghost use Rattle.crew_sweep.specs.Sweeps.{in_order};
 ghost use Rattle.crew_vector.specs.declared.priced.PricedPairing.{PricedPairing as Pairing};
@@ -185,7 +186,7 @@ fn keep_by(
     requires duty { slice_get sweep.now.net.duties rank ≡ Some duty.now }
     requires own { slice_get (in_order sweep.now.net) index ≡ Some (departure_of duty.now) }
     requires sound { IsSound duty.now }
-    requires floor { IsFloor floor (get_or sweep.now.pools index []) }
+    requires floor { IsFloor kept.old.beside sweep.now floor (get_or sweep.now.pools index []) }
     requires fit { IsFit sweep.now }
     ensures kept { OnOk result
         (kept.new ≡ keep_all kept.old (Spec.ended_by sweep.now index duty.now)) }
@@ -218,7 +219,7 @@ fn keep_at(
     requires rank { rank < length sweep.now.net.duties }
     requires own { (d : Duty) → slice_get sweep.now.net.duties rank ≡ Some d
         → slice_get (in_order sweep.now.net) index ≡ Some (departure_of d) }
-    requires floor { IsFloor floor (get_or sweep.now.pools index []) }
+    requires floor { IsFloor kept.old.beside sweep.now floor (get_or sweep.now.pools index []) }
     requires fit { IsFit sweep.now }
     ensures kept { OnOk result
         (kept.new ≡ keep_all kept.old (Spec.home_at sweep.now index rank)) }
@@ -232,13 +233,32 @@ fn keep_at(
     keep_by(alloc, sweep, trip_rig, index, rank, duty, floor, kept)
 }
 
-// The least duty pay of a departure's labels.
-fn floor_of(labels: &[(PairingVector, LabelWalk)]) -> i64
-    ensures { IsFloor result labels.now }
+// The lesser of a floor and a label's duty pay, if its walk may begin pairings that are asked for.
+fn floor_below(sweep: &Sweep, kept: &Kept, duty_pay: i64, label: LabelWalk, floor: i64) -> i64
+    requires there { label.walk < length sweep.now.walks }
+    requires ranked { Each (λ rank. rank < length sweep.now.net.duties)
+        (walk_of_label sweep.now.walks label) }
+    ensures less { result ≤ℤ floor }
+    ensures low { may_begin kept.now.beside (Spec.walk_by_key sweep.now label) ≡ true
+        → result ≤ℤ duty_pay }
+{
+    if floor <= duty_pay {
+        return floor;
+    }
+    if !kept.may_begin(&WalkView::new(sweep, label)) {
+        return floor;
+    }
+    duty_pay
+}
+
+// The least duty pay of a departure's labels whose walks may begin pairings that are asked for.
+fn floor_of(sweep: &Sweep, kept: &Kept, labels: &[(PairingVector, LabelWalk)]) -> i64
+    requires { AreReadable sweep.now labels.now }
+    ensures { IsFloor kept.now.beside sweep.now result labels.now }
 {
     let mut floor = i64::MAX;
-    for (vector, _) in labels {
-        floor = floor.min(vector.duty_pay);
+    for (vector, label) in labels {
+        floor = floor_below(sweep, kept, vector.duty_pay, *label, floor);
     }
     floor
 }
@@ -256,16 +276,16 @@ fn comes_home(sweep: &Sweep, ranks: &[u32]) -> bool {
     false
 }
 
-// A floor of a departure's labels: the least duty pay where one of its duties comes home.
-fn floor_at(sweep: &Sweep, index: usize, ranks: &[u32]) -> i64
+// A floor of a departure's labels, where one of its duties comes home.
+fn floor_at(sweep: &Sweep, kept: &Kept, index: usize, ranks: &[u32]) -> i64
     requires index { index < length sweep.now.net.by_report }
-    ensures { IsFloor result (get_or sweep.now.pools index []) }
+    ensures { IsFloor kept.now.beside sweep.now result (get_or sweep.now.pools index []) }
 {
     let pool = sweep.pool(index);
     if !comes_home(sweep, ranks) {
         return i64::MIN;
     }
-    floor_of(pool.as_slice())
+    floor_of(sweep, kept, pool.as_slice())
 }
 
 // Keeps the least of what comes home by the duties of a departure.
@@ -285,7 +305,7 @@ pub(crate) fn keep_from(
 {
     let place = sweep.net().by_report()[index] as usize;
     let ranks = sweep.net().leaving(place);
-    let floor = floor_at(sweep, index, ranks);
+    let floor = floor_at(sweep, kept, index, ranks);
     let mut least = i64::MAX;
     for &rank in ranks {
         let cost = keep_at(alloc, sweep, trip_rig, index, rank, floor, kept)?;

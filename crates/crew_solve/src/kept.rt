@@ -1,11 +1,14 @@
 //! The least of many pairings.
 
-ghost use Rattle.std.specs.Prelude.{◌≡◌, ◌≤ℤ◌, ◌++◌, ◌∷◌, IfOk, List, OnOk, [], false, slice_get};
+ghost use Rattle.std.specs.Prelude.{◌≡◌, ◌≤ℤ◌, ◌≤◌, ◌++◌, ◌∷◌, IfOk, List, OnOk, Option, [], false, length, slice_get};
 ghost use Rattle.std.proofs.Common.{refl};
 ghost use Rattle.std.specs.Ordering.{as_partial_cmp, eq_by_cmp};
 ghost use Rattle.std.specs.Cmp.{eq_by_cmp_equiv, partial_equiv_from_equiv, partial_order_from_total};
 ghost use Rattle.crew_pairing.specs.Legs.{Leg};
 ghost use Rattle.crew_solve.specs.Cheapest.{pairing_cmp, pairing_total};
+ghost use Rattle.crew_solve.specs.Machinery.Floors.{may_begin};
+ghost use Rattle.crew_solve.specs.Machinery.Keeps.{IsBound};
+ghost use Rattle.crew_solve.specs.Machinery.Takes.{Taken as TakenOf};
 ghost use Rattle.crew_vector.specs.declared.priced.PricedPairing.{PricedPairing as PairingOf};
 
 use crate::taken::Taken;
@@ -82,6 +85,21 @@ fn in_order(alloc: Global, kept: BTreeSet<ByCost>) -> Result<Vec<PricedPairing>,
     Ok(pairings)
 }
 
+// The cost of the last of so many; `None` where they are fewer.
+fn bound_of(pairings: &BTreeSet<ByCost>, limit: usize) -> Option<i64>
+    requires { length pairings.now.keys ≤ limit }
+    ensures { (beside : Option TakenOf) → IsBound result
+        (record { limit = limit; beside = beside; pairings = pairings.now.keys }) }
+{
+    if pairings.len() < limit {
+        return None;
+    }
+    match pairings.last() {
+        None => Some(i64::MIN),
+        Some(last) => Some(last.pairing.cost),
+    }
+}
+
 /// The least of the pairings so far by cost and walk, up to a limit: of all, or of those alone that
 /// may be taken beside others.
 ///
@@ -91,6 +109,7 @@ pub(crate) struct Kept {
     limit: usize,
     beside: Option<Taken>,
     pairings: BTreeSet<ByCost>,
+    bound: Option<i64>,
 }
 
 impl Model for Kept {
@@ -105,7 +124,8 @@ impl Model for Kept {
       pairings = k.pairings.keys;
     } };
 
-    ghost invariant = { λ k. length k.pairings.keys ≤ k.limit };
+    ghost invariant = { λ k. (length k.pairings.keys ≤ k.limit) × Spec.IsBound k.bound
+        (record { limit = k.limit; beside = k.beside; pairings = k.pairings.keys }) };
 }
 
 impl Kept {
@@ -119,6 +139,7 @@ impl Kept {
             limit,
             beside: None,
             pairings: BTreeSet::new(alloc),
+            bound: None,
         }
     }
 
@@ -130,6 +151,7 @@ impl Kept {
             limit,
             beside: Some(taken),
             pairings: BTreeSet::new(alloc),
+            bound: None,
         }
     }
 
@@ -148,12 +170,20 @@ impl Kept {
         ensures { result ≡ false → (p : PairingOf) → cost ≤ℤ p.cost
             → Spec.keep self.now p ≡ self.now }
     {
-        if self.pairings.len() < self.limit {
-            return true;
+        match self.bound {
+            None => true,
+            Some(bound) => cost <= bound,
         }
-        match self.pairings.last() {
-            None => false,
-            Some(last) => cost <= last.pairing.cost,
+    }
+
+    /// Whether pairings that begin with a walk may be among those that are asked for. It takes no
+    /// memory.
+    pub(crate) fn may_begin(&self, walk: &WalkView<'_>) -> bool
+        ensures { result ≡ may_begin self.now.beside walk.now }
+    {
+        match &self.beside {
+            None => true,
+            Some(taken) => taken.may_begin(walk),
         }
     }
 
@@ -188,6 +218,7 @@ impl Kept {
         if self.pairings.len() > self.limit {
             self.pairings.pop_last();
         }
+        self.bound = bound_of(&self.pairings, self.limit);
         Ok(())
     }
 

@@ -1,6 +1,6 @@
 //! Pairings taken one after another that share few flights.
 
-ghost use Rattle.std.specs.Prelude.{◌≡◌, ◌≤◌, ◌<◌, ◌+◌, ◌++◌, ◌∷◌, ℕ, IfOk, List, OnOk, [], cond, false, get_or, length, nat_eq, nat_lt, take, true};
+ghost use Rattle.std.specs.Prelude.{◌≡◌, ◌≤◌, ◌<◌, ◌+◌, ◌++◌, ◌∷◌, ℕ, IfOk, List, OnOk, Some, [], cond, false, get_or, length, nat_eq, nat_lt, take, true};
 ghost use Rattle.std.specs.List.{flat_map, list_all, list_any};
 ghost use Rattle.std.specs.Ordering.{is_lt};
 ghost use Rattle.crew_pairing.specs.Legs.{Leg as LegOf};
@@ -8,6 +8,7 @@ ghost use Rattle.crew_resource.specs.Members.{Each};
 ghost use Rattle.crew_solve.specs.Apart as Apart;
 ghost use Rattle.crew_solve.specs.Apart.{is_apart};
 ghost use Rattle.crew_solve.specs.Cheapest.{pairing_cmp};
+ghost use Rattle.crew_solve.specs.Machinery.Floors.{may_begin};
 ghost use Rattle.crew_vector.specs.declared.priced.PricedPairing.{PricedPairing as Pairing};
 
 use crate::walk_view::WalkView;
@@ -241,6 +242,13 @@ impl Taken {
             None => true,
             Some(last) => last.cost <= cost,
         }
+    }
+
+    /// Whether pairings that begin with a walk may still be taken. It takes no memory.
+    pub(crate) fn may_begin(&self, walk: &WalkView<'_>) -> bool
+        ensures { result ≡ may_begin (Some self.now) walk.now }
+    {
+        walk_has_room(&self.counts, walk, self.share)
     }
 
     /// Whether a pairing that ends with the duty of a key may still be taken.

@@ -1,19 +1,29 @@
 -- What the pairings of a departure's labels cost at least.
-use Rattle.std.specs.Prelude.{◌≡◌, ◌≤ℤ◌, ◌+ℤ◌, ◌-ℤ◌, ℕ, ℤ, true, List, [], Option, Some, None, get_or, length, slice_get}
+use Rattle.std.specs.Prelude.{◌≡◌, ◌≤ℤ◌, ◌+ℤ◌, ◌-ℤ◌, ℕ, ℤ, Bool, true, List, [], Option, Some, None, count_by, get_or, length, nat_lt, slice_get}
+use Rattle.std.specs.List.{list_all}
 use Rattle.std.specs.Int.{saturate_signed, w64}
+use Rattle.crew_pairing.specs.Legs.{Leg}
 use Rattle.crew_pairing.specs.declared.duty.Duty.{Duty}
 use Rattle.crew_pairing.specs.declared.vector.PairingVector.{PairingVector}
 use Rattle.crew_pool.specs.declared.label_walk.LabelWalk.{LabelWalk}
 use Rattle.crew_resource.specs.Members.{Member}
-use Rattle.crew_solve.specs.Machinery.Homes.{home_from}
+use Rattle.crew_solve.specs.Apart.{flies, flown}
+use Rattle.crew_solve.specs.Machinery.Homes.{home_from, walk_by_key}
 use Rattle.crew_solve.specs.Machinery.Keeps.{is_wanted}
 use Rattle.crew_solve.specs.Machinery.Takes.{Taken}
 use Rattle.crew_sweep.specs.Sweeps.{BaseSweep}
 use Rattle.crew_vector.specs.declared.priced.PricedPairing.{PricedPairing}
 
--- no label's duty pay is less
-abbrev pub IsFloor : ℤ → List (PairingVector × LabelWalk) → Type 0
-IsFloor floor labels = (l : PairingVector × LabelWalk) → Member labels l → floor ≤ℤ l.0.duty_pay
+-- pairings that begin with a walk may be asked for: each flight that it flies is flown by fewer
+abbrev pub may_begin : Option Taken → List (List Leg) → Bool
+may_begin None w = true
+may_begin (Some t) w = list_all (λ flight. nat_lt (count_by (flies flight) t.pairings) t.share)
+    (flown w)
+
+-- no label's duty pay is less, of those whose walks may begin pairings that are asked for
+abbrev pub IsFloor : Option Taken → BaseSweep → ℤ → List (PairingVector × LabelWalk) → Type 0
+IsFloor beside b floor labels = (l : PairingVector × LabelWalk) → Member labels l
+    → may_begin beside (walk_by_key b l.1) ≡ true → floor ≤ℤ l.0.duty_pay
 
 -- a pairing that the duty ends costs no less, where its cost fits
 abbrev pub least_by : Duty → ℤ → ℤ

@@ -1,5 +1,5 @@
 -- The least of many pairings, by cost and walk, up to a limit.
-use Rattle.std.specs.Prelude.{◌≡◌, ℕ, Bool, true, cond, List, [], ◌∷◌, ◌++◌, Option, Some, None, length, take}
+use Rattle.std.specs.Prelude.{◌≡◌, ◌<ℤ◌, ℕ, ℤ, Bool, true, cond, List, [], ◌∷◌, ◌++◌, Option, Some, None, length, take}
 use Rattle.std.specs.BTreeSet.{insert_key}
 use Rattle.crew_resource.specs.Members.{Member}
 use Rattle.crew_solve.specs.Cheapest.{pairing_cmp}
@@ -38,6 +38,11 @@ keep k p = record {
   pairings = cond (is_wanted k.beside p) (take k.limit (insert_key pairing_cmp k.pairings p))
       k.pairings;
 }
+
+-- what costs more than a bound, where there is one, changes nothing
+abbrev pub IsBound : Option ℤ → Kept → Type 0
+IsBound None k = Unit {0}
+IsBound (Some bound) k = (p : PricedPairing) → bound <ℤ p.cost → keep k p ≡ k
 
 -- with each of a list
 abbrev pub keep_all : Kept → List PricedPairing → Kept

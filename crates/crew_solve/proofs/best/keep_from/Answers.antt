@@ -1,4 +1,4 @@
-use Rattle.std.proofs.Common.{◌≡◌, ◌∙◌, ap, refl, sym, subst, Some, List, length, get_or, take, to_z, of_z, w64, arith}
+use Rattle.std.proofs.Common.{◌≡◌, ◌∙◌, ap, refl, sym, subst, Some, List, [], length, get_or, take, to_z, of_z, w64, arith}
 use Rattle.std.specs.Int.{int_min}
 use Rattle.std.proofs.lemmas.Int.{ints}
 use Rattle.std.specs.Prelude.{slice_get}
@@ -11,13 +11,13 @@ use Rattle.crew_pairing.specs.Events.{departure_of}
 use Rattle.crew_resource.proofs.Members.{Member-get}
 use Rattle.crew_resource.specs.Members.{Member}
 use Rattle.crew_sweep.proofs.Numbers.{get-within}
-use Rattle.crew_solve.specs.Machinery.Floors.{CostFrom}
+use Rattle.crew_solve.specs.Machinery.Floors.{CostFrom, IsFloor}
 use Rattle.crew_solve.specs.Machinery.Homes.{home_at, leaving}
 use Rattle.crew_solve.proofs.Flooring.{from-more, from-none}
 use Rattle.crew_solve.proofs.Departing.{departs, leaves-own, rank-out}
 use Rattle.crew_solve.specs.Machinery.Keeps.{Kept, keep_all}
 use Rattle.crew_solve.proofs.Listed.{flat-more}
-use Rattle.crew_solve.proofs.Keeping.{keep-append}
+use Rattle.crew_solve.proofs.Keeping.{keep-append, still-beside}
 use Rattle.crew_solve.proofs.best.keep_from.Goals as goal
 
 pub leaving-ranks-requires : goal.leaving-ranks-requires
@@ -55,6 +55,17 @@ keep_at-requires-clause-own c = λ e known.
     let r = rank-out (leaves_at d.departure) net.duties rank (subst (λ (l : List _). Member l rank) ranks m) in
     let same : r.0 ≡ e = (let both : Some r.0 ≡ Some e = sym r.1 ∙ known in (cc)) in
     d.stands ∙ ap Some (leaves-own d.departure r.0 r.2 ∙ ap departure_of same)
+
+pub keep_at-requires-clause-floor : goal.keep_at-requires-clause-floor
+keep_at-requires-clause-floor c =
+    let b = c.args.sweep.now in
+    let first = c.args.kept.now in
+    let done = flat_map (home_at b c.args.index) (take c.loop-rank.rank-index c.leaving-ranks.result.now) in
+    let same : c.loop-rank.kept.beside ≡ first.beside = ap (λ (k : Kept). k.beside) c.loop-rank.invariant.kept ∙ still-beside first done in
+    let pool = get_or b.pools c.args.index [] in
+    let floor = to_z w64 (of_z w64 c.floor_at-floor.result) in
+    let whole : floor ≡ c.floor_at-floor.result = omega (arith, ints) in
+    subst (λ o. IsFloor o b floor pool) (sym same) (subst (λ z. IsFloor first.beside b z pool) (sym whole) c.floor_at-floor.ensures)
 
 pub loop-rank-init : goal.loop-rank-init
 loop-rank-init c = record {
