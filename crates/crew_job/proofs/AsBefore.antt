@@ -1,5 +1,5 @@
 -- Whether a job's node has the front that it had in the version before the round.
-use Rattle.std.proofs.Common.{◌≡◌, ◌∙◌, Bool, true, false, List, ℕ, Some, refl, sym, subst, true≢false}
+use Rattle.std.proofs.Common.{◌≡◌, ◌∙◌, Bool, true, false, Some, refl, sym, subst, true≢false}
 use Rattle.std.specs.Prelude.{◌↔◌, IsTrue}
 use Rattle.crew_job.proofs.Planned.{data-sound}
 use Rattle.crew_job.proofs.Standing.{as-sealed-by-front}

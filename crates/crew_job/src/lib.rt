@@ -2,7 +2,8 @@
 //! that was sealed last, the entries that the round is over, and the plan of what they come to. A
 //! `Job` is a node of a ground, and stands for one piece of work: the node's own inputs, and each
 //! node just before it with its front. `work` does it, under no lock, and what is `Done` shows a front
-//! that is local to that work. `is_own` tells exactly, and by value, whether the work is that of a
+//! that is local to that work, and tells whether the node has it as in the version that was sealed
+//! last. `is_own` tells exactly, and by value, whether the work is that of a
 //! node in another ground: whoever made a result and when, it is taken for what its job holds. No
 //! comparison takes memory, and where settings and timetables are equal none looks at a front. Jobs
 //! of one ground go in a `Lot`, which is done as a whole (`work_lot`), so that its ground is compared

@@ -1,4 +1,4 @@
-use Rattle.std.proofs.Common.{◌≡◌, List, Some, take}
+use Rattle.std.proofs.Common.{◌≡◌, take}
 use Rattle.crew_job.specs.Jobs.{Job}
 use Rattle.crew_job.specs.Shown.{IsLeftOf}
 use Rattle.crew_resource.specs.Members.{Member}
