@@ -1,4 +1,4 @@
-use Rattle.std.proofs.Common.{◌≡◌, ◌∙◌, ap, false, sym, true}
+use Rattle.std.proofs.Common.{◌≡◌, ◌∙◌, ap, arith, false, sym, true}
 use Rattle.crew_solve.specs.Machinery.Floors.{may_begin}
 use Rattle.crew_solve.proofs.best.floor_below.Goals as goal
 
