@@ -26,14 +26,14 @@ use std::alloc::{AllocError, Global};
 ///
 /// The course's network may be of settings with another cap on the minutes away, since no legal duty
 /// and no rest between two depends on it.
-pub fn long_fronts<'a>(
+pub fn long_fronts(
     alloc: Global,
-    course: &'a Course<'a>,
+    course: &Course,
     settings: &Settings,
     fdp_total: u32,
     base: Code,
     price: i64,
-) -> Result<BaseFronts<'a, LongResource>, AllocError>
+) -> Result<BaseFronts<LongResource>, AllocError>
     requires sound { (d : Duty) → Member course.now.duties d → IsSound d }
     requires range { IsInRange settings.now fdp_total }
     requires price { TimetableSpec.IsBasePrice price }
