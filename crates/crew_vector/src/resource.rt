@@ -53,6 +53,15 @@ impl VectorResource {
             ≡ Some settings.now.max_duties }
         ensures fits { (n : ℕ) → n ≤ 100_000 → ⟦<VectorResource as Staged<Duty>>⟧.fits result n }
     {
+        VectorResource::under(settings, base_price)
+    }
+
+    /// The resource of a base's pairings under caps of any size, as those of pairings of more than
+    /// 138 hours are.
+    pub fn under(settings: &Settings, base_price: i64) -> VectorResource
+        requires { IsBasePrice base_price }
+        ensures { result ≡ vector_resource settings.now base_price }
+    {
         VectorResource {
             base_price: base_price as i32,
             trip_rig: settings.trip_rig,
