@@ -48,11 +48,4 @@ impl Solution {
     {
         self.best.as_ref()
     }
-
-    /// The best pairing alone, if there is one.
-    pub fn into_best(self) -> Option<PricedPairing>
-        ensures { result ≡ self.best }
-    {
-        self.best
-    }
 }
