@@ -3,7 +3,7 @@ use Rattle.std.proofs.Common.{◌≡◌, ℕ, zero, suc, ◌+◌, ◌<◌, true,
 use Rattle.std.specs.Prelude.{slice_get, nat_lt}
 use Rattle.std.proofs.lemmas.Bool.{and_from, and_parts}
 use Rattle.std.proofs.lemmas.Bool.Decides.{nat_tests}
-use Rattle.std.proofs.lemmas.List.{get_or_append_left}
+use Rattle.std.proofs.lemmas.List.{get_or_append_left, get_or_default}
 use Rattle.std.proofs.Math.Seq.{get_or-append_seam}
 use Rattle.crew_resource.specs.Members.{Each, Member}
 use Rattle.crew_label.specs.Boarding.{LeadInto}
@@ -125,6 +125,12 @@ module _ {V : Type 0} (leaves : List ℕ) where
       let k = and_parts (nat_lt link.duty (length leaves)) (nat_lt link.place (length (get_or pools (departure_of leaves link.duty) []))) e in
       let at = at_place (get_or pools (departure_of leaves link.duty) []) link.place (lt_from link.place (length (get_or pools (departure_of leaves link.duty) [])) k.1) in
       (at.0, leads_within pools link e, at.1)
+
+  -- the departure of a link's duty, as the code reads it
+  pub departure_read : (pools : List (List (Label V))) (link : Link) (read : List ℕ) (x : ℕ) → leads_in leaves pools link ≡ true → read ≡ leaves → x ≡ get_or read link.duty x → x ≡ departure_of leaves link.duty
+  departure_read pools link read x e is at =
+      let k = and_parts (nat_lt link.duty (length leaves)) (nat_lt link.place (length (get_or pools (departure_of leaves link.duty) []))) e in
+      at ∙ ap (λ (xs : List ℕ). get_or xs link.duty x) is ∙ get_or_default leaves link.duty x 0 (lt_from link.duty (length leaves) k.0)
 
   -- a link's walk is a duty more than that of the label which it leads to
   pub trail_goes_on : (pools : List (List (Label V))) → AreLinked leaves [] pools → (link : Link) (l : Label V) → departure_of leaves link.duty < length pools

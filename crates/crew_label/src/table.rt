@@ -16,27 +16,28 @@ use std::alloc::{AllocError, Global};
 use std::marker::Model;
 use std::sync::Arc;
 
-/// The pools of departures, in order: each is shared, and leads to labels of earlier ones.
+/// The pools of departures, in order: each is shared, and leads to labels of earlier ones. The table
+/// owns what it stands on, so it can be kept for as long as its labels are of use.
 ///
 /// A contract sees for each duty by rank the departure that it leaves from, and the pools.
 #[derive(Drop)]
-pub struct Table<'a, R: Resource> {
-    leaves: &'a [u32],
+pub struct Table<R: Resource> {
+    leaves: Arc<Vec<u32>, Global>,
     pools: Vec<Arc<Pool<R>, Global>>,
 }
 
-impl<'a, R: Resource> Model for Table<'a, R> {
+impl<R: Resource> Model for Table<R> {
     ghost Value = { Tabled R.Value };
 
-    ghost view = { λ t. record { leaves = t.leaves.now; pools = map arc_value t.pools.items } };
+    ghost view = { λ t. record { leaves = t.leaves.value.items; pools = map arc_value t.pools.items } };
 
-    ghost invariant = { λ t. AreLinked t.leaves.now [] (map arc_value t.pools.items) };
+    ghost invariant = { λ t. AreLinked t.leaves.value.items [] (map arc_value t.pools.items) };
 }
 
-impl<'a, R: Resource> Table<'a, R> {
+impl<R: Resource> Table<R> {
     /// No pools yet, over duties that leave from these departures.
-    pub fn new(alloc: Global, leaves: &'a [u32]) -> Self
-        ensures { result ≡ record { leaves = leaves.now; pools = [] } }
+    pub fn new(alloc: Global, leaves: Arc<Vec<u32>, Global>) -> Self
+        ensures { result ≡ record { leaves = (arc_value leaves).items; pools = [] } }
     {
         Table {
             leaves,
@@ -86,7 +87,7 @@ impl<'a, R: Resource> Table<'a, R> {
     }
 }
 
-impl<'a, R: Resource> Trails for Table<'a, R> {
+impl<R: Resource> Trails for Table<R> {
     ghost leads = { λ t link. leads_in t.leaves t.pools link };
 
     ghost trail = { λ t link. trail_in t.leaves t.pools link };

@@ -17,18 +17,19 @@ use std::marker::Model;
 use std::sync::Arc;
 
 /// The fronts of a base's duties, each a shared pool, and the pools of the departures that they
-/// leave from.
+/// leave from. It owns the network and what its labels lead to, so it can be kept, and be shared by
+/// threads.
 ///
 /// A contract sees the network, the turn of each duty's departure by rank, the pools in order of
 /// report, and the fronts by rank.
 #[derive(Drop)]
-pub struct BaseFronts<'a, R: Resource> {
-    net: &'a Net,
-    table: Table<'a, R>,
+pub struct BaseFronts<R: Resource> {
+    net: Arc<Net, Global>,
+    table: Table<R>,
     fronts: Vec<Arc<Pool<R>, Global>>,
 }
 
-impl<'a, R: Resource> Model for BaseFronts<'a, R> {
+impl<R: Resource> Model for BaseFronts<R> {
     ghost use Rattle.std.specs.Prelude.{map};
     ghost use Rattle.std.specs.Arc.{arc_value};
     ghost use Rattle.crew_pass.specs.Passes.{AreTold, BasePass};
@@ -36,33 +37,37 @@ impl<'a, R: Resource> Model for BaseFronts<'a, R> {
     ghost Value = { BasePass R.Value };
 
     ghost view = { λ f. record {
-      net = f.net.now;
+      net = f.net.value;
       turns = f.table.leaves;
       pools = f.table.pools;
       fronts = map arc_value f.fronts.items;
     } };
 
     ghost invariant = { λ f. AreTold (record {
-      net = f.net.now;
+      net = f.net.value;
       turns = f.table.leaves;
       pools = f.table.pools;
       fronts = map arc_value f.fronts.items;
     }) };
 }
 
-impl<'a, R: Resource> BaseFronts<'a, R> {
+impl<R: Resource> BaseFronts<R> {
     // The fronts over a table.
-    pub(crate) fn new(net: &'a Net, table: Table<'a, R>, fronts: Vec<Arc<Pool<R>, Global>>) -> Self
+    pub(crate) fn new(
+        net: Arc<Net, Global>,
+        table: Table<R>,
+        fronts: Vec<Arc<Pool<R>, Global>>,
+    ) -> Self
         requires { AreTold (record {
-          net = net.now;
+          net = arc_value net;
           turns = table.leaves;
           pools = table.pools;
           fronts = map arc_value fronts.items;
         }) }
         ensures { result ≡ record {
-          net = net.now;
-          turns = table.entry.leaves;
-          pools = table.entry.pools;
+          net = arc_value net;
+          turns = table.leaves;
+          pools = table.pools;
           fronts = map arc_value fronts.items;
         } }
     {
@@ -70,14 +75,14 @@ impl<'a, R: Resource> BaseFronts<'a, R> {
     }
 
     /// The network.
-    pub fn net(&self) -> &'a Net
-        ensures { result.now ≡ self.now.net }
+    pub fn net(&self) -> &Arc<Net, Global>
+        ensures { arc_value result.now ≡ self.now.net }
     {
-        self.net
+        &self.net
     }
 
     /// The pools of departures, in order of report.
-    pub fn table(&self) -> &Table<'a, R>
+    pub fn table(&self) -> &Table<R>
         ensures { result.now ≡ record { leaves = self.now.turns; pools = self.now.pools } }
     {
         &self.table

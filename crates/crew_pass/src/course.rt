@@ -1,5 +1,6 @@
 //! What the passes of all bases go by.
 ghost use Rattle.std.specs.Prelude.{◌≡◌, IfOk};
+ghost use Rattle.std.specs.Arc.{arc_value};
 ghost use Rattle.crew_net.specs.Nets.{AreArrivalPlaces};
 ghost use Rattle.crew_pass.specs.Machinery.Numbered.{AreTurns};
 ghost use Rattle.crew_pass.specs.Machinery.Passing.{IsCharted};
@@ -8,19 +9,21 @@ use crate::turns::departure_turns;
 use crew_net::{Net, arrival_places};
 use std::alloc::{AllocError, Global};
 use std::marker::Model;
+use std::sync::Arc;
 
 /// What the passes of all bases go by: a network, and by rank the turn of each duty's departure, in
-/// order of report, and the place of its arrival.
+/// order of report, and the place of its arrival. It owns what it goes by, so it can be kept, and be
+/// shared by threads.
 ///
 /// A contract sees the network.
 #[derive(Drop)]
-pub struct Course<'a> {
-    net: &'a Net,
-    turns: Vec<u32>,
+pub struct Course {
+    net: Arc<Net, Global>,
+    turns: Arc<Vec<u32>, Global>,
     places: Vec<u32>,
 }
 
-impl<'a> Model for Course<'a> {
+impl Model for Course {
     ghost use Rattle.crew_net.specs.Nets as Spec;
     ghost use Rattle.crew_net.specs.Nets.{AreArrivalPlaces};
     ghost use Rattle.crew_pass.specs.Machinery.Numbered.{AreTurns};
@@ -28,10 +31,10 @@ impl<'a> Model for Course<'a> {
 
     ghost Value = { Spec.Net };
 
-    ghost view = { λ c. c.net.now };
+    ghost view = { λ c. c.net.value };
 
-    ghost invariant = { λ c. IsCharted c.net.now × AreTurns c.net.now c.turns.items
-        × AreArrivalPlaces c.net.now c.places.items };
+    ghost invariant = { λ c. IsCharted c.net.value × AreTurns c.net.value c.turns.value.items
+        × AreArrivalPlaces c.net.value c.places.items };
 }
 
 // What a network has of its events, its duties and its settings.
@@ -45,30 +48,31 @@ fn chart(net: &Net)
     let _ = net.settings();
 }
 
-impl<'a> Course<'a> {
+impl Course {
     /// The course over a network.
-    pub fn new(alloc: Global, net: &'a Net) -> Result<Course<'a>, AllocError>
-        ensures { IfOk result (λ course. course ≡ net.now) }
+    pub fn new(alloc: Global, net: Arc<Net, Global>) -> Result<Course, AllocError>
+        ensures { IfOk result (λ course. course ≡ arc_value net) }
     {
-        chart(net);
-        let turns = departure_turns(alloc, net)?;
-        let places = arrival_places(alloc, net)?;
+        chart(&net);
+        let turns = departure_turns(alloc, &net)?;
+        let turns = Arc::new(alloc, turns)?;
+        let places = arrival_places(alloc, &net)?;
         Ok(Course { net, turns, places })
     }
 
     /// The network.
-    pub fn net(&self) -> &'a Net
-        ensures net { result.now ≡ self.now }
+    pub fn net(&self) -> &Arc<Net, Global>
+        ensures net { arc_value result.now ≡ self.now }
         ensures charted { IsCharted self.now }
     {
-        self.net
+        &self.net
     }
 
     /// The turn of each duty's departure, by rank.
-    pub(crate) fn turns(&self) -> &[u32]
-        ensures { AreTurns self.now result.now }
+    pub(crate) fn turns(&self) -> &Arc<Vec<u32>, Global>
+        ensures { AreTurns self.now (arc_value result.now).items }
     {
-        self.turns.as_slice()
+        &self.turns
     }
 
     /// The place of each duty's arrival, by rank.

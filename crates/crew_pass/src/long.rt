@@ -1,6 +1,5 @@
 //! The fronts of pairings of up to 240 hours.
 ghost use Rattle.std.specs.Prelude.{◌≡◌, IfOk};
-ghost use Rattle.crew_answers.specs.LongVectors as LongVectors;
 ghost use Rattle.crew_answers.specs.Ranges.{IsInRange};
 ghost use Rattle.crew_answers.specs.Schedules.{IsDated};
 ghost use Rattle.crew_flights.specs.Timetable as TimetableSpec;
@@ -8,7 +7,6 @@ ghost use Rattle.crew_pairing.specs.Duties.{AreDuties};
 ghost use Rattle.crew_pairing.specs.Events.{IsSound};
 ghost use Rattle.crew_pairing.specs.declared.duty.Duty.{Duty};
 ghost use Rattle.crew_resource.specs.Members.{Member};
-ghost use Rattle.crew_rules.specs.Settings.{IsChecked};
 ghost use Rattle.crew_pass.specs.Passes.{ShowsFronts};
 
 use crate::base_fronts::BaseFronts;
@@ -26,18 +24,17 @@ use std::alloc::{AllocError, Global};
 ///
 /// The course's network may be of settings with another cap on the minutes away, since no legal duty
 /// and no rest between two depends on it.
-pub fn long_fronts<'a>(
+pub fn long_fronts(
     alloc: Global,
-    course: &'a Course<'a>,
+    course: &Course,
     settings: &Settings,
     fdp_total: u32,
     base: Code,
     price: i64,
-) -> Result<BaseFronts<'a, LongResource>, AllocError>
+) -> Result<BaseFronts<LongResource>, AllocError>
     requires sound { (d : Duty) → Member course.now.duties d → IsSound d }
     requires range { IsInRange settings.now fdp_total }
     requires price { TimetableSpec.IsBasePrice price }
-    requires checked { IsChecked (LongVectors.settings_of_sums settings.now fdp_total) }
     requires settings { course.now.settings
         ≡ record settings.now { away_cap = course.now.settings.away_cap } }
     ensures net { IfOk result (λ fronts. fronts.net ≡ course.now) }
@@ -46,7 +43,7 @@ pub fn long_fronts<'a>(
         → ShowsFronts settings.now fdp_total t base price fronts) }
 {
     long_passes_show_the_fronts();
-    let sums = VectorResource::new(&settings_of_sums(settings, fdp_total), price);
+    let sums = VectorResource::under(&settings_of_sums(settings, fdp_total), price);
     let resource = LongResource::new(sums, settings);
     let fronts = pass(alloc, course, &resource, base)?;
     Ok(fronts)

@@ -106,11 +106,13 @@ fn pass_one<R: Forgets<Duty>>(
     Ok(())
 }
 
-/// The pass over all departures, in order of report.
-pub(crate) fn pass_all<'a, R: Forgets<Duty>>(
+/// The pass over all departures, in order of report, whose pools come into a table that has none yet.
+pub(crate) fn pass_all<R: Forgets<Duty>>(
     alloc: Global,
-    ground: &Ground<'a, '_, R>,
-) -> Result<(Table<'a, R>, Found<R>), AllocError>
+    ground: &Ground<R>,
+    mut table: Table<R>,
+) -> Result<(Table<R>, Found<R>), AllocError>
+    requires none { table ≡ record { leaves = ground.now.turns.now; pools = [] } }
     requires passable { IsPassable ground.now.net.now ground.now.turns.now ground.now.places.now }
     requires counts { CountsDuties R.same_sums (R.count_of ground.now.resource.now)
         (R.most ground.now.resource.now) (R.fits ground.now.resource.now) }
@@ -123,7 +125,6 @@ pub(crate) fn pass_all<'a, R: Forgets<Duty>>(
 {
     let net = ground.net;
     let mut room = Room::new(alloc);
-    let mut table = Table::new(alloc, ground.turns);
     let mut found = Found::new(alloc, net.duty_count(), net.arrivals().len())?;
     for place in net.by_report() {
         let place = *place as usize;
@@ -137,12 +138,12 @@ pub(crate) fn pass_all<'a, R: Forgets<Duty>>(
 ///
 /// Each departure's pool is made of the empty label, where the base is, and of the labels of all
 /// arrivals in its window; each front is what dominance leaves of the labels that board its duty.
-pub fn pass<'a, R: Forgets<Duty>>(
+pub fn pass<R: Forgets<Duty>>(
     alloc: Global,
-    course: &'a Course<'a>,
+    course: &Course,
     resource: &R,
     base: Code,
-) -> Result<BaseFronts<'a, R>, AllocError>
+) -> Result<BaseFronts<R>, AllocError>
     requires sound { (d : Duty) → Member course.now.duties d → IsSound d }
     requires counts { CountsDuties R.same_sums (R.count_of resource.now) (R.most resource.now)
         (R.fits resource.now) }
@@ -152,13 +153,16 @@ pub fn pass<'a, R: Forgets<Duty>>(
         (R.idle_of resource.now) (R.waited resource.now) (R.boards resource.now))) }
 {
     let net = course.net();
+    let turns = course.turns();
+    let shared = Arc::try_clone(net)?;
+    let table = Table::new(alloc, Arc::try_clone(turns)?);
     let ground = Ground {
         net,
-        turns: course.turns(),
+        turns: turns.as_slice(),
         places: course.places(),
         resource,
         base,
     };
-    let (table, found) = pass_all(alloc, &ground)?;
-    Ok(BaseFronts::new(net, table, found.fronts))
+    let (table, found) = pass_all(alloc, &ground, table)?;
+    Ok(BaseFronts::new(shared, table, found.fronts))
 }

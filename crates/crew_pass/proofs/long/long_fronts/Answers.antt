@@ -5,18 +5,14 @@ use Rattle.crew_answers.specs.Shown.{resource_over}
 use Rattle.crew_rules.specs.declared.settings.Settings.{Settings}
 use Rattle.crew_vector.specs.Machinery.VectorResources.{vector_resource}
 use Rattle.crew_vector.specs.declared.resource.VectorResource.{VectorResource}
-use Rattle.crew_rules.specs.Settings.{IsChecked}
 use Rattle.crew_pass.proofs.long.long_fronts.Goals as goal
-
-pub new-sums-requires-clause-checked : goal.new-sums-requires-clause-checked
-new-sums-requires-clause-checked c = subst IsChecked (sym c.settings_of_sums.ensures) c.requires.checked
 
 pub pass-requires-clause-counts : goal.pass-requires-clause-counts
 pass-requires-clause-counts c =
     let s = c.args.settings.now in
     let passed = to_z w64 (of_z w64 c.args.price) in
     let price : passed ≡ c.args.price = to_z-of_z w64 c.args.price (search rules) in
-    let sums = c.new-sums.ensures.made ∙ (ap (λ (z : Settings). vector_resource z passed) c.settings_of_sums.ensures ∙ ap (λ (z : ℤ). vector_resource (settings_of_sums s c.args.fdp_total) z) price) in
+    let sums = c.under-sums.ensures ∙ (ap (λ (z : Settings). vector_resource z passed) c.settings_of_sums.ensures ∙ ap (λ (z : ℤ). vector_resource (settings_of_sums s c.args.fdp_total) z) price) in
     let is = c.new-resource.ensures ∙ ap (λ (v : VectorResource). resource_over v s) sums in
     c.long_passes_show_the_fronts.ensures.counts s c.args.fdp_total c.args.price c.new-resource.result is c.requires.range c.requires.price
 
@@ -25,7 +21,7 @@ returns-clause-right c t sound dated are =
     let s = c.args.settings.now in
     let passed = to_z w64 (of_z w64 c.args.price) in
     let price : passed ≡ c.args.price = to_z-of_z w64 c.args.price (search rules) in
-    let sums = c.new-sums.ensures.made ∙ (ap (λ (z : Settings). vector_resource z passed) c.settings_of_sums.ensures ∙ ap (λ (z : ℤ). vector_resource (settings_of_sums s c.args.fdp_total) z) price) in
+    let sums = c.under-sums.ensures ∙ (ap (λ (z : Settings). vector_resource z passed) c.settings_of_sums.ensures ∙ ap (λ (z : ℤ). vector_resource (settings_of_sums s c.args.fdp_total) z) price) in
     let is = c.new-resource.ensures ∙ ap (λ (v : VectorResource). resource_over v s) sums in
     c.long_passes_show_the_fronts.ensures.fronts s c.args.fdp_total t c.args.base c.args.price c.new-resource.result c.args.course.now c.in_ok-fronts.fronts is c.in_ok-fronts.ensures.net c.requires.range sound dated are c.requires.settings
     c.in_ok-fronts.ensures.covered

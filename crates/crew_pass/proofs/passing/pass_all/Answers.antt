@@ -16,10 +16,10 @@ loop-place-init g c =
     let w = ways g.R.Resource.below g.R.Forgets.same_sums (g.R.Staged.idle_of r) (g.R.Staged.waited r) (g.R.Staged.boards r) in
     let value = arc_value {X = Pool g.row.R.Denot g.row.R-Value.Denot Duty} {Z = Global} in
     let found = c.in_ok-found.ensures in
-    let leaves-is = ap (λ (x : Tabled g.row.R-Value.Denot). x.leaves) c.new-table.ensures in
-    let pools-is = ap (λ (x : Tabled g.row.R-Value.Denot). x.pools) c.new-table.ensures in (
+    let leaves-is = ap (λ (x : Tabled g.row.R-Value.Denot). x.leaves) c.requires.none in
+    let pools-is = ap (λ (x : Tabled g.row.R-Value.Denot). x.pools) c.requires.none in (
       ap length pools-is,
-      none-passed w (g.R.Staged.count_of r) (g.R.Staged.ready r) (g.R.Staged.arrived r) (g.R.Staged.most r) net c.args.ground.now.base c.args.ground.now.turns.now c.new-table.result
+      none-passed w (g.R.Staged.count_of r) (g.R.Staged.ready r) (g.R.Staged.arrived r) (g.R.Staged.most r) net c.args.ground.now.base c.args.ground.now.turns.now c.args.table
           (map value c.in_ok-found.found.fronts.items) c.in_ok-found.found.arrivals.items leaves-is pools-is (found.fronts ∙ c.duty_count.ensures.count) (found.arrivals ∙ ap length c.arrivals.ensures.events) found.no_fronts found.no_labels,
     )
 

@@ -13,7 +13,7 @@ use Rattle.crew_label.proofs.table.Table.add.Goals as goal
 pub invariant_of-self-2 : goal.invariant_of-self-2
 invariant_of-self-2 g c =
     let value = arc_value {X = Pool g.row.R.Denot g.row.R-Value.Denot g.row.R-Item.Denot} {Z = Global} in
-    let leaves = c.self.inside.leaves.now in
+    let leaves = c.self.inside.leaves.value.items in
     let pools = map value c.self.inside.pools.items in
     let now = ap (map value) c.in_ok-push.ensures.items ∙ map-append value c.self.inside.pools.items (c.args.pool ∷ []) in
     subst (AreLinked leaves []) (sym now)
@@ -23,7 +23,7 @@ invariant_of-self-2 g c =
 pub returns-clause-stays : goal.returns-clause-stays
 returns-clause-stays g c link h =
     let value = arc_value {X = Pool g.row.R.Denot g.row.R-Value.Denot g.row.R-Item.Denot} {Z = Global} in
-    let leaves = c.self.inside.leaves.now in
+    let leaves = c.self.inside.leaves.value.items in
     let pools = map value c.self.inside.pools.items in
     let p = value c.args.pool in
     let now = ap (map value) c.in_ok-push.ensures.items ∙ map-append value c.self.inside.pools.items (c.args.pool ∷ []) in
@@ -35,7 +35,7 @@ returns-clause-stays g c link h =
 pub returns-clause-into : goal.returns-clause-into
 returns-clause-into g c duty e =
     let value = arc_value {X = Pool g.row.R.Denot g.row.R-Value.Denot g.row.R-Item.Denot} {Z = Global} in
-    let leaves = c.self.inside.leaves.now in
+    let leaves = c.self.inside.leaves.value.items in
     let pools = map value c.self.inside.pools.items in
     let p = value c.args.pool in
     let now = ap (map value) c.in_ok-push.ensures.items ∙ map-append value c.self.inside.pools.items (c.args.pool ∷ []) in
