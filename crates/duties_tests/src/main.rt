@@ -1,6 +1,6 @@
 //! Worked examples of legal duties, of audits, of the network, of slots and of what an edit leaves
-//! standing, and fronts and best pairings beside those picked from all partial pairings: what no
-//! clause of theirs says.
+//! standing, fronts and best pairings beside those picked from all partial pairings, and those of
+//! pairings of up to 240 hours: what no clause of theirs says.
 //!
 //! Each line of standard input is a record of a timetable, or a call. It is written again, and
 //! behind `=` what the call answered; a line that begins with `#` says what follows is about. So
@@ -17,6 +17,7 @@ mod carries;
 mod desk;
 mod duties;
 mod edits;
+mod long;
 mod nets;
 mod picked;
 mod slots;
@@ -43,6 +44,7 @@ fn ask<R: Threads + Sync + AllocGlobal>(
         "audit" => audits::answer(rt.alloc(), desk, others, text),
         "net" => nets::answer(rt, desk, others, text),
         "carry" => carries::answer(rt, desk, others, text),
+        "long" => long::answer(rt, desk, others, text),
         "picked" => picked::answer(rt, desk, others, text),
         "slot" => slots::answer(desk, others, text),
         _ => None,
