@@ -44,13 +44,14 @@ abbrev pub minutes_away : List Duty → ℤ
 minutes_away [] = pos 0
 minutes_away (first ∷ others) = (last_duty first others).release -ℤ first.report
 
--- the caps on totals. A pairing spans at most 138 hours, so one window of 168 consecutive hours
+-- the caps on totals. Where a pairing spans at most 138 hours, one window of 168 consecutive hours
 -- covers it, and one of 672. For a crew that has done no other work in these windows, 117.23(c)
 -- caps its flight duty minutes and 117.23(b)(1) its flight minutes. 117.25(b) wants 30 consecutive
 -- hours free from all duty within the 168 hours before each report. It holds for a crew that comes
 -- to the pairing off 30 such hours which end at its first report: they lie within the 168 hours
 -- before a report that is at most 138 hours later. That premise is the planner's, and no clause
--- tests it
+-- tests it. A longer pairing has to keep the cap in each of its windows, and free hours before each
+-- report, which totals don't tell
 abbrev pub is_within_caps : Settings → List Duty → Bool
 is_within_caps s duties =
     int_le (total (λ d. d.fdp) duties) (pos s.fdp_cap)

@@ -5,9 +5,9 @@ use Rattle.crew_rules.specs.declared.settings.Settings.{Settings}
 use Rattle.crew_rules.specs.declared.settings.BadSetting.{BadSetting}
 
 -- each setting in the order of the numbers, with the least and the greatest value that it may have.
--- 8,280 minutes are 138 hours: with 30 hours free from all duty that end at the first report, each
--- report of a pairing has them within the 168 hours before it (117.25(b)). 3,600 minutes are the 60
--- hours of 117.23(c), 6,000 the 100 hours of 117.23(b)(1)
+-- 14,400 minutes are 240 hours. 3,600 minutes are the 60 hours of flight duty in any 168 consecutive
+-- hours of 117.23(c)(1), 11,400 the 190 hours in any 672 of 117.23(c)(2), 6,000 the 100 hours of
+-- flight time of 117.23(b)(1)
 abbrev pub ranges : Settings → List (ℕ × ℕ × ℕ)
 ranges s =
     (s.lead, 0, 240)
@@ -18,12 +18,13 @@ ranges s =
     ∷ (s.max_duties, 1, 12)
     ∷ (s.fdp_cap, 1, 3_600)
     ∷ (s.fly_cap, 1, 6_000)
-    ∷ (s.away_cap, 1, 8_280)
+    ∷ (s.away_cap, 1, 14_400)
     ∷ (s.duty_rig, 0, 14)
     ∷ (s.trip_rig, 0, 14)
     ∷ (s.duty_min, 0, 20_000)
     ∷ (s.guarantee, 0, 20_000)
     ∷ (s.deadheads, 0, 1)
+    ∷ (s.fdp_total, 1, 11_400)
     ∷ []
 
 -- what a check answers, where the first setting out of its range stands at this place, if any does
@@ -51,12 +52,14 @@ pub record IsChecked (s : Settings) : Type 0 where
   pub fly_cap : 1 ≤ s.fly_cap
   pub fly_cap_most : s.fly_cap ≤ 6_000
   pub away_cap : 1 ≤ s.away_cap
-  pub away_cap_most : s.away_cap ≤ 8_280
+  pub away_cap_most : s.away_cap ≤ 14_400
   pub duty_rig : s.duty_rig ≤ 14
   pub trip_rig : s.trip_rig ≤ 14
   pub duty_min : s.duty_min ≤ 20_000
   pub guarantee : s.guarantee ≤ 20_000
   pub deadheads : s.deadheads ≤ 1
+  pub fdp_total : 1 ≤ s.fdp_total
+  pub fdp_total_most : s.fdp_total ≤ 11_400
 
 -- the defaults
 abbrev pub standard : Settings
@@ -75,4 +78,5 @@ standard = record {
   duty_min = 2_520;
   guarantee = 4_200;
   deadheads = 0;
+  fdp_total = 11_400;
 }

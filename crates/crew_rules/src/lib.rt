@@ -3,7 +3,7 @@
 //!
 //! Each function is its definition in `specs/`: the tables at every minute of the day and every
 //! number of flight segments, the pays as the greatest of their parts, and the check of settings
-//! by the ranges of all fourteen.
+//! by the ranges of all fifteen.
 #![tactic(auto)]
 
 mod pay;

@@ -21,11 +21,11 @@ pub struct Settings {
     pub max_rest: u32,
     /// 6: the most duties of a pairing, 1 to 12.
     pub max_duties: u32,
-    /// 7: the most flight duty minutes of a pairing, 1 to 3,600.
+    /// 7: the most flight duty minutes within 10,080 consecutive minutes, 1 to 3,600.
     pub fdp_cap: u32,
     /// 8: the most flight minutes of a pairing, 1 to 6,000.
     pub fly_cap: u32,
-    /// 9: the most minutes from first report to last release, 1 to 8,280.
+    /// 9: the most minutes from first report to last release, 1 to 14,400.
     pub away_cap: u32,
     /// 10: points for each elapsed minute of a duty, 0 to 14.
     pub duty_rig: u32,
@@ -37,9 +37,11 @@ pub struct Settings {
     pub guarantee: u32,
     /// 14: the most deadhead legs of a duty, 0 to 1.
     pub deadheads: u32,
+    /// 15: the most flight duty minutes of a pairing, 1 to 11,400.
+    pub fdp_total: u32,
 }
 
-/// The first setting that is out of its range, by its number from 1 to 14.
+/// The first setting that is out of its range, by its number from 1 to 15.
 #[derive(Clone, Copy, Debug, PartialEq, Eq)]
 pub struct BadSetting {
     pub field: u8,
@@ -98,6 +100,7 @@ impl Settings {
             duty_min: 2_520,
             guarantee: 4_200,
             deadheads: 0,
+            fdp_total: 11_400,
         }
     }
 
@@ -115,12 +118,13 @@ impl Settings {
             (self.max_duties, 1, 12),
             (self.fdp_cap, 1, 3_600),
             (self.fly_cap, 1, 6_000),
-            (self.away_cap, 1, 8_280),
+            (self.away_cap, 1, 14_400),
             (self.duty_rig, 0, 14),
             (self.trip_rig, 0, 14),
             (self.duty_min, 0, 20_000),
             (self.guarantee, 0, 20_000),
             (self.deadheads, 0, 1),
+            (self.fdp_total, 1, 11_400),
         ];
         match first_out(&ranges) {
             None => Ok(()),

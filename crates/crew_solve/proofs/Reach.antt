@@ -89,12 +89,12 @@ module _ (s : Settings) (t : Timetable) (base : List ℕ) (price : ℤ) (checked
       let cap = checked.max_duties_most in
       omega (arith, ints, most, cap)
 
-  away-within : LiesWithin 8_280 (minutes_away Duties)
+  away-within : LiesWithin 14_400 (minutes_away Duties)
   away-within =
       let k = last-caps (int_le (total (λ d. d.fdp) Duties) (pos s.fdp_cap)) (int_le (total (λ d. d.fly) Duties) (pos s.fly_cap)) (int_le (pos (length Duties)) (pos s.max_duties)) (int_le (minutes_away Duties) (pos s.away_cap)) partial.capped in
       let most = test-le (minutes_away Duties) (pos s.away_cap) k.1 in
       let cap = checked.away_cap_most in
-      between (minutes_away Duties) 8_280 (later s first others each-sound partial.rested) (omega (arith, ints, most, cap))
+      between (minutes_away Duties) 14_400 (later s first others each-sound partial.rested) (omega (arith, ints, most, cap))
 
   sum-within : (f : Duty → ℤ) → ((d : Duty) → Events.IsSound d → LiesWithin 8_000_000_000 (f d)) → LiesWithin 96_000_000_000 (total f Duties)
   sum-within f each =
@@ -120,16 +120,16 @@ module _ (s : Settings) (t : Timetable) (base : List ℕ) (price : ℤ) (checked
       let points = checked.guarantee in
       let n = few in
       let count = between (pos (length Duties)) 12 (omega (arith, ints)) (omega (arith, ints, n)) in
-      let rig = product s.trip_rig 8_280 (minutes_away Duties) away-within in
+      let rig = product s.trip_rig 14_400 (minutes_away Duties) away-within in
       let guarantee = product s.guarantee 12 (pos (length Duties)) count in
       record {
         duty_pay = wider _ (96_000_000_000 + 97_000_000_000) (2 ^ 39) (less-by 96_000_000_000 97_000_000_000 _ _ pay p) (omega arith);
-        trip_rig = wider _ (s.trip_rig * 8_280 + 97_000_000_000) (2 ^ 39) (less-by (s.trip_rig * 8_280) 97_000_000_000 _ _ rig p) (omega (arith, rate));
+        trip_rig = wider _ (s.trip_rig * 14_400 + 97_000_000_000) (2 ^ 39) (less-by (s.trip_rig * 14_400) 97_000_000_000 _ _ rig p) (omega (arith, rate));
         guarantee = wider _ (s.guarantee * 12 + 97_000_000_000) (2 ^ 39) (less-by (s.guarantee * 12) 97_000_000_000 _ _ guarantee p) (omega (arith, points));
         fdp = wider _ 96_000_000_000 (2 ^ 39) fdp (omega arith);
         fly = wider _ 96_000_000_000 (2 ^ 39) fly (omega arith);
         duties = wider _ 12 (2 ^ 39) count (omega arith);
-        away = wider _ 8_280 (2 ^ 39) away-within (omega arith);
+        away = wider _ 14_400 (2 ^ 39) away-within (omega arith);
       }
 
   -- a pairing's amounts fit
