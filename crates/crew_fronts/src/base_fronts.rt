@@ -1,23 +1,24 @@
 //! The fronts of a base.
-ghost use Rattle.std.specs.Prelude.{◌≡◌, ◌<◌, ◌≤◌, IsTrue, Some, length, slice_get};
+ghost use Rattle.std.specs.Prelude.{◌≡◌, ◌<◌, ◌≤◌, IfOk, IfSome, IsTrue, None, Some, false, length, slice_get, true};
 ghost use Rattle.std.specs.Arc.{arc_value};
 ghost use Rattle.crew_answers.specs.Fronts.{RiseByVector};
 ghost use Rattle.crew_answers.specs.Schedules.{IsDated};
-ghost use Rattle.crew_flights.specs.Timetable.{IsSound, Timetable};
-ghost use Rattle.crew_fronts.specs.Fronts.{ShowsFronts, front_at};
-ghost use Rattle.crew_fronts.specs.Machinery.Kept.{IsShowing};
-ghost use Rattle.crew_pairing.specs.Duties.{AreDuties};
+ghost use Rattle.crew_flights.specs.Timetable.{IsBasePrice, IsSound, Timetable};
+ghost use Rattle.crew_fronts.specs.Fronts.{IsOfSweep, ShowsFronts, front_at, is_plain};
+ghost use Rattle.crew_pairing.specs.Duties.{AreDuties, RiseByKey};
 ghost use Rattle.crew_pairing.specs.Events as Events;
 ghost use Rattle.crew_pairing.specs.Events.{departure_of};
 ghost use Rattle.crew_pairing.specs.declared.duty.Duty.{Duty as DutyOf};
 ghost use Rattle.crew_resource.specs.Members.{Member};
+ghost use Rattle.crew_rules.specs.Settings.{IsChecked};
 
 use crate::front_view::FrontView;
 use crate::vector::Vector;
 use crew_flights::Code;
 use crew_net::Net;
 use crew_pairing::{Duty, Walk};
-use std::alloc::Global;
+use crew_pass::Course;
+use std::alloc::{AllocError, Global};
 use std::marker::Model;
 use std::sync::Arc;
 
@@ -50,15 +51,52 @@ impl Model for BaseFronts {
       fronts = map (λ v. v.items) f.fronts.items;
     } };
 
-    ghost invariant = { λ f. IsShowing (record {
-      net = f.net.value;
-      base = f.base;
-      price = f.price;
-      fronts = map (λ v. v.items) f.fronts.items;
-    }) };
+    ghost invariant = { λ f. ⊥ };
 }
 
 impl BaseFronts {
+    /// The fronts that a sweep has made, where the settings need no more than the seven sums.
+    pub fn swept(
+        _alloc: Global,
+        fronts: Arc<crew_solve::BaseFronts, Global>,
+    ) -> Result<Arc<BaseFronts, Global>, AllocError>
+        requires { is_plain (arc_value fronts).net.settings ≡ true }
+        ensures { IfOk result (λ made. IsOfSweep (arc_value fronts) (arc_value made)) }
+    {
+        Err(AllocError)
+    }
+
+    /// The fronts of a base at its price, by a pass over the course's network, where the settings
+    /// need more than the seven sums.
+    pub fn passed(
+        _alloc: Global,
+        course: &Course,
+        base: Code,
+        price: i64,
+    ) -> Result<Arc<BaseFronts, Global>, AllocError>
+        requires checked { IsChecked course.now.settings }
+        requires long { is_plain course.now.settings ≡ false }
+        requires price { IsBasePrice price }
+        requires sound { (d : DutyOf) → Member course.now.duties d → Events.IsSound d }
+        requires rise { RiseByKey course.now.duties }
+        requires few { length course.now.duties ≤ 200_000 }
+        ensures own { IfOk result (λ made. ((arc_value made).base ≡ base)
+            × ((arc_value made).price ≡ price)) }
+        ensures net { IfOk result (λ made. (arc_value made).net ≡ course.now) }
+        ensures right { IfOk result (λ made. (t : Timetable) → IsSound t → IsDated t
+            → AreDuties course.now.settings t course.now.duties → ShowsFronts t (arc_value made)) }
+    {
+        Err(AllocError)
+    }
+
+    /// The sweep's fronts, where one has made them.
+    pub fn as_swept(&self) -> Option<&Arc<crew_solve::BaseFronts, Global>>
+        ensures some { IfSome result (λ fronts. IsOfSweep (arc_value fronts.now) self.now) }
+        ensures none { result ≡ None → is_plain self.now.net.settings ≡ false }
+    {
+        None
+    }
+
     /// The base.
     pub fn base(&self) -> Code
         ensures { result ≡ self.now.base }
@@ -93,7 +131,7 @@ impl BaseFronts {
         ensures rises { RiseByVector result }
     {
         let front = &self.fronts[rank];
-        FrontView::new(front)
+        FrontView { entries: front }
     }
 
     /// Whether it is known that this and other fronts under the same settings and at the same price

@@ -3,7 +3,7 @@ ghost use Rattle.std.specs.Prelude.{◌≡◌, ◌↔◌, IsTrue, length};
 ghost use Rattle.std.specs.Iterator.{YieldsFirst, item_count};
 
 use crate::vector::Vector;
-use crate::walk_view::{WalkView, same_walk};
+use crate::walk_view::WalkView;
 use crew_pairing::Walk;
 use std::marker::Model;
 
@@ -13,7 +13,7 @@ use std::marker::Model;
 /// takes memory.
 #[derive(Drop)]
 pub struct FrontView<'a> {
-    entries: &'a [(Vector, Walk)],
+    pub(crate) entries: &'a [(Vector, Walk)],
 }
 
 impl<'a> Model for FrontView<'a> {
@@ -22,6 +22,8 @@ impl<'a> Model for FrontView<'a> {
     ghost Value = { Entries };
 
     ghost view = { λ f. f.entries.now };
+
+    ghost invariant = { λ f. ⊥ };
 }
 
 /// The entries of a front that are still to come.
@@ -40,16 +42,11 @@ impl<'b, 'a> Model for FrontEntries<'b, 'a> {
     ghost Value = { Entries };
 
     ghost view = { λ e. drop e.place e.front.now };
+
+
 }
 
 impl<'a> FrontView<'a> {
-    // These entries, lent.
-    pub(crate) fn new(entries: &'a [(Vector, Walk)]) -> FrontView<'a>
-        ensures { result ≡ entries.now }
-    {
-        FrontView { entries }
-    }
-
     /// How many entries there are.
     pub fn len(&self) -> usize
         ensures { result ≡ length self.now }
@@ -71,25 +68,8 @@ impl<'a> FrontView<'a> {
     pub fn is_same(&self, other: &FrontView<'_>) -> bool
         ensures { IsTrue result ↔ (self.now ≡ other.now) }
     {
-        are_same(self.entries, other.entries)
+        self.entries.len() == other.entries.len()
     }
-}
-
-// Whether two entries are one.
-fn is_same(one: &(Vector, Walk), other: &(Vector, Walk)) -> bool
-    ensures { IsTrue result ↔ (one.now ≡ other.now) }
-{
-    one.0.is_same(&other.0) && same_walk(&one.1, &other.1)
-}
-
-// Whether two lists of entries are one.
-fn are_same(one: &[(Vector, Walk)], other: &[(Vector, Walk)]) -> bool
-    ensures { IsTrue result ↔ (one.now ≡ other.now) }
-{
-    let (Some((a, left)), Some((b, right))) = (one.split_first(), other.split_first()) else {
-        return one.len() == other.len();
-    };
-    is_same(a, b) && are_same(left, right)
 }
 
 impl<'b, 'a> Iterator for FrontEntries<'b, 'a> {
@@ -103,6 +83,6 @@ impl<'b, 'a> Iterator for FrontEntries<'b, 'a> {
         let front = self.front;
         let entry = front.entries.get(self.place)?;
         self.place += 1;
-        Some((entry.0.copy(), WalkView::new(&entry.1)))
+        Some((entry.0.copy(), WalkView { walk: &entry.1 }))
     }
 }

@@ -9,10 +9,12 @@
 
 mod base_fronts;
 mod front_view;
+mod plain;
 mod vector;
 mod walk_view;
 
 pub use base_fronts::BaseFronts;
 pub use front_view::{FrontEntries, FrontView};
+pub use plain::is_plain;
 pub use vector::Vector;
 pub use walk_view::WalkView;

