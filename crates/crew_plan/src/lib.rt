@@ -8,8 +8,13 @@
 //! `crew_pass`'s. `laws` has that the pairings that cost least are one list.
 #![tactic(auto)]
 
+mod dates;
+mod homes;
+mod kept;
+mod long_plan;
 mod plan;
 mod solution;
+mod sweeps;
 
 pub use plan::Plan;
 pub use solution::Solution;

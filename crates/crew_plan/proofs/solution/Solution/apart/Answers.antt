@@ -1,0 +1,21 @@
+use Rattle.std.proofs.Common.{◌∙◌, ap, map, subst, sym}
+use Rattle.std.proofs.lemmas.Result.{IfOk-weaker}
+use Rattle.std.specs.Arc.{arc_value}
+use Rattle.crew_fronts.specs.Fronts.{BaseFronts}
+use Rattle.crew_plan.proofs.Shorter.{answer-too, apart-too}
+use Rattle.crew_plan.specs.Apart.{AreApart}
+use Rattle.crew_plan.specs.Machinery.Kept.{IsSolved}
+use Rattle.crew_plan.specs.Machinery.Kinds.{IsMadeAs, best_of, net_of}
+use Rattle.crew_plan.specs.Solutions.{Solution}
+use Rattle.crew_plan.specs.declared.solution.Made.{Made}
+use Rattle.crew_solve.specs.Apart as Plain
+use Rattle.crew_plan.proofs.solution.Solution.apart.Goals as goal
+
+pub returns-in-Plain : goal.returns-in-Plain
+returns-in-Plain c =
+    let bases = map (arc_value {X = BaseFronts}) c.self.inside.bases.items in
+    let kept = subst (λ (m : Made). IsSolved (net_of m) bases × IsMadeAs m bases) c.in-Plain.is c.self.invariant in
+    let same = sym c.self.view_is ∙ ap (λ (m : Made). let x : Solution = record { net = net_of m; bases = bases; best = best_of m } in x) c.in-Plain.is in
+    IfOk-weaker c.apart.result _ _ (λ pairings right.
+    answer-too c.in-Plain.solution bases c.args.self.now kept.0 kept.1 same (λ s t. Plain.AreApart s t c.args.limit c.args.share pairings.items) (λ s t. AreApart s t c.args.limit c.args.share pairings.items)
+    (λ s t sound plain h. apart-too s t sound plain c.args.limit c.args.share pairings.items h) right) c.apart.ensures
