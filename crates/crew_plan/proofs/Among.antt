@@ -1,15 +1,18 @@
 -- The fronts of a base among those of all, and lists that are gone through from their first item on.
-use Rattle.std.proofs.Common.{◌≡◌, ◌∙◌, ◌<◌, ◌≤◌, ◌+◌, ◌++◌, ℕ, zero, suc, Bool, true, false, cond, List, [], ◌∷◌, Some, inl, inr, refl, sym, ap, subst, map, length, take, get_or, arith}
+use Rattle.std.proofs.Common.{◌≡◌, ◌∙◌, ◌<◌, ◌≤◌, ◌+◌, ◌++◌, append-nil, ℕ, zero, suc, true, false, cond, List, [], ◌∷◌, Some, inl, inr, refl, sym, ap, subst, map, length, take, get_or, arith}
 use Rattle.std.specs.Prelude.{slice_get}
+use Rattle.std.specs.List.{flat_map}
 use Rattle.std.proofs.lemmas.List.{map-append}
 use Rattle.std.specs.Ordering.{eq_by_cmp}
 use Rattle.crew_flights.specs.Codes.{code_cmp}
-use Rattle.crew_fronts.specs.Fronts.{BaseFronts, IsOfSweep, front_at}
+use Rattle.crew_fronts.specs.Fronts.{BaseFronts, IsOfSweep, front_at, is_plain}
 use Rattle.crew_pairing.specs.declared.duty.Duty.{Duty}
-use Rattle.crew_plan.specs.Machinery.Kept.{AreOfSweeps}
+use Rattle.crew_net.specs.Nets.{Net}
+use Rattle.crew_plan.specs.Machinery.Kept.{AreOfSweeps, IsSolved}
 use Rattle.crew_plan.specs.Solutions.{front_among}
 use Rattle.crew_resource.specs.Members.{Each, Member}
-use Rattle.crew_solve.proofs.Listed.{take-more}
+use Rattle.crew_solve.proofs.Listed.{flat-append, take-more}
+use Rattle.crew_solve.specs.Machinery.Solved as Plain
 use Rattle.crew_sweep.specs.Sweeps.{BaseSweep}
 use Rattle.crew_vector.proofs.Orders.{code-itself}
 
@@ -54,11 +57,25 @@ one-more f g xs k d ys more y h are own is =
     subst (λ cs. AreOfSweeps cs (map g more)) (sym (map-more f xs k d h))
     (subst (λ bs. AreOfSweeps (map f (take k xs) ++ f (get_or xs k d) ∷ []) bs) (sym (ap (map g) is ∙ map-append g ys (y ∷ []))) (of-more (map f (take k xs)) (map g ys) (f (get_or xs k d)) (g y) are own))
 
+-- what one solution has of its network the other has too
 own-bases : (cs : List BaseSweep) (bs : List BaseFronts) → AreOfSweeps cs bs → map (λ (b : BaseFronts). b.base) bs ≡ map (λ (c : BaseSweep). c.base) cs
 own-bases [] [] h = refl
 own-bases [] (b ∷ bs) h = absurd h
 own-bases (c ∷ cs) [] h = absurd h
 own-bases (c ∷ cs) (b ∷ bs) h = λ i. h.0.base i ∷ own-bases cs bs h.1 i
+
+own-nets : (net : Net) (cs : List BaseSweep) (bs : List BaseFronts) → AreOfSweeps cs bs → Each (λ (c : BaseSweep). c.net ≡ net) cs → Each (λ (b : BaseFronts). b.net ≡ net) bs
+own-nets net [] [] h k = tt
+own-nets net [] (b ∷ bs) h k = absurd h
+own-nets net (c ∷ cs) [] h k = absurd h
+own-nets net (c ∷ cs) (b ∷ bs) h k = (h.0.net ∙ k.0, own-nets net cs bs h.1 k.1)
+
+pub still-solved : (net : Net) (cs : List BaseSweep) (bs : List BaseFronts) → AreOfSweeps cs bs → Plain.IsSolved net cs → IsSolved net bs
+still-solved net cs bs h k = record { nets = own-nets net cs bs h k.nets; all = own-bases cs bs h ∙ k.bases }
+
+pub each-plain : (net : Net) (cs : List BaseSweep) → is_plain net.settings ≡ true → Each (λ (c : BaseSweep). c.net ≡ net) cs → Each (λ (c : BaseSweep). is_plain c.net.settings ≡ true) cs
+each-plain net [] h k = tt
+each-plain net (c ∷ cs) h k = (subst (λ (n : Net). is_plain n.settings ≡ true) (sym k.0) h, each-plain net cs h k.1)
 
 -- a key more
 pub key-more : {X : Type 0} (xs : List X) (k : ℕ) (x : X) → slice_get xs k ≡ Some x → take (k + 1) xs ≡ take k xs ++ x ∷ []
@@ -67,3 +84,14 @@ key-more {X} (y ∷ xs) zero x h = let q : y ≡ x = (cc) in ap (λ (z : X). z �
 key-more {X} (y ∷ xs) (suc k) x h =
     let on : suc k + 1 ≡ suc (k + 1) = omega arith in
     rw on (ap (λ (l : List X). y ∷ l) (key-more xs k x h))
+
+-- a duty more
+pub duty-more : {X Y : Type 0} (f : X → List Y) (xs : List X) (k : ℕ) (x : X) → slice_get xs k ≡ Some x → flat_map f (take (k + 1) xs) ≡ flat_map f (take k xs) ++ f x
+duty-more f xs k x h = ap (flat_map f) (key-more xs k x h) ∙ (flat-append f (take k xs) (x ∷ []) ∙ ap (λ l. flat_map f (take k xs) ++ l) (append-nil (f x)))
+
+-- what holds at each place, with one more
+pub places-more : {X : Type 0} (P : ℕ → X → Type 0) (xs : List X) (x : X) → ((k : ℕ) (y : X) → slice_get xs k ≡ Some y → P k y) → P (length xs) x → (k : ℕ) (y : X) → slice_get (xs ++ x ∷ []) k ≡ Some y → P k y
+places-more P [] x f p zero y h = let q : x ≡ y = (cc) in subst (P 0) q p
+places-more P [] x f p (suc k) y h = absurd (let q : ⊥ = (cc) in q)
+places-more P (z ∷ xs) x f p zero y h = f 0 y h
+places-more P (z ∷ xs) x f p (suc k) y h = places-more (λ j. P (suc j)) xs x (λ j w e. f (suc j) w e) p k y h

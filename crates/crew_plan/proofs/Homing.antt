@@ -21,7 +21,7 @@ use Rattle.crew_pairing.specs.Pairings.{IsDuty, is_pairing, last_duty, minutes_a
 use Rattle.crew_pairing.specs.Vectors.{cost_of, pay_of, prices, reduced_cost, vector_of}
 use Rattle.crew_pairing.specs.declared.duty.Duty.{Duty}
 use Rattle.crew_plan.specs.Apart.{AreAll, AreApart, taken_from}
-use Rattle.crew_plan.specs.Cheapest.{AreCheapest, IsShown, RiseByCost, pairing_cmp}
+use Rattle.crew_plan.specs.Cheapest.{AreCheapest, IsShown, pairing_cmp}
 use Rattle.crew_plan.specs.Machinery.Homes.{ended_by, home_at, home_of, pairing_of}
 use Rattle.crew_plan.specs.Machinery.Kept.{IsSolved}
 use Rattle.crew_plan.specs.Solutions.{front_among}
@@ -35,7 +35,7 @@ use Rattle.crew_rules.specs.declared.settings.Settings.{Settings}
 use Rattle.crew_solve.proofs.Bases.{RiseByBase, entry-of, keys-rise, price-found}
 use Rattle.crew_solve.proofs.Keeping.{firsts-among, firsts-few, firsts-least, firsts-rise, in-order-among, in-order-each, in-order-rise, kept-first, sorted}
 use Rattle.crew_solve.proofs.Least.{none-least, some-least}
-use Rattle.crew_solve.specs.Machinery.Homes.{least_of, priced}
+use Rattle.crew_solve.specs.Machinery.Homes.{least_of}
 use Rattle.crew_solve.specs.Machinery.Keeps.{keep_all, nothing}
 use Rattle.crew_vector.proofs.Fitting.{cost-is}
 use Rattle.crew_vector.proofs.Orders.{code-itself, same-code}

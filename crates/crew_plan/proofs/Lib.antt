@@ -4,3 +4,4 @@ pub mod Placed
 pub mod Tied
 pub mod Homing
 pub mod Among
+pub mod Answering

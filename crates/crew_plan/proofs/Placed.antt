@@ -1,6 +1,7 @@
 -- The fronts of all bases of a plan are those of its timetables.
-use Rattle.std.proofs.Common.{◌≡◌, ◌∙◌, ◌<◌, ◌≤◌, ℕ, zero, suc, ℤ, Bool, true, false, cond, List, [], ◌∷◌, ◌++◌, Some, inl, inr, refl, sym, ap, subst, map, length, arith}
+use Rattle.std.proofs.Common.{◌≡◌, ◌∙◌, ◌<◌, ℕ, suc, ℤ, Bool, true, false, cond, List, [], ◌∷◌, Option, None, Some, IfSome, get_or, inl, inr, refl, sym, ap, subst, map, length, arith}
 use Rattle.std.specs.Prelude.{slice_get}
+use Rattle.std.proofs.lemmas.List.{length-map}
 use Rattle.std.specs.FinMap as fin
 use Rattle.std.specs.Ordering.{eq_by_cmp}
 use Rattle.crew_answers.specs.Bests.{AreFronts}
@@ -11,14 +12,14 @@ use Rattle.crew_answers.specs.Schedules.{IsDated}
 use Rattle.crew_flights.specs.Codes.{code_cmp}
 use Rattle.crew_flights.specs.Timetable.{IsSound, Timetable}
 use Rattle.crew_fronts.specs.Fronts.{BaseFronts, ShowsFronts, front_at}
-use Rattle.crew_net.specs.Nets.{IsNetOf, Net}
+use Rattle.crew_net.specs.Nets.{Net}
 use Rattle.crew_pairing.proofs.Tree.{Each-member}
 use Rattle.crew_pairing.specs.Duties.{AreDuties, flights_of}
 use Rattle.crew_pairing.specs.Pairings.{IsDuty}
 use Rattle.crew_pairing.specs.declared.duty.Duty.{Duty}
 use Rattle.crew_plan.specs.Machinery.Homes.{IsPayable}
-use Rattle.crew_plan.specs.Machinery.Kept.{IsSolved}
-use Rattle.crew_plan.specs.Plans.{AreAllIn, AreMade, Plan}
+use Rattle.crew_plan.specs.Machinery.Kept.{IsLaid, IsSolved}
+use Rattle.crew_plan.specs.Plans.{AreAllIn, AreFrontsIn, AreMade, Plan}
 use Rattle.crew_plan.specs.Solutions.{front_among}
 use Rattle.crew_plan.proofs.Reach.{vector-pay}
 use Rattle.crew_resource.proofs.Members.{Member-map_in, Member-map_out}
@@ -26,8 +27,11 @@ use Rattle.crew_resource.specs.Members.{Each, Member}
 use Rattle.crew_rules.specs.Settings.{IsChecked}
 use Rattle.crew_rules.specs.declared.settings.Settings.{Settings}
 use Rattle.crew_solve.proofs.Bases.{entry-of, price-of}
+use Rattle.crew_solve.proofs.Departing.{get-by}
 use Rattle.crew_solve.specs.Machinery.Homes.{HasPay}
 use Rattle.crew_solve.specs.Machinery.Planned.{IsOver}
+use Rattle.crew_sweep.proofs.Numbers.{get-within}
+use Rattle.crew_sweep.proofs.Slices.{map-get, map-got}
 use Rattle.crew_vector.proofs.Orders.{code-itself, same-code}
 
 abbrev Prices : Type 0
@@ -193,3 +197,24 @@ module _ (t : Timetable) (plan : Plan) (bases : List BaseFronts) (over : IsOver 
       each-of : (bs : List BaseFronts) → ((b : BaseFronts) → Member bs b → Member bases b) → Each (IsPayable Here.trip_rig) bs
       each-of [] f = tt
       each-of (b ∷ bs) f = (payable b (f b (inl refl)), each-of bs (λ c m. f c (inr m)))
+
+-- what was made at the places of all bases
+pub each-made : {A : Type 0} (f : A → BaseFronts) (plan : Plan) (made : List (Option A)) (all : List A) → length made ≡ length plan.prices
+    → ((place : ℕ) (d : Option A) → place < length plan.prices → IfSome (get_or made place d) (λ a. AreFrontsIn plan place (f a))) → made ≡ map Some all → AreAllIn plan (map f all)
+each-made {A} f plan made all long each is =
+    let many = length-map all f in
+    let whole : length all ≡ length made = sym (length-map all (λ (a : A). Some a)) ∙ ap length (sym is) in
+    record {
+      long = many ∙ (whole ∙ long);
+      each = λ place b h.
+          let at = map-got f all place b h in
+          let low = get-within all place at.0 at.1 in
+          let there = get-by made place None (Some at.0) (ap (λ l. slice_get l place) is ∙ map-get Some all place at.0 at.1) in
+          let one = each place None (omega (arith, low, whole, long)) in
+          let right : AreFrontsIn plan place (f at.0) = subst (λ o. IfSome o (λ a. AreFrontsIn plan place (f a))) there one in
+          subst (AreFrontsIn plan place) at.2 right;
+    }
+
+-- the bases of a plan are those of its network
+pub keys-of : (net : Net) (es : Prices) → IsLaid net es → map (λ (e : List ℕ × ℤ). e.0) es ≡ net.bases
+keys-of net es laid = ap (map (λ (e : List ℕ × ℤ). e.0)) laid.priced ∙ sym laid.over.built.bases

@@ -1,5 +1,5 @@
 -- Where no pairing is long, fronts are what sweeps show, and so are the pairings that they show.
-use Rattle.std.proofs.Common.{◌≡◌, ◌∙◌, ◌≤◌, ◌++◌, ℕ, ℤ, Bool, true, false, cond, not, ◌&&◌, List, [], ◌∷◌, Option, ap, refl, sym, subst, take, arith}
+use Rattle.std.proofs.Common.{◌≡◌, ◌∙◌, ◌≤◌, ◌++◌, ℕ, ℤ, Bool, true, false, cond, not, List, [], ◌∷◌, Option, ap, refl, sym, subst, take, arith}
 use Rattle.std.specs.Prelude.{nat_le}
 use Rattle.std.specs.List.Sorted.{IsPermutation}
 use Rattle.std.specs.Ordering.{eq_by_cmp}
@@ -9,13 +9,13 @@ use Rattle.std.proofs.lemmas.List.Sorted.{IsPermutation-refl, IsPermutation-sym}
 use Rattle.crew_answers.specs.Bests as Long
 use Rattle.crew_answers.specs.Fronts as LongFronts
 use Rattle.crew_answers.specs.LongVectors.{LongVector, is_long, long_vector_of, settings_of_sums}
-use Rattle.crew_answers.specs.ShortPairings.{sums_of, with_no_past, with_no_pasts}
+use Rattle.crew_answers.specs.ShortPairings.{sums_of, with_no_pasts}
 use Rattle.crew_answers.proofs.ShortBests.{best-to-long}
 use Rattle.crew_answers.proofs.ShortFronts.{entry-in, front-from-long, front-to-long, sums-in}
 use Rattle.crew_answers.proofs.ShortPartials.{no-past, partial-from-long, partial-to-long, same-settings}
 use Rattle.crew_flights.specs.Codes.{code_cmp}
 use Rattle.crew_flights.specs.Timetable.{IsSound, Timetable}
-use Rattle.crew_fronts.specs.Fronts.{BaseFronts, Entries, IsOfSweep, front_at, is_plain}
+use Rattle.crew_fronts.specs.Fronts.{BaseFronts, Entries, front_at, is_plain}
 use Rattle.crew_net.specs.Nets.{IsNetOf, Net}
 use Rattle.crew_pairing.proofs.Shuffled.{Member-shuffled}
 use Rattle.crew_pairing.specs.Duties.{AreDuties, flights_of}
@@ -118,7 +118,7 @@ pub rise-too : (ps : List PricedPairing) → PlainCheapest.RiseByCost ps → Ris
 rise-too [] h = tt
 rise-too (p ∷ ps) h = (h.0, rise-too ps h.1)
 
-same-taken : (share : ℕ) (taken ps : List PricedPairing) → PlainApart.taken_from share taken ps ≡ taken_from share taken ps
+pub same-taken : (share : ℕ) (taken ps : List PricedPairing) → PlainApart.taken_from share taken ps ≡ taken_from share taken ps
 same-taken share taken [] = refl
 same-taken share taken (p ∷ ps) =
     let one = same-taken share (taken ++ p ∷ []) ps in

@@ -1,15 +1,16 @@
 //! The pairings that come home.
-ghost use Rattle.std.specs.Prelude.{◌≡◌, ◌+◌, ◌<◌, IfOk, OnOk, Some, length, map, slice_get, take};
+ghost use Rattle.std.specs.Prelude.{◌≡◌, ◌+◌, ◌<◌, IfOk, None, OnOk, Some, length, map, slice_get, take};
 ghost use Rattle.std.specs.Arc.{arc_value};
 ghost use Rattle.std.specs.List.{flat_map};
 ghost use Rattle.crew_pairing.specs.declared.duty.Duty.{Duty};
-ghost use Rattle.crew_plan.specs.Machinery.Homes.{IsPayable, ended_by, home_at, home_of, pairing_of};
+ghost use Rattle.crew_plan.specs.Machinery.Homes.{AreFirstApart, IsPayable, ended_by, first_home, home_at, home_of, pairing_of};
 ghost use Rattle.crew_resource.specs.Members.{Each};
 ghost use Rattle.crew_solve.specs.Machinery.Homes as Spec;
-ghost use Rattle.crew_solve.specs.Machinery.Homes.{HasPay};
+ghost use Rattle.crew_solve.specs.Machinery.Homes.{HasPay, least_of};
 ghost use Rattle.crew_solve.specs.Machinery.Keeps.{keep, keep_all};
 
 use crate::kept::Kept;
+use crate::taken::Taken;
 use crew_flights::Code;
 use crew_fronts::{BaseFronts, Vector, WalkView};
 use crew_pairing::{Key, PairingVector, Walk};
@@ -150,4 +151,73 @@ pub(crate) fn keep_home(
         keep_home_of(alloc, base, trip_rig, kept)?;
     }
     Ok(())
+}
+
+/// The least of all that comes home, if there is any.
+pub(crate) fn best_of(
+    alloc: Global,
+    bases: &[Arc<BaseFronts, Global>],
+    trip_rig: u32,
+) -> Result<Option<PricedPairing>, AllocError>
+    requires { Each (IsPayable trip_rig) (map arc_value bases.now) }
+    ensures { IfOk result (λ best. best
+        ≡ least_of None (flat_map (home_of trip_rig) (map arc_value bases.now))) }
+{
+    let mut kept = Kept::new(alloc, 1);
+    keep_home(alloc, bases, trip_rig, &mut kept)?;
+    Ok(kept.into_first())
+}
+
+/// The least of all that comes home, so many or all, in order.
+pub(crate) fn cheapest_of(
+    alloc: Global,
+    bases: &[Arc<BaseFronts, Global>],
+    trip_rig: u32,
+    limit: usize,
+) -> Result<Vec<PricedPairing>, AllocError>
+    requires { Each (IsPayable trip_rig) (map arc_value bases.now) }
+    ensures { IfOk result (λ pairings. pairings.items
+        ≡ first_home limit trip_rig (map arc_value bases.now)) }
+{
+    let mut kept = Kept::new(alloc, limit);
+    keep_home(alloc, bases, trip_rig, &mut kept)?;
+    kept.into_vec(alloc)
+}
+
+// All that comes home in order, where it is less than so much.
+fn all_below(
+    alloc: Global,
+    bases: &[Arc<BaseFronts, Global>],
+    trip_rig: u32,
+    most: usize,
+) -> Result<Vec<PricedPairing>, AllocError>
+    requires { Each (IsPayable trip_rig) (map arc_value bases.now) }
+    ensures all { IfOk result (λ pairings. pairings.items
+        ≡ first_home most trip_rig (map arc_value bases.now)) }
+    ensures less { IfOk result (λ pairings. length pairings.items < most) }
+{
+    let all = cheapest_of(alloc, bases, trip_rig, most)?;
+    if all.len() >= most {
+        return Err(AllocError);
+    }
+    Ok(all)
+}
+
+/// Of all that comes home, by cost and walk, the first that are taken where no flight is flown by
+/// more than so many, up to a limit.
+pub(crate) fn apart_of(
+    alloc: Global,
+    bases: &[Arc<BaseFronts, Global>],
+    trip_rig: u32,
+    limit: usize,
+    share: u32,
+) -> Result<Vec<PricedPairing>, AllocError>
+    requires { Each (IsPayable trip_rig) (map arc_value bases.now) }
+    ensures { IfOk result (λ pairings. AreFirstApart limit share
+        (flat_map (home_of trip_rig) (map arc_value bases.now)) pairings.items) }
+{
+    let mut taken = Taken::new(alloc, share)?;
+    let all = all_below(alloc, bases, trip_rig, usize::MAX)?;
+    taken.offer_each(alloc, all)?;
+    Ok(taken.into_first(limit))
 }

@@ -12,9 +12,11 @@ mod dates;
 mod homes;
 mod kept;
 mod long_plan;
+mod passes;
 mod plan;
 mod solution;
 mod sweeps;
+mod taken;
 
 pub use plan::Plan;
 pub use solution::Solution;

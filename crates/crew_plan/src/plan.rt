@@ -10,6 +10,7 @@ ghost use Rattle.crew_rules.specs.Settings.{IsChecked};
 
 use crate::dates::see_dates;
 use crate::long_plan::LongPlan;
+use crate::passes::pass_all;
 use crate::solution::Solution;
 use crate::sweeps::swept;
 use crew_flights::Timetable;
@@ -208,7 +209,10 @@ impl Plan {
                 let solution = plan.solve(rt, alloc, workers)?;
                 Solution::swept(alloc, plan, solution)
             }
-            Kind::Long(_) => Err(AllocError),
+            Kind::Long(plan) => {
+                let fronts = pass_all(rt, alloc, plan, workers)?;
+                Solution::passed(alloc, plan, fronts)
+            }
         }
     }
 }

@@ -17,6 +17,7 @@ ghost use Rattle.crew_rules.specs.Settings.{IsChecked};
 ghost use Rattle.crew_rules.specs.declared.settings.Settings.{Settings};
 ghost use Rattle.crew_solve.specs.Plans as Plain;
 
+use crate::homes::{apart_of, best_of, cheapest_of};
 use crate::long_plan::LongPlan;
 use crate::plan::{Kind, Plan};
 use crate::sweeps::{unwrapped, wrapped};
@@ -123,8 +124,7 @@ impl Solution {
         requires solved { Plain.IsSolutionIn plan.now solution }
         ensures { IfOk result (IsSolutionIn (plan_by_sweeps plan.now)) }
     {
-        let _net = plan.net();
-        let bases = wrapped(alloc, &solution)?;
+        let bases = wrapped(alloc, solution.fronts())?;
         Ok(Solution {
             bases,
             made: Made::Plain(solution),
@@ -132,16 +132,21 @@ impl Solution {
     }
 
     // The solution of a plan of passes, given the fronts of each of its bases in order.
-    fn passed(
-        _alloc: Global,
+    pub(crate) fn passed(
+        alloc: Global,
         plan: &LongPlan,
-        _fronts: Vec<Arc<BaseFronts, Global>>,
+        bases: Vec<Arc<BaseFronts, Global>>,
     ) -> Result<Solution, AllocError>
-        requires { AreAllIn plan.now (map arc_value _fronts.items) }
+        requires { AreAllIn plan.now (map arc_value bases.items) }
         ensures { IfOk result (IsSolutionIn plan.now) }
     {
-        let _net = plan.net();
-        Err(AllocError)
+        let net = Arc::try_clone(plan.net())?;
+        let trip_rig = net.settings().trip_rig;
+        let best = best_of(alloc, &bases, trip_rig)?;
+        Ok(Solution {
+            bases,
+            made: Made::Long(net, best),
+        })
     }
 
     // The solution by sweeps, where one was made.
@@ -193,7 +198,9 @@ impl Solution {
     {
         match &self.made {
             Made::Plain(solution) => solution.cheapest(alloc, limit),
-            Made::Long(..) => Err(AllocError),
+            Made::Long(net, _) => {
+                cheapest_of(alloc, &self.bases, net.settings().trip_rig, limit)
+            }
         }
     }
 
@@ -213,7 +220,9 @@ impl Solution {
     {
         match &self.made {
             Made::Plain(solution) => solution.apart(alloc, limit, share),
-            Made::Long(..) => Err(AllocError),
+            Made::Long(net, _) => {
+                apart_of(alloc, &self.bases, net.settings().trip_rig, limit, share)
+            }
         }
     }
 

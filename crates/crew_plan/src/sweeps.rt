@@ -4,14 +4,13 @@ ghost use Rattle.std.specs.Arc.{arc_value};
 ghost use Rattle.crew_flights.specs.Timetable.{IsSound, Timetable};
 ghost use Rattle.crew_fronts.specs.Fronts.{IsOfSweep, is_plain};
 ghost use Rattle.crew_pairing.specs.Duties.{AreDuties};
-ghost use Rattle.crew_plan.specs.Machinery.Kept.{AreOfSweeps, IsSolved};
+ghost use Rattle.crew_plan.specs.Machinery.Kept.{AreOfSweeps};
 ghost use Rattle.crew_plan.specs.Machinery.Kinds.{IsForSweeps, plan_by_sweeps};
 ghost use Rattle.crew_plan.specs.Plans.{AreAllIn, AreFrontsIn};
 ghost use Rattle.crew_resource.specs.Members.{Each};
 ghost use Rattle.crew_solve.specs.Plans.{AreSweepsIn};
 ghost use Rattle.crew_sweep.specs.Sweeps.{ShowsFronts};
 
-use crew_flights::Code;
 use crew_fronts::BaseFronts;
 use std::alloc::{AllocError, Global};
 use std::sync::Arc;
@@ -33,23 +32,8 @@ pub(crate) fn swept(
     Ok(fronts)
 }
 
-// Whether these are the fronts of these bases, one by one.
-fn are_of(sweeps: &[Arc<crew_solve::BaseFronts, Global>], bases: &[Code]) -> bool
-    ensures { result ≡ true → map (λ b. b.base) (map arc_value sweeps.now) ≡ bases.now }
-{
-    if sweeps.len() != bases.len() {
-        return false;
-    }
-    for place in 0..bases.len() {
-        if sweeps[place].base() != bases[place] {
-            return false;
-        }
-    }
-    true
-}
-
-// Each of these fronts as those of a base.
-fn each_wrapped(
+/// Each of these fronts as those of a base.
+pub(crate) fn wrapped(
     alloc: Global,
     sweeps: &[Arc<crew_solve::BaseFronts, Global>],
 ) -> Result<Vec<Arc<BaseFronts, Global>>, AllocError>
@@ -63,25 +47,6 @@ fn each_wrapped(
         fronts.push(one)?;
     }
     Ok(fronts)
-}
-
-/// The fronts of a solution as those of bases. It has those of each base of its network; if it had
-/// not, there were no memory.
-pub(crate) fn wrapped(
-    alloc: Global,
-    solution: &crew_solve::Solution,
-) -> Result<Vec<Arc<BaseFronts, Global>>, AllocError>
-    requires { is_plain solution.now.net.settings ≡ true }
-    ensures each { IfOk result
-        (λ fronts. AreOfSweeps solution.now.sweeps (map arc_value fronts.items)) }
-    ensures solved { IfOk result
-        (λ fronts. IsSolved solution.now.net (map arc_value fronts.items)) }
-{
-    let sweeps = solution.fronts();
-    if !are_of(sweeps, solution.net().bases()) {
-        return Err(AllocError);
-    }
-    each_wrapped(alloc, sweeps)
 }
 
 // The sweep that made the fronts of a base.

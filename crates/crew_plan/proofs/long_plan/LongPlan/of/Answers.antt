@@ -1,4 +1,4 @@
-use Rattle.std.proofs.Common.{◌≡◌, ◌∙◌, ◌≤◌, List, ap, false, length, subst, sym}
+use Rattle.std.proofs.Common.{◌≡◌, ◌≤◌, List, false, length, subst, sym}
 use Rattle.std.specs.Arc.{arc_value}
 use Rattle.crew_fronts.specs.Fronts.{is_plain}
 use Rattle.crew_net.specs.Nets.{Net}

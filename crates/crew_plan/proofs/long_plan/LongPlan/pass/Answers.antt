@@ -1,13 +1,9 @@
-use Rattle.std.proofs.Common.{◌≡◌, ◌∙◌, ◌<◌, Result, IfOk, Ok, Err, ap, arith, length, of_z, refl, subst, sym, to_z, w64}
+use Rattle.std.proofs.Common.{◌≡◌, ◌∙◌, ◌<◌, Result, IfOk, Ok, Err, arith, length, of_z, refl, subst, sym, to_z, w64}
 use Rattle.std.proofs.lemmas.Int.{ints}
 use Rattle.std.specs.Arc.{arc_value}
-use Rattle.std.specs.Prelude.{slice_get}
-use Rattle.crew_answers.specs.Schedules.{IsDated}
-use Rattle.crew_flights.specs.Timetable.{IsBasePrice, IsSound, Timetable}
-use Rattle.crew_fronts.specs.Fronts.{BaseFronts, ShowsFronts}
-use Rattle.crew_net.specs.Nets.{Net}
-use Rattle.crew_pairing.specs.Duties.{AreDuties}
-use Rattle.crew_plan.specs.Plans.{AreFrontsIn, AreMade, Plan}
+use Rattle.crew_flights.specs.Timetable.{IsBasePrice}
+use Rattle.crew_fronts.specs.Fronts.{BaseFronts}
+use Rattle.crew_plan.specs.Plans.{AreFrontsIn, Plan}
 use Rattle.crew_solve.proofs.Departing.{read-at}
 use Rattle.crew_solve.proofs.Swept.{price-at}
 use Rattle.crew_vector.proofs.LegalDuties.{duties-sound}
@@ -45,8 +41,12 @@ returns c =
     let fits = k.over.sound.bases e.0 e.1 (price-at k.timetable bases c.args.place e k.priced at) in
     let whole : to_z w64 (of_z w64 e.1) ≡ e.1 = omega (arith, ints, fits.least, fits.most) in
     both c.passed.result _ _ _ (λ fronts. AreFrontsIn c.args.self.now c.args.place (arc_value {X = BaseFronts} fronts)) (λ fronts own same right.
-    subst (λ (p : Plan). AreFrontsIn p c.args.place (arc_value {X = BaseFronts} fronts)) c.self.view_is (e, at, record {
-      own = λ i. (own.0 i, (own.1 ∙ whole) i);
-      same = same;
-      fronts = right;
-    })) c.passed.ensures.own c.passed.ensures.net c.passed.ensures.right
+    subst (λ (p : Plan). AreFrontsIn p c.args.place (arc_value {X = BaseFronts} fronts)) c.self.view_is (
+      e,
+      at,
+      record {
+        own = λ i. (own.0 i, (own.1 ∙ whole) i);
+        same = same;
+        fronts = right;
+      },
+    )) c.passed.ensures.own c.passed.ensures.net c.passed.ensures.right
