@@ -48,7 +48,7 @@ Entry = LongVector × List (List Leg)
 pay-again : (cost pay prices rig rig_less : ℤ) → cost ≡ pay -ℤ prices → rig_less ≡ rig -ℤ prices → pay ≡ cost +ℤ (rig -ℤ rig_less)
 pay-again cost pay prices rig rig_less h k = omega (arith, ints)
 
-last-of-each : (s : Settings) (t : Timetable) (first : Duty) (others : List Duty) → Each (IsDuty s (flights_of t)) (first ∷ others) → IsDuty s (flights_of t) (last_duty first others)
+pub last-of-each : (s : Settings) (t : Timetable) (first : Duty) (others : List Duty) → Each (IsDuty s (flights_of t)) (first ∷ others) → IsDuty s (flights_of t) (last_duty first others)
 last-of-each s t first [] h = h.0
 last-of-each s t first (next ∷ others) h = last-of-each s t next others h.1
 

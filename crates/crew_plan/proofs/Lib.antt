@@ -5,3 +5,6 @@ pub mod Tied
 pub mod Homing
 pub mod Among
 pub mod Answering
+pub mod OneList
+pub mod Sharing
+pub mod Below

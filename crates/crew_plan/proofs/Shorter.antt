@@ -118,6 +118,10 @@ pub rise-too : (ps : List PricedPairing) → PlainCheapest.RiseByCost ps → Ris
 rise-too [] h = tt
 rise-too (p ∷ ps) h = (h.0, rise-too ps h.1)
 
+pub rise-back : (ps : List PricedPairing) → RiseByCost ps → PlainCheapest.RiseByCost ps
+rise-back [] h = tt
+rise-back (p ∷ ps) h = (h.0, rise-back ps h.1)
+
 pub same-taken : (share : ℕ) (taken ps : List PricedPairing) → PlainApart.taken_from share taken ps ≡ taken_from share taken ps
 same-taken share taken [] = refl
 same-taken share taken (p ∷ ps) =

@@ -43,7 +43,11 @@ same-walk a b e = walk-order.antisymmetric a b (ap is_le e) (ap is_le (walk_tota
 same-cost : (a b : ℤ) → int_cmp a b ≡ Equal → a ≡ b
 same-cost a b e = grind (arith, ints)
 
+-- a walk and a cost tell a pairing
+pub same-paired : (s : Settings) (t : Timetable) → IsSound t → (p q : PricedPairing) → IsPairing s s.fdp_total t p → IsPairing s s.fdp_total t q → p.walk ≡ q.walk → p.cost ≡ q.cost → p ≡ q
+same-paired s t sound p q a b walk cost = same-pairing (with_caps s s.fdp_total s.away_cap) t sound p q (plainly s t p a) (plainly s t q b) walk cost
+
 pub same-shown : (s : Settings) (t : Timetable) → IsSound t → (p q : PricedPairing) → IsShown s t p → IsShown s t q → pairing_cmp p q ≡ Equal → p ≡ q
 same-shown s t sound p q a b e =
     let k = both_equal (int_cmp p.cost q.cost) (walk_cmp p.walk q.walk) e in
-    same-pairing (with_caps s s.fdp_total s.away_cap) t sound p q (plainly s t p a.pairing) (plainly s t q b.pairing) (same-walk p.walk q.walk k.1) (same-cost p.cost q.cost k.0)
+    same-paired s t sound p q a.pairing b.pairing (same-walk p.walk q.walk k.1) (same-cost p.cost q.cost k.0)

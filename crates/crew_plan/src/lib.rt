@@ -11,6 +11,7 @@
 mod dates;
 mod homes;
 mod kept;
+pub mod laws;
 mod long_plan;
 mod passes;
 mod plan;
