@@ -94,6 +94,7 @@ impl BaseFronts {
         ensures some { IfSome result (λ fronts. IsOfSweep (arc_value fronts.now) self.now) }
         ensures none { result ≡ None → is_plain self.now.net.settings ≡ false }
     {
+        let _fronts = &self.fronts;
         None
     }
 
