@@ -11,6 +11,7 @@ mod chain;
 mod flight_list;
 pub mod laws;
 mod legs;
+mod limits;
 mod partial;
 mod search;
 mod sink;
