@@ -1,5 +1,5 @@
 -- The windows and the free minutes of a list of duties are told by its beginnings, each tested where it ends.
-use Rattle.std.proofs.Common.{◌≡◌, ℕ, ◌&&◌, Bool, true, List, [], ◌∷◌, ◌++◌, map, ℤ, pos, ◌+ℤ◌, ◌⊎◌, inl, inr, refl, sym, ◌∙◌, ap, subst, ⊎_elim, arith, append_assoc, append-nil}
+use Rattle.std.proofs.Common.{◌≡◌, ℕ, true, List, [], ◌∷◌, ◌++◌, map, ℤ, pos, ◌+ℤ◌, inl, inr, refl, sym, ◌∙◌, ap, subst, ⊎_elim, arith, append_assoc, append-nil}
 use Rattle.std.specs.Prelude.{◌-ℤ◌, ◌≤ℤ◌, ◌<ℤ◌, int_le}
 use Rattle.std.specs.Int.{int_max, int_min}
 use Rattle.std.proofs.lemmas.Bool.{and_from, and_parts}
@@ -15,7 +15,7 @@ use Rattle.crew_pairing.proofs.Sums.{total-append}
 use Rattle.crew_resource.specs.Members.{Each, Member}
 use Rattle.crew_resource.proofs.Snoc.{same_snoc, snoc_cases}
 use Rattle.crew_history.specs.Histories.{KeepsCap, minutes_within}
-use Rattle.crew_history.specs.Limits.{AreInOrder, IsFreeBeforeReports, KeepsWindows, arrival, fdp_between, period_of, since_rest}
+use Rattle.crew_history.specs.Limits.{AreInOrder, KeepsWindows, arrival, fdp_between, period_of}
 use Rattle.crew_history.specs.LongPairings.{IsLongPartial}
 use Rattle.crew_history.proofs.Histories.{ends_suffice}
 use Rattle.crew_history.proofs.LegalOrder.{in_order}

@@ -123,6 +123,5 @@ pub(crate) fn keep_limits(settings: &Settings, duties: &[Duty]) -> bool
     requires ranges { Each IsInRange duties.now }
     ensures { result ≡ keeps_limits settings.now duties.now }
 {
-    last_window(duties) <= i64::from(settings.fdp_cap)
-        && since_last_rest(duties) <= MOST_SINCE_REST
+    last_window(duties) <= i64::from(settings.fdp_cap) && since_last_rest(duties) <= MOST_SINCE_REST
 }

@@ -13,9 +13,9 @@ ghost use Rattle.crew_audit.specs.Machinery.Ranges.{IsInRange};
 ghost use Rattle.crew_audit.specs.Machinery.Taking.{Took};
 
 use crate::chain::{self, keep_totals, may_leave};
-use crate::limits::keep_limits;
 use crate::flight_list::FlightList;
 use crate::legs::{self, LEGS, cannot_begin, duty_from, may_come_next};
+use crate::limits::keep_limits;
 use crate::partial::AuditFault;
 use crate::sink::Sink;
 use crew_flights::{Code, Flight};
