@@ -1,4 +1,5 @@
 pub mod Missing
+pub mod InRange
 pub mod Tests
 pub mod Vectors
 pub mod Caps

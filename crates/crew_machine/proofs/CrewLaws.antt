@@ -3,6 +3,16 @@ use Rattle.std.proofs.Common.{◌≡◌, ℕ, zero, suc, ◌+◌, ◌<◌, Bool,
 use Rattle.std.specs.FinMap as fin
 use Rattle.std.specs.List.{filter}
 use Rattle.std.specs.Ordering.{nat_cmp}
+use Rattle.crew_answers.proofs.Cheapest.{entry-pairing, least-entry, no-entry}
+use Rattle.crew_answers.proofs.Feeding.{front-of-local, local-of-front}
+use Rattle.crew_answers.proofs.InRange.{checked-in-range}
+use Rattle.crew_answers.proofs.PlainNodes.{node-front, shown, shown-front, some}
+use Rattle.crew_answers.proofs.Unique.{same-front}
+use Rattle.crew_answers.specs.Bests.{AreFronts, IsBest, IsCleanPairing, IsHomeEntry}
+use Rattle.crew_answers.specs.Fronts.{IsFrontAt}
+use Rattle.crew_answers.specs.Locals.{AreFrontsBefore, Feed, IsLocalAt}
+use Rattle.crew_answers.specs.LongVectors.{LongVector}
+use Rattle.crew_answers.specs.Ranges.{IsInRange}
 use Rattle.crew_flights.proofs.Soundness.{changed_sound, empty_sound}
 use Rattle.crew_flights.specs.Edits.{applied, apply_of, refusal_of}
 use Rattle.crew_flights.specs.Fold.{data_after, is_in_turn}
@@ -18,28 +28,16 @@ use Rattle.crew_machine.specs.Machinery.Sound.{IsVersion}
 use Rattle.crew_machine.specs.Machinery.Worked.{Laws}
 use Rattle.crew_machine.specs.Worlds.{AreNodes, IsBefore, IsScratch, IsUnreached, IsWorkOf, Leads}
 use Rattle.crew_pairing.specs.Duties.{HasFew, flights_of}
-use Rattle.crew_pairing.specs.Keys.{walk_at_most}
 use Rattle.crew_pairing.specs.Legs.{Leg}
 use Rattle.crew_pairing.specs.Pairings.{IsDuty, may_stand_after}
 use Rattle.crew_pairing.specs.Vectors.{reduced_cost}
 use Rattle.crew_pairing.specs.declared.duty.Duty.{Duty}
-use Rattle.crew_pairing.specs.declared.vector.PairingVector.{PairingVector}
 use Rattle.crew_resource.proofs.Members.{Member-filter_in, Member-filter_out}
-use Rattle.crew_resource.proofs.Scratch.{some_front}
 use Rattle.crew_resource.specs.Members.{Member}
 use Rattle.crew_rules.specs.Settings.{IsChecked}
 use Rattle.crew_rules.specs.declared.settings.Settings.{Settings}
-use Rattle.crew_vector.proofs.Cheapest.{entry-pairing, least-entry, no-entry}
-use Rattle.crew_vector.proofs.Feeding.{front-of-local, local-of-front, same-feed, some-front}
-use Rattle.crew_vector.proofs.Nodes.{CleanAt, Known, More, One, Opening, PathAt, Preds, arcs-rise, node-rules, rank}
-use Rattle.crew_vector.proofs.Orders.{walk-either}
-use Rattle.crew_vector.proofs.Paths.{front-from, known-legal, legal-known}
-use Rattle.crew_vector.proofs.Steps.{extends}
-use Rattle.crew_vector.proofs.Unique.{same-front}
-use Rattle.crew_vector.specs.Bests.{AreFronts, IsBest, IsCleanPairing, IsHomeEntry}
-use Rattle.crew_vector.specs.Dominance.{is_at_most}
-use Rattle.crew_vector.specs.Fronts.{IsFrontAt}
-use Rattle.crew_vector.specs.Locals.{AreFrontsBefore, Feed, IsLocalAt}
+use Rattle.crew_vector.proofs.Nodes.{Known, arcs-rise, rank}
+use Rattle.crew_vector.proofs.Paths.{known-legal, legal-known}
 use Rattle.crew_vector.specs.declared.priced.PricedPairing.{PricedPairing}
 
 -- ---- what entries come to is sound
@@ -90,18 +88,21 @@ abbrev node-of : List ℕ → Duty → DutyNode
 node-of base d = record { base = base; duty = d }
 
 module _ (s : Settings) (checked : IsChecked s) where
+  range : IsInRange s s.fdp_total
+  range = checked-in-range s checked
+
   -- two prices of one base are one
   pub one-price : (t : Timetable) (base other : List ℕ) (p q : ℤ) → base ≡ other → fin.get t.bases base ≡ Some p → fin.get t.bases other ≡ Some q → p ≡ q
   one-price t base other p q same a b = Some-same p q (sym a ∙ (ap (fin.get t.bases) same ∙ b))
 
-  pub front-at : (t : Timetable) (base : List ℕ) (price : ℤ) (d : Duty) (es : Entries) → fin.get t.bases base ≡ Some price → IsFrontOf s t (node-of base d) es → IsFrontAt s t base price d es
-  front-at t base price d es based f = subst (λ (p : ℤ). IsFrontAt s t base p d es) (one-price t base base f.price price refl f.based based) f.front
+  pub front-at : (t : Timetable) (base : List ℕ) (price : ℤ) (d : Duty) (es : Entries) → fin.get t.bases base ≡ Some price → IsFrontOf s t (node-of base d) es → IsFrontAt s s.fdp_total t base price d es
+  front-at t base price d es based f = subst (λ (p : ℤ). IsFrontAt s s.fdp_total t base p d es) (one-price t base base f.price price refl f.based based) f.front
 
   -- ---- a job's feed
 
   module _ (t : Timetable) (sound : IsSound t) (job : DutyWork) (work : IsWorkOf (crew s) t (IsFrontOf s t) job) (price : ℤ) (based : fin.get t.bases job.node.base ≡ Some price) where
     abbrev Fed : Duty × Entries → Type 0
-    Fed e = IsDuty s (flights_of t) e.0 × (may_stand_after s e.0 job.node.duty ≡ true) × IsFrontAt s t job.node.base price e.0 e.1
+    Fed e = IsDuty s (flights_of t) e.0 × (may_stand_after s e.0 job.node.duty ≡ true) × IsFrontAt s s.fdp_total t job.node.base price e.0 e.1
 
     fed-one : (b : DutyNode × Entries) → Member job.before b → Fed (b.0.duty, b.1)
     fed-one b m =
@@ -110,10 +111,10 @@ module _ (s : Settings) (checked : IsChecked s) where
         let may = at.1 in
         let f = work.fronts b.0 b.1 m in
         let same : f.price ≡ price = one-price t b.0.base job.node.base f.price price may.base f.based based in
-        let front : IsFrontAt s t b.0.base price b.0.duty b.1 = subst (λ (p : ℤ). IsFrontAt s t b.0.base p b.0.duty b.1) same f.front in
-        (is.legal, may.rested, subst (λ (z : List ℕ). IsFrontAt s t z price b.0.duty b.1) may.base front)
+        let front : IsFrontAt s s.fdp_total t b.0.base price b.0.duty b.1 = subst (λ (p : ℤ). IsFrontAt s s.fdp_total t b.0.base p b.0.duty b.1) same f.front in
+        (is.legal, may.rested, subst (λ (z : List ℕ). IsFrontAt s s.fdp_total t z price b.0.duty b.1) may.base front)
 
-    fed : AreFrontsBefore s t job.node.base price job.node.duty (feed_of job.before)
+    fed : AreFrontsBefore s s.fdp_total t job.node.base price job.node.duty (feed_of job.before)
     fed = record {
       right = λ e es m.
           (let from = Member-map_out (λ (b : DutyNode × Entries). let z : Duty × Entries = (b.0.duty, b.1) in z) job.before (e, es) m in
@@ -136,22 +137,22 @@ module _ (s : Settings) (checked : IsChecked s) where
   local-in : (t : Timetable) → IsSound t → (job : DutyWork) (f : Entries) → IsNodeOf s t job.node → IsWorkOf (crew s) t (IsFrontOf s t) job → IsLocalOf job f → IsFrontOf s t job.node f
   local-in t sound job f is work local =
       let based : fin.get t.bases job.node.base ≡ Some local.price = sym (ap price-of work.input) ∙ local.based in
-      let own : IsLocalAt s job.node.base local.price job.node.duty (feed_of job.before) f =
-      subst (λ (z : Settings). IsLocalAt z job.node.base local.price job.node.duty (feed_of job.before) f) (ap settings-of work.input) local.local in
+      let own : IsLocalAt s s.fdp_total job.node.base local.price job.node.duty (feed_of job.before) f =
+      subst (λ (z : Settings). IsLocalAt z z.fdp_total job.node.base local.price job.node.duty (feed_of job.before) f) (ap settings-of work.input) local.local in
       record {
         price = local.price;
         based = based;
-        front = front-of-local s t job.node.base local.price checked sound job.node.duty is.legal (feed_of job.before) (fed t sound job work local.price based) f own;
+        front = front-of-local s s.fdp_total t job.node.base local.price range sound job.node.duty is.legal (feed_of job.before) (fed t sound job work local.price based) f own;
         rises = local.rises;
       }
 
   local-out : (t : Timetable) → IsSound t → (job : DutyWork) (f : Entries) → IsNodeOf s t job.node → IsWorkOf (crew s) t (IsFrontOf s t) job → IsFrontOf s t job.node f → IsLocalOf job f
   local-out t sound job f is work front =
-      let own = local-of-front s t job.node.base front.price checked sound job.node.duty is.legal (feed_of job.before) (fed t sound job work front.price front.based) f front.front in
+      let own = local-of-front s s.fdp_total t job.node.base front.price range sound job.node.duty is.legal (feed_of job.before) (fed t sound job work front.price front.based) f front.front in
       record {
         price = front.price;
         based = ap price-of work.input ∙ front.based;
-        local = subst (λ (z : Settings). IsLocalAt z job.node.base front.price job.node.duty (feed_of job.before) f) (sym (ap settings-of work.input)) own;
+        local = subst (λ (z : Settings). IsLocalAt z z.fdp_total job.node.base front.price job.node.duty (feed_of job.before) f) (sym (ap settings-of work.input)) own;
         rises = front.rises;
       }
 
@@ -168,7 +169,7 @@ module _ (s : Settings) (checked : IsChecked s) where
     now : (d : Duty) → IsDuty s (flights_of u) d → IsNodeOf s u (node-of base d)
     now d legal = record { price = price; based = based; legal = legal }
 
-    kept-below : (k : ℕ) (d : Duty) → rank s u base price checked after d < k → IsDuty s (flights_of u) d → Clear d → (entries : Entries) → IsFrontAt s t base price d entries → IsFrontAt s u base price d entries
+    kept-below : (k : ℕ) (d : Duty) → rank s u base price checked after d < k → IsDuty s (flights_of u) d → Clear d → (entries : Entries) → IsFrontAt s s.fdp_total t base price d entries → IsFrontAt s s.fdp_total u base price d entries
     kept-below zero d low legal clear entries front = absurd (omega (arith, low))
     kept-below (suc k) d low legal clear entries front =
         let n = node-of base d in
@@ -181,13 +182,13 @@ module _ (s : Settings) (checked : IsChecked s) where
         (let f = Member-filter_out (λ x. may_stand_after s x d) (Known s u base price checked after) e m in (f.0, f.1)) in
         let legal-now : (e : Duty) → Member before e → IsDuty s (flights_of u) e = λ e m. known-legal s u base price checked after e (out e m).0 in
         let legal-then : (e : Duty) → Member before e → IsDuty s (flights_of t) e = λ e m. ((own.before (node-of base e) (arc e (out e m).1)).1 (now e (legal-now e m))).legal in
-        let made = feed-by (IsFrontAt s t base price) before (λ e m. some-front s t base price checked sound e (legal-then e m)) in
+        let made = feed-by (IsFrontAt s s.fdp_total t base price) before (λ e m. node-front s s.fdp_total t base price range sound e (legal-then e m)) in
         let feed = made.0 in
-        let fed-then : AreFrontsBefore s t base price d feed = record {
+        let fed-then : AreFrontsBefore s s.fdp_total t base price d feed = record {
           right = λ e es m. (let r = made.1.right e es m in (legal-then e r.0, (out e r.0).1, r.1));
           every = λ e h may. made.1.every e (Member-filter_in (λ x. may_stand_after s x d) (Known s u base price checked after) e (legal-known s u base price checked after e ((own.before (node-of base e) (arc e may)).0 (was e h)).legal) may);
         } in
-        let fed-now : AreFrontsBefore s u base price d feed = record {
+        let fed-now : AreFrontsBefore s s.fdp_total u base price d feed = record {
           right = λ e es m. (
               let r = made.1.right e es m in
               let f = out e r.0 in
@@ -198,7 +199,7 @@ module _ (s : Settings) (checked : IsChecked s) where
           every = λ e h may. made.1.every e (Member-filter_in (λ x. may_stand_after s x d) (Known s u base price checked after) e (legal-known s u base price checked after e h) may);
         } in
         let here : IsDuty s (flights_of t) d = own.there.legal in
-        same-feed s t u base price d feed entries checked sound after here legal fed-then fed-now front
+        front-of-local s s.fdp_total u base price range after d legal feed fed-now entries (local-of-front s s.fdp_total t base price range sound d here feed fed-then entries front)
 
   carried-over : (t u : Timetable) → IsSound t → IsSound u → (n : DutyNode) (f : Entries) → IsNodeOf s u n → IsUnreached (crew s) t u n → IsFrontOf s t n f → IsFrontOf s u n f
   carried-over t u sound after n f is clear front =
@@ -215,20 +216,19 @@ module _ (s : Settings) (checked : IsChecked s) where
 
   abbrev front-by : (t : Timetable) → IsSound t → Option ℤ → List ℕ → Duty → Entries
   front-by t sound None base d = []
-  front-by t sound (Some price) base d = (some_front Duty PairingVector (List (List Leg)) (One s t base price checked sound) (More s t base price checked sound) (Opening s t base price checked sound) (extends s) (Preds s t base price checked sound) is_at_most walk_at_most (PathAt s t base price checked sound) (CleanAt s t base price checked sound) (node-rules s t base price checked sound) (rank s t base price checked sound) (arcs-rise s t base price checked sound) walk-either d).0
+  front-by t sound (Some price) base d = map (λ e. (shown s s.fdp_total t base price range sound d e.0, e.1)) (some s s.fdp_total t base price range sound d).0
 
   module _ (t : Timetable) (sound : IsSound t) where
     abbrev canon : List ℕ → Duty → Entries
     canon base d = front-by t sound (fin.get t.bases base) base d
 
-    canon-right : AreFronts s t canon
+    canon-right : AreFronts s s.fdp_total t canon
     canon-right base price d based legal =
-        subst (λ (o : Option ℤ). IsFrontAt s t base price d (front-by t sound o base d)) (sym based)
-        (front-from s t base price checked sound d (legal-known s t base price checked sound d legal) (front-by t sound (Some price) base d)
-        (some_front Duty PairingVector (List (List Leg)) (One s t base price checked sound) (More s t base price checked sound) (Opening s t base price checked sound) (extends s) (Preds s t base price checked sound) is_at_most walk_at_most (PathAt s t base price checked sound) (CleanAt s t base price checked sound) (node-rules s t base price checked sound) (rank s t base price checked sound) (arcs-rise s t base price checked sound) walk-either d).1.0)
+        subst (λ (o : Option ℤ). IsFrontAt s s.fdp_total t base price d (front-by t sound o base d)) (sym based)
+        (shown-front s s.fdp_total t base price range sound d legal (some s s.fdp_total t base price range sound d).0 (some s s.fdp_total t base price range sound d).1.0)
 
     module _ (fronts : List (DutyNode × Entries)) (nodes : AreNodes (crew s) t (map (λ e. e.0) fronts)) (right : (n : DutyNode) (f : Entries) → Member fronts (n, f) → IsFrontOf s t n f) where
-      home-to : (base : List ℕ) (v : PairingVector) (w : List (List Leg)) → ComesHome fronts base v w → IsHomeEntry s t canon base v w
+      home-to : (base : List ℕ) (v : LongVector) (w : List (List Leg)) → ComesHome fronts base v w → IsHomeEntry s t canon base v w
       home-to base v w h =
           let is = (nodes.exact (node-of base h.duty)).0 (Member-map_in (λ (e : DutyNode × Entries). e.0) fronts (node-of base h.duty, h.entries) h.node) in
           let front = front-at t base is.price h.duty h.entries is.based (right (node-of base h.duty) h.entries h.node) in
@@ -238,10 +238,10 @@ module _ (s : Settings) (checked : IsChecked s) where
             duty = h.duty;
             legal = is.legal;
             home = h.home;
-            held = same-front s t base is.price h.duty h.entries (canon base h.duty) front (canon-right base is.price h.duty is.based is.legal) v w h.held;
+            held = same-front s s.fdp_total t base is.price h.duty h.entries (canon base h.duty) front (canon-right base is.price h.duty is.based is.legal) v w h.held;
           }
 
-      home-from : (base : List ℕ) (v : PairingVector) (w : List (List Leg)) → IsHomeEntry s t canon base v w → ComesHome fronts base v w
+      home-from : (base : List ℕ) (v : LongVector) (w : List (List Leg)) → IsHomeEntry s t canon base v w → ComesHome fronts base v w
       home-from base v w h =
           let is : IsNodeOf s t (node-of base h.duty) = record { price = h.price; based = h.based; legal = h.legal } in
           let from = Member-map_out (λ (e : DutyNode × Entries). e.0) fronts (node-of base h.duty) ((nodes.exact (node-of base h.duty)).1 is) in
@@ -252,21 +252,21 @@ module _ (s : Settings) (checked : IsChecked s) where
             entries = from.0.1;
             node = there;
             home = h.home;
-            held = same-front s t base h.price h.duty (canon base h.duty) from.0.1 (canon-right base h.price h.duty h.based h.legal) front v w h.held;
+            held = same-front s s.fdp_total t base h.price h.duty (canon base h.duty) from.0.1 (canon-right base h.price h.duty h.based h.legal) front v w h.held;
           }
 
-      least-best : (best : Option PricedPairing) → IsLeastOf s fronts best → IsBest s t best
-      least-best None none = no-entry s t canon checked sound canon-right (λ base v w h. none base v w (home-from base v w h))
+      least-best : (best : Option PricedPairing) → IsLeastOf s fronts best → IsBest s s.fdp_total t best
+      least-best None none = no-entry s s.fdp_total t range sound canon canon-right (λ base v w h. none base v w (home-from base v w h))
       least-best (Some p) l =
           let one = l.0 in
           let base = one.0 in
           let v = one.1 in
           let w = one.2 in
-          let q = entry-pairing s t canon canon-right base v w (home-to base v w one.3) in
+          let q = entry-pairing s s.fdp_total t canon canon-right base v w (home-to base v w one.3) in
           let same : q.0 ≡ p = told q.0 base v w q.2 q.3 q.4 q.5 q.6 ∙ sym one.4 in
-          least-entry s t canon p checked sound canon-right (subst (IsCleanPairing s t) same q.1) (λ b x y h. l.1 b x y (home-from b x y h))
+          least-entry s s.fdp_total t range sound canon p canon-right (subst (IsCleanPairing s s.fdp_total t) same q.1) (λ b x y h. l.1 b x y (home-from b x y h))
         where
-          told : (q : PricedPairing) (base : List ℕ) (v : PairingVector) (w : List (List Leg)) → q.base ≡ base → q.walk ≡ w → q.cost ≡ reduced_cost v → q.pay ≡ reduced_cost v +ℤ (pos s.trip_rig *ℤ v.away -ℤ v.trip_rig) → q.away ≡ v.away → q ≡ pairing_of s base v w
+          told : (q : PricedPairing) (base : List ℕ) (v : LongVector) (w : List (List Leg)) → q.base ≡ base → q.walk ≡ w → q.cost ≡ reduced_cost v.sums → q.pay ≡ reduced_cost v.sums +ℤ (pos s.trip_rig *ℤ v.sums.away -ℤ v.sums.trip_rig) → q.away ≡ v.sums.away → q ≡ pairing_of s base v w
           told q base v w a b c d e =
               let o = pairing_of s base v w in
               ap (λ z. let r : PricedPairing = record { base = z; walk = q.walk; cost = q.cost; pay = q.pay; away = q.away } in r) a
@@ -297,7 +297,7 @@ module _ (s : Settings) (checked : IsChecked s) where
   opening-scratch = record {
     nodes = record { rise = tt; exact = λ n. (λ m. absurd m, λ is. no-duty n.duty is.legal) };
     right = λ n f m. absurd m;
-    best_is = no-entry s empty_timetable (canon empty_timetable empty_sound) checked empty_sound (canon-right empty_timetable empty_sound) (λ base v w h. no-duty h.duty h.legal);
+    best_is = no-entry s s.fdp_total empty_timetable range empty_sound (canon empty_timetable empty_sound) (canon-right empty_timetable empty_sound) (λ base v w h. no-duty h.duty h.legal);
     small = opening-few;
   }
 

@@ -4,6 +4,7 @@ use Rattle.std.specs.Bool.{Decides}
 use Rattle.std.specs.Ordering.{int_eq}
 use Rattle.std.proofs.lemmas.Bool.{cases_Bool}
 use Rattle.std.proofs.lemmas.Bool.Decides.{Decides-eqb, Decides-int_eq}
+use Rattle.crew_answers.specs.LongVectors.{LongVector}
 use Rattle.crew_machine.specs.Crew.{DutyNode, DutyWork, Entries, Inputs}
 use Rattle.crew_pairing.specs.Legs.{Leg}
 use Rattle.crew_pairing.specs.declared.duty.Duty.{Duty}
@@ -115,8 +116,14 @@ vector-from p = record {
   away = p.1.1.1.1;
 }
 
-told-vector : Told PairingVector
-told-vector = told-by vector-parts vector-from (λ v. refl) (told-pair told-int (told-pair told-three told-three))
+told-sums : Told PairingVector
+told-sums = told-by vector-parts vector-from (λ v. refl) (told-pair told-int (told-pair told-three told-three))
+
+abbrev long-from : PairingVector × (ℤ × List (ℤ × ℤ)) → LongVector
+long-from p = record { sums = p.0; since_rest = p.1.0; history = p.1.1 }
+
+told-vector : Told LongVector
+told-vector = told-by (λ (v : LongVector). let p : PairingVector × (ℤ × List (ℤ × ℤ)) = (v.sums, (v.since_rest, v.history)) in p) long-from (λ v. refl) (told-pair told-sums (told-pair told-int (told-list (told-pair told-int told-int))))
 
 told-entries : Told Entries
 told-entries = told-list (told-pair told-vector (told-list (told-list told-leg)))

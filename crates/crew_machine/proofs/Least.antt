@@ -4,12 +4,12 @@ use Rattle.std.specs.Prelude.{◌<ℤ◌, int_le}
 use Rattle.std.specs.Ordering.{eq_by_cmp}
 use Rattle.std.proofs.lemmas.Bool.{cases_Bool}
 use Rattle.std.proofs.lemmas.Int.{ints}
+use Rattle.crew_answers.specs.LongVectors.{LongVector}
 use Rattle.crew_flights.specs.Codes.{code_cmp}
 use Rattle.crew_machine.specs.Crew.{ComesHome, DutyNode, Entries, IsLeastOf, pairing_of}
 use Rattle.crew_pairing.specs.Keys.{walk_at_most}
 use Rattle.crew_pairing.specs.Legs.{Leg}
 use Rattle.crew_pairing.specs.Vectors.{reduced_cost}
-use Rattle.crew_pairing.specs.declared.vector.PairingVector.{PairingVector}
 use Rattle.crew_resource.proofs.Members.{Member-flat_map_in, Member-flat_map_out, Member-map_in, Member-map_out}
 use Rattle.crew_resource.specs.Members.{Member}
 use Rattle.crew_rules.specs.declared.settings.Settings.{Settings}
@@ -21,11 +21,11 @@ use Rattle.std.specs.List.{flat_map}
 -- a base, a vector and a walk
 record Home : Type 0 where
   pub base : List ℕ
-  pub vector : PairingVector
+  pub vector : LongVector
   pub walk : List (List Leg)
 
 abbrev NotOver : Home → Home → Type 0
-NotOver h k = NoDearer (reduced_cost h.vector) h.walk (reduced_cost k.vector) k.walk
+NotOver h k = NoDearer (reduced_cost h.vector.sums) h.walk (reduced_cost k.vector.sums) k.walk
 
 less-or-not : (a b : ℤ) → (a <ℤ b) ⊎ ((b <ℤ a) ⊎ (a ≡ b))
 less-or-not a b =
@@ -48,7 +48,7 @@ either h k =
     (λ l. inr (inl l))
     (λ e. ⊎_elim (λ w. inl (inr (e, w))) (λ w. inr (inr (sym e, walk-either h.walk k.walk w))) (cases_Bool (walk_at_most h.walk k.walk)))
     r)
-    (less-or-not (reduced_cost h.vector) (reduced_cost k.vector))
+    (less-or-not (reduced_cost h.vector.sums) (reduced_cost k.vector.sums))
 
 through : (h k l : Home) → NotOver h k → NotOver k l → NotOver h l
 through h k l (inl a) (inl b) = inl (omega (arith, ints, a, b))
@@ -71,7 +71,7 @@ least-in (x ∷ hs) =
     (λ none. inl (x, record { there = inl refl; least = λ k m. ⊎_elim (λ e. subst (NotOver x) e (inr (refl, walk-order.reflexive x.walk))) (λ m'. absurd (none k m')) m }))
     (least-in hs)
 
-abbrev home-of : DutyNode → PairingVector × List (List Leg) → Home
+abbrev home-of : DutyNode → LongVector × List (List Leg) → Home
 home-of n e = record { base = n.base; vector = e.0; walk = e.1 }
 
 abbrev homes-at : DutyNode × Entries → List Home
@@ -80,7 +80,7 @@ homes-at x = cond (eq_by_cmp code_cmp x.0.duty.to x.0.base) (map (home-of x.0) x
 abbrev homes : List (DutyNode × Entries) → List Home
 homes fronts = flat_map homes-at fronts
 
-home-in : (fronts : List (DutyNode × Entries)) (base : List ℕ) (v : PairingVector) (w : List (List Leg)) → ComesHome fronts base v w → Member (homes fronts) (record { base = base; vector = v; walk = w })
+home-in : (fronts : List (DutyNode × Entries)) (base : List ℕ) (v : LongVector) (w : List (List Leg)) → ComesHome fronts base v w → Member (homes fronts) (record { base = base; vector = v; walk = w })
 home-in fronts base v w h =
     let n : DutyNode = record { base = base; duty = h.duty } in
     let is : eq_by_cmp code_cmp h.duty.to base ≡ true = code-itself h.duty.to base h.home in
@@ -100,7 +100,7 @@ home-out fronts h m =
     let open-at = opened (eq_by_cmp code_cmp x.0.duty.to x.0.base) (map (home-of x.0) x.1) h from.2 in
     let e = Member-map_out (home-of x.0) x.1 h open-at.1 in
     let base : x.0.base ≡ h.base = ap (λ (k : Home). k.base) e.2 in
-    let entry : e.0 ≡ (h.vector, h.walk) = ap (λ (k : Home). let z : PairingVector × List (List Leg) = (k.vector, k.walk) in z) e.2 in
+    let entry : e.0 ≡ (h.vector, h.walk) = ap (λ (k : Home). let z : LongVector × List (List Leg) = (k.vector, k.walk) in z) e.2 in
     let node : x ≡ (record { base = h.base; duty = x.0.duty }, x.1) = ap (λ (b : List ℕ). let z : DutyNode × Entries = (record { base = b; duty = x.0.duty }, x.1) in z) base in
     record {
       duty = x.0.duty;

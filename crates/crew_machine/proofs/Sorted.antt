@@ -1,9 +1,16 @@
 -- The front of each node, in order of vector.
-use Rattle.std.proofs.Common.{◌≡◌, List, [], ◌∷◌, ◌⊎◌, inl, inr, refl, sym, ◌∙◌, ap, subst, ⊎_elim}
-use Rattle.std.specs.Cmp.{IsTotalOrder, int_cmp_total, on_total, then_total}
-use Rattle.std.specs.Ordering.{ordering_reverse}
+use Rattle.std.proofs.Common.{◌≡◌, ℤ, pos, List, [], ◌∷◌, ◌⊎◌, inl, inr, refl, sym, ◌∙◌, ap, subst, ⊎_elim}
+use Rattle.std.specs.Cmp.Lexicographic.{slice_cmp}
+use Rattle.std.specs.Ordering.{int_cmp, ordering_reverse, ordering_then}
 use Rattle.std.specs.declared.cmp.Ordering.{Ordering}
 use Rattle.std.specs.declared.cmp.Ordering.TheVariants.{Less, Equal, Greater}
+use Rattle.crew_answers.proofs.InRange.{checked-in-range}
+use Rattle.crew_answers.proofs.PlainNodes.{node-front}
+use Rattle.crew_answers.proofs.Unique.{vector-total}
+use Rattle.crew_answers.specs.Fronts.{IsFrontAt, RiseByVector, period_cmp, vector_cmp}
+use Rattle.crew_answers.specs.LongVectors.{LongVector}
+use Rattle.crew_history.proofs.FixedHistories.{pair_exact}
+use Rattle.crew_resource.proofs.ListOrder.{lists_exact}
 use Rattle.crew_flights.specs.Timetable.{IsSound, Timetable}
 use Rattle.crew_machine.specs.Crew.{DutyNode, Entries, IsFrontOf, IsNodeOf}
 use Rattle.crew_pairing.specs.Legs.{Leg}
@@ -11,12 +18,11 @@ use Rattle.crew_pairing.specs.declared.vector.PairingVector.{PairingVector}
 use Rattle.crew_resource.specs.Members.{Each, Member}
 use Rattle.crew_rules.specs.Settings.{IsChecked}
 use Rattle.crew_rules.specs.declared.settings.Settings.{Settings}
-use Rattle.crew_vector.proofs.Feeding.{some-front}
-use Rattle.crew_vector.specs.Fronts.{IsFrontAt, RiseByVector, vector_cmp}
+use Rattle.crew_vector.specs.Fronts as Sums
 use Rattle.crew_vector.specs.Machinery.Named.{named_order}
 
 abbrev Entry : Type 0
-Entry = PairingVector × List (List Leg)
+Entry = LongVector × List (List Leg)
 
 abbrev choose : {X : Type 0} → Ordering → X → X → X → X
 choose Less a b c = a
@@ -32,15 +38,22 @@ abbrev sorted : Entries → Entries
 sorted [] = []
 sorted (e ∷ es) = insert e (sorted es)
 
-vector-total : IsTotalOrder vector_cmp
-vector-total =
-    then_total (on_total (λ (v : PairingVector). v.duty_pay) int_cmp_total)
-    (then_total (on_total (λ (v : PairingVector). v.trip_rig) int_cmp_total)
-    (then_total (on_total (λ (v : PairingVector). v.guarantee) int_cmp_total)
-    (then_total (on_total (λ (v : PairingVector). v.fdp) int_cmp_total)
-    (then_total (on_total (λ (v : PairingVector). v.fly) int_cmp_total)
-    (then_total (on_total (λ (v : PairingVector). v.duties) int_cmp_total)
-    (on_total (λ (v : PairingVector). v.away) int_cmp_total))))))
+both-equal : (o p : Ordering) → ordering_then o p ≡ Equal → (o ≡ Equal) × (p ≡ Equal)
+both-equal Less p e = absurd (cc)
+both-equal Equal p e = (refl, e)
+both-equal Greater p e = absurd (cc)
+
+int-exact : (a b : ℤ) → int_cmp a b ≡ Equal → a ≡ b
+int-exact a b e = ap (λ (p : ℤ × ℤ). p.0) (pair_exact (a, pos 0) (b, pos 0) (ap (λ (o : Ordering). ordering_then o (int_cmp (pos 0) (pos 0))) e))
+
+-- vectors that are listed alike are one
+exact : (u v : LongVector) → vector_cmp u v ≡ Equal → u ≡ v
+exact u v e =
+    let p = both-equal (Sums.vector_cmp u.sums v.sums) (ordering_then (int_cmp u.since_rest v.since_rest) (slice_cmp period_cmp u.history v.history)) e in
+    let q = both-equal (int_cmp u.since_rest v.since_rest) (slice_cmp period_cmp u.history v.history) p.1 in
+    ap (λ (z : PairingVector). let r : LongVector = record { sums = z; since_rest = u.since_rest; history = u.history } in r) (named_order.exact u.sums v.sums p.0)
+    ∙ (ap (λ (z : ℤ). let r : LongVector = record { sums = v.sums; since_rest = z; history = u.history } in r) (int-exact u.since_rest v.since_rest q.0)
+    ∙ ap (λ (z : List (ℤ × ℤ)). let r : LongVector = record { sums = v.sums; since_rest = v.since_rest; history = z } in r) (lists_exact period_cmp pair_exact u.history v.history q.1))
 
 from-order : (o : Ordering) (e x : Entry) (xs ys : Entries) (z : Entry) → (Member ys z → (e ≡ z) ⊎ Member xs z) → Member (choose o (e ∷ x ∷ xs) (x ∷ xs) (x ∷ ys)) z → (e ≡ z) ⊎ Member (x ∷ xs) z
 from-order Less e x xs ys z f m = m
@@ -60,31 +73,31 @@ insert-keeps : (e : Entry) (xs : Entries) (z : Entry) → Member xs z → Member
 insert-keeps e [] z m = absurd m
 insert-keeps e (x ∷ xs) z m = keep-order (vector_cmp e.0 x.0) e x xs (insert e xs) z (insert-keeps e xs z) m
 
-abbrev Has : PairingVector → Entries → Type 0
+abbrev Has : LongVector → Entries → Type 0
 Has v es = (w : List (List Leg)) × Member es (v, w)
 
 has-order : (o : Ordering) (e x : Entry) (xs ys : Entries) → vector_cmp e.0 x.0 ≡ o → Has e.0 ys → Has e.0 (choose o (e ∷ x ∷ xs) (x ∷ xs) (x ∷ ys))
 has-order Less e x xs ys q h = (e.1, inl refl)
-has-order Equal e x xs ys q h = (x.1, inl (ap (λ (v : PairingVector). let z : Entry = (v, x.1) in z) (sym (named_order.exact e.0 x.0 q))))
+has-order Equal e x xs ys q h = (x.1, inl (ap (λ (v : LongVector). let z : Entry = (v, x.1) in z) (sym (exact e.0 x.0 q))))
 has-order Greater e x xs ys q h = (h.0, inr h.1)
 
 insert-has : (e : Entry) (xs : Entries) → Has e.0 (insert e xs)
 insert-has e [] = (e.1, inl refl)
 insert-has e (x ∷ xs) = has-order (vector_cmp e.0 x.0) e x xs (insert e xs) refl (insert-has e xs)
 
-abbrev After : PairingVector → Entries → Type 0
+abbrev After : LongVector → Entries → Type 0
 After v es = Each (λ l. vector_cmp v l.0 ≡ Less) es
 
-after-order : (o : Ordering) (v : PairingVector) (e x : Entry) (xs ys : Entries) → vector_cmp v e.0 ≡ Less → After v (x ∷ xs) → After v ys → After v (choose o (e ∷ x ∷ xs) (x ∷ xs) (x ∷ ys))
+after-order : (o : Ordering) (v : LongVector) (e x : Entry) (xs ys : Entries) → vector_cmp v e.0 ≡ Less → After v (x ∷ xs) → After v ys → After v (choose o (e ∷ x ∷ xs) (x ∷ xs) (x ∷ ys))
 after-order Less v e x xs ys q h k = (q, h)
 after-order Equal v e x xs ys q h k = h
 after-order Greater v e x xs ys q h k = (h.0, k)
 
-insert-after : (v : PairingVector) (e : Entry) (xs : Entries) → vector_cmp v e.0 ≡ Less → After v xs → After v (insert e xs)
+insert-after : (v : LongVector) (e : Entry) (xs : Entries) → vector_cmp v e.0 ≡ Less → After v xs → After v (insert e xs)
 insert-after v e [] q h = (q, tt)
 insert-after v e (x ∷ xs) q h = after-order (vector_cmp e.0 x.0) v e x xs (insert e xs) q h (insert-after v e xs q h.1)
 
-after-less : (u v : PairingVector) (xs : Entries) → vector_cmp u v ≡ Less → After v xs → After u xs
+after-less : (u v : LongVector) (xs : Entries) → vector_cmp u v ≡ Less → After v xs → After u xs
 after-less u v [] q h = tt
 after-less u v (x ∷ xs) q h = (vector-total.trans u v x.0 q h.0, after-less u v xs q h.1)
 
@@ -105,7 +118,7 @@ sorted-from : (es : Entries) (z : Entry) → Member (sorted es) z → Member es 
 sorted-from [] z m = m
 sorted-from (e ∷ es) z m = ⊎_elim inl (λ k. inr (sorted-from es z k)) (insert-from e (sorted es) z m)
 
-sorted-has : (es : Entries) (v : PairingVector) (w : List (List Leg)) → Member es (v, w) → Has v (sorted es)
+sorted-has : (es : Entries) (v : LongVector) (w : List (List Leg)) → Member es (v, w) → Has v (sorted es)
 sorted-has [] v w m = absurd m
 sorted-has (e ∷ es) v w m =
     ⊎_elim
@@ -116,10 +129,10 @@ sorted-has (e ∷ es) v w m =
 -- each node has a front in order of vector
 pub rising-front : (s : Settings) (t : Timetable) → IsChecked s → IsSound t → (n : DutyNode) → IsNodeOf s t n → (f : Entries) × IsFrontOf s t n f
 rising-front s t checked sound n is =
-    let some = some-front s t n.base is.price checked sound n.duty is.legal in
+    let some = node-front s s.fdp_total t n.base is.price (checked-in-range s checked) sound n.duty is.legal in
     let es = some.0 in
     let f = some.1 in
-    let front : IsFrontAt s t n.base is.price n.duty (sorted es) = record {
+    let front : IsFrontAt s s.fdp_total t n.base is.price n.duty (sorted es) = record {
       clean = λ v w m. f.clean v w (sorted-from es (v, w) m);
       undominated = λ v w m. f.undominated v w (sorted-from es (v, w) m);
       least = λ v w y m c. f.least v w y (sorted-from es (v, w) m) c;

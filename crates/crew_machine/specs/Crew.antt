@@ -5,6 +5,10 @@ use Rattle.std.specs.FinMap as fin
 use Rattle.std.specs.Ordering.{then_cmp}
 use Rattle.std.specs.declared.cmp.Ordering.{Ordering}
 use Rattle.std.specs.declared.cmp.Ordering.TheVariants.{Less}
+use Rattle.crew_answers.specs.Bests.{IsBest}
+use Rattle.crew_answers.specs.Fronts.{IsFrontAt, RiseByVector}
+use Rattle.crew_answers.specs.Locals.{Feed, IsLocalAt}
+use Rattle.crew_answers.specs.LongVectors.{LongVector}
 use Rattle.crew_flights.specs.Codes.{code_cmp}
 use Rattle.crew_flights.specs.Fold.{fold_of}
 use Rattle.crew_flights.specs.Timetable.{Timetable}
@@ -18,12 +22,9 @@ use Rattle.crew_pairing.specs.Legs.{Leg}
 use Rattle.crew_pairing.specs.Pairings.{IsDuty, may_stand_after}
 use Rattle.crew_pairing.specs.Vectors.{reduced_cost}
 use Rattle.crew_pairing.specs.declared.duty.Duty.{Duty}
-use Rattle.crew_pairing.specs.declared.vector.PairingVector.{PairingVector}
 use Rattle.crew_resource.specs.Members.{Each, Member}
 use Rattle.crew_rules.specs.declared.settings.Settings.{Settings}
-use Rattle.crew_vector.specs.Bests.{IsBest, NoDearer}
-use Rattle.crew_vector.specs.Fronts.{IsFrontAt, RiseByVector}
-use Rattle.crew_vector.specs.Locals.{Feed, IsLocalAt}
+use Rattle.crew_vector.specs.Bests.{NoDearer}
 use Rattle.crew_vector.specs.declared.priced.PricedPairing.{PricedPairing}
 
 -- a crew base, and a duty with all its facts
@@ -47,7 +48,7 @@ pub record Inputs : Type 0 where
 
 -- the entries of a front: vectors, each with its walk
 abbrev pub Entries : Type 0
-Entries = List (PairingVector × List (List Leg))
+Entries = List (LongVector × List (List Leg))
 
 abbrev pub DutyWork : Type 0
 DutyWork = Work DutyNode Inputs Entries
@@ -72,7 +73,7 @@ pub record IsFrontOf (s : Settings) (t : Timetable) (n : DutyNode) (entries : En
     0 where
   pub price : ℤ
   pub based : fin.get t.bases n.base ≡ Some price
-  pub front : IsFrontAt s t n.base price n.duty entries
+  pub front : IsFrontAt s s.fdp_total t n.base price n.duty entries
   pub rises : RiseByVector entries
 
 -- the duties of nodes, each with the node's front
@@ -83,12 +84,12 @@ feed_of before = map (λ b. (b.0.duty, b.1)) before
 pub record IsLocalOf (job : DutyWork) (entries : Entries) : Type 0 where
   pub price : ℤ
   pub based : job.input.price ≡ Some price
-  pub local : IsLocalAt job.input.settings job.node.base price job.node.duty (feed_of job.before)
-      entries
+  pub local : IsLocalAt job.input.settings job.input.settings.fdp_total job.node.base price
+      job.node.duty (feed_of job.before) entries
   pub rises : RiseByVector entries
 
 -- an entry of a node whose duty arrives at its base
-pub record ComesHome (fronts : List (DutyNode × Entries)) (base : List ℕ) (v : PairingVector)
+pub record ComesHome (fronts : List (DutyNode × Entries)) (base : List ℕ) (v : LongVector)
     (w : List (List Leg)) : Type 0 where
   pub duty : Duty
   pub entries : Entries
@@ -97,23 +98,23 @@ pub record ComesHome (fronts : List (DutyNode × Entries)) (base : List ℕ) (v 
   pub held : Member entries (v, w)
 
 -- the pairing of an entry that comes home
-abbrev pub pairing_of : Settings → List ℕ → PairingVector → List (List Leg) → PricedPairing
+abbrev pub pairing_of : Settings → List ℕ → LongVector → List (List Leg) → PricedPairing
 pairing_of s base v w = record {
   base = base;
   walk = w;
-  cost = reduced_cost v;
-  pay = reduced_cost v +ℤ (pos s.trip_rig *ℤ v.away -ℤ v.trip_rig);
-  away = v.away;
+  cost = reduced_cost v.sums;
+  pay = reduced_cost v.sums +ℤ (pos s.trip_rig *ℤ v.sums.away -ℤ v.sums.trip_rig);
+  away = v.sums.away;
 }
 
 -- the least, by cost and walk, of the entries that come home; none where none does
 abbrev pub IsLeastOf : Settings → List (DutyNode × Entries) → Option PricedPairing → Type 0
-IsLeastOf s fronts None = (base : List ℕ) (v : PairingVector) (w : List (List Leg))
+IsLeastOf s fronts None = (base : List ℕ) (v : LongVector) (w : List (List Leg))
     → ComesHome fronts base v w → ⊥
-IsLeastOf s fronts (Some p) = ((base : List ℕ) × (v : PairingVector) × (w : List (List Leg))
+IsLeastOf s fronts (Some p) = ((base : List ℕ) × (v : LongVector) × (w : List (List Leg))
     × ComesHome fronts base v w × (p ≡ pairing_of s base v w))
-    × ((base : List ℕ) (v : PairingVector) (w : List (List Leg)) → ComesHome fronts base v w
-    → NoDearer p.cost p.walk (reduced_cost v) w)
+    × ((base : List ℕ) (v : LongVector) (w : List (List Leg)) → ComesHome fronts base v w
+    → NoDearer p.cost p.walk (reduced_cost v.sums) w)
 
 abbrev pub crew : Settings → World Entry Timetable DutyNode Inputs Entries PricedPairing
 crew s = record {
@@ -127,7 +128,7 @@ crew s = record {
   IsFront = IsFrontOf s;
   IsLocal = IsLocalOf;
   IsLeast = IsLeastOf s;
-  IsBest = IsBest s;
+  IsBest = IsBest s s.fdp_total;
 }
 
 abbrev pub CrewVersion : Type 0
@@ -155,8 +156,8 @@ pub record IsFromScratch (s : Settings) (v : CrewVersion) : Type 0 where
       → fin.get (timetable_of v.entries).bases base ≡ Some price
       → IsDuty s (flights_of (timetable_of v.entries)) d
       → (entries : Entries) × Member v.fronts (record { base = base; duty = d }, entries)
-      × IsFrontAt s (timetable_of v.entries) base price d entries
+      × IsFrontAt s s.fdp_total (timetable_of v.entries) base price d entries
   pub only : (n : DutyNode) (entries : Entries) → Member v.fronts (n, entries)
       → IsNodeOf s (timetable_of v.entries) n × IsFrontOf s (timetable_of v.entries) n entries
-  pub best : IsBest s (timetable_of v.entries) v.best
+  pub best : IsBest s s.fdp_total (timetable_of v.entries) v.best
   pub few : HasFew s (timetable_of v.entries)

@@ -79,8 +79,8 @@ impl Solution {
         &self.net
     }
 
-    // The fronts of all bases.
-    pub(crate) fn fronts(&self) -> &[Arc<BaseFronts, Global>]
+    /// The fronts of all bases, in order of code.
+    pub fn fronts(&self) -> &[Arc<BaseFronts, Global>]
         ensures all { map arc_value result.now ≡ self.now.sweeps }
         ensures nets { Each (λ b. b.net ≡ self.now.net) self.now.sweeps }
     {

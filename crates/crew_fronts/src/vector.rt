@@ -1,0 +1,75 @@
+//! What a front shows of a pairing.
+ghost use Rattle.std.specs.Prelude.{◌≡◌, ◌↔◌, IsTrue};
+ghost use Rattle.crew_history.specs.HistoryValues.{periods_of};
+
+use crew_history::History;
+use crew_pairing::PairingVector;
+use std::marker::Model;
+
+/// The vector of a list of duties: the seven sums, the minutes since the last long rest, and the
+/// flight duty periods of the last window. Where no pairing of the settings has more than 138 hours
+/// the last two are the same for all lists.
+///
+/// A contract sees the vector.
+#[derive(Drop)]
+pub struct Vector {
+    sums: PairingVector,
+    since_rest: i64,
+    history: History,
+}
+
+impl Model for Vector {
+    ghost use Rattle.std.specs.Coded.{codes};
+    ghost use Rattle.crew_answers.specs.LongVectors.{LongVector};
+    ghost use Rattle.crew_history.specs.HistoryValues.{periods_of};
+    ghost use Rattle.crew_history.specs.contracts.history.History as kept;
+
+    ghost Value = { LongVector };
+
+    ghost coded = { Prim.hlevel (codes, kept.the_row.coded) };
+
+    ghost view = { λ v. record {
+      sums = v.sums;
+      since_rest = v.since_rest;
+      history = periods_of v.history;
+    } };
+
+    ghost invariant = { λ v. ⊥ };
+}
+
+impl Vector {
+    /// The seven sums.
+    pub fn sums(&self) -> &PairingVector
+        ensures { result.now ≡ self.now.sums }
+    {
+        &self.sums
+    }
+
+    /// The minutes from the end of the last rest of 1,800 minutes or more, or from the first report,
+    /// to the last report; 0 where no pairing of the settings has more than 138 hours.
+    pub fn since_rest(&self) -> i64
+        ensures { result ≡ self.now.since_rest }
+    {
+        self.since_rest
+    }
+
+    /// An equal vector.
+    pub fn copy(&self) -> Vector
+        ensures { result ≡ self.now }
+    {
+        Vector {
+            sums: self.sums,
+            since_rest: self.since_rest,
+            history: self.history,
+        }
+    }
+
+    /// Whether another vector has the same parts.
+    pub fn is_same(&self, other: &Vector) -> bool
+        ensures { IsTrue result ↔ (self.now ≡ other.now) }
+    {
+        self.sums == other.sums
+            && self.since_rest == other.since_rest
+            && self.history == other.history
+    }
+}

@@ -1,0 +1,47 @@
+-- The pairings that fronts show, and those of them that cost least.
+use Rattle.std.specs.Prelude.{◌≡◌, ◌⊎◌, ◌≤◌, ℕ, List, [], ◌∷◌, length}
+use Rattle.std.specs.Cmp.{IsTotalOrder, int_cmp_total, on_total, then_total}
+use Rattle.std.specs.Ordering.{int_cmp, then_cmp}
+use Rattle.std.specs.declared.cmp.Ordering.{Ordering}
+use Rattle.std.specs.declared.cmp.Ordering.TheVariants.{Less}
+use Rattle.crew_answers.specs.Bests.{IsPairing}
+use Rattle.crew_answers.specs.Fronts.{IsFrontAt}
+use Rattle.crew_answers.specs.LongVectors.{LongVector, long_vector_of}
+use Rattle.crew_flights.specs.Timetable.{Timetable}
+use Rattle.crew_pairing.specs.Keys.{walk_cmp, walk_total}
+use Rattle.crew_pairing.specs.Legs.{Leg}
+use Rattle.crew_pairing.specs.Pairings.{last_duty}
+use Rattle.crew_resource.specs.Members.{Each, Member}
+use Rattle.crew_rules.specs.declared.settings.Settings.{Settings}
+use Rattle.crew_vector.specs.declared.priced.PricedPairing.{PricedPairing}
+
+-- a pairing that a front shows: its vector and its walk are an entry of the front of its base and
+-- its last duty
+pub record IsShown (s : Settings) (t : Timetable) (p : PricedPairing) : Type 0 where
+  pub pairing : IsPairing s s.fdp_total t p
+  pub front : List (LongVector × List (List Leg))
+  pub exact : IsFrontAt s s.fdp_total t p.base pairing.price
+      (last_duty pairing.first pairing.others) front
+  pub held : Member front (long_vector_of s pairing.price pairing.first pairing.others, p.walk)
+
+-- by cost, and then by walk; a walk tells its base
+abbrev pub pairing_cmp : PricedPairing → PricedPairing → Ordering
+pairing_cmp = then_cmp (λ p q. int_cmp p.cost q.cost) (λ p q. walk_cmp p.walk q.walk)
+
+pub pairing_total : IsTotalOrder pairing_cmp
+pairing_total = then_total (on_total (λ p. p.cost) int_cmp_total) (on_total (λ p. p.walk) walk_total)
+
+-- each stands before all later ones by its cost and walk
+abbrev pub RiseByCost : List PricedPairing → Type 0
+RiseByCost [] = Unit {0}
+RiseByCost (p ∷ ps) = Each (λ later. pairing_cmp p later ≡ Less) ps × RiseByCost ps
+
+-- of the pairings of all bases that fronts show those that come first by cost and walk: as many as
+-- the limit, or all where there are no more
+pub record AreCheapest (s : Settings) (t : Timetable) (limit : ℕ) (ps : List PricedPairing) : Type
+    0 where
+  pub rise : RiseByCost ps
+  pub few : length ps ≤ limit
+  pub shown : (p : PricedPairing) → Member ps p → IsShown s t p
+  pub least : (q : PricedPairing) → IsShown s t q → Member ps q
+      ⊎ ((length ps ≡ limit) × Each (λ p. pairing_cmp p q ≡ Less) ps)

@@ -1,0 +1,5 @@
+pub mod Plans
+pub mod Solutions
+pub mod Cheapest
+pub mod Apart
+pub mod Machinery

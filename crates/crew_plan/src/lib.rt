@@ -1,0 +1,15 @@
+//! What a timetable gives: the fronts of all bases and legal duties, and the best pairing, for
+//! pairings of up to 240 hours; and the pairings that cost least.
+//!
+//! A `Plan` has what the passes over the bases share, so that threads can make the fronts of one base
+//! each, in any order, beside those of an earlier solution; a `Solution` has the fronts of all bases,
+//! and promises that what they show is what enumerating all legal pairings gives (`crew_answers`).
+//! Where no pairing of the settings has more than 138 hours the work is `crew_solve`'s, else
+//! `crew_pass`'s. `laws` has that the pairings that cost least are one list.
+#![tactic(auto)]
+
+mod plan;
+mod solution;
+
+pub use plan::Plan;
+pub use solution::Solution;

@@ -1,0 +1,156 @@
+//! What a timetable gives.
+ghost use Rattle.std.specs.Arc.{arc_value};
+ghost use Rattle.std.specs.Option.{option_copied};
+ghost use Rattle.std.specs.Prelude.{◌≡◌, IfOk, IfSome, None, map};
+ghost use Rattle.crew_answers.specs.Bests.{AreFronts};
+ghost use Rattle.crew_flights.specs.Timetable.{IsSound, Timetable};
+ghost use Rattle.crew_fronts.specs.Fronts.{front_at};
+ghost use Rattle.crew_pairing.specs.declared.duty.Duty.{Duty as DutyOf};
+ghost use Rattle.crew_plan.specs.Apart.{AreApart};
+ghost use Rattle.crew_plan.specs.Cheapest.{AreCheapest};
+ghost use Rattle.crew_plan.specs.Plans.{AreAllIn, IsSolutionIn};
+ghost use Rattle.crew_plan.specs.Solutions.{HasNetOf, IsFrontOf, front_of};
+ghost use Rattle.crew_resource.specs.Members.{Member};
+ghost use Rattle.crew_rules.specs.Settings.{IsChecked};
+ghost use Rattle.crew_rules.specs.declared.settings.Settings.{Settings};
+
+use crate::plan::Plan;
+use crew_flights::Code;
+use crew_fronts::{BaseFronts, FrontView};
+use crew_net::{Net, Node};
+use crew_pairing::Key;
+use crew_vector::PricedPairing;
+use std::alloc::{AllocError, Global};
+use std::marker::Model;
+use std::sync::Arc;
+
+/// The fronts of all bases and legal duties of a timetable, and its best pairing.
+///
+/// A contract sees the network, the fronts of each base, and the best.
+#[derive(Drop)]
+pub struct Solution {
+    net: Arc<Net, Global>,
+    bases: Vec<Arc<BaseFronts, Global>>,
+    best: Option<PricedPairing>,
+}
+
+impl Model for Solution {
+    ghost use Rattle.std.specs.Coded.{codes};
+    ghost use Rattle.std.specs.Prelude.{map};
+    ghost use Rattle.crew_fronts.specs.contracts.base_fronts.BaseFronts as fronts;
+    ghost use Rattle.crew_plan.specs.Solutions as Spec;
+    ghost use Rattle.crew_plan.specs.Machinery.Kept.{IsSolved};
+
+    ghost Value = { Spec.Solution };
+
+    ghost coded = { Prim.hlevel (codes, fronts.the_row.coded) };
+
+    ghost view = { λ s. record {
+      net = s.net.value;
+      bases = map (λ a. a.value) s.bases.items;
+      best = s.best;
+    } };
+
+    ghost invariant = { λ s. ⊥ };
+}
+
+// The fronts of a base, where some are there.
+fn fronts_of(bases: &[Arc<BaseFronts, Global>], base: Code) -> Option<&Arc<BaseFronts, Global>> {
+    for fronts in bases {
+        if fronts.base() == base {
+            return Some(fronts);
+        }
+    }
+    None
+}
+
+impl Solution {
+    /// The solution of a plan, given the fronts of each of its bases in order.
+    pub fn of(
+        _alloc: Global,
+        plan: &Plan,
+        fronts: Vec<Arc<BaseFronts, Global>>,
+    ) -> Result<Solution, AllocError>
+        requires { AreAllIn plan.now (map arc_value fronts.items) }
+        ensures { IfOk result (IsSolutionIn plan.now) }
+    {
+        Err(AllocError)
+    }
+
+    /// The network.
+    pub fn net(&self) -> &Net
+        ensures { result.now ≡ self.now.net }
+    {
+        &self.net
+    }
+
+    /// The best pairing, if there is one.
+    pub fn best(&self) -> Option<&PricedPairing>
+        ensures { option_copied result ≡ self.now.best }
+    {
+        self.best.as_ref()
+    }
+
+    /// The best pairing alone, if there is one.
+    pub fn into_best(self) -> Option<PricedPairing>
+        ensures { result ≡ self.best }
+    {
+        self.best
+    }
+
+    /// Of the pairings of all bases that the fronts show those that come first by cost and walk: as
+    /// many as the limit, or all where there are no more. The settings and the timetable are those
+    /// whose network and fronts these are.
+    pub fn cheapest(&self, _alloc: Global, limit: usize) -> Result<Vec<PricedPairing>, AllocError>
+        ensures { IfOk result (λ pairings. (s : Settings) (t : Timetable) → IsChecked s → IsSound t
+            → HasNetOf s t self.now → AreFronts s s.fdp_total t (front_of self.now)
+            → AreCheapest s t limit pairings.items) }
+    {
+        Err(AllocError)
+    }
+
+    /// Of all pairings that the fronts show, by cost and walk, the first that are taken, up to a limit:
+    /// one after another each is taken unless so many as the share are taken already that fly a
+    /// flight that it flies. The settings and the timetable are those whose network and fronts these
+    /// are.
+    pub fn apart(
+        &self,
+        _alloc: Global,
+        limit: usize,
+        share: u32,
+    ) -> Result<Vec<PricedPairing>, AllocError>
+        ensures { IfOk result (λ pairings. (s : Settings) (t : Timetable) → IsChecked s → IsSound t
+            → HasNetOf s t self.now → AreFronts s s.fdp_total t (front_of self.now)
+            → AreApart s t limit share pairings.items) }
+    {
+        Err(AllocError)
+    }
+
+    /// The fronts of a base; `None` where the code is no base.
+    pub fn base(&self, base: Code) -> Option<&BaseFronts>
+        ensures own { IfSome result (λ found. (found.now.base ≡ base)
+            × (found.now.net ≡ self.now.net)) }
+        ensures fronts { IfSome result (λ found. (d : DutyOf)
+            → front_of self.now base d ≡ front_at found.now d) }
+        ensures none { result ≡ None → Member self.now.net.bases base → ⊥ }
+    {
+        match fronts_of(&self.bases, base) {
+            Some(found) => Some(&**found),
+            None => None,
+        }
+    }
+
+    /// The front of a base and the duty of a key, in order of vector: each vector with its walk.
+    /// `None` where the code is no base or the key is no legal duty's. It takes no memory.
+    pub fn front(&self, base: Code, key: &Key) -> Option<FrontView<'_>>
+        ensures { IsFrontOf self.now base key.now result }
+    {
+        let node = Node {
+            base,
+            key: key.copy(),
+        };
+        let rank = self.net.rank(&node)?;
+        let fronts = fronts_of(&self.bases, base)?;
+        Some(fronts.front(rank))
+    }
+}
