@@ -1,2 +1,6 @@
 -- What only the code and its proofs speak of.
+pub mod Listed
 pub mod Kept
+pub mod Walks
+pub mod Lent
+pub mod Kinds
