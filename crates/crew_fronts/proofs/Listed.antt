@@ -128,19 +128,21 @@ then-less Greater p q = absurd (let z : ⊥ = (cc) in z)
 
 pub rise-listed : (es : List Entry) → Rising entry_cmp es → ((v : PairingVector) (w y : List (List Leg)) → Member es (v, w) → Member es (v, y) → w ≡ y) → RiseByVector es
 rise-listed [] h one = tt
-rise-listed (e ∷ es) h one =
-    (each-of (λ y. vector_cmp e.0 y.0 ≡ Less) es (λ y m.
-    let before = each-at (λ y. entry_cmp e y ≡ Less) es y h.0 m in
-    ⊎_elim {C = vector_cmp e.0 y.0 ≡ Less}
-    (λ q. q)
-    (λ q.
-    let v : e.0 ≡ y.0 = named_order.exact e.0 y.0 q.0 in
-    let w : e.1 ≡ y.1 = one e.0 e.1 y.1 (inl refl) (inr (subst (λ z. Member es (z, y.1)) (sym v) m)) in
-    let same : e ≡ y = ap (λ z. (z, e.1)) v ∙ ap (λ z. (y.0, z)) w in
-    let itself : entry_cmp e e ≡ Less = subst (λ z. entry_cmp e z ≡ Less) (sym same) before in
-    let tied : Less ≡ ordering_reverse Less = sym itself ∙ (entry-total.antisymm e e ∙ ap ordering_reverse itself) in
-    absurd (let z : ⊥ = (cc) in z))
-    (then-less (vector_cmp e.0 y.0) (walk_cmp e.1 y.1) before)), rise-listed es h.1 (λ v w y m n. one v w y (inr m) (inr n)))
+rise-listed (e ∷ es) h one = (
+  each-of (λ y. vector_cmp e.0 y.0 ≡ Less) es (λ y m.
+      let before = each-at (λ y. entry_cmp e y ≡ Less) es y h.0 m in
+      ⊎_elim {C = vector_cmp e.0 y.0 ≡ Less}
+      (λ q. q)
+      (λ q.
+      let v : e.0 ≡ y.0 = named_order.exact e.0 y.0 q.0 in
+      let w : e.1 ≡ y.1 = one e.0 e.1 y.1 (inl refl) (inr (subst (λ z. Member es (z, y.1)) (sym v) m)) in
+      let same : e ≡ y = ap (λ z. (z, e.1)) v ∙ ap (λ z. (y.0, z)) w in
+      let itself : entry_cmp e e ≡ Less = subst (λ z. entry_cmp e z ≡ Less) (sym same) before in
+      let tied : Less ≡ ordering_reverse Less = sym itself ∙ (entry-total.antisymm e e ∙ ap ordering_reverse itself) in
+      absurd (let z : ⊥ = (cc) in z))
+      (then-less (vector_cmp e.0 y.0) (walk_cmp e.1 y.1) before)),
+  rise-listed es h.1 (λ v w y m n. one v w y (inr m) (inr n)),
+)
 
 pub listed-rise : (es : List Entry) → ((v : PairingVector) (w y : List (List Leg)) → Member es (v, w) → Member es (v, y) → w ≡ y) → RiseByVector (listed es)
 listed-rise es one = rise-listed (listed es) (listed-rising es) (λ v w y m n. one v w y (listed-out es (v, w) m) (listed-out es (v, y) n))

@@ -7,13 +7,16 @@
 //! vector, and lends them without taking memory.
 #![tactic(auto)]
 
+mod base_fronts;
 mod front_view;
 mod passed_front;
+mod passed_fronts;
 mod passed_walk;
 mod plain;
 mod vector;
 mod walk_view;
 
+pub use base_fronts::BaseFronts;
 pub use front_view::{FrontEntries, FrontView};
 pub use plain::is_plain;
 pub use vector::Vector;

@@ -3,6 +3,7 @@ ghost use Rattle.std.specs.Prelude.{◌≡◌, length};
 ghost use Rattle.std.specs.Iterator.{YieldsFirst, item_count};
 ghost use Rattle.crew_answers.specs.Shown as Shown;
 ghost use Rattle.crew_fronts.specs.Machinery.Lent as Spec;
+ghost use Rattle.crew_fronts.specs.Machinery.Values.{IsReal};
 
 use crate::passed_walk::PassedWalk;
 use crate::vector::Vector;
@@ -40,7 +41,7 @@ impl<'a> Model for PassedFront<'a> {
 // The minutes since the last long rest of a list of duties that ends with one, by its value.
 #[inline]
 fn since_rest(settings: &Settings, duty: &Duty, value: &LongValue) -> i64
-    requires { Spec.IsDated value.now }
+    requires { IsReal value.now.rest_end.minute }
     ensures { result ≡ (Shown.shown settings.now duty.now value.now).since_rest }
 {
     if settings.away_cap > 8_280 {
@@ -53,7 +54,7 @@ fn since_rest(settings: &Settings, duty: &Duty, value: &LongValue) -> i64
 // The vector of a list of duties that ends with one, by its value.
 #[inline]
 fn shown(settings: &Settings, duty: &Duty, value: &LongValue) -> Vector
-    requires { Spec.IsDated value.now }
+    requires { IsReal value.now.rest_end.minute }
     ensures { result ≡ Shown.shown settings.now duty.now value.now }
 {
     let since_rest = since_rest(settings, duty, value);

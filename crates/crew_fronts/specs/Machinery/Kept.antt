@@ -1,15 +1,21 @@
 -- What the fronts of a base keep, and what they show.
-use Rattle.std.specs.Prelude.{◌≡◌, ◌≤◌, ℕ, ℤ, false, List, Option, Some, None, [], length, map, slice_get}
+use Rattle.std.specs.Prelude.{◌≡◌, ◌<◌, ℕ, ℤ, false, List, Option, Some, None, [], get_or, length, map, slice_get}
 use Rattle.std.specs.List.{range_with_len}
 use Rattle.crew_answers.specs.LongVectors.{is_long}
 use Rattle.crew_answers.specs.Schedules.{IsDated}
 use Rattle.crew_answers.specs.ShortPairings.{with_no_pasts}
 use Rattle.crew_answers.specs.Shown.{shown_entries}
 use Rattle.crew_answers.specs.declared.value.LongValue.{LongValue}
+use Rattle.crew_answers.proofs.LongListed.{value_cmp}
 use Rattle.crew_flights.specs.Timetable.{IsSound, Timetable}
 use Rattle.crew_fronts.specs.Fronts.{BaseFronts, Entries, ShowsFronts, is_plain}
 use Rattle.crew_fronts.specs.Machinery.Listed.{listed}
-use Rattle.crew_pairing.specs.Duties.{AreDuties, RiseByKey}
+use Rattle.crew_fronts.specs.Machinery.Values.{IsValue}
+use Rattle.crew_label.specs.Pools.{AreRising}
+use Rattle.crew_label.specs.Tables.{trail_in}
+use Rattle.crew_label.specs.Walks.{walk_of}
+use Rattle.crew_label.specs.declared.label.Label.{Label}
+use Rattle.crew_pairing.specs.Duties.{AreDuties}
 use Rattle.crew_pairing.specs.Events as Events
 use Rattle.crew_pairing.specs.declared.duty.Duty.{Duty}
 use Rattle.crew_pass.specs.Passes.{BasePass, keyed_entries}
@@ -42,3 +48,23 @@ fronts_of_pass base price p = record {
   fronts = map (λ rank. passed_front p rank (slice_get p.net.duties rank))
       (range_with_len 0 (length p.net.duties));
 }
+
+-- its labels have values of their walks
+abbrev pub AreValued : BasePass LongValue → Type 0
+AreValued p = (rank : ℕ) (l : Label LongValue) → rank < length p.net.duties
+    → Member (get_or p.fronts rank []) l → IsValue (is_long p.net.settings) l.value (length (walk_of (trail_in p.turns p.pools) l.before))
+
+-- they are listed by value
+abbrev pub AreListed : BasePass LongValue → Type 0
+AreListed p = (rank : ℕ) → rank < length p.net.duties
+    → AreRising value_cmp (get_or p.fronts rank [])
+
+-- a pass of settings that need more than the seven sums, right in each timetable whose legal duties
+-- its network has
+pub record IsPassed (base : List ℕ) (price : ℤ) (p : BasePass LongValue) : Type 0 where
+  pub long : is_plain p.net.settings ≡ false
+  pub sound : (d : Duty) → Member p.net.duties d → Events.IsSound d
+  pub valued : AreValued p
+  pub listed : AreListed p
+  pub right : (t : Timetable) → IsSound t → IsDated t
+      → AreDuties p.net.settings t p.net.duties → ShowsFronts t (fronts_of_pass base price p)

@@ -1,8 +1,9 @@
 -- The labels of a pass's fronts as they are lent.
-use Rattle.std.specs.Prelude.{◌≡◌, ◌<◌, ◌≤ℤ◌, ℕ, pos, List, length, map}
+use Rattle.std.specs.Prelude.{◌≡◌, ◌<◌, ℕ, pos, List, length, map}
 use Rattle.crew_answers.specs.Shown.{shown_entries}
 use Rattle.crew_answers.specs.declared.value.LongValue.{LongValue}
 use Rattle.crew_fronts.specs.Fronts.{Entries}
+use Rattle.crew_fronts.specs.Machinery.Values.{IsReal}
 use Rattle.crew_label.specs.Tables.{Tabled, leads_in, trail_in}
 use Rattle.crew_label.specs.Walks.{Leads, shown, walk_of}
 use Rattle.crew_label.specs.declared.label.Label.{Label}
@@ -25,17 +26,13 @@ abbrev pub label_entries : Tabled LongValue → List Duty → Settings → Duty 
 label_entries t duties s d labels =
     shown_entries s d (by_key duties (map (shown (trail_in t.leaves t.pools)) labels))
 
--- the end of its last rest is dated
-pub record IsDated (v : LongValue) : Type 0 where
-  pub least : pos 0 ≤ℤ v.rest_end.minute
-  pub most : v.rest_end.minute ≤ℤ pos 2_000_000_000
-
--- its link leads to a label, its walk is of duties that have ranks, as many as its value counts
+-- its link leads to a label, its walk is of duties that have ranks, as many as its value counts,
+-- and its last rest ended at a report
 pub record IsRead (t : Tabled LongValue) (duties : List Duty) (l : Label LongValue) : Type 0 where
   pub leading : Leads (leads_in t.leaves t.pools) l.before
   pub ranked : Each (λ rank. rank < length duties) (ranked_walk t l)
   pub counts : l.value.sums.duties ≡ pos (length (ranked_walk t l))
-  pub dated : IsDated l.value
+  pub real : IsReal l.value.rest_end.minute
 
 abbrev pub AreRead : Tabled LongValue → List Duty → List (Label LongValue) → Type 0
 AreRead t duties labels = (l : Label LongValue) → Member labels l → IsRead t duties l

@@ -1,4 +1,4 @@
-use Rattle.std.proofs.Common.{◌≡◌, ◌∙◌, ◌&&◌, Bool, true, false, ℤ, ap, sym, refl}
+use Rattle.std.proofs.Common.{◌≡◌, ◌∙◌, ◌&&◌, ℤ, ap, sym, refl}
 use Rattle.std.proofs.lemmas.Bool.{and_from, and_parts}
 use Rattle.std.specs.Ordering.{int_eq}
 use Rattle.std.proofs.lemmas.Bool.Decides.{Decides-eqb, Decides-int_eq}
@@ -22,6 +22,6 @@ returns c =
     let arrays = slice_eq-Decides pair-decides a.periods b.periods _ refl in (
       λ t. let k = and_parts _ _ (sym c.eq.ensures ∙ t) in ap periods_of (same_fields a b (arrays.0 k.0) ((Decides-eqb a.len b.len).0 k.1)),
       λ e.
-        let same = same_value a b e in
-        c.eq.ensures ∙ and_from _ _ (arrays.1 (ap (λ (h : History). h.periods) same)) ((Decides-eqb a.len b.len).1 (ap (λ (h : History). h.len) same)),
+          let same = same_value a b e in
+          c.eq.ensures ∙ and_from _ _ (arrays.1 (ap (λ (h : History). h.periods) same)) ((Decides-eqb a.len b.len).1 (ap (λ (h : History). h.len) same)),
     )

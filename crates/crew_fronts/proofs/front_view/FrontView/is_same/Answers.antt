@@ -1,4 +1,4 @@
-use Rattle.std.proofs.Common.{◌≡◌, ◌∙◌, ap, sym}
+use Rattle.std.proofs.Common.{◌∙◌, ap, sym}
 use Rattle.crew_answers.specs.ShortPairings.{with_no_pasts}
 use Rattle.crew_fronts.specs.Machinery.Kinds.{entries_of}
 use Rattle.crew_fronts.proofs.Sweeps.{same-sums}
