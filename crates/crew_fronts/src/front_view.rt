@@ -70,13 +70,15 @@ fn is_same_entry(one: &(Vector, WalkView<'_>), other: &(Vector, WalkView<'_>)) -
 fn are_same_entries(mut one: FrontEntries<'_, '_>, mut other: FrontEntries<'_, '_>) -> bool
     ensures { IsTrue result ↔ (one.entry ≡ other.entry) }
 {
-    let Some(entry) = one.next() else {
-        return other.next().is_none();
-    };
-    let Some(other_entry) = other.next() else {
-        return false;
-    };
-    is_same_entry(&entry, &other_entry) && are_same_entries(one, other)
+    while let Some(entry) = one.next() {
+        let Some(other_entry) = other.next() else {
+            return false;
+        };
+        if !is_same_entry(&entry, &other_entry) {
+            return false;
+        }
+    }
+    other.next().is_none()
 }
 
 impl<'a> FrontView<'a> {

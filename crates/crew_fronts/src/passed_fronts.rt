@@ -54,7 +54,7 @@ fn resource_of(settings: &Settings, price: i64) -> LongResource
     LongResource::new(sums, settings)
 }
 
-// The labels of each front are listed by value.
+// Goes over the fronts: the labels of each are listed by value.
 fn list(fronts: &crew_pass::BaseFronts<LongResource>)
     ensures { AreListed fronts.now }
 {

@@ -52,7 +52,8 @@ fronts_of_pass base price p = record {
 -- its labels have values of their walks
 abbrev pub AreValued : BasePass LongValue → Type 0
 AreValued p = (rank : ℕ) (l : Label LongValue) → rank < length p.net.duties
-    → Member (get_or p.fronts rank []) l → IsValue (is_long p.net.settings) l.value (length (walk_of (trail_in p.turns p.pools) l.before))
+    → Member (get_or p.fronts rank []) l → IsValue (is_long p.net.settings) l.value
+    (length (walk_of (trail_in p.turns p.pools) l.before))
 
 -- they are listed by value
 abbrev pub AreListed : BasePass LongValue → Type 0
