@@ -12,7 +12,7 @@ use Rattle.crew_flights.specs.Codes.{code_cmp, code_cmp_total}
 use Rattle.crew_rules.specs.Settings.{IsChecked}
 use Rattle.crew_rules.specs.declared.settings.Settings.{Settings}
 use Rattle.crew_pairing.specs.Legality.{AllConnect, duty_of, flight_time, price_of, release, report, total}
-use Rattle.crew_pairing.specs.Pairings.{is_within_caps, last_duty, may_stand_after, minutes_away}
+use Rattle.crew_pairing.specs.Pairings.{last_duty, may_stand_after, minutes_away}
 use Rattle.crew_pairing.specs.declared.duty.Duty.{Duty}
 use Rattle.crew_pairing.specs.declared.leg.TimedLeg.{TimedLeg}
 use Rattle.crew_resource.specs.Members.{Each}
@@ -20,7 +20,9 @@ use Rattle.crew_pairing.proofs.Sums.{total-push, total-take}
 use Rattle.crew_pairing.proofs.Tree.{Each-member, slice_get-Member}
 use Rattle.crew_pairing.proofs.Paid.{legs-paid}
 use Rattle.crew_pairing.proofs.Times.{AllSound, ends-later, flown-total}
-use Rattle.crew_audit.specs.Machinery.Listing.{comes_back, may_join}
+use Rattle.crew_history.specs.Limits.{arrival}
+use Rattle.crew_audit.specs.Machinery.Endings.{last_window, window_to}
+use Rattle.crew_audit.specs.Machinery.Listing.{comes_back, keeps_totals, may_join}
 use Rattle.crew_audit.specs.Machinery.Ranges.{IsInRange}
 
 pub last_duty-get : (first : Duty) (others : List Duty) (d : Duty) → slice_get (first ∷ others) (length (first ∷ others) - 1) ≡ Some d → last_duty first others ≡ d
@@ -47,6 +49,10 @@ join-none base s (d ∷ ds) first e t =
 pub back-last : (base : List ℕ) (ds : List Duty) (last : Duty) → slice_get ds (length ds - 1) ≡ Some last → eq_by_cmp code_cmp last.to base ≡ comes_back base ds
 back-last base [] last e = cc
 back-last base (first ∷ others) last e = ap (λ (d : Duty). eq_by_cmp code_cmp d.to base) (sym (last_duty-get first others last e))
+
+pub window-last : (ds : List Duty) (last : Duty) → slice_get ds (length ds - 1) ≡ Some last → window_to (arrival last) ds ≡ last_window ds
+window-last [] last e = cc
+window-last (first ∷ others) last e = ap (λ (d : Duty). window_to (arrival d) (first ∷ others)) (sym (last_duty-get first others last e))
 
 pub away-ends : (ds : List Duty) (first last : Duty) → slice_get ds 0 ≡ Some first → slice_get ds (length ds - 1) ≡ Some last → last.release -ℤ first.report ≡ minutes_away ds
 away-ends [] first last e f = cc
@@ -109,18 +115,18 @@ pub both-on : (a b : Bool) → a ≡ true → b ≡ true → a && b ≡ true
 both-on true b e f = f
 both-on false b e f = cc
 
-pub off-fdp : (s : Settings) (ds : List Duty) → pos s.fdp_cap <ℤ total (λ d. d.fdp) ds → false ≡ is_within_caps s ds
+pub off-fdp : (s : Settings) (ds : List Duty) → pos s.fdp_total <ℤ total (λ d. d.fdp) ds → false ≡ keeps_totals s ds
 off-fdp s ds h = sym (first-off _ _ (int-not _ _ h))
 
-pub off-fly : (s : Settings) (ds : List Duty) → pos s.fly_cap <ℤ total (λ d. d.fly) ds → false ≡ is_within_caps s ds
-off-fly s ds h = sym (second-off (int_le (total (λ d. d.fdp) ds) (pos s.fdp_cap)) _ (first-off _ _ (int-not _ _ h)))
+pub off-fly : (s : Settings) (ds : List Duty) → pos s.fly_cap <ℤ total (λ d. d.fly) ds → false ≡ keeps_totals s ds
+off-fly s ds h = sym (second-off (int_le (total (λ d. d.fdp) ds) (pos s.fdp_total)) _ (first-off _ _ (int-not _ _ h)))
 
-pub off-count : (s : Settings) (ds : List Duty) → s.max_duties < length ds → false ≡ is_within_caps s ds
+pub off-count : (s : Settings) (ds : List Duty) → s.max_duties < length ds → false ≡ keeps_totals s ds
 off-count s ds h =
-    sym (second-off (int_le (total (λ d. d.fdp) ds) (pos s.fdp_cap)) _ (second-off (int_le (total (λ d. d.fly) ds) (pos s.fly_cap)) _ (first-off _ _ (nat-not (length ds) s.max_duties h))))
+    sym (second-off (int_le (total (λ d. d.fdp) ds) (pos s.fdp_total)) _ (second-off (int_le (total (λ d. d.fly) ds) (pos s.fly_cap)) _ (first-off _ _ (nat-not (length ds) s.max_duties h))))
 
-pub by-away : (s : Settings) (ds : List Duty) (b : Bool) → total (λ d. d.fdp) ds ≤ℤ pos s.fdp_cap → total (λ d. d.fly) ds ≤ℤ pos s.fly_cap → length ds ≤ s.max_duties → b ≡ int_le (minutes_away ds) (pos s.away_cap)
-    → b ≡ is_within_caps s ds
+pub by-away : (s : Settings) (ds : List Duty) (b : Bool) → total (λ d. d.fdp) ds ≤ℤ pos s.fdp_total → total (λ d. d.fly) ds ≤ℤ pos s.fly_cap → length ds ≤ s.max_duties → b ≡ int_le (minutes_away ds) (pos s.away_cap)
+    → b ≡ keeps_totals s ds
 by-away s ds b x y z e =
     e ∙ sym (third-on _ _ _ _ (int-yes _ _ x) (int-yes _ _ y) (int-yes (pos (length ds)) (pos s.max_duties) (omega (arith, ints))))
   where
@@ -131,12 +137,12 @@ by-away s ds b x y z e =
     third-on true true false t e f g = cc
 
 pub record WithinCaps (s : Settings) (ds : List Duty) : Type 0 where
-  pub fdp : total (λ d. d.fdp) ds ≤ℤ pos s.fdp_cap
+  pub fdp : total (λ d. d.fdp) ds ≤ℤ pos s.fdp_total
   pub fly : total (λ d. d.fly) ds ≤ℤ pos s.fly_cap
   pub count : length ds ≤ s.max_duties
   pub away : minutes_away ds ≤ℤ pos s.away_cap
 
-pub within-caps : (s : Settings) (ds : List Duty) → is_within_caps s ds ≡ true → WithinCaps s ds
+pub within-caps : (s : Settings) (ds : List Duty) → keeps_totals s ds ≡ true → WithinCaps s ds
 within-caps s ds e =
     let one = and_parts _ _ e in
     let two = and_parts _ _ one.1 in
@@ -144,7 +150,7 @@ within-caps s ds e =
     let count : pos (length ds) ≤ℤ pos s.max_duties = int-le _ _ three.0 in
     record { fdp = int-le _ _ one.0; fly = int-le _ _ two.0; count = omega (arith, ints, count); away = int-le _ _ three.1 }
 
-pub caps-kept : (s : Settings) (ds : List Duty) → WithinCaps s ds → is_within_caps s ds ≡ true
+pub caps-kept : (s : Settings) (ds : List Duty) → WithinCaps s ds → keeps_totals s ds ≡ true
 caps-kept s ds w = sym (by-away s ds true w.fdp w.fly w.count (sym (int-yes _ _ w.away)))
 
 pub away-push : (first : Duty) (others : List Duty) (d : Duty) → minutes_away (first ∷ others ++ d ∷ []) ≡ d.release -ℤ first.report
@@ -152,7 +158,7 @@ away-push first others d = ap (λ (l : Duty). l.release -ℤ first.report) (last
 
 -- a shorter last duty keeps within the caps too
 pub caps-shorter : (s : Settings) (before : List Duty) (d e : Duty) → d.fdp ≤ℤ e.fdp → d.fly ≤ℤ e.fly → d.release ≤ℤ e.release → d.report ≡ e.report
-    → is_within_caps s (before ++ e ∷ []) ≡ true → is_within_caps s (before ++ d ∷ []) ≡ true
+    → keeps_totals s (before ++ e ∷ []) ≡ true → keeps_totals s (before ++ d ∷ []) ≡ true
 caps-shorter s before d e fdp fly release report h =
     let w = within-caps s (before ++ e ∷ []) h in
     let fdp-d = total-push (λ (x : Duty). x.fdp) before d in
@@ -205,10 +211,10 @@ shares-of d r = record { fdp = omega (arith, ints, r.fdp); fdp_wide = omega (ari
 pub read-32 : (z : ℤ) → (pos 0 -ℤ pos 1_000_000_000) ≤ℤ z → z ≤ℤ pos 1_000_000_000 → to_z w32 (of_z w32 z) ≡ z
 read-32 z h k = omega (arith, ints, h, k)
 
-least-on : (sum x now : ℤ) (m k n : ℕ) → now ≡ sum +ℤ x → n ≡ m + k → (pos 0 -ℤ pos m) ≤ℤ sum → (pos 0 -ℤ pos k) ≤ℤ x → (pos 0 -ℤ pos n) ≤ℤ now
+pub least-on : (sum x now : ℤ) (m k n : ℕ) → now ≡ sum +ℤ x → n ≡ m + k → (pos 0 -ℤ pos m) ≤ℤ sum → (pos 0 -ℤ pos k) ≤ℤ x → (pos 0 -ℤ pos n) ≤ℤ now
 least-on sum x now m k n e g h j = omega (arith, ints, e, g, h, j)
 
-most-on : (sum x now : ℤ) (m k n : ℕ) → now ≡ sum +ℤ x → n ≡ m + k → sum ≤ℤ pos m → x ≤ℤ pos k → now ≤ℤ pos n
+pub most-on : (sum x now : ℤ) (m k n : ℕ) → now ≡ sum +ℤ x → n ≡ m + k → sum ≤ℤ pos m → x ≤ℤ pos k → now ≤ℤ pos n
 most-on sum x now m k n e g h j = omega (arith, ints, e, g, h, j)
 
 pub sum-on : (share : ℕ) (f : Duty → ℤ) (ds : List Duty) (i : ℕ) (x : Duty) (sum add : ℤ) → add ≡ f x → sum ≡ total f (take i ds) → (pos 0 -ℤ pos (share * i)) ≤ℤ sum → sum ≤ℤ pos (share * i)

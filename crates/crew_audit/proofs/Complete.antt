@@ -1,5 +1,5 @@
 -- The tree of partials lists every partial pairing.
-use Rattle.std.proofs.Common.{◌≡◌, ◌<◌, ℕ, zero, suc, ℤ, pos, ◌≤ℤ◌, ◌-ℤ◌, int_le, true, List, [], ◌∷◌, ◌++◌, length, refl, sym, ap, subst, ◌∙◌, append_assoc, length-append, arith, inl, inr}
+use Rattle.std.proofs.Common.{◌≡◌, ◌&&◌, ◌<◌, ℕ, zero, suc, ℤ, pos, ◌≤ℤ◌, ◌-ℤ◌, int_le, true, List, [], ◌∷◌, ◌++◌, length, refl, sym, ap, subst, ◌∙◌, append_assoc, length-append, arith, inl, inr}
 use Rattle.std.specs.Ordering.{eq_by_cmp, is_eq}
 use Rattle.std.proofs.lemmas.Bool.{and_parts}
 use Rattle.std.proofs.lemmas.Cmp.{tied_itself}
@@ -10,7 +10,7 @@ use Rattle.crew_rules.specs.declared.settings.Settings.{Settings}
 use Rattle.crew_pairing.specs.Legality.{IsLegal, duty_of, total}
 use Rattle.crew_pairing.specs.Machinery.Listing.{all_duties}
 use Rattle.crew_resource.specs.Members.{Each, Member}
-use Rattle.crew_pairing.specs.Pairings.{AllRested, IsDuty, is_within_caps, last_duty, may_stand_after}
+use Rattle.crew_pairing.specs.Pairings.{AllRested, IsDuty, last_duty, may_stand_after}
 use Rattle.crew_pairing.specs.Machinery.Beginnings.{AreFlights}
 use Rattle.crew_pairing.specs.declared.duty.Duty.{Duty}
 use Rattle.crew_pairing.proofs.Complete.{all-every}
@@ -20,7 +20,8 @@ use Rattle.crew_pairing.proofs.Legal.{Each-after, known-sound}
 use Rattle.crew_pairing.proofs.Sums.{total-append}
 use Rattle.crew_pairing.proofs.Times.{ends-later, flown-total}
 use Rattle.crew_pairing.proofs.Tree.{Each-map}
-use Rattle.crew_audit.specs.Machinery.Listing.{after, goes_on, listed, with_next}
+use Rattle.crew_audit.specs.Machinery.Endings.{keeps_limits}
+use Rattle.crew_audit.specs.Machinery.Listing.{after, goes_on, keeps_totals, listed, with_next}
 use Rattle.crew_audit.specs.declared.partial.Partial.{Partial}
 use Rattle.crew_audit.proofs.Chains.{both-on, caps-kept, within-caps}
 use Rattle.crew_audit.proofs.Sound.{IsBegun}
@@ -63,8 +64,8 @@ last_duty-append first [] more = refl
 last_duty-append first (x ∷ others) more = last_duty-append x others more
 
 -- where a whole list is within the caps a beginning of it is
-caps-begin : (s : Settings) (first : Duty) (others more : List Duty) → Each Grows more → AllRested s first (others ++ more) → is_within_caps s (first ∷ others ++ more) ≡ true
-    → is_within_caps s (first ∷ others) ≡ true
+caps-begin : (s : Settings) (first : Duty) (others more : List Duty) → Each Grows more → AllRested s first (others ++ more) → keeps_totals s (first ∷ others ++ more) ≡ true
+    → keeps_totals s (first ∷ others) ≡ true
 caps-begin s first others more sound rests h =
     let w = within-caps s (first ∷ others ++ more) h in
     let fdp = total-append (λ (d : Duty). d.fdp) (first ∷ others) more in
@@ -100,16 +101,19 @@ goes : (s : Settings) (flights : List Flight) (base : List ℕ) (before : List D
     → goes_on base s before d ≡ true
 goes s flights base [] d more f b =
     let sound = all-of-them s flights more f b.legal.1 in
-    both-on (eq_by_cmp code_cmp d.from base) (is_within_caps s (d ∷ [])) (ap (λ (x : List ℕ). eq_by_cmp code_cmp x base) b.leaves ∙ ap is_eq (tied_itself code_cmp_total base))
-    (caps-begin s d [] more sound b.rested b.capped)
+    both-on (eq_by_cmp code_cmp d.from base) (keeps_totals s (d ∷ []) && keeps_limits s (d ∷ []))
+    (ap (λ (x : List ℕ). eq_by_cmp code_cmp x base) b.leaves ∙ ap is_eq (tied_itself code_cmp_total base))
+    (both-on (keeps_totals s (d ∷ [])) (keeps_limits s (d ∷ [])) (caps-begin s d [] more sound b.rested b.capped) (b.ends [] more refl))
 goes s flights base (first ∷ others) d more f b =
     let after-these = Each-after (IsDuty s flights) (first ∷ others) (d ∷ more) b.legal in
     let sound = all-of-them s flights more f after-these.1 in
     let joins = AllRested-after s first others (d ∷ more) b.rested in
     let joined : (others ++ d ∷ []) ++ more ≡ others ++ d ∷ more = append_assoc others (d ∷ []) more in
     let rests = subst (AllRested s first) (sym joined) b.rested in
-    let capped = subst (λ (ds : List Duty). is_within_caps s (first ∷ ds) ≡ true) (sym joined) b.capped in
-    both-on (may_stand_after s (last_duty first others) d) (is_within_caps s (first ∷ others ++ d ∷ [])) joins.0 (caps-begin s first (others ++ d ∷ []) more sound rests capped)
+    let capped = subst (λ (ds : List Duty). keeps_totals s (first ∷ ds) ≡ true) (sym joined) b.capped in
+    let longer = first ∷ others ++ d ∷ [] in
+    both-on (may_stand_after s (last_duty first others) d) (keeps_totals s longer && keeps_limits s longer) joins.0
+    (both-on (keeps_totals s longer) (keeps_limits s longer) (caps-begin s first (others ++ d ∷ []) more sound rests capped) (b.ends (others ++ d ∷ []) more joined))
 
 legal-next : (s : Settings) (flights : List Flight) (base : List ℕ) (before : List Duty) (d : Duty) (more : List Duty) → IsBegun s flights base (before ++ d ∷ more) → IsDuty s flights d
 legal-next s flights base [] d more b = b.legal.0

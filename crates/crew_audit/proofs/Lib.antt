@@ -1,7 +1,9 @@
+pub mod Beginnings
 pub mod Chains
 pub mod Complete
 pub mod Counts
 pub mod Flat
+pub mod LastWindows
 pub mod Leaving
 pub mod ReadNumbers
 pub mod Rising

@@ -7,19 +7,20 @@ use Rattle.crew_flights.specs.declared.flight.Flight.{Flight}
 use Rattle.crew_rules.specs.declared.settings.Settings.{Settings}
 use Rattle.crew_pairing.specs.Machinery.Listing.{all_duties}
 use Rattle.crew_resource.specs.Members.{Member}
-use Rattle.crew_pairing.specs.Pairings.{AllRested, IsDuty, IsPartial, last_duty, may_stand_after}
+use Rattle.crew_pairing.specs.Pairings.{AllRested, IsDuty, last_duty, may_stand_after}
 use Rattle.crew_pairing.specs.declared.duty.Duty.{Duty}
 use Rattle.crew_pairing.proofs.Complete.{all-sound}
 use Rattle.crew_pairing.proofs.InList.{flat_map-Member}
 use Rattle.crew_pairing.proofs.Tree.{Each-push}
 use Rattle.crew_audit.specs.Machinery.Listing.{after, goes_on, listed, with_next}
 use Rattle.crew_audit.specs.declared.partial.Partial.{Partial}
+use Rattle.crew_audit.proofs.Beginnings.{IsTested, ends-one, ends-push}
 use Rattle.crew_audit.proofs.Steps.{after-none, after-open}
 
--- nothing yet, or a partial pairing
+-- nothing yet, or a partial pairing as the search tests it
 abbrev pub IsBegun : Settings → List Flight → List ℕ → List Duty → Type 0
 IsBegun s flights base [] = Unit {0}
-IsBegun s flights base (first ∷ others) = IsPartial s flights base first others
+IsBegun s flights base (first ∷ others) = IsTested s flights base first others
 
 AllRested-push : (s : Settings) (first : Duty) (others : List Duty) (d : Duty) → AllRested s first others → may_stand_after s (last_duty first others) d ≡ true → AllRested s first (others ++ d ∷ [])
 AllRested-push s first [] d h e = (e, tt)
@@ -30,14 +31,17 @@ pub begun-more : (s : Settings) (flights : List Flight) (base : List ℕ) (befor
     → IsBegun s flights base (before ++ d ∷ [])
 begun-more s flights base [] d b legal e =
     let parts = and_parts _ _ e in
-    record { legal = (legal, tt); leaves = tells_apart exact_bytes d.from base parts.0; rested = tt; capped = parts.1 }
+    let kept = and_parts _ _ parts.1 in
+    record { legal = (legal, tt); leaves = tells_apart exact_bytes d.from base parts.0; rested = tt; capped = kept.0; ends = ends-one s d kept.1 }
 begun-more s flights base (first ∷ others) d b legal e =
     let parts = and_parts _ _ e in
+    let kept = and_parts _ _ parts.1 in
     record {
       legal = Each-push (IsDuty s flights) (first ∷ others) d b.legal legal;
       leaves = b.leaves;
       rested = AllRested-push s first others d b.rested parts.0;
-      capped = parts.1;
+      capped = kept.0;
+      ends = ends-push s first others d b.ends kept.1;
     }
 
 -- a partial pairing that goes on from these duties, or these duties themselves

@@ -9,7 +9,6 @@ use Rattle.crew_pairing.specs.Legality.{AllConnect, IsLegal, duty_of, last_of, m
 use Rattle.crew_pairing.specs.Machinery.Listing.{all_duties, below, from_flight, is_hopeless, listing, own, timed}
 use Rattle.crew_flights.specs.Timetable.{IsFlight}
 use Rattle.crew_resource.specs.Members.{Each, Member}
-use Rattle.crew_pairing.specs.Pairings.{is_within_caps}
 use Rattle.crew_pairing.specs.Machinery.Beginnings.{AreFlights, IsBeginning}
 use Rattle.crew_pairing.specs.declared.duty.Duty.{Duty}
 use Rattle.crew_pairing.specs.declared.leg.TimedLeg.{TimedLeg}
@@ -20,10 +19,11 @@ use Rattle.crew_pairing.proofs.Sums.{total-append}
 use Rattle.crew_pairing.proofs.Times.{AllSound, ends-later, flown-total, no-earlier}
 use Rattle.crew_pairing.proofs.Tree.{Each-push, listing-at}
 use Rattle.crew_audit.specs.Machinery.Leaving.{AreAmong}
-use Rattle.crew_audit.specs.Machinery.Listing.{after, goes_on, listed, may_join, with_next}
+use Rattle.crew_audit.specs.Machinery.Endings.{keeps_limits}
+use Rattle.crew_audit.specs.Machinery.Listing.{after, begun_by, goes_on, keeps_totals, listed, may_join, with_next}
 use Rattle.crew_audit.specs.Machinery.Ranges.{IsInRange}
 use Rattle.crew_audit.specs.declared.partial.Partial.{Partial}
-use Rattle.crew_audit.proofs.Chains.{both-on, caps-shorter}
+use Rattle.crew_audit.proofs.Chains.{caps-shorter}
 use Rattle.crew_audit.proofs.Flat.{flat-filter, flat-flat, flat-none}
 use Rattle.crew_audit.proofs.Leaving.{first-off, flat-among}
 
@@ -63,6 +63,22 @@ pub next-on : (room : ℕ) (s : Settings) (flights : List Flight) (base : List �
     → with_next room s flights base price before d ≡ listed s base price (before ++ d ∷ []) ∷ after room s flights base price (before ++ d ∷ [])
 next-on room s flights base price before d e = on (goes_on base s before d) _ e
 
+pub begun-on : (room : ℕ) (s : Settings) (flights : List Flight) (base : List ℕ) (price : ℤ) (duties : List Duty) → keeps_limits s duties ≡ true
+    → begun_by room s flights base price duties ≡ listed s base price duties ∷ after room s flights base price duties
+begun-on room s flights base price duties e = on (keeps_limits s duties) _ e
+
+-- within the caps on totals the limits decide
+both-then : (a b c : Bool) → a ≡ true → b ≡ true → (a && (b && c)) ≡ c
+both-then true true c e f = refl
+both-then false b c e f = cc
+both-then true false c e f = cc
+
+next-begun : (room : ℕ) (s : Settings) (flights : List Flight) (base : List ℕ) (price : ℤ) (before : List Duty) (d : Duty) → may_join base s before d ≡ true → keeps_totals s (before ++ d ∷ []) ≡ true
+    → with_next room s flights base price before d ≡ begun_by room s flights base price (before ++ d ∷ [])
+next-begun room s flights base price before d joins caps =
+    ap (λ (b : Bool). if b then listed s base price (before ++ d ∷ []) ∷ after room s flights base price (before ++ d ∷ []) else [])
+    (both-then (may_join base s before d) (keeps_totals s (before ++ d ∷ [])) (keeps_limits s (before ++ d ∷ [])) joins caps)
+
 -- whether a duty may stand next depends on its first flight alone
 pub join-legs : (base : List ℕ) (s : Settings) (before : List Duty) (first : TimedLeg) (xs ys : List TimedLeg) → may_join base s before (duty_of s first xs) ≡ may_join base s before (duty_of s first ys)
 join-legs base s [] first xs ys = refl
@@ -94,7 +110,7 @@ not-joined room s flights base price before f known e =
     none : (d : Duty) (dead : Bool) (more : List TimedLeg) → d ≡ duty_of s (timed dead f) more → with_next room s flights base price before d ≡ []
     none d dead more is =
         let joins : may_join base s before d ≡ false = ap (may_join base s before) is ∙ join-flight base s before dead false f more [] ∙ e in
-        next-off room s flights base price before d (first-off (may_join base s before d) (is_within_caps s (before ++ d ∷ [])) joins)
+        next-off room s flights base price before d (first-off (may_join base s before d) (keeps_totals s (before ++ d ∷ []) && keeps_limits s (before ++ d ∷ [])) joins)
 
 -- legs that pass a cap already
 last-later : (s : Settings) (last : TimedLeg) (more : List TimedLeg) → AllSound more → AllConnect s last more → last.flight.arr ≤ℤ (last_of last more).flight.arr
@@ -103,7 +119,7 @@ last-later s last (next ∷ more) sound linked =
     omega (arith, ints, no-earlier s last.flight next.flight linked.0, ends-later s next more sound linked.1, sound.0.least_block)
 
 shorter : (s : Settings) (flights : List Flight) (before : List Duty) (first : TimedLeg) (others more : List TimedLeg) → AreFlights flights → IsLegal s flights first (others ++ more)
-    → is_within_caps s (before ++ duty_of s first (others ++ more) ∷ []) ≡ true → is_within_caps s (before ++ duty_of s first others ∷ []) ≡ true
+    → keeps_totals s (before ++ duty_of s first (others ++ more) ∷ []) ≡ true → keeps_totals s (before ++ duty_of s first others ∷ []) ≡ true
 shorter s flights before first others more f legal h =
     let sound = known-sound flights (first ∷ (others ++ more)) f legal.known in
     let later = Each-after (λ (l : TimedLeg). IsFlight l.flight.id l.flight) (first ∷ others) more sound in
@@ -114,31 +130,31 @@ shorter s flights before first others more f legal h =
     caps-shorter s before (duty_of s first others) (duty_of s first (others ++ more)) (omega (arith, ints, end, same)) (omega (arith, ints, time, rest)) (omega (arith, ints, end, same)) refl h
 
 pub not-within : (room legs : ℕ) (s : Settings) (flights : List Flight) (base : List ℕ) (price : ℤ) (before : List Duty) (first : TimedLeg) (others : List TimedLeg) → AreFlights flights
-    → IsBeginning s flights first others → legs + length others ≡ 8 → is_within_caps s (before ++ duty_of s first others ∷ []) ≡ false
+    → IsBeginning s flights first others → legs + length others ≡ 8 → keeps_totals s (before ++ duty_of s first others ∷ []) ≡ false
     → flat_map (with_next room s flights base price before) (listing legs s flights first others) ≡ []
 not-within room legs s flights base price before first others f begin fits e =
     flat-none (with_next room s flights base price before) (listing legs s flights first others) (λ d m. let on = listing-sound legs s flights first others d begin fits m in none d on.0 on.1 on.2)
   where
     none : (d : Duty) (more : List TimedLeg) → IsLegal s flights first (others ++ more) → d ≡ duty_of s first (others ++ more) → with_next room s flights base price before d ≡ []
     none d more legal is =
-        let caps : is_within_caps s (before ++ duty_of s first (others ++ more) ∷ []) ≡ false =
+        let caps : keeps_totals s (before ++ duty_of s first (others ++ more) ∷ []) ≡ false =
         is-off _ (λ h. let now = shorter s flights before first others more f legal h in cc) in
-        let same : is_within_caps s (before ++ d ∷ []) ≡ false = ap (λ (x : Duty). is_within_caps s (before ++ x ∷ [])) is ∙ caps in
-        next-off room s flights base price before d (second-off (may_join base s before d) (is_within_caps s (before ++ d ∷ [])) same)
+        let same : keeps_totals s (before ++ d ∷ []) ≡ false = ap (λ (x : Duty). keeps_totals s (before ++ x ∷ [])) is ∙ caps in
+        next-off room s flights base price before d (second-off (may_join base s before d) (keeps_totals s (before ++ d ∷ []) && keeps_limits s (before ++ d ∷ [])) (first-off (keeps_totals s (before ++ d ∷ [])) (keeps_limits s (before ++ d ∷ [])) same))
 
 -- the legs' own duty, where it is one
 pub own-on : (room : ℕ) (s : Settings) (flights : List Flight) (base : List ℕ) (price : ℤ) (before : List Duty) (first : TimedLeg) (others : List TimedLeg)
-    → may_join base s before (duty_of s first others) ≡ true → is_within_caps s (before ++ duty_of s first others ∷ []) ≡ true
+    → may_join base s before (duty_of s first others) ≡ true → keeps_totals s (before ++ duty_of s first others ∷ []) ≡ true
     → flat_map (with_next room s flights base price before) (own s first others)
-    ≡ (if (last_of first others).deadhead then [] else listed s base price (before ++ duty_of s first others ∷ []) ∷ after room s flights base price (before ++ duty_of s first others ∷ []))
+    ≡ (if (last_of first others).deadhead then [] else begun_by room s flights base price (before ++ duty_of s first others ∷ []))
 own-on room s flights base price before first others joins caps = by (last_of first others).deadhead
   where
     by : (dead : Bool) → flat_map (with_next room s flights base price before) (if dead then [] else duty_of s first others ∷ [])
-        ≡ (if dead then [] else listed s base price (before ++ duty_of s first others ∷ []) ∷ after room s flights base price (before ++ duty_of s first others ∷ []))
+        ≡ (if dead then [] else begun_by room s flights base price (before ++ duty_of s first others ∷ []))
     by true = refl
     by false =
         append-nil (with_next room s flights base price before (duty_of s first others))
-        ∙ next-on room s flights base price before (duty_of s first others) (both-on _ _ joins caps)
+        ∙ next-begun room s flights base price before (duty_of s first others) joins caps
 
 -- what goes on with a flight, if it may
 abbrev pub onward : ℕ → Settings → List Flight → List ℕ → ℤ → List Duty → TimedLeg → List TimedLeg → Flight → List Partial
@@ -147,9 +163,9 @@ onward room s flights base price before first others g =
 
 -- leg by leg: the legs' own duty, and then flight by flight
 pub legs-open : (room : ℕ) (s : Settings) (flights : List Flight) (base : List ℕ) (price : ℤ) (before : List Duty) (first : TimedLeg) (others : List TimedLeg) → length others < 8
-    → is_hopeless s first others ≡ false → may_join base s before (duty_of s first others) ≡ true → is_within_caps s (before ++ duty_of s first others ∷ []) ≡ true
+    → is_hopeless s first others ≡ false → may_join base s before (duty_of s first others) ≡ true → keeps_totals s (before ++ duty_of s first others ∷ []) ≡ true
     → flat_map (with_next room s flights base price before) (listing (8 - length others) s flights first others)
-    ≡ (if (last_of first others).deadhead then [] else listed s base price (before ++ duty_of s first others ∷ []) ∷ after room s flights base price (before ++ duty_of s first others ∷ []))
+    ≡ (if (last_of first others).deadhead then [] else begun_by room s flights base price (before ++ duty_of s first others ∷ []))
     ++ flat_map (onward room s flights base price before first others) flights
 legs-open room s flights base price before first others few hope joins caps =
     let W = with_next room s flights base price before in
@@ -158,7 +174,7 @@ legs-open room s flights base price before first others few hope joins caps =
     ap (flat_map W) (listing-at s flights first others few hope)
     ∙ flat_map-append W (own s first others) (flat_map B (filter p flights))
     ∙ ap (λ (t : List Partial). t ++ flat_map W (flat_map B (filter p flights))) (own-on room s flights base price before first others joins caps)
-    ∙ ap (λ (t : List Partial). (if (last_of first others).deadhead then [] else listed s base price (before ++ duty_of s first others ∷ []) ∷ after room s flights base price (before ++ duty_of s first others ∷ [])) ++ t)
+    ∙ ap (λ (t : List Partial). (if (last_of first others).deadhead then [] else begun_by room s flights base price (before ++ duty_of s first others ∷ [])) ++ t)
     (flat-flat W B (filter p flights) ∙ flat-filter (λ (g : Flight). flat_map W (B g)) p flights)
 
 pub onward-on : (room : ℕ) (s : Settings) (flights : List Flight) (base : List ℕ) (price : ℤ) (before : List Duty) (first : TimedLeg) (others : List TimedLeg) (g : Flight)
@@ -171,13 +187,13 @@ onward-off room s flights base price before first others g e = off (may_follow s
 
 -- what is listed of the legs' own duty, as the code has it
 pub own-listed : (room : ℕ) (s : Settings) (flights : List Flight) (base : List ℕ) (price : ℤ) (before : List Duty) (d : Duty) (longer : List Duty) (last end : TimedLeg) → longer ≡ before ++ d ∷ [] → last ≡ end
-    → (if last.deadhead then [] else listed s base price longer ∷ after (s.max_duties - length longer) s flights base price longer)
-    ≡ (if end.deadhead then [] else listed s base price (before ++ d ∷ []) ∷ after (s.max_duties - (length before + 1)) s flights base price (before ++ d ∷ []))
+    → (if last.deadhead then [] else begun_by (s.max_duties - length longer) s flights base price longer)
+    ≡ (if end.deadhead then [] else begun_by (s.max_duties - (length before + 1)) s flights base price (before ++ d ∷ []))
 own-listed room s flights base price before d longer last end e l =
     let long : s.max_duties - length (before ++ d ∷ []) ≡ s.max_duties - (length before + 1) = ap (λ (n : ℕ). s.max_duties - n) (length-append before (d ∷ [])) in
-    ap (λ (x : TimedLeg). if x.deadhead then [] else listed s base price longer ∷ after (s.max_duties - length longer) s flights base price longer) l
-    ∙ ap (λ (ds : List Duty). if end.deadhead then [] else listed s base price ds ∷ after (s.max_duties - length ds) s flights base price ds) e
-    ∙ ap (λ (n : ℕ). if end.deadhead then [] else listed s base price (before ++ d ∷ []) ∷ after n s flights base price (before ++ d ∷ [])) long
+    ap (λ (x : TimedLeg). if x.deadhead then [] else begun_by (s.max_duties - length longer) s flights base price longer) l
+    ∙ ap (λ (ds : List Duty). if end.deadhead then [] else begun_by (s.max_duties - length ds) s flights base price ds) e
+    ∙ ap (λ (n : ℕ). if end.deadhead then [] else begun_by n s flights base price (before ++ d ∷ [])) long
 
 -- more than so many in the first of two lists
 pub more-than : (n m : ℕ) (mine own rest : List Partial) → mine ≡ own → n < m + length mine → n < m + length (own ++ rest)

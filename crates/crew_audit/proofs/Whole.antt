@@ -23,6 +23,7 @@ use Rattle.crew_pairing.proofs.Timetables.{flights-of-timetable}
 use Rattle.crew_audit.specs.Machinery.Listing.{all_partials, of_base}
 use Rattle.crew_audit.specs.Partials.{ArePartials, Rise, partial_cmp, partial_of}
 use Rattle.crew_audit.specs.declared.partial.Partial.{Partial}
+use Rattle.crew_audit.proofs.Beginnings.{long-tested, tested-long}
 use Rattle.crew_audit.proofs.Chains.{within-caps}
 use Rattle.crew_audit.proofs.Complete.{after-every}
 use Rattle.crew_audit.proofs.Rising.{after-rises, each-of, rise-join}
@@ -112,12 +113,12 @@ all-partials s t sound =
             first = on.next;
             others = on.more;
             held = fin.get-entries t.bases base.0 ∙ found es base sorted b.1;
-            partial = on.begun tt;
+            partial = long-tested s t base.0 on.next on.more sound (on.begun tt);
             given = on.given;
           };
       every = λ p h.
           let count = (within-caps s (h.first ∷ h.others) h.partial.capped).count in
-          let here = after-every s.max_duties s flights h.base h.price [] h.first h.others fs h.partial (omega arith) in
+          let here = after-every s.max_duties s flights h.base h.price [] h.first h.others fs (tested-long s t h.base h.first h.others sound h.partial) (omega arith) in
           let held = entry es h.base h.price (sym (fin.get-entries t.bases h.base) ∙ h.held) in
           subst (Member (all_partials s t)) (sym h.given) (Member-flat_map (of_base s flights) es (h.base, h.price) (partial_of s h.base h.price h.first h.others) held here);
       rising = bases-rise s flights es sorted (λ b. after-rises s.max_duties s flights b.0 b.1 [] fs.rising);

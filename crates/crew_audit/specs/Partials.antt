@@ -1,5 +1,5 @@
 -- All partial pairings of a timetable, by base and walk.
-use Rattle.std.specs.Prelude.{◌≡◌, ◌<◌, ℕ, ℤ, List, [], ◌∷◌, Some, length, map}
+use Rattle.std.specs.Prelude.{◌≡◌, ◌<◌, ℕ, ℤ, pos, List, [], ◌∷◌, Some, length, map}
 use Rattle.std.specs.FinMap as fin
 use Rattle.std.specs.declared.cmp.Ordering.{Ordering}
 use Rattle.std.specs.declared.cmp.Ordering.TheVariants.{Less}
@@ -10,9 +10,10 @@ use Rattle.crew_rules.specs.declared.settings.Settings.{Settings}
 use Rattle.crew_pairing.specs.Duties.{flights_of}
 use Rattle.crew_pairing.specs.Keys.{walk_cmp}
 use Rattle.crew_resource.specs.Members.{Each, Member}
-use Rattle.crew_pairing.specs.Pairings.{IsPartial, is_pairing}
+use Rattle.crew_pairing.specs.Pairings.{is_pairing}
 use Rattle.crew_pairing.specs.declared.duty.Duty.{Duty}
 use Rattle.crew_pairing.specs.Vectors.{vector_of}
+use Rattle.crew_history.specs.LongPairings.{IsLongPartial}
 use Rattle.crew_audit.specs.declared.partial.Partial.{Partial}
 
 -- a first duty and others, as a partial pairing of a base with this price
@@ -32,7 +33,7 @@ pub record IsPartialOf (s : Settings) (t : Timetable) (p : Partial) : Type 0 whe
   pub first : Duty
   pub others : List Duty
   pub held : fin.get t.bases base ≡ Some price
-  pub partial : IsPartial s (flights_of t) base first others
+  pub partial : IsLongPartial s (pos s.fdp_total) (flights_of t) base first others
   pub given : p ≡ partial_of s base price first others
 
 -- by base, and then by walk

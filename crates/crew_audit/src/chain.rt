@@ -1,5 +1,5 @@
-//! Lists of duties: what may stand next, whether they keep within the caps, and what is listed of
-//! them.
+//! Lists of duties: what may stand next, whether they keep within the caps on totals, and what is
+//! listed of them.
 
 ghost use Rattle.std.specs.Prelude.{◌≡◌, ◌≤◌, ◌≤ℤ◌, ◌-ℤ◌, ◌*ℤ◌, ◌++◌, ◌∷◌, [], false, IfOk, length, map, pos};
 ghost use Rattle.crew_flights.specs.Timetable.{IsBasePrice};
@@ -7,10 +7,10 @@ ghost use Rattle.crew_rules.specs.Settings.{IsChecked};
 ghost use Rattle.crew_pairing.specs.Legality.{duty_of, total};
 ghost use Rattle.crew_pairing.specs.Machinery.Listing.{timed};
 ghost use Rattle.crew_resource.specs.Members.{Each};
-ghost use Rattle.crew_pairing.specs.Pairings.{is_within_caps, may_stand_after};
+ghost use Rattle.crew_pairing.specs.Pairings.{may_stand_after};
 ghost use Rattle.crew_pairing.specs.Pairings as Spec;
 ghost use Rattle.crew_pairing.specs.Vectors.{vector_of};
-ghost use Rattle.crew_audit.specs.Machinery.Listing.{comes_back, listed, may_join};
+ghost use Rattle.crew_audit.specs.Machinery.Listing.{comes_back, keeps_totals, listed, may_join};
 ghost use Rattle.crew_audit.specs.Machinery.Ranges.{IsInRange};
 
 use crate::partial::Partial;
@@ -112,14 +112,14 @@ fn minutes_away(duties: &[Duty]) -> i64
     }
 }
 
-/// Whether these duties are within the caps.
-pub(crate) fn keep_within_caps(settings: &Settings, duties: &[Duty]) -> bool
+/// Whether these duties are within the caps on totals.
+pub(crate) fn keep_totals(settings: &Settings, duties: &[Duty]) -> bool
     requires few { length duties.now ≤ 13 }
     requires ranges { Each IsInRange duties.now }
-    ensures { result ≡ is_within_caps settings.now duties.now }
+    ensures { result ≡ keeps_totals settings.now duties.now }
 {
     let sums = add_up(duties);
-    if sums.fdp > i64::from(settings.fdp_cap) {
+    if sums.fdp > i64::from(settings.fdp_total) {
         return false;
     }
     if sums.fly > i64::from(settings.fly_cap) {

@@ -7,15 +7,15 @@ ghost use Rattle.crew_rules.specs.Settings.{IsChecked};
 ghost use Rattle.crew_pairing.specs.Legality.{duty_of, last_of, may_follow};
 ghost use Rattle.crew_pairing.specs.Machinery.Listing.{below, from_flight, listing, timed};
 ghost use Rattle.crew_resource.specs.Members.{Each, Member};
-ghost use Rattle.crew_pairing.specs.Pairings.{is_within_caps};
 ghost use Rattle.crew_pairing.specs.Machinery.Beginnings.{AreFlights, IsBeginning};
-ghost use Rattle.crew_audit.specs.Machinery.Listing.{after, listed, may_join, with_next};
+ghost use Rattle.crew_audit.specs.Machinery.Listing.{after, begun_by, listed, may_join, with_next};
 ghost use Rattle.crew_audit.specs.Machinery.Ranges.{IsInRange};
 ghost use Rattle.crew_audit.specs.Machinery.Taking.{Took};
 
-use crate::chain::{self, keep_within_caps, may_leave};
+use crate::chain::{self, keep_totals, may_leave};
 use crate::flight_list::FlightList;
 use crate::legs::{self, LEGS, cannot_begin, duty_from, may_come_next};
+use crate::limits::keep_limits;
 use crate::partial::AuditFault;
 use crate::sink::Sink;
 use crew_flights::{Code, Flight};
@@ -170,7 +170,7 @@ fn list_legs<F: Sink>(
     }
     let next = duty_from(scope.settings, first, others);
     let longer = chain::followed_by(alloc, before, next)?;
-    if !keep_within_caps(scope.settings, &longer) {
+    if !keep_totals(scope.settings, &longer) {
         return Ok(());
     }
     let last = last_leg(first, others);
@@ -185,7 +185,7 @@ fn list_legs<F: Sink>(
 }
 
 // Lists these duties, and then the partials that go on from them; nothing where their last leg is
-// a deadhead.
+// a deadhead, or where they pass a limit that holds where a list of duties ends.
 #[cycle(partials)]
 fn list_own<F: Sink>(
     alloc: Global,
@@ -201,17 +201,16 @@ fn list_own<F: Sink>(
     requires ranges { Each IsInRange duties.now }
     requires room { F.count found.old ≤ scope.now.limit }
     ensures ok { OnOk result (Took F.count F.holds found.old found.new
-        (if deadhead then [] else listed scope.now.settings.now scope.now.base
-        scope.now.base_price duties.now
-        ∷ after (scope.now.settings.now.max_duties - length duties.now) scope.now.settings.now
-        scope.now.flights.now scope.now.base scope.now.base_price duties.now)) }
+        (if deadhead then [] else begun_by (scope.now.settings.now.max_duties - length duties.now)
+        scope.now.settings.now scope.now.flights.now scope.now.base scope.now.base_price
+        duties.now)) }
     ensures room { OnOk result (F.count found.new ≤ scope.now.limit) }
     ensures over { result ≡ Err AuditFault.OverLimit → scope.now.limit < F.count found.old
-        + length (if deadhead then [] else listed scope.now.settings.now scope.now.base scope.now.base_price duties.now
-        ∷ after (scope.now.settings.now.max_duties - length duties.now) scope.now.settings.now
-        scope.now.flights.now scope.now.base scope.now.base_price duties.now) }
+        + length (if deadhead then [] else begun_by (scope.now.settings.now.max_duties - length duties.now)
+        scope.now.settings.now scope.now.flights.now scope.now.base scope.now.base_price
+        duties.now) }
 {
-    if deadhead {
+    if deadhead || !keep_limits(scope.settings, duties) {
         return Ok(());
     }
     list_one(alloc, found, scope, duties)?;

@@ -29,7 +29,7 @@ use Rattle.crew_resource.specs.Members.{Member}
 use Rattle.crew_round.specs.Marks.{IsMarked, is_untouched_at}
 use Rattle.crew_round.specs.declared.mark.Mark.TheVariants as MarkedAs
 use Rattle.crew_rules.specs.declared.settings.Settings.{Settings}
-use Rattle.crew_solve.specs.Plans.{IsPlanOf, Plan}
+use Rattle.crew_plan.specs.Plans.{IsPlanOf, Plan}
 
 -- the nodes of a plan's network
 pub plan-nodes : (s : Settings) (t : Timetable) (plan : Plan) → IsPlanOf s t plan → AreNodes (crew s) t (listed plan.net.bases plan.net.duties)

@@ -3,10 +3,10 @@ use Rattle.std.proofs.Common.{List, Option, map}
 use Rattle.std.specs.Option.{option_map}
 use Rattle.crew_board.specs.Machinery.Held.{Marked}
 use Rattle.crew_board.specs.declared.round.Round.TheInside.{Inside}
-use Rattle.crew_sweep.specs.Sweeps.{BaseSweep}
+use Rattle.crew_fronts.specs.Fronts.{BaseFronts}
 
 abbrev pub marked_of : Inside → Marked
 marked_of i = record { ground = i.ground.value; marks = i.marks }
 
-abbrev pub shown_of : Inside → List (Option BaseSweep)
+abbrev pub shown_of : Inside → List (Option BaseFronts)
 shown_of i = map (option_map (λ a. a.value)) i.shown.items

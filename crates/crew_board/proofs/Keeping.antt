@@ -32,8 +32,8 @@ use Rattle.crew_round.specs.Marks as Marks
 use Rattle.crew_round.specs.Marks.{AreDoneBefore, AreSameBefore, IsMarked, StandsAt, node_count, with_mark}
 use Rattle.crew_round.specs.declared.mark.Mark.{Mark}
 use Rattle.crew_round.specs.declared.mark.Mark.TheVariants as MarkedAs
-use Rattle.crew_sweep.specs.Sweeps.{BaseSweep}
-use Rattle.crew_solve.specs.Plans.{IsSweepIn}
+use Rattle.crew_fronts.specs.Fronts.{BaseFronts}
+use Rattle.crew_plan.specs.Plans.{AreFrontsIn}
 
 -- ---- marks after a store
 
@@ -120,7 +120,7 @@ module _ (r : Marked) (over : IsMarkedOver r) (place : ℕ) (was now : Mark) (at
     same = λ q n e. (let told = over.same q n e in (λ s. (let k = told.0 s in ((done-as q).1 k.0, k.1)), λ k. told.1 ((done-as q).0 k.0, k.1)));
   }
 
-  pub held-with : (shown : List (Option BaseSweep)) (swept : List (Option ℕ)) → IsHeld r shown swept → IsHeld (with_marks r next) shown swept
+  pub held-with : (shown : List (Option BaseFronts)) (swept : List (Option ℕ)) → IsHeld r shown swept → IsHeld (with_marks r next) shown swept
   held-with shown swept h = record {
     marked = marked-with;
     long = h.long ∙ sym (length-set r.marks.marks place now);
@@ -132,14 +132,14 @@ module _ (r : Marked) (over : IsMarkedOver r) (place : ℕ) (was now : Mark) (at
 
 -- ---- reading the fronts before a job
 
-module _ (r : Marked) (shown : List (Option BaseSweep)) (swept : List (Option ℕ)) (h : IsHeld r shown swept) where
+module _ (r : Marked) (shown : List (Option BaseFronts)) (swept : List (Option ℕ)) (h : IsHeld r shown swept) where
   pub shown-before : (place : ℕ) → AreDoneBefore r.marks place → AreShownBefore r.ground place shown
   shown-before place all n p k e f a = h.right k p (at-marks r h.marked k p f) (all k (arc-in r h.marked k place p n f e a))
 
-  pub swept-there : (base place : ℕ) (b : BaseSweep) → slice_get swept base ≡ Some (Some place) → get_or shown place None ≡ Some b → IsSweepIn r.ground.plan base b
+  pub swept-there : (base place : ℕ) (b : BaseFronts) → slice_get swept base ≡ Some (Some place) → get_or shown place None ≡ Some b → AreFrontsIn r.ground.plan base b
   swept-there base place b e f =
       let k = h.stand base place e in
-      subst (IsSweepIn r.ground.plan base) (Some-same k.0 b (sym k.1 ∙ f)) k.2
+      subst (AreFrontsIn r.ground.plan base) (Some-same k.0 b (sym k.1 ∙ f)) k.2
 
 module _ (r : Marked) (over : IsMarkedOver r) (place : ℕ) (low : place < length r.marks.marks) where
   low-here : place < node_count r.ground.plan.net
@@ -159,7 +159,7 @@ module _ (r : Marked) (over : IsMarkedOver r) (place : ℕ) (low : place < lengt
       let same = all at.0 (arc-in r over at.0 place p n at.1 e b.1) in
       ((over.same at.0 p (at-marks r over at.0 p at.1)).0 same).1
 
-  pub readable : (sweep : Option BaseSweep) → IsReadableFrom r place (place / length r.ground.plan.net.duties) sweep → AreReadable r.ground (place / length r.ground.plan.net.duties) (place % length r.ground.plan.net.duties) sweep
+  pub readable : (sweep : Option BaseFronts) → IsReadableFrom r place (place / length r.ground.plan.net.duties) sweep → AreReadable r.ground (place / length r.ground.plan.net.duties) (place % length r.ground.plan.net.duties) sweep
   readable None all = λ n p e b.
       (
       let f = found r.ground over.ground place low-here in
@@ -307,8 +307,8 @@ module _ (r : Marked) (over : IsMarkedOver r) (job : Job) (ground : IsGround job
   done-here : IsMarked st.marks place MarkedAs.Done
   done-here = (reuses-done first st.stores.reused st.marks first-long st.stores.reuses place).0 (get-here r.marks.marks place MarkedAs.Done low)
 
-  module _ (shown : List (Option BaseSweep)) (swept : List (Option ℕ)) (h : IsHeld r shown swept) (b : BaseSweep) (shows : (n : DutyNode) → job_node job ≡ Some n → ShowsFrontOf job.ground.settings (data_of job.ground) n b) where
-    abbrev shown-now : List (Option BaseSweep)
+  module _ (shown : List (Option BaseFronts)) (swept : List (Option ℕ)) (h : IsHeld r shown swept) (b : BaseFronts) (shows : (n : DutyNode) → job_node job ≡ Some n → ShowsFrontOf job.ground.settings (data_of job.ground) n b) where
+    abbrev shown-now : List (Option BaseFronts)
     shown-now = slice_set shown place (Some b)
 
     low-shown : place < length shown
@@ -349,14 +349,14 @@ module _ (r : Marked) (over : IsMarkedOver r) (job : Job) (ground : IsGround job
           ∙ h.clear q (λ d. none ((reuses-done first st.stores.reused st.marks first-long st.stores.reuses q).0 (get-elsewhere r.marks.marks place q MarkedAs.Done other ∙ d)))
     ]
 
-    pub held-stored : (swept-now : List (Option ℕ)) → length swept-now ≡ length swept → ((k p : ℕ) → slice_get swept-now k ≡ Some (Some p) → (slice_get swept k ≡ Some (Some p)) ⊎ ((p ≡ place) × IsSweepIn g.plan k b)) → IsHeld (with_marks r st.marks) shown-now swept-now
+    pub held-stored : (swept-now : List (Option ℕ)) → length swept-now ≡ length swept → ((k p : ℕ) → slice_get swept-now k ≡ Some (Some p) → (slice_get swept k ≡ Some (Some p)) ⊎ ((p ≡ place) × AreFrontsIn g.plan k b)) → IsHeld (with_marks r st.marks) shown-now swept-now
     held-stored swept-now long noted = record {
       marked = stored-over;
       long = length-set shown place (Some b) ∙ (h.long ∙ sym longs.0);
       right = right-now;
       clear = clear-now;
       long_swept = long ∙ h.long_swept;
-      stand = λ k p e. ⊎_elim {C = (x : BaseSweep) × (get_or shown-now p None ≡ Some x) × IsSweepIn g.plan k x}
+      stand = λ k p e. ⊎_elim {C = (x : BaseFronts) × (get_or shown-now p None ≡ Some x) × AreFrontsIn g.plan k x}
           (λ was.
           (
           let x = h.stand k p was in
@@ -373,7 +373,7 @@ module _ (r : Marked) (over : IsMarkedOver r) (job : Job) (ground : IsGround job
 
 -- ---- as a round begins
 
-pub held-begun : (r : Marked) → IsBegun r → (shown : List (Option BaseSweep)) (swept : List (Option ℕ)) → length shown ≡ length r.marks.marks → ((k : ℕ) → get_or shown k None ≡ None) → length swept ≡ length r.ground.plan.prices → ((k p : ℕ) → slice_get swept k ≡ Some (Some p) → ⊥)
+pub held-begun : (r : Marked) → IsBegun r → (shown : List (Option BaseFronts)) (swept : List (Option ℕ)) → length shown ≡ length r.marks.marks → ((k : ℕ) → get_or shown k None ≡ None) → length swept ≡ length r.ground.plan.prices → ((k p : ℕ) → slice_get swept k ≡ Some (Some p) → ⊥)
     → IsHeld r shown swept
 held-begun r begun shown swept long none long-swept unswept =
     let over = marked-begun r begun in

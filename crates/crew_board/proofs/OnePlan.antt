@@ -19,7 +19,7 @@ use Rattle.crew_pairing.specs.declared.events.Departure.{Departure}
 use Rattle.crew_resource.proofs.Rising.{Rising, same-rising}
 use Rattle.crew_resource.specs.Members.{Each, Member}
 use Rattle.crew_rules.specs.declared.settings.Settings.{Settings}
-use Rattle.crew_solve.specs.Plans.{IsPlanOf, Plan}
+use Rattle.crew_plan.specs.Plans.{IsPlanOf, Plan}
 
 module _ {E : Type 0} (cmp : E → E → Ordering) where
   abbrev Rises : List E → Type 0

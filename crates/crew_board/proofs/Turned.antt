@@ -27,9 +27,7 @@ use Rattle.crew_resource.proofs.Members.{Member-at}
 use Rattle.crew_round.specs.Marks as Marks
 use Rattle.crew_round.specs.Marks.{AreDoneBefore, AreSameBefore, IsMarked, node_count, with_mark}
 use Rattle.crew_rules.specs.declared.settings.Settings.{Settings}
-use Rattle.crew_sweep.specs.Sweeps.{BaseSweep, front_at}
-use Rattle.crew_vector.specs.Fronts.{RiseByVector}
-use Rattle.std.specs.Prelude.{IsPermutation}
+use Rattle.crew_fronts.specs.Fronts.{BaseFronts, front_at}
 
 -- ---- jobs
 
@@ -174,7 +172,7 @@ module _ (r : Marked) (over : IsMarkedOver r) where
         )
 
     -- what shows a node's front for a job that is its own shows it for the round
-    pub shows-own : (place : ℕ) (b : BaseSweep) → IsOwnPlace r job place → ((n : DutyNode) → job_node job ≡ Some n → ShowsFrontOf job.ground.settings (data_of job.ground) n b) → (n : DutyNode) → slice_get (nodes_in r.ground.plan.net) place ≡ Some n
+    pub shows-own : (place : ℕ) (b : BaseFronts) → IsOwnPlace r job place → ((n : DutyNode) → job_node job ≡ Some n → ShowsFrontOf job.ground.settings (data_of job.ground) n b) → (n : DutyNode) → slice_get (nodes_in r.ground.plan.net) place ≡ Some n
         → ShowsFrontOf r.ground.settings (data_of r.ground) n b
     shows-own place b own shown n at =
         let g = r.ground in
@@ -184,10 +182,9 @@ module _ (r : Marked) (over : IsMarkedOver r) where
         let was = shown w.0.node w.1.node in
         let is = node-is-of g over.ground place w.0.node here.node in
         let there : IsNodeOf job.ground.settings (data_of job.ground) w.0.node = job-node-is job ground placed w.0.node w.1.node in
-        let front : (f : Entries) → IsPermutation (front_at b w.0.node.duty) f → RiseByVector f → IsFrontOf g.settings (data_of g) w.0.node f = λ f perm rises.
+        let front : IsFrontOf g.settings (data_of g) w.0.node (front_at b w.0.node.duty) =
         (
-        let own-front = was.front f perm rises in
-        let local = (crew-laws job.ground.settings ground.checked).local_out job.ground.entries w.0 f there w.1.own own-front in
-        (crew-laws g.settings over.ground.checked).local_in g.entries w.0 f is here.own local) in
+        let local = (crew-laws job.ground.settings ground.checked).local_out job.ground.entries w.0 (front_at b w.0.node.duty) there w.1.own was.front in
+        (crew-laws g.settings over.ground.checked).local_in g.entries w.0 (front_at b w.0.node.duty) is here.own local) in
         let all : ShowsFrontOf g.settings (data_of g) w.0.node b = record { own = was.own; there = was.there; front = front } in
         subst (λ (z : DutyNode). ShowsFrontOf g.settings (data_of g) z b) node all

@@ -16,7 +16,7 @@ ghost use Rattle.crew_round.specs.Marks.{AllDone, AreDoneBefore, AreSameBefore, 
 ghost use Rattle.crew_round.specs.Marks as Spec;
 ghost use Rattle.crew_round.specs.declared.mark.Mark.TheVariants.{Done as DoneMark, Out as OutMark};
 ghost use Rattle.crew_version.specs.Versions.{IsRight};
-ghost use Rattle.crew_solve.specs.Plans.{AreSweepsIn, IsSweepIn};
+ghost use Rattle.crew_plan.specs.Plans.{AreAllIn, AreFrontsIn};
 
 use crate::alike::{Likeness, is_same_round, is_unknown, likeness_of};
 use crate::before::are_same_before;
@@ -25,7 +25,7 @@ use crew_job::{Done, DoneLot, Ground, Job, Lot, is_own_by_work};
 use crew_machine::Brought;
 use crew_net::Node;
 use crew_round::{Mark, Marks, Progress};
-use crew_solve::BaseFronts;
+use crew_fronts::BaseFronts;
 use crew_version::Version;
 use std::alloc::{AllocError, Global};
 use std::marker::Model;
@@ -353,7 +353,7 @@ impl Round {
     fn sweep_of(&self, base: usize) -> Result<Option<Arc<BaseFronts, Global>>, AllocError>
         requires { base < length self.now.ground.plan.prices }
         ensures { IfOk result (λ sweep. IfSome sweep (λ b.
-            IsSweepIn self.now.ground.plan base (arc_value b))) }
+            AreFrontsIn self.now.ground.plan base (arc_value b))) }
     {
         let Some(place) = self.swept[base] else {
             return Ok(None);
@@ -579,7 +579,7 @@ impl Round {
         base: usize,
     ) -> Result<Arc<BaseFronts, Global>, AllocError>
         requires { base < length self.now.ground.plan.prices }
-        ensures { IfOk result (λ sweep. IsSweepIn self.now.ground.plan base (arc_value sweep)) }
+        ensures { IfOk result (λ sweep. AreFrontsIn self.now.ground.plan base (arc_value sweep)) }
     {
         match self.sweep_of(base)? {
             Some(sweep) => Ok(sweep),

@@ -22,10 +22,7 @@ pub fn unreached_nodes_keep_their_fronts()
         → IsUnreached old new old_price new_price base d
         → IsFrontAt s s.fdp_total t base price d entries
         → IsFrontAt s s.fdp_total u base price d entries }
-{
-    crew_answers::laws::each_node_has_a_front();
-    crew_answers::laws::local_entries_are_the_front();
-}
+{}
 
 /// A node isn't reached exactly where it isn't touched and none of the nodes just before it is
 /// reached.

@@ -1,10 +1,9 @@
 -- A base's sweep shows the fronts of all nodes of the base.
 use Rattle.std.proofs.Common.{◌≡◌, ◌<◌, ◌∙◌, ℕ, ℤ, List, Some, length, sym, ap, subst}
-use Rattle.std.specs.Prelude.{IsPermutation, slice_get}
+use Rattle.std.specs.Prelude.{slice_get}
 use Rattle.std.specs.FinMap as fin
 use Rattle.std.specs.Cmp.{eq_by_cmp_equiv}
 use Rattle.std.specs.Option.{option_map}
-use Rattle.std.proofs.lemmas.List.Sorted.{IsPermutation-sym}
 use Rattle.std.proofs.lemmas.Map.Entries.{lookup_from_place}
 use Rattle.std.proofs.lemmas.Map.Keys.{IsDistinct-from_sorted}
 use Rattle.std.proofs.lemmas.Option.{slice_get-map}
@@ -25,40 +24,14 @@ use Rattle.crew_machine.specs.Worlds.{IsBefore}
 use Rattle.crew_machine.specs.Crew.{DutyNode, DutyWork, Entries, IsFrontOf, IsLocalOf, IsNodeOf, crew}
 use Rattle.crew_net.specs.Nets.{Net}
 use Rattle.crew_pairing.specs.Duties.{AreDuties, flights_of}
-use Rattle.crew_pairing.specs.Legs.{Leg}
 use Rattle.crew_pairing.specs.Pairings.{IsDuty}
-use Rattle.crew_pairing.specs.declared.vector.PairingVector.{PairingVector}
 use Rattle.crew_pairing.specs.declared.duty.Duty.{Duty}
-use Rattle.crew_pool.proofs.Permuted.{Member-permuted}
 use Rattle.crew_resource.proofs.Members.{Member-at}
 use Rattle.crew_resource.specs.Members.{Member}
 use Rattle.crew_rules.specs.declared.settings.Settings.{Settings}
-use Rattle.crew_sweep.specs.Sweeps.{BaseSweep, ShowsFronts, front_at}
-use Rattle.crew_vector.specs.Fronts.{IsFrontAt, RiseByVector}
-use Rattle.crew_solve.specs.Plans.{IsSweepIn}
-
--- the entries of a front are all that counts
-pub front-members : (s : Settings) (t : Timetable) (base : List ℕ) (price : ℤ) (d : Duty) (xs ys : Entries)
-    → ((e : PairingVector × List (List Leg)) → (Member xs e → Member ys e) × (Member ys e → Member xs e))
-    → IsFrontAt s t base price d xs → IsFrontAt s t base price d ys
-front-members s t base price d xs ys same h = record {
-  clean = λ v w m. h.clean v w ((same (v, w)).1 m);
-  undominated = λ v w m. h.undominated v w ((same (v, w)).1 m);
-  least = λ v w y m. h.least v w y ((same (v, w)).1 m);
-  every = λ v u. let found = h.every v u in (found.0, (same (v, found.0)).0 found.1);
-}
-
--- the order of entries is no part of a front
-front-permuted : (s : Settings) (t : Timetable) (base : List ℕ) (price : ℤ) (d : Duty) (xs ys : Entries) → IsPermutation xs ys → IsFrontAt s t base price d xs → IsFrontAt s t base price d ys
-front-permuted s t base price d xs ys p h =
-    let back = Member-permuted ys xs (IsPermutation-sym xs ys p) in
-    let forth = Member-permuted xs ys p in
-    record {
-      clean = λ v w m. h.clean v w (back (v, w) m);
-      undominated = λ v w m. h.undominated v w (back (v, w) m);
-      least = λ v w y m. h.least v w y (back (v, w) m);
-      every = λ v u. let found = h.every v u in (found.0, forth (v, found.0) found.1);
-    }
+use Rattle.crew_fronts.specs.Fronts.{BaseFronts, ShowsFronts, front_at}
+use Rattle.crew_answers.specs.Fronts.{IsFrontAt}
+use Rattle.crew_plan.specs.Plans.{AreFrontsIn}
 
 -- the price of the base at a place
 pub priced-at : (t : Timetable) (place : ℕ) (base : List ℕ) (price : ℤ) → slice_get (fin.entries t.bases) place ≡ Some (base, price) → fin.get t.bases base ≡ Some price
@@ -73,7 +46,7 @@ node-legal g is base rank n e =
     let price = has-price (data_of g) n.base among in
     record { price = price.0; based = price.1; legal = duty-legal g is n.duty (Member-at g.plan.net.duties rank n.duty parts.1) }
 
-pub shows-front : (g : Ground) → IsGround g → (base rank : ℕ) (b : BaseSweep) (n : DutyNode) → IsSweepIn g.plan base b → node_at g.plan.net base rank ≡ Some n → ShowsFrontOf g.settings (data_of g) n b
+pub shows-front : (g : Ground) → IsGround g → (base rank : ℕ) (b : BaseFronts) (n : DutyNode) → AreFrontsIn g.plan base b → node_at g.plan.net base rank ≡ Some n → ShowsFrontOf g.settings (data_of g) n b
 shows-front g is base rank b n sweep e =
     let t = data_of g in
     let parts = node-parts g.plan.net base rank n e in
@@ -87,35 +60,35 @@ shows-front g is base rank b n sweep e =
     let based : fin.get t.bases n.base ≡ Some pair.1 = subst (λ (z : List ℕ). fin.get t.bases z ≡ Some pair.1) code (priced-at t base pair.0 pair.1 entry) in
     let settings : b.net.settings ≡ g.settings = ap (λ (z : Net). z.settings) sweep.2.same ∙ net-settings g is in
     let duties : AreDuties g.plan.net.settings t g.plan.net.duties = subst (λ (z : Settings). AreDuties z t g.plan.net.duties) (sym (net-settings g is)) (net-duties g is) in
-    let shown : ShowsFronts t b = sweep.2.fronts t (data-sound g is) duties in
+    let shown : ShowsFronts t b = sweep.2.fronts t (data-sound g is) is.planned.dated duties in
     let member : Member g.plan.net.duties n.duty = Member-at g.plan.net.duties rank n.duty parts.1 in
     let legal : IsDuty b.net.settings (flights_of t) n.duty = subst (λ (z : Settings). IsDuty z (flights_of t) n.duty) (sym settings) (duty-legal g is n.duty member) in
-    let front : IsFrontAt g.settings t n.base pair.1 n.duty (front_at b n.duty) =
-    subst (λ (z : ℤ). IsFrontAt g.settings t n.base z n.duty (front_at b n.duty)) price
-    (subst (λ (z : List ℕ). IsFrontAt g.settings t z b.price n.duty (front_at b n.duty)) own
-    (subst (λ (z : Settings). IsFrontAt z t b.base b.price n.duty (front_at b n.duty)) settings (shown n.duty legal))) in
+    let both = shown n.duty legal in
+    let front : IsFrontAt g.settings g.settings.fdp_total t n.base pair.1 n.duty (front_at b n.duty) =
+    subst (λ (z : ℤ). IsFrontAt g.settings g.settings.fdp_total t n.base z n.duty (front_at b n.duty)) price
+    (subst (λ (z : List ℕ). IsFrontAt g.settings g.settings.fdp_total t z b.price n.duty (front_at b n.duty)) own
+    (subst (λ (z : Settings). IsFrontAt z z.fdp_total t b.base b.price n.duty (front_at b n.duty)) settings both.0)) in
     record {
       own = own;
       there = subst (λ (z : Net). Member z.duties n.duty) (sym sweep.2.same) member;
-      front = λ f p r. record { price = pair.1; based = based; front = front-permuted g.settings t n.base pair.1 n.duty (front_at b n.duty) f p front; rises = r };
+      front = record { price = pair.1; based = based; front = front; rises = both.1 };
     }
   where
     some-same : {X : Type 0} (x y : X) → Some x ≡ Some y → x ≡ y
     some-same x y e = cc
 
 -- what a sweep shows at a job's rank is the front of the job's node
-pub done-front : (job : Job) (b : BaseSweep) → IsSwept job b → (rank : ℕ) (f : Entries) → rank ≡ job.rank → ((d : Duty) → slice_get b.net.duties rank ≡ Some d → IsPermutation (front_at b d) f × RiseByVector f) → (n : DutyNode) → job_node job ≡ Some n
+pub done-front : (job : Job) (b : BaseFronts) → IsSwept job b → (rank : ℕ) (f : Entries) → rank ≡ job.rank → ((d : Duty) → slice_get b.net.duties rank ≡ Some d → f ≡ front_at b d) → (n : DutyNode) → job_node job ≡ Some n
     → IsFrontOf job.ground.settings (data_of job.ground) n f
 done-front job b kept rank f e shown n is =
     let g = job.ground in
     let shows = shows-front g kept.right job.base job.rank b n kept.swept is in
     let parts = node-parts g.plan.net job.base job.rank n is in
     let there : slice_get b.net.duties rank ≡ Some n.duty = ap (slice_get b.net.duties) e ∙ (ap (λ (z : Net). slice_get z.duties job.rank) kept.swept.2.same ∙ parts.1) in
-    let s = shown n.duty there in
-    shows.front f s.0 s.1
+    subst (IsFrontOf g.settings (data_of g) n) (sym (shown n.duty there)) shows.front
 
 -- .. and local to the job's work
-pub done-local : (job : Job) (b : BaseSweep) → IsSwept job b → (rank : ℕ) (f : Entries) → rank ≡ job.rank → ((d : Duty) → slice_get b.net.duties rank ≡ Some d → IsPermutation (front_at b d) f × RiseByVector f) → (work : DutyWork) → IsJobOf job work → IsLocalOf work f
+pub done-local : (job : Job) (b : BaseFronts) → IsSwept job b → (rank : ℕ) (f : Entries) → rank ≡ job.rank → ((d : Duty) → slice_get b.net.duties rank ≡ Some d → f ≡ front_at b d) → (work : DutyWork) → IsJobOf job work → IsLocalOf work f
 done-local job b kept rank f e shown work is =
     let g = job.ground in
     (crew-laws g.settings kept.right.checked).local_out g.entries work f (node-legal g kept.right job.base job.rank work.node is.node) is.own (done-front job b kept rank f e shown work.node is.node)
@@ -128,8 +101,8 @@ before-place g is base rank n p e b =
     (at.0, node-from g.plan.net base at.0 p.base p.duty (parts.0 ∙ ap Some (sym b.1.base)) at.1)
 
 -- .. and its front is shown by the base's sweep
-pub shows-before : (g : Ground) → IsGround g → (base rank : ℕ) (p : DutyNode) (b : BaseSweep) → base < length g.plan.net.bases → rank < length g.plan.net.duties
-    → ((n : DutyNode) → node_at g.plan.net base rank ≡ Some n → IsBefore (crew g.settings) (data_of g) p n) → IsSweepIn g.plan base b → ShowsFrontOf g.settings (data_of g) p b
+pub shows-before : (g : Ground) → IsGround g → (base rank : ℕ) (p : DutyNode) (b : BaseFronts) → base < length g.plan.net.bases → rank < length g.plan.net.duties
+    → ((n : DutyNode) → node_at g.plan.net base rank ≡ Some n → IsBefore (crew g.settings) (data_of g) p n) → AreFrontsIn g.plan base b → ShowsFrontOf g.settings (data_of g) p b
 shows-before g is base rank p b h k before swept =
     let n = some-node-at g.plan.net base rank h k in
     let at = before-place g is base rank n.0 p n.1 (before n.0 n.1) in

@@ -11,10 +11,10 @@ use Rattle.crew_job.specs.Machinery.Compared.{AreShownAt}
 use Rattle.crew_job.specs.Shown.{AreShownBefore}
 use Rattle.crew_machine.specs.Crew.{DutyNode, DutyWork, MayPrecede}
 use Rattle.crew_pairing.specs.declared.duty.Duty.{Duty}
-use Rattle.crew_sweep.specs.Sweeps.{BaseSweep}
+use Rattle.crew_fronts.specs.Fronts.{BaseFronts}
 
 -- what is shown just before a place, by the place of the base and rank
-pub shown-before : (g : Ground) (place base : ℕ) (code : List ℕ) (d : Duty) (shown : List (Option BaseSweep)) → slice_get (nodes_in g.plan.net) place ≡ Some (record { base = code; duty = d }) → slice_get g.plan.net.bases base ≡ Some code → AreShownBefore g place shown → AreShownAt g code d base shown
+pub shown-before : (g : Ground) (place base : ℕ) (code : List ℕ) (d : Duty) (shown : List (Option BaseFronts)) → slice_get (nodes_in g.plan.net) place ≡ Some (record { base = code; duty = d }) → slice_get g.plan.net.bases base ≡ Some code → AreShownBefore g place shown → AreShownAt g code d base shown
 shown-before g place base code d shown at based before rank e stands may =
     let n : DutyNode = record { base = code; duty = d } in
     let p : DutyNode = record { base = code; duty = e } in

@@ -1,5 +1,6 @@
 -- The front that a version has of a node.
 use Rattle.std.proofs.Common.{◌≡◌, ◌≤◌, ◌∙◌, ℕ, length, List, [], Some, None, refl, sym, ap, subst}
+use Rattle.crew_answers.specs.Fronts.{IsFrontAt}
 use Rattle.crew_dirty.proofs.Nodes.{one-duty}
 use Rattle.crew_dirty.specs.Dirty.{IsNetOver}
 use Rattle.crew_flights.specs.Timetable.{Timetable, empty_timetable}
@@ -15,8 +16,7 @@ use Rattle.crew_pairing.specs.declared.duty.Duty.{Duty}
 use Rattle.crew_resource.specs.Members.{Member}
 use Rattle.crew_rules.specs.Settings.{IsChecked}
 use Rattle.crew_rules.specs.declared.settings.Settings.{Settings}
-use Rattle.crew_solve.specs.Solutions.{HasNetOf, Solution}
-use Rattle.crew_vector.specs.Fronts.{IsFrontAt}
+use Rattle.crew_plan.specs.Solutions.{HasNetOf, Solution}
 use Rattle.crew_version.specs.Fronts.{IsFrontByKey}
 use Rattle.crew_version.specs.Versions.{Snapshot, timetable_of}
 
@@ -32,7 +32,7 @@ module _ (s : Settings) (t : Timetable) (few : HasFew s t) where
   pub front-by-key : (n : DutyNode) (front : Entries) → IsNodeOf s t n → IsFrontByKey s t n.base n.duty.key (Some front) → IsFrontOf s t n front
   front-by-key n front is by =
       let same : by.1 ≡ n.duty = one-legal by.1 n.duty by.3 is.legal by.4 in
-      record { price = by.0; based = by.2; front = subst (λ (d : Duty). IsFrontAt s t n.base by.0 d front) same by.5; rises = by.6 }
+      record { price = by.0; based = by.2; front = subst (λ (d : Duty). IsFrontAt s s.fdp_total t n.base by.0 d front) same by.5; rises = by.6 }
 
   pub front-there : (n : DutyNode) → IsNodeOf s t n → IsFrontByKey s t n.base n.duty.key None → ⊥
   front-there n is none = none is.price n.duty is.based is.legal refl

@@ -1,5 +1,5 @@
 -- Where the front of a node is read from without memory: a sweep, or the version before the round.
-use Rattle.std.specs.Prelude.{◌≡◌, ℕ, true, List, Option, Some, None, IsPermutation, get_or, slice_get}
+use Rattle.std.specs.Prelude.{◌≡◌, ℕ, true, List, Option, Some, None, get_or, slice_get}
 use Rattle.crew_flights.specs.Timetable.{Timetable}
 use Rattle.crew_job.specs.declared.left.Left.{Left}
 use Rattle.crew_job.specs.Grounds.{Ground, data_of, node_at, nodes_in, sealed_data_of}
@@ -9,16 +9,14 @@ use Rattle.crew_pairing.specs.Events.{departure_of}
 use Rattle.crew_pairing.specs.declared.events.Departure.{Departure}
 use Rattle.crew_resource.specs.Members.{Member}
 use Rattle.crew_rules.specs.declared.settings.Settings.{Settings}
-use Rattle.crew_sweep.specs.Sweeps.{BaseSweep, front_at}
-use Rattle.crew_vector.specs.Fronts.{RiseByVector}
-use Rattle.crew_solve.specs.Plans.{IsSweepIn}
+use Rattle.crew_fronts.specs.Fronts.{BaseFronts, front_at}
+use Rattle.crew_plan.specs.Plans.{AreFrontsIn}
 
 -- a sweep shows a node's front: that of a base and a duty
-pub record ShowsFrontOf (s : Settings) (t : Timetable) (n : DutyNode) (b : BaseSweep) : Type 0 where
+pub record ShowsFrontOf (s : Settings) (t : Timetable) (n : DutyNode) (b : BaseFronts) : Type 0 where
   pub own : b.base ≡ n.base
   pub there : Member b.net.duties n.duty
-  pub front : (f : Entries) → IsPermutation (front_at b n.duty) f → RiseByVector f
-      → IsFrontOf s t n f
+  pub front : IsFrontOf s t n (front_at b n.duty)
 
 -- the version before the round has the node, with the front that it has in the round
 pub record IsAsSealed (g : Ground) (n : DutyNode) : Type 0 where
@@ -43,19 +41,19 @@ IsLeftOf g None = Unit {0}
 IsLeftOf g (Some left) = IsLeft g left
 
 -- what shows a node's front is right: a sweep, or none where the version before has the same front
-abbrev pub IsShown : Ground → DutyNode → Option BaseSweep → Type 0
+abbrev pub IsShown : Ground → DutyNode → Option BaseFronts → Type 0
 IsShown g n None = IsAsSealed g n
 IsShown g n (Some b) = ShowsFrontOf g.settings (data_of g) n b
 
 -- at each node just before that of a place, by place in node order, what shows its front is right
-abbrev pub AreShownBefore : Ground → ℕ → List (Option BaseSweep) → Type 0
+abbrev pub AreShownBefore : Ground → ℕ → List (Option BaseFronts) → Type 0
 AreShownBefore g place shown = (n p : DutyNode) (k : ℕ) → slice_get (nodes_in g.plan.net) place
     ≡ Some n → slice_get (nodes_in g.plan.net) k ≡ Some p → MayPrecede g.settings p n
     → IsShown g p (get_or shown k None)
 
 -- the fronts of the nodes just before that of a base's place and a rank can be read: from the
 -- base's sweep, or without one from the version before
-abbrev pub AreReadable : Ground → ℕ → ℕ → Option BaseSweep → Type 0
+abbrev pub AreReadable : Ground → ℕ → ℕ → Option BaseFronts → Type 0
 AreReadable g base rank None = (n p : DutyNode) → node_at g.plan.net base rank ≡ Some n
     → IsBefore (crew g.settings) (data_of g) p n → IsAsSealed g p
-AreReadable g base rank (Some b) = IsSweepIn g.plan base b
+AreReadable g base rank (Some b) = AreFrontsIn g.plan base b

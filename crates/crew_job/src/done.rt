@@ -5,11 +5,11 @@ ghost use Rattle.crew_job.specs.Grounds.{data_of};
 ghost use Rattle.crew_job.specs.Jobs.{IsJobOf, job_node};
 ghost use Rattle.crew_job.specs.Shown.{IsAsSealed, IsLeftOf, ShowsFrontOf};
 ghost use Rattle.crew_machine.specs.Crew.{DutyNode, DutyWork, IsFrontOf, IsLocalOf};
-ghost use Rattle.crew_solve.specs.Plans.{IsSweepIn};
+ghost use Rattle.crew_plan.specs.Plans.{AreFrontsIn};
 
 use crate::job::Job;
 use crate::left::Left;
-use crew_solve::{BaseFronts, FrontView};
+use crew_fronts::{BaseFronts, FrontView};
 use std::alloc::{AllocError, Global};
 use std::marker::Model;
 use std::sync::Arc;
@@ -53,7 +53,7 @@ pub(crate) fn done_by(
     sweep: Arc<BaseFronts, Global>,
     left: &mut Option<Left>,
 ) -> Result<Done, AllocError>
-    requires sweep { IsSweepIn job.now.ground.plan job.now.base (arc_value sweep) }
+    requires sweep { AreFrontsIn job.now.ground.plan job.now.base (arc_value sweep) }
     requires left { IsLeftOf job.now.ground left.old }
     ensures done { IfOk result (λ done. done ≡ job.now) }
     ensures left { IsLeftOf job.now.ground left.new }
@@ -91,7 +91,7 @@ impl Done {
 
     /// The sweep of the job's base.
     pub fn sweep(&self) -> &Arc<BaseFronts, Global>
-        ensures swept { IsSweepIn self.now.ground.plan self.now.base (arc_value result.now) }
+        ensures swept { AreFrontsIn self.now.ground.plan self.now.base (arc_value result.now) }
         ensures shown { (n : DutyNode) → job_node self.now ≡ Some n
             → ShowsFrontOf self.now.ground.settings (data_of self.now.ground) n
             (arc_value result.now) }
@@ -101,7 +101,7 @@ impl Done {
 
     /// The sweep of the job's base, where nothing else of what is done is wanted any more.
     pub fn into_sweep(self) -> Arc<BaseFronts, Global>
-        ensures swept { IsSweepIn self.ground.plan self.base (arc_value result) }
+        ensures swept { AreFrontsIn self.ground.plan self.base (arc_value result) }
         ensures shown { (n : DutyNode) → job_node self ≡ Some n
             → ShowsFrontOf self.ground.settings (data_of self.ground) n (arc_value result) }
     {

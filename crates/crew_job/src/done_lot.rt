@@ -2,13 +2,13 @@
 ghost use Rattle.std.specs.Prelude.{◌≡◌, [], IfOk, IfSome, MatchOption, length};
 ghost use Rattle.std.specs.Arc.{arc_value};
 ghost use Rattle.crew_job.specs.Lots.{IsLot, StandOn};
-ghost use Rattle.crew_solve.specs.Plans.{IsSweepIn};
+ghost use Rattle.crew_plan.specs.Plans.{AreFrontsIn};
 
 use crate::done::{Done, done_by};
 use crate::ground::Ground;
 use crate::job::Job;
 use crate::lot::Lot;
-use crew_solve::BaseFronts;
+use crew_fronts::BaseFronts;
 use std::alloc::{AllocError, Global};
 use std::marker::Model;
 use std::sync::Arc;
@@ -37,7 +37,7 @@ impl Model for DoneLot {
 fn swept_before<'a>(results: &'a [Done], job: &Job) -> Option<&'a Arc<BaseFronts, Global>>
     requires { StandOn job.now.ground results.now }
     ensures { IfSome result
-        (λ sweep. IsSweepIn job.now.ground.plan job.now.base (arc_value sweep.now)) }
+        (λ sweep. AreFrontsIn job.now.ground.plan job.now.base (arc_value sweep.now)) }
 {
     let base = job.base();
     for k in (0..results.len()).rev() {
@@ -57,7 +57,7 @@ fn sweep_beside(
 ) -> Result<Arc<BaseFronts, Global>, AllocError>
     requires { StandOn job.now.ground results.now }
     ensures { IfOk result
-        (λ sweep. IsSweepIn job.now.ground.plan job.now.base (arc_value sweep)) }
+        (λ sweep. AreFrontsIn job.now.ground.plan job.now.base (arc_value sweep)) }
 {
     if job.sweep().is_none() {
         if let Some(sweep) = swept_before(results, job) {

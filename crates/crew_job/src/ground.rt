@@ -9,7 +9,7 @@ ghost use Rattle.crew_net.specs.Nets as Nets;
 ghost use Rattle.crew_pairing.specs.Duties.{HasFew};
 ghost use Rattle.crew_flights.specs.Timetable.{empty_timetable};
 ghost use Rattle.crew_version.specs.Versions.{IsRight, timetable_of};
-ghost use Rattle.crew_solve.specs.Plans.{AreSweepsIn, IsPlanOf, IsSweepIn};
+ghost use Rattle.crew_plan.specs.Plans.{AreAllIn, IsPlanOf, AreFrontsIn};
 
 use crate::fault::GroundFault;
 use crate::timetables::{are_same_settings, are_same_timetables};
@@ -18,7 +18,8 @@ use crew_flights::{Entry, Timetable};
 use crew_net::Net;
 use crew_pairing::Duties;
 use crew_rules::Settings;
-use crew_solve::{BaseFronts, Plan, Solution};
+use crew_fronts::BaseFronts;
+use crew_plan::{Plan, Solution};
 use crew_version::{Draft, Version, VersionFault};
 use std::alloc::{AllocError, Global};
 use std::marker::Model;
@@ -267,7 +268,7 @@ impl Ground {
     /// The fronts of the base at a place, made beside those of the version that was sealed last.
     pub fn sweep(&self, alloc: Global, base: usize) -> Result<Arc<BaseFronts, Global>, AllocError>
         requires { base < length self.now.plan.prices }
-        ensures { IfOk result (λ fronts. IsSweepIn self.now.plan base (arc_value fronts)) }
+        ensures { IfOk result (λ fronts. AreFrontsIn self.now.plan base (arc_value fronts)) }
     {
         self.plan.sweep(alloc, base)
     }
@@ -278,7 +279,7 @@ impl Ground {
         alloc: Global,
         fronts: Vec<Arc<BaseFronts, Global>>,
     ) -> Result<Arc<Version, Global>, AllocError>
-        requires { AreSweepsIn self.now.plan (map arc_value fronts.items) }
+        requires { AreAllIn self.now.plan (map arc_value fronts.items) }
         ensures number { IfOk result (λ version. (arc_value version).number ≡ self.now.number) }
         ensures settings { IfOk result
             (λ version. (arc_value version).settings ≡ self.now.settings) }

@@ -5,13 +5,13 @@ ghost use Rattle.std.specs.Prelude.{◌≡◌, ◌<◌, IfOk, IfSome, Some, leng
 ghost use Rattle.crew_job.specs.Grounds.{data_of, node_at, nodes_in};
 ghost use Rattle.crew_job.specs.Jobs.{job_node};
 ghost use Rattle.crew_job.specs.Shown.{AreReadable};
-ghost use Rattle.crew_solve.specs.Plans.{IsSweepIn};
+ghost use Rattle.crew_plan.specs.Plans.{AreFrontsIn};
 
 use crate::ground::Ground;
 use crate::places::place_in;
 use crew_flights::Code;
 use crew_pairing::Duty;
-use crew_solve::BaseFronts;
+use crew_fronts::BaseFronts;
 use std::alloc::{AllocError, Global};
 use std::marker::Model;
 use std::sync::Arc;
@@ -124,7 +124,7 @@ impl Job {
     // The sweep of the base: the job's, or where it has none a new one.
     pub(crate) fn sweep_of(&self, alloc: Global) -> Result<Arc<BaseFronts, Global>, AllocError>
         ensures swept { IfOk result (λ sweep.
-            IsSweepIn self.now.ground.plan self.now.base (arc_value sweep)) }
+            AreFrontsIn self.now.ground.plan self.now.base (arc_value sweep)) }
         ensures placed { IsPlaced self.now }
         ensures ground { IsGround self.now.ground }
     {

@@ -10,8 +10,8 @@ ghost use Rattle.crew_machine.specs.Worlds.{AreNodes, IsBefore};
 ghost use Rattle.crew_net.specs.Nets.{Net};
 ghost use Rattle.crew_pairing.specs.declared.duty.Duty.{Duty};
 ghost use Rattle.crew_resource.specs.Members.{Member};
-ghost use Rattle.crew_sweep.specs.Sweeps.{BaseSweep};
-ghost use Rattle.crew_solve.specs.Plans.{IsSweepIn};
+ghost use Rattle.crew_fronts.specs.Fronts.{BaseFronts};
+ghost use Rattle.crew_plan.specs.Plans.{AreFrontsIn};
 
 /// A job stands for one piece of work.
 pub fn each_job_has_one_work()
@@ -37,7 +37,7 @@ pub fn own_results_are_right()
         → (place : ℕ) → slice_get (nodes_in g.plan.net) place ≡ Some work.node
         → IsOwnWork g work → IsLocalOf work f
         → IsFrontOf g.settings (data_of g) work.node f }
-    ensures shown { (job : Job) (g : Ground) (work : DutyWork) (b : BaseSweep)
+    ensures shown { (job : Job) (g : Ground) (work : DutyWork) (b : BaseFronts)
         → IsGround job.ground → IsGround g → IsJobOf job work → IsOwnWork g work
         → (place : ℕ) → slice_get (nodes_in g.plan.net) place ≡ Some work.node
         → ShowsFrontOf job.ground.settings (data_of job.ground) work.node b
@@ -46,8 +46,8 @@ pub fn own_results_are_right()
 
 /// A base's sweep shows the fronts of all nodes of the base.
 pub fn sweeps_show_the_fronts_of_their_base()
-    ensures { (g : Ground) (base rank : ℕ) (b : BaseSweep) (n : DutyNode) → IsGround g
-        → IsSweepIn g.plan base b → node_at g.plan.net base rank ≡ Some n
+    ensures { (g : Ground) (base rank : ℕ) (b : BaseFronts) (n : DutyNode) → IsGround g
+        → AreFrontsIn g.plan base b → node_at g.plan.net base rank ≡ Some n
         → ShowsFrontOf g.settings (data_of g) n b }
 {}
 

@@ -8,7 +8,7 @@ ghost use Rattle.crew_job.specs.Shown.{IsLeftOf, LeavesAsSealed};
 ghost use Rattle.crew_job.specs.declared.left.Left.{Left as LeftOf};
 ghost use Rattle.crew_machine.specs.Crew.{DutyNode, IsNodeOf};
 ghost use Rattle.crew_pairing.specs.Events.{departure_of};
-ghost use Rattle.crew_solve.specs.Plans.{IsSweepIn};
+ghost use Rattle.crew_plan.specs.Plans.{AreFrontsIn};
 
 use crate::fronts::is_same_front;
 use crate::ground::Ground;
@@ -19,7 +19,7 @@ use crate::shown::sealed_front;
 use crew_flights::Code;
 use crew_pairing::{Departure, Duty};
 use crew_resource::Placed;
-use crew_solve::BaseFronts;
+use crew_fronts::BaseFronts;
 
 /// Whether the version that was sealed last leaves as a ground does at a departure of a base.
 #[derive(Clone, Copy)]
@@ -98,7 +98,7 @@ impl Ground {
     // Whether the version that was sealed last leaves as this does where a duty leaves, by the fronts of
     // a base.
     fn leaves_alike(&self, fronts: &BaseFronts, base: Code, duty: &Duty) -> bool
-        requires { (place : ℕ) × IsSweepIn self.now.plan place fronts.now }
+        requires { (place : ℕ) × AreFrontsIn self.now.plan place fronts.now }
         ensures { IsTrue result → LeavesAsSealed self.now base (departure_of duty.now) }
     {
         let sealed = self.sealed();
@@ -116,7 +116,7 @@ impl Ground {
 
     // The same, where it may be known already.
     fn look_at(&self, fronts: &BaseFronts, base: Code, duty: &Duty, last: &mut Option<Left>) -> bool
-        requires sweep { (place : ℕ) × IsSweepIn self.now.plan place fronts.now }
+        requires sweep { (place : ℕ) × AreFrontsIn self.now.plan place fronts.now }
         requires last { IsLeftOf self.now last.old }
         ensures alike { IsTrue result → LeavesAsSealed self.now base (departure_of duty.now) }
         ensures last { IsLeftOf self.now last.new }
@@ -136,7 +136,7 @@ impl Job {
     // nodes in a row that leave at one departure take one look at its labels: where the version leaves
     // there as the ground does, no fronts are compared. It takes no memory.
     pub(crate) fn is_kept(&self, fronts: &BaseFronts, last: &mut Option<Left>) -> bool
-        requires sweep { IsSweepIn self.now.ground.plan self.now.base fronts.now }
+        requires sweep { AreFrontsIn self.now.ground.plan self.now.base fronts.now }
         requires last { IsLeftOf self.now.ground last.old }
         ensures kept { TellsKept self.now result }
         ensures last { IsLeftOf self.now.ground last.new }
@@ -155,7 +155,7 @@ impl Job {
     // Whether the version that was sealed last, which has the job's node, has it with the front that a
     // sweep of its base shows.
     fn has_front_of(&self, fronts: &BaseFronts) -> bool
-        requires sweep { IsSweepIn self.now.ground.plan self.now.base fronts.now }
+        requires sweep { AreFrontsIn self.now.ground.plan self.now.base fronts.now }
         requires there { (n : DutyNode) → job_node self.now ≡ Some n
             → IsNodeOf self.now.ground.settings (sealed_data_of self.now.ground) n }
         ensures { TellsKept self.now result }

@@ -21,7 +21,7 @@ use crate::shown::{front_before, shown_front};
 use crate::timetables::are_same_settings;
 use crew_flights::Code;
 use crew_pairing::Duty;
-use crew_solve::BaseFronts;
+use crew_fronts::BaseFronts;
 use crew_step::is_same_duty;
 use std::alloc::Global;
 use std::sync::Arc;

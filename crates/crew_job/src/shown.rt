@@ -1,28 +1,26 @@
 //! Fronts that are read where they stand.
 ghost use Rattle.std.specs.Option.{option_copied};
-ghost use Rattle.std.specs.Prelude.{◌≡◌, IsPermutation, Some};
+ghost use Rattle.std.specs.Prelude.{◌≡◌, Some};
 ghost use Rattle.crew_job.specs.Grounds.{data_of};
 ghost use Rattle.crew_job.specs.Jobs.{job_node};
 ghost use Rattle.crew_job.specs.Shown.{IsShown};
 ghost use Rattle.crew_machine.specs.Crew.{DutyNode, IsFrontOf, IsNodeOf, crew};
 ghost use Rattle.crew_machine.specs.Worlds.{IsBefore};
 ghost use Rattle.crew_resource.specs.Members.{Member};
-ghost use Rattle.crew_sweep.specs.Sweeps.{front_at};
-ghost use Rattle.crew_vector.specs.Fronts.{RiseByVector};
+ghost use Rattle.crew_fronts.specs.Fronts.{front_at};
 ghost use Rattle.crew_version.specs.Versions.{timetable_of};
 
 use crate::ground::Ground;
 use crate::job::Job;
 use crew_flights::Code;
 use crew_pairing::Duty;
-use crew_solve::{BaseFronts, FrontView};
+use crew_fronts::{BaseFronts, FrontView};
 use crew_version::Version;
 
 /// The front that a sweep shows of a duty of its network.
 pub(crate) fn swept_front<'a>(fronts: &'a BaseFronts, duty: &Duty) -> FrontView<'a>
     requires { Member fronts.now.net.duties duty.now }
-    ensures shown { IsPermutation (front_at fronts.now duty.now) result }
-    ensures rises { RiseByVector result }
+    ensures { result ≡ front_at fronts.now duty.now }
 {
     let net = fronts.net();
     let _count = net.duty_count();

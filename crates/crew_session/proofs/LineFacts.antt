@@ -5,9 +5,7 @@ use Rattle.std.specs.Io.KnownBytes.{Appends}
 use Rattle.std.proofs.lemmas.List.{append-nil}
 use Rattle.crew_flights.specs.declared.edit.Verdict.{Verdict}
 use Rattle.std.specs.List.{flat_map}
-use Rattle.crew_pairing.specs.Legs.{Leg}
-use Rattle.crew_pairing.specs.declared.vector.PairingVector.{PairingVector}
-use Rattle.crew_session.specs.Lines.{entry_line, refused_lines}
+use Rattle.crew_session.specs.Lines.{refused_lines}
 use Rattle.crew_session.specs.Verdicts.{verdict_text}
 
 pub appends-none : (w : Option (List ℕ)) → Appends w w []
@@ -45,11 +43,6 @@ refused-more ns vs first i h =
 -- the line of what stands at a place, and then the others
 pub each-more : {X : Type 0} (line : X → List ℕ) (xs : List X) (i : ℕ) (x : X) → i < length xs → flat_map line (drop i xs) ≡ line (get_or xs i x) ++ flat_map line (drop (i + 1) xs)
 each-more line xs i x h = rw (drop-cons xs i x, add-one i) refl
-
--- the line of the entry at a place, and then the others
-pub entries-more : (entries : List (PairingVector × List (List Leg))) (i : ℕ) (entry : PairingVector × List (List Leg)) → i < length entries
-    → flat_map entry_line (drop i entries) ≡ entry_line (get_or entries i entry) ++ flat_map entry_line (drop (i + 1) entries)
-entries-more = each-more entry_line
 
 -- nothing is left
 pub refused-all : (ns : List ℕ) (vs : List Verdict) (i : ℕ) → length ns < i + 1 → refused_lines (drop i ns) vs ≡ []

@@ -16,16 +16,16 @@ use Rattle.crew_pairing.specs.Keys.{key_cmp, key_total, walk_total}
 use Rattle.crew_pairing.specs.Legs.{Leg}
 use Rattle.crew_pairing.specs.Pairings.{IsDuty}
 use Rattle.crew_pairing.specs.declared.duty.Duty.{Duty}
-use Rattle.crew_pairing.specs.declared.vector.PairingVector.{PairingVector}
 use Rattle.crew_pairing.proofs.InOrder.{all-duties}
 use Rattle.crew_pairing.proofs.Timetables.{flights-of-timetable}
 use Rattle.crew_duty.proofs.Unique.{unique}
-use Rattle.crew_vector.specs.Bests.{IsBest}
-use Rattle.crew_vector.proofs.OneBest.{one-best}
-use Rattle.crew_vector.proofs.Unique.{same-listed}
-use Rattle.crew_vector.specs.Fronts.{IsFrontAt}
-use Rattle.crew_solve.proofs.OneList.{one-list}
-use Rattle.crew_solve.proofs.Sharing.{one-apart}
+use Rattle.crew_answers.specs.Bests.{IsBest}
+use Rattle.crew_answers.specs.Fronts.{IsFrontAt}
+use Rattle.crew_answers.specs.LongVectors.{LongVector}
+use Rattle.crew_answers.proofs.OneBest.{one-best}
+use Rattle.crew_answers.proofs.Unique.{same-listed}
+use Rattle.crew_plan.proofs.OneList.{one-list}
+use Rattle.crew_plan.proofs.Sharing.{one-apart}
 use Rattle.crew_audit.specs.Partials.{ArePartials, Rise, partial_cmp}
 use Rattle.crew_audit.specs.Tallies.{IsLeast, IsTally}
 use Rattle.crew_audit.specs.declared.partial.Partial.{Partial}
@@ -52,9 +52,10 @@ one-version : (before v w : Snapshot) (entries : List Entry) → IsNext before e
 one-version before v w entries next right next2 right2 =
     let settings : w.settings ≡ v.settings = next2.settings ∙ sym next.settings in
     let grown : w.entries ≡ v.entries = next2.grown ∙ sym next.grown in
-    let least : IsBest v.settings (timetable_of v.entries) w.best =
-    subst (λ (s : Settings). IsBest s (timetable_of v.entries) w.best) settings (subst (λ (es : List Entry). IsBest w.settings (timetable_of es) w.best) grown right2.least) in
-    one-snapshot v w (next.number ∙ sym next2.number) (sym settings) (sym grown) (one-best v.settings (timetable_of v.entries) (timetable-sound v.entries) v.best w.best right.least least)
+    let least : IsBest v.settings v.settings.fdp_total (timetable_of v.entries) w.best =
+    subst (λ (s : Settings). IsBest s s.fdp_total (timetable_of v.entries) w.best) settings (subst (λ (es : List Entry). IsBest w.settings w.settings.fdp_total (timetable_of es) w.best) grown right2.least) in
+    one-snapshot v w (next.number ∙ sym next2.number) (sym settings) (sym grown)
+    (one-best v.settings v.settings.fdp_total (timetable_of v.entries) v.best w.best (timetable-sound v.entries) right.least least)
 
 not-both : (s : Settings) (t : Timetable) → HasFew s t → HasTooMany s t → ⊥
 not-both s t few many =
@@ -103,7 +104,7 @@ one-duty s t sound d e l m k =
     let all = all-duties s (flights_of t) (flights-of-timetable t sound) in
     key-tells _ d e all.rising (subst (Member _) (sym l.3) (all.every l.0 l.1 l.2)) (subst (Member _) (sym m.3) (all.every m.0 m.1 m.2)) k
 
-one-front : (s : Settings) (t : Timetable) → IsSound t → (base : List ℕ) (key : List Leg) (f g : Option (List (PairingVector × List (List Leg))))
+one-front : (s : Settings) (t : Timetable) → IsSound t → (base : List ℕ) (key : List Leg) (f g : Option (List (LongVector × List (List Leg))))
     → IsFrontByKey s t base key f → IsFrontByKey s t base key g → f ≡ g
 one-front s t sound base key None None h k = refl
 one-front s t sound base key None (Some g) h k = absurd (h k.0 k.1 k.2 k.3 k.4)
@@ -111,12 +112,12 @@ one-front s t sound base key (Some f) None h k = absurd (k h.0 h.1 h.2 h.3 h.4)
 one-front s t sound base key (Some f) (Some g) h k =
     let price : k.0 ≡ h.0 = cc (h.2, k.2) in
     let duty : k.1 ≡ h.1 = one-duty s t sound k.1 h.1 k.3 h.3 (k.4 ∙ sym h.4) in
-    let other : IsFrontAt s t base h.0 h.1 g = subst (λ (d : Duty). IsFrontAt s t base h.0 d g) duty (subst (λ (p : ℤ). IsFrontAt s t base p k.1 g) price k.5) in
-    ap (λ (es : List (PairingVector × List (List Leg))). Some es) (same-listed s t base h.0 h.1 f g h.5 other h.6 k.6)
+    let other : IsFrontAt s s.fdp_total t base h.0 h.1 g = subst (λ (d : Duty). IsFrontAt s s.fdp_total t base h.0 d g) duty (subst (λ (p : ℤ). IsFrontAt s s.fdp_total t base p k.1 g) price k.5) in
+    ap (λ (es : List (LongVector × List (List Leg))). Some es) (same-listed s s.fdp_total t base h.0 h.1 f g h.5 other h.6 k.6)
 
 one-showing : (base : List ℕ) (key : List Leg) (v : Snapshot) (x y : List ℕ) → ShowsFront base key v x → ShowsFront base key v y → x ≡ y
 one-showing base key v x y h k =
-    h.written ∙ ap (front_lines base key) (one-front v.settings (timetable_of v.entries) (timetable-sound v.entries) base key h.front k.front h.exact k.exact) ∙ sym k.written
+    h.written ∙ ap (front_lines v.settings base key) (one-front v.settings (timetable_of v.entries) (timetable-sound v.entries) base key h.front k.front h.exact k.exact) ∙ sym k.written
 
 one-listing : (limit : ℕ) (v : Snapshot) (x y : List ℕ) → ShowsCheapest limit v x → ShowsCheapest limit v y → x ≡ y
 one-listing limit v x y h k = h.written ∙ ap pairings_lines (one-list v.settings (timetable_of v.entries) limit h.pairings k.pairings h.exact k.exact) ∙ sym k.written

@@ -8,7 +8,9 @@ use Rattle.crew_flights.specs.declared.edit.Verdict.{Verdict}
 use Rattle.crew_flights.specs.declared.edit.Verdict.TheVariants.{Accepted, Refused}
 use Rattle.crew_pairing.specs.Legs.{Leg}
 use Rattle.crew_pairing.specs.declared.vector.PairingVector.{PairingVector}
+use Rattle.crew_answers.specs.LongVectors.{LongVector, is_long}
 use Rattle.crew_audit.specs.declared.tally.Tally.{Tally}
+use Rattle.crew_rules.specs.declared.settings.Settings.{Settings}
 use Rattle.crew_version.specs.Versions.{Snapshot, timetable_of}
 use Rattle.crew_vector.specs.declared.priced.PricedPairing.{PricedPairing}
 
@@ -76,7 +78,8 @@ pairings_lines pairings =
     (codes "pairings " ++ decimal (length pairings) ++ codes "\n")
     ++ flat_map (pairing_line (codes "pairing")) pairings
 
--- the parts of a vector in order, each after a space
+-- the parts of a vector in order, each after a space: the seven sums, and the minutes since the last
+-- long rest where the settings allow pairings of more than 138 hours
 abbrev pub part_text : ℤ → List ℕ
 part_text part = codes " " ++ signed_decimal part
 
@@ -86,20 +89,30 @@ costs_text v = part_text v.duty_pay ++ part_text v.trip_rig ++ part_text v.guara
 abbrev pub totals_text : PairingVector → List ℕ
 totals_text v = part_text v.fdp ++ part_text v.fly ++ part_text v.duties
 
+abbrev pub rest_text : Settings → LongVector → List ℕ
+rest_text s v = if is_long s then part_text v.since_rest else []
+
+abbrev pub vector_text : Settings → LongVector → List ℕ
+vector_text s v =
+    costs_text v.sums ++ totals_text v.sums ++ part_text v.sums.away ++ rest_text s v
+
 -- an entry of a front: a vector with its walk
-abbrev pub entry_line : PairingVector × List (List Leg) → List ℕ
-entry_line entry =
-    codes "entry" ++ costs_text entry.0 ++ totals_text entry.0 ++ part_text entry.0.away
-    ++ codes " " ++ walk_text entry.1 ++ codes "\n"
+abbrev pub entry_line : Settings → LongVector × List (List Leg) → List ℕ
+entry_line s entry =
+    codes "entry" ++ vector_text s entry.0 ++ codes " " ++ walk_text entry.1 ++ codes "\n"
+
+-- a base and the duty of a key, of which there is no front
+abbrev pub no_front_line : List ℕ → List Leg → List ℕ
+no_front_line base key = codes "front " ++ base ++ codes " " ++ key_text key ++ codes " none\n"
 
 -- the front of a base and the duty of a key, or that there is none
-abbrev pub front_lines : List ℕ → List Leg → Option (List (PairingVector × List (List Leg)))
-    → List ℕ
-front_lines base key None = codes "front " ++ base ++ codes " " ++ key_text key ++ codes " none\n"
-front_lines base key (Some entries) =
+abbrev pub front_lines : Settings → List ℕ → List Leg
+    → Option (List (LongVector × List (List Leg))) → List ℕ
+front_lines s base key None = no_front_line base key
+front_lines s base key (Some entries) =
     (codes "front " ++ base ++ codes " " ++ key_text key
     ++ codes " entries " ++ decimal (length entries) ++ codes "\n")
-    ++ flat_map entry_line entries
+    ++ flat_map (entry_line s) entries
 
 -- the least cost of a pairing, if there is one
 abbrev pub cost_text : Option ℤ → List ℕ

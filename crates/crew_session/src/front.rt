@@ -1,6 +1,6 @@
 //! The answer to a front.
 
-ghost use Rattle.std.specs.Prelude.{◌≡◌, ◌++◌, List, ℕ, IfErr, IfOk, None, OnErr, OnOk, Some, codes, decimal, length};
+ghost use Rattle.std.specs.Prelude.{◌≡◌, ◌++◌, List, ℕ, IfErr, IfOk, OnErr, OnOk, Some, codes, decimal, length};
 ghost use Rattle.std.specs.Io.KnownBytes.{Appends};
 ghost use Rattle.std.specs.List.{flat_map};
 ghost use Rattle.crew_session.specs.Faults.{IsLineFault};
@@ -11,8 +11,9 @@ ghost use Rattle.crew_session.specs.Texts.{AppendsBeginning, BeginsOne};
 use crate::fault::SessionFault;
 use crate::lines::{put_key, put_number, put_signed, write_line};
 use crew_flights::Code;
+use crew_fronts::{FrontView, Vector, WalkView};
 use crew_pairing::{Key, PairingVector};
-use crew_solve::{FrontView, WalkView};
+use crew_rules::Settings;
 use crew_version::Version;
 use std::alloc::{AllocError, Global};
 use std::io::Write;
@@ -43,6 +44,31 @@ fn put_totals(line: &mut Vec<u8>, vector: &PairingVector) -> Result<(), AllocErr
     put_part(line, vector.duties)
 }
 
+// Appends the minutes since the last long rest, where the settings allow pairings of more than 138
+// hours.
+fn put_rest(line: &mut Vec<u8>, settings: &Settings, vector: &Vector) -> Result<(), AllocError>
+    ensures { OnOk result (line.new.items
+        ≡ line.old.items ++ Spec.rest_text settings.now vector.now) }
+{
+    if settings.away_cap > 8_280 {
+        put_part(line, vector.since_rest())
+    } else {
+        Ok(())
+    }
+}
+
+// Appends the parts of a vector that are shown.
+fn put_vector(line: &mut Vec<u8>, settings: &Settings, vector: &Vector) -> Result<(), AllocError>
+    ensures { OnOk result (line.new.items
+        ≡ line.old.items ++ Spec.vector_text settings.now vector.now) }
+{
+    let sums = vector.sums();
+    put_costs(line, sums)?;
+    put_totals(line, sums)?;
+    put_part(line, sums.away)?;
+    put_rest(line, settings, vector)
+}
+
 // Appends a walk that a front lends.
 fn put_lent_walk(line: &mut Vec<u8>, walk: &WalkView<'_>) -> Result<(), AllocError>
     ensures { OnOk result (line.new.items ≡ line.old.items ++ Spec.walk_text walk.now) }
@@ -64,16 +90,16 @@ fn put_lent_walk(line: &mut Vec<u8>, walk: &WalkView<'_>) -> Result<(), AllocErr
 // The line of an entry.
 fn entry_line(
     alloc: Global,
-    vector: &PairingVector,
+    settings: &Settings,
+    vector: &Vector,
     walk: &WalkView<'_>,
 ) -> Result<Vec<u8>, AllocError>
-    ensures { IfOk result (λ line. line.items ≡ Spec.entry_line (vector.now, walk.now)) }
+    ensures { IfOk result (λ line. line.items
+        ≡ Spec.entry_line settings.now (vector.now, walk.now)) }
 {
     let mut line = Vec::new(alloc);
     line.extend_from_slice(b"entry")?;
-    put_costs(&mut line, vector)?;
-    put_totals(&mut line, vector)?;
-    put_part(&mut line, vector.away)?;
+    put_vector(&mut line, settings, vector)?;
     line.push(b' ')?;
     put_lent_walk(&mut line, walk)?;
     line.push(b'\n')?;
@@ -84,17 +110,18 @@ fn entry_line(
 fn write_entries<W: Write>(
     alloc: Global,
     writer: &mut W,
+    settings: &Settings,
     front: &FrontView<'_>,
 ) -> Result<(), SessionFault>
     ensures written { OnOk result (Appends (W.contents writer.old) (W.contents writer.new)
-        (flat_map Spec.entry_line front.now)) }
+        (flat_map (Spec.entry_line settings.now) front.now)) }
     ensures begun { OnErr result
         (AppendsBeginning (W.contents writer.old) (W.contents writer.new)
-        (flat_map Spec.entry_line front.now)) }
+        (flat_map (Spec.entry_line settings.now) front.now)) }
     ensures fault { IfErr result IsLineFault }
 {
     for (vector, walk) in front.iter() {
-        write_line(writer, &entry_line(alloc, &vector, &walk)?)?;
+        write_line(writer, &entry_line(alloc, settings, &vector, &walk)?)?;
     }
     Ok(())
 }
@@ -114,7 +141,7 @@ fn node_text(alloc: Global, base: Code, key: &Key) -> Result<Vec<u8>, AllocError
 
 // The line where there is no front.
 fn none_line(alloc: Global, base: Code, key: &Key) -> Result<Vec<u8>, AllocError>
-    ensures { IfOk result (λ line. line.items ≡ Spec.front_lines base key.now None) }
+    ensures { IfOk result (λ line. line.items ≡ Spec.no_front_line base key.now) }
 {
     let mut line = node_text(alloc, base, key)?;
     line.extend_from_slice(b" none\n")?;
@@ -143,38 +170,40 @@ fn count_line(
 fn write_listed<W: Write>(
     alloc: Global,
     writer: &mut W,
+    settings: &Settings,
     base: Code,
     key: &Key,
     front: &FrontView<'_>,
 ) -> Result<(), SessionFault>
     ensures written { OnOk result (Appends (W.contents writer.old) (W.contents writer.new)
-        (Spec.front_lines base key.now (Some front.now))) }
+        (Spec.front_lines settings.now base key.now (Some front.now))) }
     ensures begun { OnErr result (AppendsBeginning (W.contents writer.old) (W.contents writer.new)
-        (Spec.front_lines base key.now (Some front.now))) }
+        (Spec.front_lines settings.now base key.now (Some front.now))) }
     ensures fault { IfErr result IsLineFault }
 {
     write_line(writer, &count_line(alloc, base, key, front)?)?;
-    write_entries(alloc, writer, front)
+    write_entries(alloc, writer, settings, front)
 }
 
 // Writes a front, or that there is none.
 fn write_front<W: Write>(
     alloc: Global,
     writer: &mut W,
+    settings: &Settings,
     base: Code,
     key: &Key,
     front: Option<FrontView<'_>>,
 ) -> Result<(), SessionFault>
     ensures written { OnOk result (Appends (W.contents writer.old) (W.contents writer.new)
-        (Spec.front_lines base key.now front.entry)) }
+        (Spec.front_lines settings.now base key.now front.entry)) }
     ensures begun { OnErr result
         (AppendsBeginning (W.contents writer.old) (W.contents writer.new)
-        (Spec.front_lines base key.now front.entry)) }
+        (Spec.front_lines settings.now base key.now front.entry)) }
     ensures fault { IfErr result IsLineFault }
 {
     match front {
         None => write_line(writer, &none_line(alloc, base, key)?),
-        Some(front) => write_listed(alloc, writer, base, key, &front),
+        Some(front) => write_listed(alloc, writer, settings, base, key, &front),
     }
 }
 
@@ -193,5 +222,6 @@ pub(crate) fn answer_front<W: Write>(
         (ShowsFront base key.now version.now)) }
     ensures fault { IfErr result IsLineFault }
 {
-    write_front(alloc, writer, base, key, version.front(base, key))
+    let front = version.front(base, key);
+    write_front(alloc, writer, version.settings(), base, key, front)
 }

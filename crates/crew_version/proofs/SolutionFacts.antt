@@ -21,8 +21,6 @@ use Rattle.crew_flights.specs.declared.edit.Refusal.{Refusal}
 use Rattle.crew_flights.specs.declared.entries.Entry.{Entry}
 use Rattle.crew_pairing.specs.Legs.{Leg}
 use Rattle.crew_pairing.specs.declared.duty.Duty.{Duty}
-use Rattle.crew_pairing.specs.declared.vector.PairingVector.{PairingVector}
-use Rattle.crew_pool.proofs.Permuted.{Member-permuted}
 use Rattle.crew_resource.specs.Members.{Member}
 use Rattle.crew_rules.specs.declared.settings.Settings.{Settings}
 use Rattle.crew_version.specs.Drafts.{IsSolutionOf}
@@ -30,13 +28,15 @@ use Rattle.crew_version.specs.Fronts.{IsFrontByKey}
 use Rattle.crew_version.specs.Versions.{timetable_of}
 use Rattle.crew_version.specs.Machinery.Kept.{IsSolved, best_of}
 use Rattle.crew_rules.specs.Settings.{IsChecked}
-use Rattle.crew_solve.specs.Apart.{AreApart}
-use Rattle.crew_solve.specs.Cheapest.{AreCheapest}
-use Rattle.crew_solve.specs.Solutions.{IsFrontOf, Solution, front_of}
-use Rattle.crew_vector.specs.Bests.{IsBest, IsPairing}
-use Rattle.crew_vector.proofs.Cheapest.{best-least}
+use Rattle.crew_plan.specs.Apart.{AreApart}
+use Rattle.crew_plan.specs.Cheapest.{AreCheapest}
+use Rattle.crew_plan.specs.Solutions.{IsFrontOf, Solution, front_of}
+use Rattle.crew_answers.specs.Bests.{IsBest, IsPairing}
+use Rattle.crew_answers.proofs.Cheapest.{best-least}
+use Rattle.crew_answers.proofs.InRange.{checked-in-range}
+use Rattle.crew_answers.specs.Fronts.{IsFrontAt}
+use Rattle.crew_answers.specs.LongVectors.{LongVector}
 use Rattle.crew_vector.specs.declared.priced.PricedPairing.{PricedPairing}
-use Rattle.crew_vector.specs.Fronts.{IsFrontAt}
 
 -- ---- codes among the keys of the bases
 
@@ -76,19 +76,8 @@ priced-base t base price e = member-any (fin.keys t.bases) base (sym (fin.contai
 
 -- ---- fronts
 
-front-permuted : (s : Settings) (t : Timetable) (base : List ℕ) (price : ℤ) (d : Duty) (xs ys : List (PairingVector × List (List Leg))) → IsPermutation xs ys → IsFrontAt s t base price d xs → IsFrontAt s t base price d ys
-front-permuted s t base price d xs ys p h =
-    let back = Member-permuted ys xs (IsPermutation-sym xs ys p) in
-    let forth = Member-permuted xs ys p in
-    record {
-      clean = λ v w m. h.clean v w (back (v, w) m);
-      undominated = λ v w m. h.undominated v w (back (v, w) m);
-      least = λ v w y m. h.least v w y (back (v, w) m);
-      every = λ v u. let found = h.every v u in (found.0, forth (v, found.0) found.1);
-    }
-
 -- the front that a solution shows is the front of the base and the duty
-pub front-shown : (s : Settings) (t : Timetable) (solution : Solution) (base : List ℕ) (key : List Leg) (front : Option (List (PairingVector × List (List Leg)))) → IsSolutionOf s t solution → IsFrontOf solution base key front
+pub front-shown : (s : Settings) (t : Timetable) (solution : Solution) (base : List ℕ) (key : List Leg) (front : Option (List (LongVector × List (List Leg)))) → IsSolutionOf s t solution → IsFrontOf solution base key front
     → IsFrontByKey s t base key front
 front-shown s t solution base key None h shown = λ price d based duty named.
     let listed = subst (Member h.network.0) (sym duty.3) (h.network.1.every duty.0 duty.1 duty.2) in
@@ -96,7 +85,7 @@ front-shown s t solution base key None h shown = λ price d based duty named.
 front-shown s t solution base key (Some entries) h shown =
     let priced = base-priced t base (rw h.network.2.bases at shown.1) in
     let duty = h.network.1.sound shown.0 (rw h.network.2.duties at shown.2) in
-    (priced.0, shown.0, priced.1, duty, shown.3, front-permuted s t base priced.0 shown.0 (front_of solution base shown.0) entries shown.4 (h.scratch.fronts base priced.0 shown.0 priced.1 duty), shown.5)
+    (priced.0, shown.0, priced.1, duty, shown.3, subst (IsFrontAt s s.fdp_total t base priced.0 shown.0) (sym shown.4) (h.scratch.fronts base priced.0 shown.0 priced.1 duty), shown.5)
 
 no-base : (base : List ℕ) (price : ℤ) → fin.get empty_timetable.bases base ≡ Some price → ⊥
 no-base base price h = let none : fin.get empty_timetable.bases base ≡ None = fin.get-empty code_cmp base in cc (none, h)
@@ -147,21 +136,21 @@ none-apart-at-start s t limit share e = rw e (record {
 
 -- ---- the best
 
-pub best-right : (s : Settings) (t : Timetable) (solution : Option Solution) → IsSolved s t solution → IsBest s t (best_of solution)
+pub best-right : (s : Settings) (t : Timetable) (solution : Option Solution) → IsSolved s t solution → IsBest s s.fdp_total t (best_of solution)
 best-right s t None e = rw e (λ p pairing. no-base p.base pairing.price pairing.based)
 best-right s t (Some solution) h = h.scratch.best_is
 
 -- ---- what the best says, where it is lent
 
-pub best-legal : (s : Settings) (t : Timetable) (lent : Option (Bor PricedPairing)) → IsBest s t (option_copied lent) → IfSome lent (λ b. IsPairing s t b.now)
+pub best-legal : (s : Settings) (t : Timetable) (lent : Option (Bor PricedPairing)) → IsBest s s.fdp_total t (option_copied lent) → IfSome lent (λ b. IsPairing s s.fdp_total t b.now)
 best-legal s t None h = tt
 best-legal s t (Some b) h = h.0.pairing
 
-pub best-costs-least : (s : Settings) (t : Timetable) (lent : Option (Bor PricedPairing)) → IsChecked s → IsSound t → IsBest s t (option_copied lent)
-    → IfSome lent (λ b. (p : PricedPairing) → IsPairing s t p → b.now.cost ≤ℤ p.cost)
+pub best-costs-least : (s : Settings) (t : Timetable) (lent : Option (Bor PricedPairing)) → IsChecked s → IsSound t → IsBest s s.fdp_total t (option_copied lent)
+    → IfSome lent (λ b. (p : PricedPairing) → IsPairing s s.fdp_total t p → b.now.cost ≤ℤ p.cost)
 best-costs-least s t None checked sound h = tt
-best-costs-least s t (Some b) checked sound h = λ p is. best-least s t b.now p checked sound h is
+best-costs-least s t (Some b) checked sound h = λ p is. best-least s s.fdp_total t (checked-in-range s checked) sound b.now p h is
 
-pub best-none : (s : Settings) (t : Timetable) (lent : Option (Bor PricedPairing)) → IsBest s t (option_copied lent) → IsNone lent ↔ ((p : PricedPairing) → IsPairing s t p → ⊥)
+pub best-none : (s : Settings) (t : Timetable) (lent : Option (Bor PricedPairing)) → IsBest s s.fdp_total t (option_copied lent) → IsNone lent ↔ ((p : PricedPairing) → IsPairing s s.fdp_total t p → ⊥)
 best-none s t None h = (λ _. h, λ _. refl)
 best-none s t (Some b) h = (λ e. absurd (false≢true (sym e)), λ none. absurd (none b.now h.0.pairing))

@@ -1,10 +1,10 @@
 -- Drafts: what a version's entries and some more come to, before their fronts are made.
 use Rattle.std.specs.Prelude.{◌≡◌, ◌+◌, ℕ, List, [], ◌++◌}
+use Rattle.crew_answers.specs.Bests.{IsScratch}
 use Rattle.crew_flights.specs.Timetable.{Timetable}
 use Rattle.crew_flights.specs.declared.entries.Entry.{Entry}
 use Rattle.crew_rules.specs.declared.settings.Settings.{Settings}
-use Rattle.crew_solve.specs.Solutions.{HasNetOf, Solution, front_of}
-use Rattle.crew_vector.specs.Bests.{IsScratch}
+use Rattle.crew_plan.specs.Solutions.{HasNetOf, Solution, front_of}
 use Rattle.crew_version.specs.Versions.{Snapshot}
 use Rattle.crew_version.specs.declared.fault.VersionFault.{VersionFault}
 use Rattle.crew_version.specs.declared.fault.VersionFault.TheVariants.{TooManyDuties, LastVersion, Memory}
@@ -34,7 +34,7 @@ IsDraftFault version Memory = Unit {0}
 -- a timetable's fronts and best pairing, over the network of its legal duties
 pub record IsSolutionOf (s : Settings) (t : Timetable) (solution : Solution) : Type 0 where
   pub network : HasNetOf s t solution
-  pub scratch : IsScratch s t (front_of solution) solution.best
+  pub scratch : IsScratch s s.fdp_total t (front_of solution) solution.best
 
 -- the version that a draft and its solution come to
 abbrev pub closed : Draft → Solution → Snapshot

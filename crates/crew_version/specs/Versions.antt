@@ -1,12 +1,12 @@
 -- Versions: what the entries of a log come to.
 use Rattle.std.specs.Prelude.{◌≡◌, ◌+◌, ℕ, List, [], ◌++◌, Option, None}
+use Rattle.crew_answers.specs.Bests.{IsBest}
 use Rattle.crew_rules.specs.declared.settings.Settings.{Settings}
 use Rattle.crew_flights.specs.Fold.{fold_of}
 use Rattle.crew_flights.specs.Timetable.{Timetable}
 use Rattle.crew_flights.specs.declared.edit.Verdict.{Verdict}
 use Rattle.crew_flights.specs.declared.entries.Entry.{Entry}
 use Rattle.crew_pairing.specs.Duties.{HasFew}
-use Rattle.crew_vector.specs.Bests.{IsBest}
 use Rattle.crew_vector.specs.declared.priced.PricedPairing.{PricedPairing}
 
 -- what a version shows
@@ -37,4 +37,4 @@ pub record IsNext (before : Snapshot) (entries : List Entry) (after : Snapshot) 
 -- of their timetable
 pub record IsRight (v : Snapshot) : Type 0 where
   pub few : HasFew v.settings (timetable_of v.entries)
-  pub least : IsBest v.settings (timetable_of v.entries) v.best
+  pub least : IsBest v.settings v.settings.fdp_total (timetable_of v.entries) v.best

@@ -3,7 +3,7 @@
 ghost use Rattle.std.specs.Prelude.{◌≡◌, ◌++◌, IfErr, IfOk, OnOk, length, slice_get};
 ghost use Rattle.crew_pairing.specs.Duties.{HasFew};
 ghost use Rattle.crew_rules.specs.Settings.{IsChecked};
-ghost use Rattle.crew_solve.specs.Plans.{IsPlanOf};
+ghost use Rattle.crew_plan.specs.Plans.{IsPlanOf};
 ghost use Rattle.crew_version.specs.Drafts.{IsSolutionOf, blank, closed};
 ghost use Rattle.crew_version.specs.Faults.{IsSearchFault};
 ghost use Rattle.crew_version.specs.Machinery.Kept.{FoldsOn};
@@ -15,7 +15,7 @@ use crate::search::plan_of;
 use crate::version::Version;
 use crew_flights::{Entry, Folding, Timetable, Verdict};
 use crew_rules::Settings;
-use crew_solve::{Plan, Solution};
+use crew_plan::{Plan, Solution};
 use std::alloc::{AllocError, Global};
 use std::marker::Model;
 use std::sync::Arc;

@@ -8,10 +8,10 @@ ghost use mathlib.Core.List.{IsPrefix};
 ghost use Rattle.crew_pairing.specs.Duties.{HasFew};
 ghost use Rattle.crew_rules.specs.Settings.{IsChecked};
 ghost use Rattle.crew_flights.specs.Timetable.{empty_timetable};
-ghost use Rattle.crew_solve.specs.Apart.{AreApart};
-ghost use Rattle.crew_solve.specs.Cheapest.{AreCheapest};
-ghost use Rattle.crew_solve.specs.Solutions.{HasNetOf, front_of};
-ghost use Rattle.crew_vector.specs.Bests.{IsPairing, IsScratch};
+ghost use Rattle.crew_plan.specs.Apart.{AreApart};
+ghost use Rattle.crew_plan.specs.Cheapest.{AreCheapest};
+ghost use Rattle.crew_plan.specs.Solutions.{HasNetOf, front_of};
+ghost use Rattle.crew_answers.specs.Bests.{IsPairing, IsScratch};
 ghost use Rattle.crew_vector.specs.declared.priced.PricedPairing.{PricedPairing as Pairing};
 ghost use Rattle.crew_version.specs.Drafts.{IsDraftFault, IsDraftOf, IsSolutionOf, closed};
 ghost use Rattle.crew_version.specs.Faults.{IsNextFault};
@@ -25,7 +25,8 @@ use crate::search::{Earlier, find_solution};
 use crew_flights::{Code, Entry, Timetable, Verdict};
 use crew_pairing::Key;
 use crew_rules::Settings;
-use crew_solve::{FrontView, Solution};
+use crew_fronts::FrontView;
+use crew_plan::Solution;
 use crew_vector::PricedPairing;
 use std::alloc::{AllocError, Global};
 use std::marker::Model;
@@ -156,7 +157,7 @@ impl Version {
     /// empty, as it is before any entry.
     pub fn solution(&self) -> Option<&Solution>
         ensures scratch { IfSome result (λ solution. IsScratch self.now.settings
-            (Spec.timetable_of self.now.entries) (front_of solution.now) solution.now.best) }
+            self.now.settings.fdp_total (Spec.timetable_of self.now.entries) (front_of solution.now) solution.now.best) }
         ensures best { IfSome result (λ solution. solution.now.best ≡ self.now.best) }
         ensures network { IfSome result (λ solution. HasNetOf self.now.settings
             (Spec.timetable_of self.now.entries) solution.now) }
@@ -174,11 +175,11 @@ impl Version {
         ensures value { option_copied result ≡ self.now.best }
         ensures right { IsRight self.now }
         ensures legal { IfSome result (λ best. IsPairing self.now.settings
-            (Spec.timetable_of self.now.entries) best.now) }
+            self.now.settings.fdp_total (Spec.timetable_of self.now.entries) best.now) }
         ensures least { IfSome result (λ best. (p : Pairing) → IsPairing self.now.settings
-            (Spec.timetable_of self.now.entries) p → best.now.cost ≤ℤ p.cost) }
+            self.now.settings.fdp_total (Spec.timetable_of self.now.entries) p → best.now.cost ≤ℤ p.cost) }
         ensures none { IsNone result ↔ ((p : Pairing) → IsPairing self.now.settings
-            (Spec.timetable_of self.now.entries) p → ⊥) }
+            self.now.settings.fdp_total (Spec.timetable_of self.now.entries) p → ⊥) }
     {
         match &self.solution {
             None => None,

@@ -23,7 +23,7 @@ abbrev pub defaults : List ℕ
 defaults = standard.lead ∷ standard.debrief ∷ standard.connect ∷ standard.sit ∷ standard.max_rest
     ∷ standard.max_duties ∷ standard.fdp_cap ∷ standard.fly_cap ∷ standard.away_cap
     ∷ standard.duty_rig ∷ standard.trip_rig ∷ standard.duty_min ∷ standard.guarantee
-    ∷ standard.deadheads ∷ []
+    ∷ standard.deadheads ∷ standard.fdp_total ∷ []
 
 -- of options in the order of the numbers of their settings, which begin with 1
 abbrev pub help_of : List SettingOption → List (List ℕ)

@@ -46,4 +46,5 @@ settings_in rows = record {
   duty_min = number_in (one_of (codes "duty-min") rows) standard.duty_min;
   guarantee = number_in (one_of (codes "guarantee") rows) standard.guarantee;
   deadheads = number_in (one_of (codes "deadheads") rows) standard.deadheads;
+  fdp_total = number_in (one_of (codes "fdp-total") rows) standard.fdp_total;
 }

@@ -22,7 +22,7 @@ names = codes "lead" ∷ codes "debrief" ∷ codes "connect" ∷ codes "sit" ∷
     "max-duties" ∷ codes "fdp-cap"
     ∷ codes "fly-cap" ∷ codes "away-cap" ∷ codes "duty-rig" ∷ codes "trip-rig" ∷ codes "duty-min"
     ∷ codes "guarantee"
-    ∷ codes "deadheads" ∷ []
+    ∷ codes "deadheads" ∷ codes "fdp-total" ∷ []
 
 -- an option that takes one value
 abbrev pub value_rule : Text → Rule
@@ -54,7 +54,7 @@ sub_up_to name count = sub_with name (map option_rule (take count names))
 
 -- the subcommand of a session, with all options, the number of workers and the seconds between lines
 unfoldable pub run_command : App
-run_command = with_rule (with_rule (sub_up_to (codes "run") 14) workers_rule) progress_rule
+run_command = with_rule (with_rule (sub_up_to (codes "run") 15) workers_rule) progress_rule
 
 -- the whole command line: a subcommand is wanted, `run` and `replay` are the only ones, and `help`
 -- is none
@@ -67,7 +67,7 @@ program = record {
     has_version =
         true;
   };
-  subs = run_command.top ∷ (sub_up_to (codes "replay") 14).top ∷ [];
+  subs = run_command.top ∷ (sub_up_to (codes "replay") 15).top ∷ [];
 }
 
 -- the faults of words, by kind; none where the parser takes them. The first word is the program's

@@ -25,7 +25,7 @@ pub struct SettingOption {
 }
 
 /// The options, in the order of the numbers of their settings.
-pub static OPTIONS: [SettingOption; 14] = [
+pub static OPTIONS: [SettingOption; 15] = [
     SettingOption {
         name: "lead",
         unit: "MINUTES",
@@ -71,9 +71,9 @@ pub static OPTIONS: [SettingOption; 14] = [
     SettingOption {
         name: "fdp-cap",
         unit: "MINUTES",
-        meaning: "Most flight duty time of a pairing",
+        meaning: "Most flight duty time of a pairing within any 168 hours",
         range: "1 to 3600 minutes",
-        note: "\nAt most 60 hours in any 168 (14 CFR 117.23(c)); Table B limits each duty (14 CFR 117.13)",
+        note: "\nAt most 60 hours in any 168 (14 CFR 117.23(c)(1)); Table B limits each duty (14 CFR 117.13)",
     },
     SettingOption {
         name: "fly-cap",
@@ -86,8 +86,8 @@ pub static OPTIONS: [SettingOption; 14] = [
         name: "away-cap",
         unit: "MINUTES",
         meaning: "Most time from first report to last release of a pairing",
-        range: "1 to 8280 minutes",
-        note: "\nWith 30 hours free from duty right before it, a pairing fits in 168 hours (14 CFR 117.25(b))",
+        range: "1 to 14400 minutes",
+        note: "\nWith 30 hours free from duty right before it, a pairing of 8280 fits in 168 hours (14 CFR 117.25(b));\na longer one has such free hours on its way too, within the 168 before each report",
     },
     SettingOption {
         name: "duty-rig",
@@ -124,10 +124,17 @@ pub static OPTIONS: [SettingOption; 14] = [
         range: "0 or 1",
         note: "\nSuch a leg is duty and not rest, and no flight segment (14 CFR 117.3)",
     },
+    SettingOption {
+        name: "fdp-total",
+        unit: "MINUTES",
+        meaning: "Most flight duty time of a pairing",
+        range: "1 to 11400 minutes",
+        note: "\nAt most 190 hours in any 672 (14 CFR 117.23(c)(2)), which hold all of a pairing",
+    },
 ];
 
 // The defaults, in the order of the numbers.
-fn defaults() -> [u32; 14]
+fn defaults() -> [u32; 15]
     ensures { result ≡ Spec.defaults }
 {
     let standard = Settings::standard();
@@ -146,6 +153,7 @@ fn defaults() -> [u32; 14]
         standard.duty_min,
         standard.guarantee,
         standard.deadheads,
+        standard.fdp_total,
     ]
 }
 
@@ -168,7 +176,7 @@ fn help_text(
 /// What `--help` says of each option: the number of its setting, what it is, the numbers that it may
 /// have, its default and what else there is to know of it.
 pub fn help_texts(alloc: Global, options: &[SettingOption]) -> Result<Vec<String>, AllocError>
-    requires { length options.now ≤ 14 }
+    requires { length options.now ≤ 15 }
     ensures { IfOk result (λ texts. map string_bytes texts.items ≡ Spec.help_of options.now) }
 {
     let defaults = defaults();
@@ -216,5 +224,6 @@ pub fn settings_from(found: &ArgMatches<'_>) -> Settings
         duty_min: number_of(found, "duty-min", standard.duty_min),
         guarantee: number_of(found, "guarantee", standard.guarantee),
         deadheads: number_of(found, "deadheads", standard.deadheads),
+        fdp_total: number_of(found, "fdp-total", standard.fdp_total),
     }
 }

@@ -107,8 +107,8 @@ fn subcommand<'a>(
     about: &'a str,
     texts: &'a [String],
 ) -> Result<Command<'a>, Error>
-    requires { length texts.now ≡ 14 }
-    ensures shape { IfOk result (λ r. app_of r ≡ Spec.sub_up_to name.now 14) }
+    requires { length texts.now ≡ 15 }
+    ensures shape { IfOk result (λ r. app_of r ≡ Spec.sub_up_to name.now 15) }
     ensures local { IfOk result (λ r. (fields_of r).has_globals ≡ false) }
     ensures memory { IfErr result (λ e. kind_of e ≡ ErrorKind.OutOfMemory) }
 {
@@ -122,7 +122,7 @@ fn subcommand<'a>(
 // The subcommand of a session, with each setting, the number of workers, and how often it is told how
 // far a settle is, as options.
 fn run_command<'a>(alloc: Global, texts: &'a [String]) -> Result<Command<'a>, Error>
-    requires { length texts.now ≡ 14 }
+    requires { length texts.now ≡ 15 }
     ensures shape { IfOk result (λ r. app_of r ≡ Spec.run_command) }
     ensures local { IfOk result (λ r. (fields_of r).has_globals ≡ false) }
     ensures memory { IfErr result (λ e. kind_of e ≡ ErrorKind.OutOfMemory) }
@@ -139,7 +139,7 @@ fn program<'a>(
 ) -> Result<Command<'a>, AllocError>
     requires run { app_of run ≡ Spec.run_command }
     requires local { (fields_of run).has_globals ≡ false }
-    requires replay { app_of replay ≡ Spec.sub_up_to (codes "replay") 14 }
+    requires replay { app_of replay ≡ Spec.sub_up_to (codes "replay") 15 }
     requires local_too { (fields_of replay).has_globals ≡ false }
     ensures { IfOk result (λ r. app_of r ≡ Spec.program) }
 {
@@ -178,7 +178,7 @@ fn task_found(matches: &ArgMatches<'_>) -> Task
 
 // The whole command line with these texts of the options.
 fn program_with<'a>(alloc: Global, texts: &'a [String]) -> Result<Command<'a>, Error>
-    requires { length texts.now ≡ 14 }
+    requires { length texts.now ≡ 15 }
     ensures shape { IfOk result (λ r. app_of r ≡ Spec.program) }
     ensures memory { IfErr result (λ e. kind_of e ≡ ErrorKind.OutOfMemory) }
 {
@@ -189,7 +189,7 @@ fn program_with<'a>(alloc: Global, texts: &'a [String]) -> Result<Command<'a>, E
 
 // What these words ask for, by a command line with these texts.
 fn read_with<S: AsStr>(alloc: Global, words: &[S], texts: &[String]) -> Result<Task, Error>
-    requires { length texts.now ≡ 14 }
+    requires { length texts.now ≡ 15 }
     ensures task { IfOk result (λ task. task ≡ Spec.task_of (map S.text words.now)) }
     ensures fails { FailsBy (Spec.faults_in (map S.text words.now)) result }
 {

@@ -32,6 +32,7 @@ fn set_one(settings: &mut Settings, words: &[&str]) -> Option<()> {
         "away-cap" => settings.away_cap = value,
         "duty-rig" => settings.duty_rig = value,
         "deadheads" => settings.deadheads = value,
+        "fdp-total" => settings.fdp_total = value,
         _ => return None,
     }
     Some(())

@@ -46,6 +46,7 @@ fn standard_but(field: i64, value: u32) -> Settings {
         12 => settings.duty_min = value,
         13 => settings.guarantee = value,
         14 => settings.deadheads = value,
+        15 => settings.fdp_total = value,
         _ => {}
     }
     settings

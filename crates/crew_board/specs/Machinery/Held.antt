@@ -8,8 +8,8 @@ use Rattle.crew_machine.specs.Crew.{DutyNode}
 use Rattle.crew_net.specs.Nets.{Net}
 use Rattle.crew_round.specs.Marks.{AreCarried, IsMarked, Marks, node_count}
 use Rattle.crew_round.specs.declared.mark.Mark.TheVariants.{Done}
-use Rattle.crew_sweep.specs.Sweeps.{BaseSweep}
-use Rattle.crew_solve.specs.Plans.{IsSweepIn}
+use Rattle.crew_fronts.specs.Fronts.{BaseFronts}
+use Rattle.crew_plan.specs.Plans.{AreFrontsIn}
 
 -- none of some options is there
 abbrev pub AllNone : {X : Type 0} → List (Option X) → Type 0
@@ -39,7 +39,7 @@ pub record IsMarkedOver (r : Marked) : Type 0 where
       ↔ (IsMarked r.marks place Done × IsAsSealed r.ground n)
 
 -- by place, what shows the fronts of done nodes; by base, where a sweep of the ground's stands
-pub record IsHeld (r : Marked) (shown : List (Option BaseSweep)) (swept : List (Option ℕ)) : Type
+pub record IsHeld (r : Marked) (shown : List (Option BaseFronts)) (swept : List (Option ℕ)) : Type
     0 where
   pub marked : IsMarkedOver r
   pub long : length shown ≡ length r.marks.marks
@@ -48,7 +48,7 @@ pub record IsHeld (r : Marked) (shown : List (Option BaseSweep)) (swept : List (
   pub clear : (place : ℕ) → (IsMarked r.marks place Done → ⊥) → get_or shown place None ≡ None
   pub long_swept : length swept ≡ length r.ground.plan.prices
   pub stand : (base place : ℕ) → slice_get swept base ≡ Some (Some place)
-      → (b : BaseSweep) × (get_or shown place None ≡ Some b) × IsSweepIn r.ground.plan base b
+      → (b : BaseFronts) × (get_or shown place None ≡ Some b) × AreFrontsIn r.ground.plan base b
 
 -- what a round has as it is begun
 pub record IsBegun (r : Marked) : Type 0 where

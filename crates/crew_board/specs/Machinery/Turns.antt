@@ -17,8 +17,8 @@ use Rattle.crew_pairing.specs.declared.events.Arrival.{Arrival}
 use Rattle.crew_resource.specs.Members.{Member}
 use Rattle.crew_machine.specs.declared.rounds.Brought.TheVariants.{Stale, Again, Stored}
 use Rattle.crew_round.specs.Marks.{AreDoneBefore, IsFirstReady, IsFirstUndone, IsMarked, AreSameBefore, IsUndone, Marks, NoneReady, Stores, with_mark}
-use Rattle.crew_sweep.specs.Sweeps.{BaseSweep}
-use Rattle.crew_solve.specs.Plans.{IsSweepIn}
+use Rattle.crew_fronts.specs.Fronts.{BaseFronts}
+use Rattle.crew_plan.specs.Plans.{AreFrontsIn}
 use Rattle.crew_round.specs.declared.mark.Mark.TheVariants.{Waiting, Out, Done}
 
 abbrev pub with_marks : Marked → Marks → Marked
@@ -37,9 +37,9 @@ AreSameIfBefore same net duty first arrival = (x : Arrival) → slice_get net.ar
 
 -- what a job's fronts before it are read from: its base's sweep, or, without one, the version before
 -- the round, which has all of them
-abbrev pub IsReadableFrom : Marked → ℕ → ℕ → Option BaseSweep → Type 0
+abbrev pub IsReadableFrom : Marked → ℕ → ℕ → Option BaseFronts → Type 0
 IsReadableFrom r place base None = AreSameBefore r.marks place
-IsReadableFrom r place base (Some b) = IsSweepIn r.ground.plan base b
+IsReadableFrom r place base (Some b) = AreFrontsIn r.ground.plan base b
 
 -- the least ready node is out, and this is its job
 pub record ClaimsAt (old : Marked) (job : Job) (new : Marked) : Type 0 where

@@ -9,7 +9,7 @@ use Rattle.crew_pairing.specs.Pairings.{may_stand_after}
 use Rattle.crew_pairing.specs.declared.duty.Duty.{Duty}
 use Rattle.crew_resource.specs.Members.{Member}
 use Rattle.crew_rules.specs.declared.settings.Settings.{Settings}
-use Rattle.crew_sweep.specs.Sweeps.{BaseSweep}
+use Rattle.crew_fronts.specs.Fronts.{BaseFronts}
 
 -- the same duties, with all their facts, may stand just before one in two networks
 abbrev pub HaveSameBefore : Settings → Net → Net → Duty → Type 0
@@ -38,7 +38,7 @@ pub record IsAlike (job : Job) (g : Ground) (code : List ℕ) (d : Duty) (base :
 
 -- what shows the fronts of the duties just before a duty is right, by the place of the base and
 -- rank
-abbrev pub AreShownAt : Ground → List ℕ → Duty → ℕ → List (Option BaseSweep) → Type 0
+abbrev pub AreShownAt : Ground → List ℕ → Duty → ℕ → List (Option BaseFronts) → Type 0
 AreShownAt g code d base shown = (rank : ℕ) (e : Duty) → slice_get g.plan.net.duties rank ≡ Some e
     → may_stand_after g.settings e d ≡ true
     → IsShown g (record { base = code; duty = e })

@@ -8,7 +8,7 @@ use Rattle.crew_flights.specs.declared.entries.Entry.{Entry}
 use Rattle.crew_pairing.specs.Duties.{HasFew}
 use Rattle.crew_rules.specs.Settings.{IsChecked}
 use Rattle.crew_rules.specs.declared.settings.Settings.{Settings}
-use Rattle.crew_solve.specs.Solutions.{Solution}
+use Rattle.crew_plan.specs.Solutions.{Solution}
 use Rattle.crew_vector.specs.declared.priced.PricedPairing.{PricedPairing}
 use Rattle.crew_version.specs.Drafts.{Draft, IsSolutionOf}
 use Rattle.crew_version.specs.Versions.{timetable_of, verdicts_of}

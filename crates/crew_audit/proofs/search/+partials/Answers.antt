@@ -9,12 +9,11 @@ use Rattle.crew_pairing.specs.declared.duty.Duty.{Duty}
 use Rattle.crew_pairing.specs.declared.leg.TimedLeg.{TimedLeg}
 use Rattle.crew_pairing.proofs.Legal.{known-sound}
 use Rattle.crew_pairing.proofs.Tree.{IsBeginning-more, listing-closed, listing-longer, listing-none}
-use Rattle.crew_audit.specs.Machinery.Listing.{with_next}
+use Rattle.crew_audit.specs.Machinery.Listing.{keeps_totals, with_next}
 use Rattle.crew_audit.specs.declared.partial.Partial.{Partial}
-use Rattle.crew_pairing.specs.Pairings.{is_within_caps}
 use Rattle.crew_audit.proofs.Flat.{item-at, item-known}
 use Rattle.crew_audit.proofs.Taking.{joined-up, over-after, over-first, over-second, took-at, took-both, took-join, took-none, took-over, took-skip}
-use Rattle.crew_audit.proofs.Steps.{after-flights, after-full, after-near, join-legs, legs-near, legs-open, longer-few, longer-ranges, more-than, not-joined, not-within, onward, onward-off, onward-on, own-listed}
+use Rattle.crew_audit.proofs.Steps.{after-flights, after-full, after-near, begun-on, join-legs, legs-near, legs-open, longer-few, longer-ranges, more-than, not-joined, not-within, onward, onward-off, onward-on, own-listed}
 use Rattle.crew_audit.proofs.search.+partials.Goals as goal
 use Rattle.crew_audit.proofs.search.+partials.Goals.{list_after-then-may_leave+in_ok-list_from, list_after-else-may_leave, list_legs-then-others-ge-LEGS-via-then-others-ge-LEGS, list_legs-then-others-ge-LEGS-via-else-others-ge-LEGS+then-cannot_begin, list_legs-then-may_come_next+in_ok-list_below, list_legs-else-may_come_next}
 
@@ -138,8 +137,8 @@ list_legs-returns-then-others-ge-LEGS-clause-ok bound t c =
 pub list_legs-duty_from-next-requires-clause-sound : goal.list_legs-duty_from-next-requires-clause-sound
 list_legs-duty_from-next-requires-clause-sound bound t c = known-sound c.args.scope.now.flights.now (c.args.first.now ∷ c.args.others.now) c.requires.flights c.requires.beginning.known
 
-pub list_legs-returns-then-not-keep_within_caps-clause-ok : goal.list_legs-returns-then-not-keep_within_caps-clause-ok
-list_legs-returns-then-not-keep_within_caps-clause-ok bound t c =
+pub list_legs-returns-then-not-keep_totals-clause-ok : goal.list_legs-returns-then-not-keep_totals-clause-ok
+list_legs-returns-then-not-keep_totals-clause-ok bound t c =
     let s = c.args.scope.now.settings.now in
     let flights = c.args.scope.now.flights.now in
     let first = c.args.first.now in
@@ -147,7 +146,7 @@ list_legs-returns-then-not-keep_within_caps-clause-ok bound t c =
     let before = c.args.before.now in
     let longer : c.deref.result.now ≡ before ++ duty_of s first others ∷ [] =
     c.deref.ensures.value ∙ c.in_ok-longer.ensures ∙ ap (λ (d : Duty). before ++ d ∷ []) c.duty_from-next.ensures.value in
-    let caps : is_within_caps s (before ++ duty_of s first others ∷ []) ≡ false = ap (is_within_caps s) (sym longer) ∙ sym c.keep_within_caps.ensures ∙ c.if-not-keep_within_caps.true in
+    let caps : keeps_totals s (before ++ duty_of s first others ∷ []) ≡ false = ap (keeps_totals s) (sym longer) ∙ sym c.keep_totals.ensures ∙ c.if-not-keep_totals.true in
     let none = not-within (s.max_duties - (length before + 1)) (8 - length others) s flights c.args.scope.now.base c.args.scope.now.base_price before first others c.requires.flights c.requires.beginning
     (omega arith) caps in
     rw none (took-none bound.F.Sink.count bound.F.Sink.holds c.args.found.now)
@@ -166,7 +165,7 @@ list_legs-returns-in_err-list_own-clause-over bound t c =
     c.deref.ensures.value ∙ c.in_ok-longer.ensures ∙ ap (λ (d : Duty). before ++ d ∷ []) c.duty_from-next.ensures.value in
     let longer-2 : c.deref-2.result.now ≡ before ++ duty_of s first others ∷ [] =
     c.deref-2.ensures.value ∙ c.in_ok-longer.ensures ∙ ap (λ (d : Duty). before ++ d ∷ []) c.duty_from-next.ensures.value in
-    let caps : is_within_caps s (before ++ duty_of s first others ∷ []) ≡ true = ap (is_within_caps s) (sym longer) ∙ sym c.keep_within_caps.ensures ∙ c.if-not-keep_within_caps.false in
+    let caps : keeps_totals s (before ++ duty_of s first others ∷ []) ≡ true = ap (keeps_totals s) (sym longer) ∙ sym c.keep_totals.ensures ∙ c.if-not-keep_totals.false in
     let opened = legs-open room s flights base price before first others c.if-others-ge-LEGS.false (sym c.cannot_begin.ensures ∙ c.if-cannot_begin.false) c.requires.joins caps in
     let own-is = own-listed room s flights base price before (duty_of s first others) c.deref-2.result.now c.last_leg-last.result (last_of first others) longer-2 c.last_leg-last.ensures in
     let p = err_from_is_err_and c.from_residual-in_err-list_own.result c.from_residual-in_err-list_own.ensures.1 in
@@ -203,7 +202,7 @@ list_legs-returns-in_err-list_below-clause-over bound t c =
     c.deref.ensures.value ∙ c.in_ok-longer.ensures ∙ ap (λ (d : Duty). before ++ d ∷ []) c.duty_from-next.ensures.value in
     let longer-2 : c.deref-2.result.now ≡ before ++ duty_of s first others ∷ [] =
     c.deref-2.ensures.value ∙ c.in_ok-longer.ensures ∙ ap (λ (d : Duty). before ++ d ∷ []) c.duty_from-next.ensures.value in
-    let caps : is_within_caps s (before ++ duty_of s first others ∷ []) ≡ true = ap (is_within_caps s) (sym longer) ∙ sym c.keep_within_caps.ensures ∙ c.if-not-keep_within_caps.false in
+    let caps : keeps_totals s (before ++ duty_of s first others ∷ []) ≡ true = ap (keeps_totals s) (sym longer) ∙ sym c.keep_totals.ensures ∙ c.if-not-keep_totals.false in
     let opened = legs-open room s flights base price before first others c.if-others-ge-LEGS.false (sym c.cannot_begin.ensures ∙ c.if-cannot_begin.false) c.requires.joins caps in
     let own-is = own-listed room s flights base price before (duty_of s first others) c.deref-2.result.now c.last_leg-last.result (last_of first others) longer-2 c.last_leg-last.ensures in
     let follows : may_follow s (last_of first others).flight g ≡ true = ap (λ (l : TimedLeg). may_follow s l.flight g) (sym c.last_leg-last.ensures) ∙ sym c.may_come_next.ensures ∙ c.if-may_come_next.true in
@@ -261,7 +260,7 @@ list_legs-returns-clause-ok bound t c =
     c.deref.ensures.value ∙ c.in_ok-longer.ensures ∙ ap (λ (d : Duty). before ++ d ∷ []) c.duty_from-next.ensures.value in
     let longer-2 : c.deref-2.result.now ≡ before ++ duty_of s first others ∷ [] =
     c.deref-2.ensures.value ∙ c.in_ok-longer.ensures ∙ ap (λ (d : Duty). before ++ d ∷ []) c.duty_from-next.ensures.value in
-    let caps : is_within_caps s (before ++ duty_of s first others ∷ []) ≡ true = ap (is_within_caps s) (sym longer) ∙ sym c.keep_within_caps.ensures ∙ c.if-not-keep_within_caps.false in
+    let caps : keeps_totals s (before ++ duty_of s first others ∷ []) ≡ true = ap (keeps_totals s) (sym longer) ∙ sym c.keep_totals.ensures ∙ c.if-not-keep_totals.false in
     let opened = legs-open room s flights base price before first others c.if-others-ge-LEGS.false (sym c.cannot_begin.ensures ∙ c.if-cannot_begin.false) c.requires.joins caps in
     let own-is = own-listed room s flights base price before (duty_of s first others) c.deref-2.result.now c.last_leg-last.result (last_of first others) longer-2 c.last_leg-last.ensures in
     let near = c.next_legs-leaving.result.now in
@@ -354,14 +353,14 @@ list_from-returns-clause-over bound t c =
     λ e. over-second bound.F.Sink.count bound.F.Sink.holds W c.args.found.now c.list_legs.new.found c.args.scope.now.limit (listing 8 s flights (timed false f) []) (listing 8 s flights (timed true f) []) _ _ refl refl
     c.in_ok-list_legs.ensures.ok (c.list_legs-2.ensures.over e)
 
-pub list_legs-keep_within_caps-requires-clause-few : goal.list_legs-keep_within_caps-requires-clause-few
-list_legs-keep_within_caps-requires-clause-few bound t c =
+pub list_legs-keep_totals-requires-clause-few : goal.list_legs-keep_totals-requires-clause-few
+list_legs-keep_totals-requires-clause-few bound t c =
     let few : length c.deref.result.now ≤ c.args.scope.now.settings.now.max_duties =
     longer-few c.args.before.now c.deref.result.now c.duty_from-next.result c.args.scope.now.settings.now.max_duties (c.deref.ensures.value ∙ c.in_ok-longer.ensures) c.requires.few in
     omega (arith, few)
 
-pub list_legs-keep_within_caps-requires-clause-ranges : goal.list_legs-keep_within_caps-requires-clause-ranges
-list_legs-keep_within_caps-requires-clause-ranges bound t c =
+pub list_legs-keep_totals-requires-clause-ranges : goal.list_legs-keep_totals-requires-clause-ranges
+list_legs-keep_totals-requires-clause-ranges bound t c =
     longer-ranges c.args.before.now c.deref.result.now c.duty_from-next.result (c.deref.ensures.value ∙ c.in_ok-longer.ensures) c.requires.ranges c.duty_from-next.ensures.range
 
 pub list_legs-list_own-requires : goal.list_legs-list_own-requires
@@ -374,5 +373,9 @@ list_legs-list_own-requires bound t c =
 
 pub list_own-returns-clause-ok : goal.list_own-returns-clause-ok
 list_own-returns-clause-ok bound t c =
+    let s = c.args.scope.now.settings.now in
+    let duties = c.args.duties.now in
+    let begun = begun-on (s.max_duties - length duties) s c.args.scope.now.flights.now c.args.scope.now.base c.args.scope.now.base_price duties (sym c.keep_limits.ensures ∙ c.if-not-keep_limits.false) in
     rw c.if-deadhead.false
-    (on_ok_weaker c.list_after.result (λ more. took-join bound.F.Sink.count bound.F.Sink.holds c.args.found.now c.list_one.new.found c.list_after.new.found (_ ∷ []) _ c.in_ok-list_one.ensures.ok more) c.list_after.ensures.ok)
+    (rw begun
+    (on_ok_weaker c.list_after.result (λ more. took-join bound.F.Sink.count bound.F.Sink.holds c.args.found.now c.list_one.new.found c.list_after.new.found (_ ∷ []) _ c.in_ok-list_one.ensures.ok more) c.list_after.ensures.ok))

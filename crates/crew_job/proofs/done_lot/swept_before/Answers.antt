@@ -3,7 +3,7 @@ use Rattle.std.specs.Arc.{arc_value}
 use Rattle.crew_job.specs.Grounds.{Ground}
 use Rattle.crew_job.specs.Jobs.{Job}
 use Rattle.crew_resource.proofs.Members.{Member-get_or}
-use Rattle.crew_solve.specs.Plans.{IsSweepIn}
+use Rattle.crew_plan.specs.Plans.{AreFrontsIn}
 use Rattle.crew_job.proofs.done_lot.swept_before.Goals as goal
 
 pub returns-then-base : goal.returns-then-base
@@ -17,4 +17,4 @@ returns-then-base c =
     let ground = c.requires other (Member-get_or c.args.results.now (k - 1) other low (sym c.index-results-k.is)) in
     let base = sym (c.base.ensures.value ∙ ap (λ (j : Job). j.base) c.job.ensures) ∙ (c.if-base.true ∙ c.base-base.ensures.value) in
     let sweep = arc_value c.sweep.result.now in
-    subst (λ (g : Ground). IsSweepIn g.plan job.base sweep) ground (subst (λ b. IsSweepIn other.ground.plan b sweep) base c.sweep.ensures.swept)
+    subst (λ (g : Ground). AreFrontsIn g.plan job.base sweep) ground (subst (λ b. AreFrontsIn other.ground.plan b sweep) base c.sweep.ensures.swept)

@@ -1,5 +1,6 @@
 use Rattle.crew_job.proofs.GroundNodes.{are-nodes}
 use Rattle.crew_job.proofs.BaseSweeps.{node-legal}
+use Rattle.crew_fronts.specs.Fronts.{front_at}
 use Rattle.crew_job.specs.Grounds.{nodes_in}
 use Rattle.crew_machine.proofs.CrewLaws.{crew-laws}
 use Rattle.crew_resource.proofs.Members.{Member-at}
@@ -14,8 +15,9 @@ returns-clause-shown c = λ job g work b is here of own place at shows.
     record {
       own = shows.own;
       there = shows.there;
-      front = λ f p r.
+      front =
           let j = job.ground in
-          let local = (crew-laws j.settings is.checked).local_out j.entries work f (node-legal j is job.base job.rank work.node of.node) of.own (shows.front f p r) in
+          let f = front_at b work.node.duty in
+          let local = (crew-laws j.settings is.checked).local_out j.entries work f (node-legal j is job.base job.rank work.node of.node) of.own shows.front in
           (crew-laws g.settings here.checked).local_in g.entries work f (((are-nodes g here).exact work.node).0 (Member-at (nodes_in g.plan.net) place work.node at)) own local;
     }

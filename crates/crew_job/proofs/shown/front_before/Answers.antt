@@ -1,10 +1,10 @@
-use Rattle.std.proofs.Common.{◌∙◌, ap}
+use Rattle.std.proofs.Common.{◌∙◌, ap, subst, sym}
 use Rattle.crew_job.proofs.BaseSweeps.{shows-before}
 use Rattle.crew_job.proofs.NodePlaces.{some-node-at}
 use Rattle.crew_job.proofs.SealedNodes.{front-unsealed, node-sealed}
-use Rattle.crew_job.specs.Grounds.{Ground}
+use Rattle.crew_job.specs.Grounds.{Ground, data_of}
 use Rattle.crew_job.specs.Jobs.{Job}
-use Rattle.crew_machine.specs.Crew.{DutyNode}
+use Rattle.crew_machine.specs.Crew.{DutyNode, IsFrontOf}
 use Rattle.crew_job.proofs.shown.front_before.Goals as goal
 
 pub swept_front-requires : goal.swept_front-requires
@@ -17,7 +17,8 @@ pub returns-in-Some : goal.returns-in-Some
 returns-in-Some c =
     let job : Job = c.args.job.now in
     let p : DutyNode = record { base = c.args.base; duty = c.args.duty.now } in
-    (shows-before job.ground c.ground-ground.ensures.ground job.base job.rank p c.in-Some.sweep.now c.ground-ground.ensures.placed.base c.ground-ground.ensures.placed.rank c.requires c.in-Some.ensures).front c.swept_front.result c.swept_front.ensures.shown c.swept_front.ensures.rises
+    let shows = shows-before job.ground c.ground-ground.ensures.ground job.base job.rank p c.in-Some.sweep.now c.ground-ground.ensures.placed.base c.ground-ground.ensures.placed.rank c.requires c.in-Some.ensures in
+    subst (IsFrontOf job.ground.settings (data_of job.ground) p) (sym c.swept_front.ensures) shows.front
 
 pub sealed_front-requires : goal.sealed_front-requires
 sealed_front-requires c =

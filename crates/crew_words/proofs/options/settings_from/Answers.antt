@@ -19,5 +19,6 @@ returns c = rw (
   c.number_of-12.ensures,
   c.number_of-13.ensures,
   c.number_of-14.ensures,
+  c.number_of-15.ensures,
 )
     (rw c.standard-standard.ensures.value refl)

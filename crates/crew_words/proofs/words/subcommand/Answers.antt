@@ -13,4 +13,4 @@ with_options-requires-clause-bare c =
 pub returns-clause-shape : goal.returns-clause-shape
 returns-clause-shape c =
     let made : app_of c.next_line_help-bare.result ≡ new_app c.args.name.now = rw c.next_line_help-bare.ensures (rw c.after_help.ensures (rw c.about.ensures c.new.ensures.app)) in
-    IfOk-weaker c.with_options.result _ _ (λ _ shape. shape ∙ ap (λ (n : Text). sub_up_to n 14) (ap (λ (a : App). a.top.name) made)) c.with_options.ensures.shape
+    IfOk-weaker c.with_options.result _ _ (λ _ shape. shape ∙ ap (λ (n : Text). sub_up_to n 15) (ap (λ (a : App). a.top.name) made)) c.with_options.ensures.shape

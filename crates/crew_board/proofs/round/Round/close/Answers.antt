@@ -5,7 +5,7 @@ use Rattle.std.proofs.lemmas.List.{length-append, length-map}
 use Rattle.crew_board.proofs.Gathered.{each-pushed}
 use Rattle.crew_board.specs.Machinery.Held.{Marked}
 use Rattle.crew_job.specs.Grounds.{Ground}
-use Rattle.crew_solve.specs.Plans.{AreSweepsIn, IsSweepIn}
+use Rattle.crew_plan.specs.Plans.{AreAllIn, AreFrontsIn}
 use Rattle.crew_board.proofs.round.Round.close.Goals as goal
 
 pub loop-base-init : goal.loop-base-init
@@ -24,9 +24,9 @@ loop-base-preserved c =
     let items = c.in_ok-push.ensures.items in
     let plan = c.args.self.now.ground.plan in
     let long = c.loop-base.invariant.0 in
-    let here : IsSweepIn plan (length before) (arc_value made) = subst (λ k. IsSweepIn plan k (arc_value made)) (sym long) c.in_ok-swept_or_made.ensures in
+    let here : AreFrontsIn plan (length before) (arc_value made) = subst (λ k. AreFrontsIn plan k (arc_value made)) (sym long) c.in_ok-swept_or_made.ensures in
     let more = length-append before (made ∷ []) in
-    let all = each-pushed arc_value (IsSweepIn plan) before made c.loop-base.invariant.1 here in (
+    let all = each-pushed arc_value (AreFrontsIn plan) before made c.loop-base.invariant.1 here in (
       ap length items ∙ omega (arith, more, long),
       λ k b e. all k b (sym (ap (λ xs. slice_get (map arc_value xs) k) items) ∙ e),
     )
@@ -40,5 +40,5 @@ close-requires c =
     let long = c.loop-base.invariant.0 in
     let end = c.loop-base.auto.base-end in
     let past = c.loop-base-test.false in
-    let whole : AreSweepsIn c.args.self.now.ground.plan (map arc_value items) = record { long = omega (arith, count, mapped, long, end, past); each = c.loop-base.invariant.1 } in
-    subst (λ (g : Ground). AreSweepsIn g.plan (map arc_value items)) (sym mine) whole
+    let whole : AreAllIn c.args.self.now.ground.plan (map arc_value items) = record { long = omega (arith, count, mapped, long, end, past); each = c.loop-base.invariant.1 } in
+    subst (λ (g : Ground). AreAllIn g.plan (map arc_value items)) (sym mine) whole

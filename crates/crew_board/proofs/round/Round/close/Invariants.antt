@@ -1,11 +1,11 @@
 use Rattle.std.proofs.Common.{◌≡◌, ℕ, Some, length, map}
 use Rattle.std.specs.Prelude.{slice_get}
 use Rattle.std.specs.Arc.{arc_value}
-use Rattle.crew_sweep.specs.Sweeps.{BaseSweep}
-use Rattle.crew_solve.specs.Plans.{IsSweepIn}
+use Rattle.crew_fronts.specs.Fronts.{BaseFronts}
+use Rattle.crew_plan.specs.Plans.{AreFrontsIn}
 use Rattle.crew_board.proofs.round.Round.close.Given as goal
 
 -- one sweep for each base so far, in order
 abbrev pub invariant-loop-base : goal.invariant-loop-base
 invariant-loop-base l = (length l.sweeps.items ≡ l.base)
-    × ((k : ℕ) (b : BaseSweep) → slice_get (map arc_value l.sweeps.items) k ≡ Some b → IsSweepIn l.self.ground.plan k b)
+    × ((k : ℕ) (b : BaseFronts) → slice_get (map arc_value l.sweeps.items) k ≡ Some b → AreFrontsIn l.self.ground.plan k b)

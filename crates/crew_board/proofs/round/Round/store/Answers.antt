@@ -17,8 +17,8 @@ use Rattle.crew_job.specs.Jobs.{IsPlaced, Job}
 use Rattle.crew_job.specs.Shown.{IsAsSealed}
 use Rattle.crew_machine.specs.Crew.{DutyNode}
 use Rattle.crew_round.specs.Marks.{IsUndone}
-use Rattle.crew_solve.specs.Plans.{IsSweepIn, Plan}
-use Rattle.crew_sweep.specs.Sweeps.{BaseSweep}
+use Rattle.crew_plan.specs.Plans.{AreFrontsIn, Plan}
+use Rattle.crew_fronts.specs.Fronts.{BaseFronts}
 use Rattle.crew_board.proofs.round.Round.store.Goals as goal
 
 pub note-requires : goal.note-requires
@@ -60,14 +60,14 @@ invariant_of-self c =
       after = refl;
     } in
     let b = arc_value c.into_sweep.result in
-    let sweep : (k : ℕ) → k ≡ c.base-base.result → c.is_same_round-own.result ≡ true → IsSweepIn r.ground.plan k b = λ k e told.
+    let sweep : (k : ℕ) → k ≡ c.base-base.result → c.is_same_round-own.result ≡ true → AreFrontsIn r.ground.plan k b = λ k e told.
     (
     let plan : job.ground.plan ≡ r.ground.plan = like-plan c.args.like job.ground r.ground (c.is_same_round-own.ensures.0 told) like in
-    subst (λ j. IsSweepIn r.ground.plan j b) (sym (e ∙ base)) (subst (λ (p : Plan). IsSweepIn p job.base b) plan c.into_sweep.ensures.swept)) in
+    subst (λ j. AreFrontsIn r.ground.plan j b) (sym (e ∙ base)) (subst (λ (p : Plan). AreFrontsIn p job.base b) plan c.into_sweep.ensures.swept)) in
     let swept = c.note.new.swept in
     let long = c.note.ensures.long ∙ ap length c.deref_mut-2.ensures.value in
-    let noted : (k p : ℕ) → slice_get swept k ≡ Some (Some p) → (slice_get i.swept.items k ≡ Some (Some p)) ⊎ ((p ≡ place) × IsSweepIn r.ground.plan k b) = λ k p e.
-    ⊎_elim {C = (slice_get i.swept.items k ≡ Some (Some p)) ⊎ ((p ≡ place) × IsSweepIn r.ground.plan k b)}
+    let noted : (k p : ℕ) → slice_get swept k ≡ Some (Some p) → (slice_get i.swept.items k ≡ Some (Some p)) ⊎ ((p ≡ place) × AreFrontsIn r.ground.plan k b) = λ k p e.
+    ⊎_elim {C = (slice_get i.swept.items k ≡ Some (Some p)) ⊎ ((p ≡ place) × AreFrontsIn r.ground.plan k b)}
     (λ was. inl (subst (λ xs. slice_get xs k ≡ Some (Some p)) c.deref_mut-2.ensures.value was))
     (λ n. inr (n.1, sweep k n.0 n.2))
     (c.note.ensures.noted k p e) in
@@ -78,4 +78,4 @@ invariant_of-self c =
     let shown-is = ap (map (option_map (λ a. a.value))) (shown-back ∙ set) ∙ map-set-here (option_map (λ a. a.value)) i.shown.items place (Some c.into_sweep.result) in
     let swept-back = written-back i.swept.len swept i.swept.items (sym c.deref_mut-2.ensures.len ∙ sym c.note.ensures.long) in
     subst (λ (xs : List (Option ℕ)). IsHeld new (map (option_map (λ a. a.value)) (take i.shown.len (c.show.new.shown ++ drop (length c.show.new.shown) i.shown.items))) xs) (sym swept-back)
-    (subst (λ (xs : List (Option BaseSweep)). IsHeld new xs swept) (sym shown-is) held)
+    (subst (λ (xs : List (Option BaseFronts)). IsHeld new xs swept) (sym shown-is) held)

@@ -4,7 +4,7 @@ use Rattle.crew_board.proofs.Nothing.{option-at, read-at, some-within}
 use Rattle.crew_board.proofs.Inside.{marked_of, shown_of}
 use Rattle.crew_board.proofs.Keeping.{swept-there}
 use Rattle.crew_board.specs.Machinery.Held.{Marked}
-use Rattle.crew_solve.specs.Plans.{IsSweepIn}
+use Rattle.crew_plan.specs.Plans.{AreFrontsIn}
 use Rattle.crew_board.proofs.round.Round.sweep_of.Goals as goal
 
 pub returns-in_ok-try_clone-in-Some-index : goal.returns-in_ok-try_clone-in-Some-index
@@ -23,5 +23,5 @@ returns-in_ok-try_clone-in-Some-index c =
     let at = read-at c.self.inside.shown.items place (Some c.in-Some-index.sweep) c.index-2.result.now within c.index-2.ensures c.in-Some-index.is in
     let here = option-at (λ a. a.value) c.self.inside.shown.items place c.in-Some-index.sweep at in
     let swept-in = swept-there r (shown_of c.self.inside) swept h base place (arc_value c.in-Some-index.sweep) noted here in
-    let own : IsSweepIn r.ground.plan base (arc_value c.in_ok-try_clone-in-Some-index.field-0) = subst (IsSweepIn r.ground.plan base) (sym c.in_ok-try_clone-in-Some-index.ensures) swept-in in
-    subst (λ (z : Marked). IsSweepIn z.ground.plan base (arc_value c.in_ok-try_clone-in-Some-index.field-0)) c.self.view_is own
+    let own : AreFrontsIn r.ground.plan base (arc_value c.in_ok-try_clone-in-Some-index.field-0) = subst (AreFrontsIn r.ground.plan base) (sym c.in_ok-try_clone-in-Some-index.ensures) swept-in in
+    subst (λ (z : Marked). AreFrontsIn z.ground.plan base (arc_value c.in_ok-try_clone-in-Some-index.field-0)) c.self.view_is own

@@ -19,5 +19,5 @@ returns c =
     let sealed = ap (λ (x : Ground). x.sealed) c.ground.ensures.value in
     let before = front-unsealed g is c.sealed-sealed.result.now (c.sealed-sealed.ensures.version ∙ sealed) n c.sealed_front-before.result c.sealed_front-before.ensures in
     let swept : IsSwept job b = record { right = is; placed = c.ground.ensures.placed; swept = c.requires.sweep } in
-    let now = done-front job b swept c.rank.result c.front.result c.rank.ensures.value c.front.ensures n named in
+    let now = done-front job b swept c.rank.result c.front.result c.rank.ensures.value c.front.ensures.front n named in
     tells-same job is n named c.is_same_front.result c.sealed_front-before.result c.front.result (c.requires.there n named) before now c.is_same_front.ensures

@@ -5,7 +5,7 @@ use Rattle.crew_rules.specs.Settings.{IsChecked}
 use Rattle.crew_version.specs.Versions.{Snapshot, timetable_of}
 use Rattle.crew_version.specs.Drafts.{IsSolutionOf}
 use Rattle.crew_version.proofs.SolutionFacts.{no-pairing-at-start, timetable-sound}
-use Rattle.crew_solve.specs.Cheapest.{AreCheapest}
+use Rattle.crew_plan.specs.Cheapest.{AreCheapest}
 use Rattle.crew_vector.specs.declared.priced.PricedPairing.{PricedPairing}
 use Rattle.crew_version.proofs.version.Version.cheapest.Goals as goal
 
