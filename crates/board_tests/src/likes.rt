@@ -3,7 +3,8 @@
 use crew_board::Board;
 use crew_flights::Entry;
 use crew_net::Node;
-use crew_solve::{Solution, solve};
+use crew_duty::{DutyFault, list_duties};
+use crew_plan::{Plan, Solution};
 use crew_vector::PricedPairing;
 use crew_version::Version;
 use std::alloc::AllocError;
@@ -41,6 +42,14 @@ fn is_same(version: &Version, solution: &Solution) -> bool {
     is_same_best(version.best(), solution.best())
 }
 
+// What a version's timetable gives from scratch.
+fn solve<R: Threads + Sync + AllocGlobal>(rt: &R, version: &Version) -> Result<Solution, DutyFault> {
+    let (settings, timetable) = (version.settings(), version.timetable());
+    let duties = list_duties(rt, rt.alloc(), settings, timetable)?;
+    let plan = Plan::of(rt.alloc(), settings, timetable, duties, None)?;
+    Ok(plan.solve(rt, rt.alloc(), 0)?)
+}
+
 /// Writes whether the version that a board sealed last has so many entries, and the fronts and the
 /// best that are solved from scratch for its timetable.
 pub fn like<R: Threads + Sync + AllocGlobal>(
@@ -50,7 +59,7 @@ pub fn like<R: Threads + Sync + AllocGlobal>(
     out: &mut String,
 ) -> Result<(), AllocError> {
     let version = board.sealed();
-    match solve(rt, rt.alloc(), version.settings(), version.timetable()) {
+    match solve(rt, version) {
         Ok(solution) => {
             let is_same = is_same(version, &solution) & (version.count() == entries.len());
             out.push_str(if is_same { "equal" } else { "other" })

@@ -1,5 +1,5 @@
 -- The fronts of a crew base at its price, one for each duty of a network.
-use Rattle.std.specs.Prelude.{◌≡◌, ℕ, ℤ, suc, Bool, ◌&&◌, cond, nat_le, not, List, [], ◌∷◌, IsPermutation, get_or}
+use Rattle.std.specs.Prelude.{◌≡◌, ℕ, ℤ, suc, Bool, ◌&&◌, cond, nat_le, not, List, [], ◌∷◌, get_or}
 use Rattle.std.specs.Ordering.{eq_by_cmp}
 use Rattle.crew_answers.specs.Fronts.{IsFrontAt, RiseByVector}
 use Rattle.crew_answers.specs.LongVectors.{LongVector, is_long}
@@ -48,6 +48,12 @@ ShowsFronts t b = (d : Duty) → IsDuty b.net.settings (flights_of t) d
 abbrev pub is_plain : Settings → Bool
 is_plain s = not (is_long s) && nat_le s.fdp_cap s.fdp_total
 
+-- the same entries, in whatever order
+abbrev pub HaveSame : List (PairingVector × List (List Leg)) → List (PairingVector × List (List Leg))
+    → Type 0
+HaveSame es fs = (e : PairingVector × List (List Leg))
+    → (Member es e → Member fs e) × (Member fs e → Member es e)
+
 -- they are what a sweep shows, in order, each vector without a past
 pub record IsOfSweep (sweep : BaseSweep) (b : BaseFronts) : Type 0 where
   pub net : b.net ≡ sweep.net
@@ -55,4 +61,4 @@ pub record IsOfSweep (sweep : BaseSweep) (b : BaseFronts) : Type 0 where
   pub price : b.price ≡ sweep.price
   pub fronts : (d : Duty) → Member sweep.net.duties d
       → (entries : List (PairingVector × List (List Leg)))
-      × IsPermutation (Sweeps.front_at sweep d) entries × (front_at b d ≡ with_no_pasts entries)
+      × HaveSame (Sweeps.front_at sweep d) entries × (front_at b d ≡ with_no_pasts entries)

@@ -13,10 +13,11 @@ ghost use Rattle.crew_resource.specs.Members.{Member};
 ghost use Rattle.crew_rules.specs.Settings.{IsChecked};
 
 use crate::front_view::FrontView;
-use crate::vector::Vector;
+use crate::passed_fronts::PassedFronts;
+use crew_answers::laws::{short_fronts_are_as_before, short_settings_stay};
 use crew_flights::Code;
 use crew_net::Net;
-use crew_pairing::{Duty, Walk};
+use crew_pairing::Duty;
 use crew_pass::Course;
 use std::alloc::{AllocError, Global};
 use std::marker::Model;
@@ -27,49 +28,56 @@ use std::sync::Arc;
 /// A contract sees the network, the base and its price, and the front of each duty, by rank.
 #[derive(Drop)]
 pub struct BaseFronts {
-    net: Arc<Net, Global>,
-    base: Code,
-    price: i64,
-    fronts: Vec<Vec<(Vector, Walk)>>,
+    kind: BaseKind,
+}
+
+// What has made them.
+#[derive(Drop)]
+pub(crate) enum BaseKind {
+    Swept(Arc<crew_solve::BaseFronts, Global>),
+    Passed(PassedFronts),
 }
 
 impl Model for BaseFronts {
-    ghost use Rattle.std.specs.Prelude.{map};
-    ghost use Rattle.std.specs.Coded.{codes};
     ghost use Rattle.crew_fronts.specs.Fronts as Spec;
-    ghost use Rattle.crew_fronts.specs.Machinery.Kept.{IsShowing};
-    ghost use Rattle.crew_history.specs.contracts.history.History as kept;
+    ghost use Rattle.crew_fronts.specs.Machinery.Bases.{IsOfKind, fronts_of};
 
     ghost Value = { Spec.BaseFronts };
 
-    ghost coded = { Prim.hlevel (codes, kept.the_row.coded) };
+    ghost view = { λ f. fronts_of f.kind };
 
-    ghost view = { λ f. record {
-      net = f.net.value;
-      base = f.base;
-      price = f.price;
-      fronts = map (λ v. v.items) f.fronts.items;
-    } };
+    ghost invariant = { λ f. IsOfKind f.kind };
+}
 
-    ghost invariant = { λ f. ⊥ };
+// The network of a sweep's fronts, whose duties rise by key.
+#[inline]
+fn net_of(fronts: &crew_solve::BaseFronts) -> &Net
+    ensures net { result.now ≡ fronts.now.net }
+    ensures rise { RiseByKey fronts.now.net.duties }
+{
+    let net = fronts.net();
+    let _ = net.duty_count();
+    net
 }
 
 impl BaseFronts {
     /// The fronts that a sweep has made, where the settings need no more than the seven sums.
     pub fn swept(
-        _alloc: Global,
+        alloc: Global,
         fronts: Arc<crew_solve::BaseFronts, Global>,
     ) -> Result<Arc<BaseFronts, Global>, AllocError>
         requires { is_plain (arc_value fronts).net.settings ≡ true }
         ensures { IfOk result (λ made. IsOfSweep (arc_value fronts) (arc_value made)) }
     {
-        Err(AllocError)
+        let _ = net_of(&fronts);
+        let kind = BaseKind::Swept(fronts);
+        Ok(Arc::new(alloc, BaseFronts { kind })?)
     }
 
     /// The fronts of a base at its price, by a pass over the course's network, where the settings
     /// need more than the seven sums.
     pub fn passed(
-        _alloc: Global,
+        alloc: Global,
         course: &Course,
         base: Code,
         price: i64,
@@ -86,7 +94,9 @@ impl BaseFronts {
         ensures right { IfOk result (λ made. (t : Timetable) → IsSound t → IsDated t
             → AreDuties course.now.settings t course.now.duties → ShowsFronts t (arc_value made)) }
     {
-        Err(AllocError)
+        let fronts = PassedFronts::new(alloc, course, base, price)?;
+        let kind = BaseKind::Passed(fronts);
+        Ok(Arc::new(alloc, BaseFronts { kind })?)
     }
 
     /// The sweep's fronts, where one has made them.
@@ -94,22 +104,33 @@ impl BaseFronts {
         ensures some { IfSome result (λ fronts. IsOfSweep (arc_value fronts.now) self.now) }
         ensures none { result ≡ None → is_plain self.now.net.settings ≡ false }
     {
-        let _fronts = &self.fronts;
-        None
+        match &self.kind {
+            BaseKind::Swept(fronts) => {
+                let _ = net_of(fronts);
+                Some(fronts)
+            }
+            BaseKind::Passed(_) => None,
+        }
     }
 
     /// The base.
     pub fn base(&self) -> Code
         ensures { result ≡ self.now.base }
     {
-        self.base
+        match &self.kind {
+            BaseKind::Swept(fronts) => fronts.base(),
+            BaseKind::Passed(fronts) => fronts.base(),
+        }
     }
 
     /// The base's price.
     pub fn price(&self) -> i64
         ensures { result ≡ self.now.price }
     {
-        self.price
+        match &self.kind {
+            BaseKind::Swept(fronts) => fronts.price(),
+            BaseKind::Passed(fronts) => fronts.price(),
+        }
     }
 
     /// The network.
@@ -120,7 +141,19 @@ impl BaseFronts {
         ensures right { (t : Timetable) → IsSound t → IsDated t
             → AreDuties self.now.net.settings t self.now.net.duties → ShowsFronts t self.now }
     {
-        &self.net
+        short_settings_stay();
+        short_fronts_are_as_before();
+        match &self.kind {
+            BaseKind::Swept(fronts) => {
+                let _ = net_of(fronts);
+                fronts.net()
+            }
+            BaseKind::Passed(fronts) => {
+                let net = fronts.net();
+                let _ = net.duty_count();
+                net
+            }
+        }
     }
 
     /// The front of the duty of a rank, in order of vector: each vector with its walk. It takes no
@@ -131,19 +164,31 @@ impl BaseFronts {
             → result ≡ front_at self.now d }
         ensures rises { RiseByVector result }
     {
-        let front = &self.fronts[rank];
-        FrontView { entries: front }
+        match &self.kind {
+            BaseKind::Swept(fronts) => {
+                let _ = net_of(fronts);
+                FrontView::swept(fronts.front(rank))
+            }
+            BaseKind::Passed(fronts) => FrontView::passed(fronts.front(rank)),
+        }
     }
 
     /// Whether it is known that this and other fronts under the same settings and at the same price
     /// are the same at each duty of both networks that leaves where a duty does. `false` says nothing.
     /// It takes no memory.
-    pub fn leaves_alike(&self, _other: &BaseFronts, _duty: &Duty) -> bool
-        ensures { IsTrue result → self.now.net.settings ≡ _other.now.net.settings
-            → self.now.price ≡ _other.now.price → (d : DutyOf)
-            → departure_of d ≡ departure_of _duty.now → Member self.now.net.duties d
-            → Member _other.now.net.duties d → front_at self.now d ≡ front_at _other.now d }
+    pub fn leaves_alike(&self, other: &BaseFronts, duty: &Duty) -> bool
+        ensures { IsTrue result → self.now.net.settings ≡ other.now.net.settings
+            → self.now.price ≡ other.now.price → (d : DutyOf)
+            → departure_of d ≡ departure_of duty.now → Member self.now.net.duties d
+            → Member other.now.net.duties d → front_at self.now d ≡ front_at other.now d }
     {
-        false
+        match (&self.kind, &other.kind) {
+            (BaseKind::Swept(one), BaseKind::Swept(other)) => {
+                let _ = net_of(one);
+                let _ = net_of(other);
+                one.leaves_alike(other, duty)
+            }
+            _ => false,
+        }
     }
 }

@@ -1,10 +1,12 @@
 //! Fronts that are lent.
 ghost use Rattle.std.specs.Prelude.{◌≡◌, ◌↔◌, IsTrue, length};
 ghost use Rattle.std.specs.Iterator.{YieldsFirst, item_count};
+ghost use Rattle.crew_answers.specs.ShortPairings.{with_no_pasts};
+ghost use Rattle.crew_fronts.specs.Fronts.{Entries};
 
+use crate::passed_front::PassedFront;
 use crate::vector::Vector;
 use crate::walk_view::WalkView;
-use crew_pairing::Walk;
 use std::marker::Model;
 
 /// The front of a base and a duty, lent.
@@ -13,17 +15,23 @@ use std::marker::Model;
 /// takes memory.
 #[derive(Drop)]
 pub struct FrontView<'a> {
-    pub(crate) entries: &'a [(Vector, Walk)],
+    kind: FrontKind<'a>,
+}
+
+// What the front has been made by.
+#[derive(Drop)]
+pub(crate) enum FrontKind<'a> {
+    Swept(crew_solve::FrontView<'a>),
+    Passed(PassedFront<'a>),
 }
 
 impl<'a> Model for FrontView<'a> {
     ghost use Rattle.crew_fronts.specs.Fronts.{Entries};
+    ghost use Rattle.crew_fronts.specs.Machinery.Kinds.{entries_of};
 
     ghost Value = { Entries };
 
-    ghost view = { λ f. f.entries.now };
-
-    ghost invariant = { λ f. ⊥ };
+    ghost view = { λ f. entries_of f.kind };
 }
 
 /// The entries of a front that are still to come.
@@ -31,44 +39,98 @@ impl<'a> Model for FrontView<'a> {
 /// A contract sees their list.
 #[derive(Drop)]
 pub struct FrontEntries<'b, 'a> {
-    front: &'b FrontView<'a>,
-    place: usize,
+    kind: EntriesKind<'b, 'a>,
+}
+
+// What the front has been made by.
+#[derive(Drop)]
+pub(crate) enum EntriesKind<'b, 'a> {
+    Swept(crew_solve::FrontEntries<'b, 'a>),
+    Passed(PassedFront<'a>),
 }
 
 impl<'b, 'a> Model for FrontEntries<'b, 'a> {
-    ghost use Rattle.std.specs.Prelude.{drop};
     ghost use Rattle.crew_fronts.specs.Fronts.{Entries};
+    ghost use Rattle.crew_fronts.specs.Machinery.Kinds.{entries_left};
 
     ghost Value = { Entries };
 
-    ghost view = { λ e. drop e.place e.front.now };
+    ghost view = { λ e. entries_left e.kind };
+}
 
+// Whether two entries are one.
+#[inline]
+fn is_same_entry(one: &(Vector, WalkView<'_>), other: &(Vector, WalkView<'_>)) -> bool
+    ensures { IsTrue result ↔ (one.now ≡ other.now) }
+{
+    one.0.is_same(&other.0) && one.1.is_same(&other.1)
+}
 
+// Whether the entries that are still to come are the same.
+fn are_same_entries(mut one: FrontEntries<'_, '_>, mut other: FrontEntries<'_, '_>) -> bool
+    ensures { IsTrue result ↔ (one.entry ≡ other.entry) }
+{
+    while let Some(entry) = one.next() {
+        let Some(other_entry) = other.next() else {
+            return false;
+        };
+        if !is_same_entry(&entry, &other_entry) {
+            return false;
+        }
+    }
+    other.next().is_none()
 }
 
 impl<'a> FrontView<'a> {
+    // A front of a sweep.
+    #[inline]
+    pub(crate) fn swept(front: crew_solve::FrontView<'a>) -> FrontView<'a>
+        ensures { result ≡ with_no_pasts front.entry }
+    {
+        FrontView {
+            kind: FrontKind::Swept(front),
+        }
+    }
+
+    // A front of a pass.
+    #[inline]
+    pub(crate) fn passed(front: PassedFront<'a>) -> FrontView<'a>
+        ensures { result ≡ front.entry }
+    {
+        FrontView {
+            kind: FrontKind::Passed(front),
+        }
+    }
+
     /// How many entries there are.
     pub fn len(&self) -> usize
         ensures { result ≡ length self.now }
     {
-        self.entries.len()
+        match &self.kind {
+            FrontKind::Swept(front) => front.len(),
+            FrontKind::Passed(front) => front.len(),
+        }
     }
 
     /// The entries in order of vector.
     pub fn iter(&self) -> FrontEntries<'_, 'a>
         ensures { result ≡ self.now }
     {
-        FrontEntries {
-            front: self,
-            place: 0,
-        }
+        let kind = match &self.kind {
+            FrontKind::Swept(front) => EntriesKind::Swept(front.iter()),
+            FrontKind::Passed(front) => EntriesKind::Passed(front.copy()),
+        };
+        FrontEntries { kind }
     }
 
     /// Whether another front has the same entries: each vector with its walk. It takes no memory.
     pub fn is_same(&self, other: &FrontView<'_>) -> bool
         ensures { IsTrue result ↔ (self.now ≡ other.now) }
     {
-        self.entries.len() == other.entries.len()
+        match (&self.kind, &other.kind) {
+            (FrontKind::Swept(one), FrontKind::Swept(other)) => one.is_same(other),
+            _ => self.len() == other.len() && are_same_entries(self.iter(), other.iter()),
+        }
     }
 }
 
@@ -80,9 +142,12 @@ impl<'b, 'a> Iterator for FrontEntries<'b, 'a> {
     ghost remaining = { item_count (λ s. s) };
 
     fn next(&mut self) -> Option<(Vector, WalkView<'a>)> {
-        let front = self.front;
-        let entry = front.entries.get(self.place)?;
-        self.place += 1;
-        Some((entry.0.copy(), WalkView { walk: &entry.1 }))
+        match &mut self.kind {
+            EntriesKind::Swept(entries) => {
+                let (sums, walk) = entries.next()?;
+                Some((Vector::with_no_past(sums), WalkView::swept(walk)))
+            }
+            EntriesKind::Passed(entries) => entries.next(),
+        }
     }
 }

@@ -9,6 +9,9 @@
 
 mod base_fronts;
 mod front_view;
+mod passed_front;
+mod passed_fronts;
+mod passed_walk;
 mod plain;
 mod vector;
 mod walk_view;

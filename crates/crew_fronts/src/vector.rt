@@ -1,5 +1,6 @@
 //! What a front shows of a pairing.
 ghost use Rattle.std.specs.Prelude.{◌≡◌, ◌↔◌, IsTrue};
+ghost use Rattle.crew_answers.specs.ShortPairings as Short;
 ghost use Rattle.crew_history.specs.HistoryValues.{periods_of};
 
 use crew_history::History;
@@ -33,12 +34,51 @@ impl Model for Vector {
       since_rest = v.since_rest;
       history = periods_of v.history;
     } };
+}
 
-    ghost invariant = { λ v. ⊥ };
+// Whether two vectors have the same sums.
+#[inline]
+fn are_same_sums(one: &PairingVector, other: &PairingVector) -> bool
+    ensures { IsTrue result ↔ (one.now ≡ other.now) }
+{
+    one == other
+}
+
+// Whether two histories have the same periods.
+#[inline]
+fn are_same_periods(one: &History, other: &History) -> bool
+    ensures { IsTrue result ↔ (periods_of one.now ≡ periods_of other.now) }
+{
+    one == other
 }
 
 impl Vector {
+    // The vector of these parts.
+    #[inline]
+    pub(crate) fn new(sums: PairingVector, since_rest: i64, history: History) -> Vector
+        ensures { result ≡ record {
+          sums = sums;
+          since_rest = since_rest;
+          history = periods_of history;
+        } }
+    {
+        Vector {
+            sums,
+            since_rest,
+            history,
+        }
+    }
+
+    // The vector of these sums without a past.
+    #[inline]
+    pub(crate) fn with_no_past(sums: PairingVector) -> Vector
+        ensures { result ≡ Short.with_no_past sums }
+    {
+        Vector::new(sums, 0, History::new())
+    }
+
     /// The seven sums.
+    #[inline]
     pub fn sums(&self) -> &PairingVector
         ensures { result.now ≡ self.now.sums }
     {
@@ -47,6 +87,7 @@ impl Vector {
 
     /// The minutes from the end of the last rest of 1,800 minutes or more, or from the first report,
     /// to the last report; 0 where no pairing of the settings has more than 138 hours.
+    #[inline]
     pub fn since_rest(&self) -> i64
         ensures { result ≡ self.now.since_rest }
     {
@@ -68,8 +109,8 @@ impl Vector {
     pub fn is_same(&self, other: &Vector) -> bool
         ensures { IsTrue result ↔ (self.now ≡ other.now) }
     {
-        self.sums == other.sums
+        are_same_sums(&self.sums, &other.sums)
             && self.since_rest == other.since_rest
-            && self.history == other.history
+            && are_same_periods(&self.history, &other.history)
     }
 }

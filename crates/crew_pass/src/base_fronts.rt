@@ -93,6 +93,7 @@ impl<R: Resource> BaseFronts<R> {
         requires { rank < length self.now.net.duties }
         ensures front { arc_value result.now ≡ get_or self.now.fronts rank [] }
         ensures held { Member self.now.fronts (arc_value result.now) }
+        ensures told { AreTold self.now }
     {
         &self.fronts[rank]
     }

@@ -1,2 +1,10 @@
+pub mod Shorter
+pub mod Reach
+pub mod Placed
+pub mod Tied
+pub mod Homing
+pub mod Among
+pub mod Answering
 pub mod OneList
 pub mod Sharing
+pub mod Below

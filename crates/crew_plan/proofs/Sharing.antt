@@ -1,51 +1,24 @@
 -- Pairings that share few flights: there is one list of them, a greater limit goes on, and with room
 -- for all they are the cheapest.
-use Rattle.std.specs.declared.cmp.Ordering.TheVariants.{Less}
-use Rattle.std.proofs.Common.{◌≡◌, ◌∙◌, ◌⊎◌, inl, inr, ⊎_elim, ◌≤◌, ◌<◌, ◌+◌, ℕ, zero, suc, Bool, true, false, cond, ◌&&◌, ◌||◌, List, [], ◌∷◌, ◌++◌, refl, sym, ap, subst, arith, append_assoc, length, length-append, take, drop}
+use Rattle.std.proofs.Common.{◌≡◌, ◌∙◌, ◌≤◌, ◌<◌, ◌+◌, ℕ, zero, suc, Bool, true, false, cond, ◌&&◌, ◌||◌, List, [], ◌∷◌, ◌++◌, refl, sym, ap, subst, arith, append_assoc, length, length-append, take, drop}
 use Rattle.std.specs.Prelude.{count_by, nat_eq, nat_lt}
 use Rattle.std.specs.List.{list_all, list_any}
 use Rattle.std.proofs.lemmas.Bool.Decides.{nat_tests}
 use Rattle.std.proofs.lemmas.List.{append-nil}
 use Rattle.std.proofs.lemmas.List.Sums.{count_by-le-length, sum_by-append}
 use Rattle.crew_flights.specs.Timetable.{Timetable}
-use Rattle.crew_pairing.proofs.Tree.{Each-member}
 use Rattle.crew_resource.proofs.Rising.{same-rising}
-use Rattle.crew_resource.specs.Members.{Each, Member}
 use Rattle.crew_rules.specs.declared.settings.Settings.{Settings}
-use Rattle.crew_solve.proofs.Keeping.{take-few, take-out}
+use Rattle.crew_solve.proofs.Keeping.{rise-take, take-few, take-or, take-out}
 use Rattle.crew_solve.proofs.Taking.{take-drop}
+use Rattle.crew_plan.proofs.Shorter.{rise-back, rise-too}
 use Rattle.crew_plan.proofs.OneList.{one-list, rising}
 use Rattle.crew_plan.specs.Apart.{AreAll, AreApart, flies, flown, is_apart, taken_from}
-use Rattle.crew_plan.specs.Cheapest.{AreCheapest, RiseByCost, pairing_cmp, pairing_total}
+use Rattle.crew_plan.specs.Cheapest.{AreCheapest, pairing_cmp, pairing_total}
 use Rattle.crew_vector.specs.declared.priced.PricedPairing.{PricedPairing}
 
 abbrev Ps : Type 0
 Ps = List PricedPairing
-
--- ---- the first of a list that rises
-
-each-take : (P : PricedPairing → Type 0) (n : ℕ) (ys : Ps) → Each P ys → Each P (take n ys)
-each-take P zero ys h = tt
-each-take P (suc n) [] h = tt
-each-take P (suc n) (y ∷ ys) h = (h.0, each-take P n ys h.1)
-
-rise-take : (n : ℕ) (ys : Ps) → RiseByCost ys → RiseByCost (take n ys)
-rise-take zero ys h = tt
-rise-take (suc n) [] h = tt
-rise-take (suc n) (y ∷ ys) h = (each-take (λ l. pairing_cmp y l ≡ Less) n ys h.0, rise-take n ys h.1)
-
-abbrev StandsFirst : ℕ → Ps → PricedPairing → Type 0
-StandsFirst n ps q = Member ps q ⊎ ((length ps ≡ n) × Each (λ p. pairing_cmp p q ≡ Less) ps)
-
-take-or : (n : ℕ) (ys : Ps) (q : PricedPairing) → RiseByCost ys → Member ys q → StandsFirst n (take n ys) q
-take-or zero ys q h m = inr (refl, tt)
-take-or (suc n) [] q h m = absurd m
-take-or (suc n) (y ∷ ys) q h (inl e) = inl (inl e)
-take-or (suc n) (y ∷ ys) q h (inr m) =
-    ⊎_elim {C = StandsFirst (suc n) (y ∷ take n ys) q}
-    (λ k. inl (inr k))
-    (λ k. inr (ap suc k.0, (Each-member (λ l. pairing_cmp y l ≡ Less) ys q h.0 m, k.1)))
-    (take-or n ys q h.1 m)
 
 -- ---- the first of the first
 
@@ -158,10 +131,10 @@ module _ (s : Settings) (t : Timetable) where
   -- the first of all are the cheapest
   first-cheapest : (limit : ℕ) (all : Ps) → AreAll s t all → AreCheapest s t limit (take limit all)
   first-cheapest limit all h = record {
-    rise = rise-take limit all h.rise;
+    rise = rise-too (take limit all) (rise-take limit all (rise-back all h.rise));
     few = take-few limit all;
     shown = λ p m. h.shown p (take-out limit all p m);
-    least = λ q is. take-or limit all q h.rise (h.each q is);
+    least = λ q is. take-or limit all q (rise-back all h.rise) (h.each q is);
   }
 
   pub with-room : (limit share : ℕ) (a b : Ps) → length b ≤ share → AreApart s t limit share a → AreCheapest s t limit b → a ≡ b

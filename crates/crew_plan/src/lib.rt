@@ -8,8 +8,16 @@
 //! `crew_pass`'s. `laws` has that the pairings that cost least are one list.
 #![tactic(auto)]
 
+mod dates;
+mod homes;
+mod kept;
+pub mod laws;
+mod long_plan;
+mod passes;
 mod plan;
 mod solution;
+mod sweeps;
+mod taken;
 
 pub use plan::Plan;
 pub use solution::Solution;

@@ -1,14 +1,20 @@
 //! What is to be made for a timetable, base by base.
-ghost use Rattle.std.specs.Prelude.{◌≡◌, ◌<◌, ◌≤◌, IfOk, length, map};
+ghost use Rattle.std.specs.Prelude.{◌≡◌, ◌<◌, ◌≤◌, IfOk, false, length, map, true};
 ghost use Rattle.std.specs.Arc.{arc_value};
 ghost use Rattle.crew_flights.specs.Timetable.{IsSound};
+ghost use Rattle.crew_fronts.specs.Fronts as Fronts;
 ghost use Rattle.crew_pairing.specs.Duties.{AreDuties};
+ghost use Rattle.crew_plan.specs.Machinery.Kinds.{IsOfKind, plan_of};
 ghost use Rattle.crew_plan.specs.Plans.{AreFrontsIn, IsPlanOf, IsSolutionIn};
 ghost use Rattle.crew_rules.specs.Settings.{IsChecked};
 
+use crate::dates::see_dates;
+use crate::long_plan::LongPlan;
+use crate::passes::pass_all;
 use crate::solution::Solution;
-use crew_flights::{Code, Timetable};
-use crew_fronts::BaseFronts;
+use crate::sweeps::swept;
+use crew_flights::Timetable;
+use crew_fronts::{BaseFronts, is_plain};
 use crew_net::Net;
 use crew_pairing::Duties;
 use crew_rules::Settings;
@@ -17,6 +23,13 @@ use std::marker::Model;
 use std::sync::Arc;
 use std::thread::Threads;
 
+// A plan of sweeps, where the settings need no more than the seven sums, or else of passes.
+#[derive(Drop)]
+pub(crate) enum Kind {
+    Plain(crew_solve::Plan),
+    Long(LongPlan),
+}
+
 /// What is to be made for a timetable: its network, which all bases share, and its bases, the fronts
 /// of each of which are made by themselves, on any thread. Beside an earlier solution they take from
 /// it what is as it was.
@@ -24,30 +37,97 @@ use std::thread::Threads;
 /// A contract sees the network, and the bases with their prices by code.
 #[derive(Drop)]
 pub struct Plan {
-    net: Arc<Net, Global>,
-    bases: Vec<(Code, i64)>,
+    kind: Kind,
 }
 
 impl Model for Plan {
+    ghost use Rattle.crew_plan.specs.Machinery.Kinds.{IsOfKind, plan_of};
     ghost use Rattle.crew_plan.specs.Plans as Spec;
-    ghost use Rattle.crew_plan.specs.Machinery.Kept.{IsPlanned};
 
     ghost Value = { Spec.Plan };
 
-    ghost view = { λ p. record { net = p.net.value; prices = p.bases.items } };
+    ghost view = { λ p. plan_of p.kind };
 
-    ghost invariant = { λ p. ⊥ };
+    ghost invariant = { λ p. IsOfKind p.kind };
+}
+
+// The plan of the kind that the settings need.
+fn kind_of(
+    alloc: Global,
+    settings: &Settings,
+    timetable: &Timetable,
+    duties: Duties,
+    earlier: Option<&Solution>,
+) -> Result<Kind, AllocError>
+    requires checked { IsChecked settings.now }
+    requires duties { AreDuties settings.now timetable.now duties }
+    requires few { length duties ≤ 200_000 }
+    ensures plan { IfOk result (λ kind. IsPlanOf settings.now timetable.now (plan_of kind)) }
+    ensures kind { IfOk result IsOfKind }
+{
+    if is_plain(settings) {
+        plain_of(alloc, settings, timetable, duties, earlier)
+    } else {
+        long_of(alloc, settings, timetable, duties, earlier)
+    }
+}
+
+// The plan of sweeps.
+fn plain_of(
+    alloc: Global,
+    settings: &Settings,
+    timetable: &Timetable,
+    duties: Duties,
+    earlier: Option<&Solution>,
+) -> Result<Kind, AllocError>
+    requires checked { IsChecked settings.now }
+    requires plain { Fronts.is_plain settings.now ≡ true }
+    requires duties { AreDuties settings.now timetable.now duties }
+    requires few { length duties ≤ 200_000 }
+    ensures plan { IfOk result (λ kind. IsPlanOf settings.now timetable.now (plan_of kind)) }
+    ensures kind { IfOk result IsOfKind }
+{
+    see_dates(alloc, timetable)?;
+    let earlier = match earlier {
+        Some(earlier) => earlier.by_sweeps(),
+        None => None,
+    };
+    let plan = crew_solve::Plan::of(alloc, settings, timetable, duties, earlier)?;
+    Ok(Kind::Plain(plan))
+}
+
+// The plan of passes.
+fn long_of(
+    alloc: Global,
+    settings: &Settings,
+    timetable: &Timetable,
+    duties: Duties,
+    earlier: Option<&Solution>,
+) -> Result<Kind, AllocError>
+    requires checked { IsChecked settings.now }
+    requires long { Fronts.is_plain settings.now ≡ false }
+    requires duties { AreDuties settings.now timetable.now duties }
+    requires few { length duties ≤ 200_000 }
+    ensures plan { IfOk result (λ kind. IsPlanOf settings.now timetable.now (plan_of kind)) }
+    ensures kind { IfOk result IsOfKind }
+{
+    let earlier = match earlier {
+        Some(earlier) => Some(earlier.net()),
+        None => None,
+    };
+    let plan = LongPlan::of(alloc, settings, timetable, duties, earlier)?;
+    Ok(Kind::Long(plan))
 }
 
 impl Plan {
     /// The plan of a timetable, given its legal duties, beside an earlier solution, if there is one,
     /// whatever that is of.
     pub fn of(
-        _alloc: Global,
+        alloc: Global,
         settings: &Settings,
         timetable: &Timetable,
         duties: Duties,
-        _earlier: Option<&Solution>,
+        earlier: Option<&Solution>,
     ) -> Result<Plan, AllocError>
         requires checked { IsChecked settings.now }
         requires duties { AreDuties settings.now timetable.now duties }
@@ -56,7 +136,16 @@ impl Plan {
         ensures sound { IsSound timetable.now }
     {
         let _count = timetable.flight_count();
-        Err(AllocError)
+        let kind = kind_of(alloc, settings, timetable, duties, earlier)?;
+        Ok(Plan { kind })
+    }
+
+    // The plan by its kind.
+    pub(crate) fn kind(&self) -> &Kind
+        ensures plan { plan_of result.now ≡ self.now }
+        ensures kind { IsOfKind result.now }
+    {
+        &self.kind
     }
 
     /// The network.
@@ -65,31 +154,43 @@ impl Plan {
         ensures few { length self.now.net.duties ≤ 200_000 }
         ensures bases { map (λ base. base.0) self.now.prices ≡ self.now.net.bases }
     {
-        &self.net
+        match &self.kind {
+            Kind::Plain(plan) => plan.net(),
+            Kind::Long(plan) => &**plan.net(),
+        }
     }
 
     /// The network, shared. Takes no memory: `Err` is for want of room to count who shares it.
     pub fn shared_net(&self) -> Result<Arc<Net, Global>, AllocError>
         ensures { IfOk result (λ net. arc_value net ≡ self.now.net) }
     {
-        Arc::try_clone(&self.net)
+        match &self.kind {
+            Kind::Plain(plan) => plan.shared_net(),
+            Kind::Long(plan) => Arc::try_clone(plan.net()),
+        }
     }
 
     /// How many bases there are.
     pub fn base_count(&self) -> usize
         ensures { result ≡ length self.now.prices }
     {
-        self.bases.len()
+        match &self.kind {
+            Kind::Plain(plan) => plan.base_count(),
+            Kind::Long(plan) => plan.base_count(),
+        }
     }
 
-    /// The fronts of the base at a place, in order of code. Where the earlier solution has some of
-    /// the base at the same price, they are made beside these, and shared where the two networks are
-    /// one; else they are made from scratch.
-    pub fn sweep(&self, _alloc: Global, place: usize) -> Result<Arc<BaseFronts, Global>, AllocError>
+    /// The fronts of the base at a place, in order of code. Where no pairing of the settings is long
+    /// and the earlier solution has some of the base at the same price, they are made beside these,
+    /// and shared where the two networks are one; else they are made from scratch.
+    pub fn sweep(&self, alloc: Global, place: usize) -> Result<Arc<BaseFronts, Global>, AllocError>
         requires { place < length self.now.prices }
         ensures { IfOk result (λ fronts. AreFrontsIn self.now place (arc_value fronts)) }
     {
-        Err(AllocError)
+        match &self.kind {
+            Kind::Plain(plan) => swept(alloc, plan, place),
+            Kind::Long(plan) => plan.pass(alloc, place),
+        }
     }
 
     /// All fronts and the best pairing. So many threads at most make the fronts of the bases, whole
@@ -97,12 +198,21 @@ impl Plan {
     /// calling thread makes all of them, and also those for which no thread can be started.
     pub fn solve<R: Threads + Sync>(
         &self,
-        _rt: &R,
-        _alloc: Global,
-        _workers: usize,
+        rt: &R,
+        alloc: Global,
+        workers: usize,
     ) -> Result<Solution, AllocError>
         ensures { IfOk result (IsSolutionIn self.now) }
     {
-        Err(AllocError)
+        match &self.kind {
+            Kind::Plain(plan) => {
+                let solution = plan.solve(rt, alloc, workers)?;
+                Solution::swept(alloc, plan, solution)
+            }
+            Kind::Long(plan) => {
+                let fronts = pass_all(rt, alloc, plan, workers)?;
+                Solution::passed(alloc, plan, fronts)
+            }
+        }
     }
 }

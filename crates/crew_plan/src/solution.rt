@@ -4,17 +4,23 @@ ghost use Rattle.std.specs.Option.{option_copied};
 ghost use Rattle.std.specs.Prelude.{◌≡◌, IfOk, IfSome, None, map};
 ghost use Rattle.crew_answers.specs.Bests.{AreFronts};
 ghost use Rattle.crew_flights.specs.Timetable.{IsSound, Timetable};
-ghost use Rattle.crew_fronts.specs.Fronts.{front_at};
+ghost use Rattle.crew_fronts.specs.Fronts.{BaseFronts as FrontsOf, front_at};
 ghost use Rattle.crew_pairing.specs.declared.duty.Duty.{Duty as DutyOf};
 ghost use Rattle.crew_plan.specs.Apart.{AreApart};
 ghost use Rattle.crew_plan.specs.Cheapest.{AreCheapest};
+ghost use Rattle.crew_plan.specs.Machinery.Kept.{AreThoseOf};
+ghost use Rattle.crew_plan.specs.Machinery.Kinds.{IsForSweeps, plan_by_sweeps};
 ghost use Rattle.crew_plan.specs.Plans.{AreAllIn, IsSolutionIn};
 ghost use Rattle.crew_plan.specs.Solutions.{HasNetOf, IsFrontOf, front_of};
 ghost use Rattle.crew_resource.specs.Members.{Member};
 ghost use Rattle.crew_rules.specs.Settings.{IsChecked};
 ghost use Rattle.crew_rules.specs.declared.settings.Settings.{Settings};
+ghost use Rattle.crew_solve.specs.Plans as Plain;
 
-use crate::plan::Plan;
+use crate::homes::{apart_of, best_of, cheapest_of};
+use crate::long_plan::LongPlan;
+use crate::plan::{Kind, Plan};
+use crate::sweeps::{unwrapped, wrapped};
 use crew_flights::Code;
 use crew_fronts::{BaseFronts, FrontView};
 use crew_net::{Net, Node};
@@ -24,14 +30,20 @@ use std::alloc::{AllocError, Global};
 use std::marker::Model;
 use std::sync::Arc;
 
+// A solution by sweeps; or else the network, and the best of what passes show.
+#[derive(Drop)]
+pub(crate) enum Made {
+    Plain(crew_solve::Solution),
+    Long(Arc<Net, Global>, Option<PricedPairing>),
+}
+
 /// The fronts of all bases and legal duties of a timetable, and its best pairing.
 ///
 /// A contract sees the network, the fronts of each base, and the best.
 #[derive(Drop)]
 pub struct Solution {
-    net: Arc<Net, Global>,
     bases: Vec<Arc<BaseFronts, Global>>,
-    best: Option<PricedPairing>,
+    made: Made,
 }
 
 impl Model for Solution {
@@ -40,22 +52,29 @@ impl Model for Solution {
     ghost use Rattle.crew_fronts.specs.contracts.base_fronts.BaseFronts as fronts;
     ghost use Rattle.crew_plan.specs.Solutions as Spec;
     ghost use Rattle.crew_plan.specs.Machinery.Kept.{IsSolved};
+    ghost use Rattle.crew_plan.specs.Machinery.Kinds.{IsMadeAs, best_of, net_of};
 
     ghost Value = { Spec.Solution };
 
     ghost coded = { Prim.hlevel (codes, fronts.the_row.coded) };
 
     ghost view = { λ s. record {
-      net = s.net.value;
+      net = net_of s.made;
       bases = map (λ a. a.value) s.bases.items;
-      best = s.best;
+      best = best_of s.made;
     } };
 
-    ghost invariant = { λ s. ⊥ };
+    ghost invariant = { λ s. IsSolved (net_of s.made) (map (λ a. a.value) s.bases.items)
+        × IsMadeAs s.made (map (λ a. a.value) s.bases.items) };
 }
 
 // The fronts of a base, where some are there.
-fn fronts_of(bases: &[Arc<BaseFronts, Global>], base: Code) -> Option<&Arc<BaseFronts, Global>> {
+fn fronts_of(bases: &[Arc<BaseFronts, Global>], base: Code) -> Option<&Arc<BaseFronts, Global>>
+    ensures found { IfSome result
+        (λ found. AreThoseOf (map arc_value bases.now) base (arc_value found.now)) }
+    ensures none { result ≡ None → (b : FrontsOf) → Member (map arc_value bases.now) b
+        → b.base ≡ base → ⊥ }
+{
     for fronts in bases {
         if fronts.base() == base {
             return Some(fronts);
@@ -67,46 +86,122 @@ fn fronts_of(bases: &[Arc<BaseFronts, Global>], base: Code) -> Option<&Arc<BaseF
 impl Solution {
     /// The solution of a plan, given the fronts of each of its bases in order.
     pub fn of(
-        _alloc: Global,
+        alloc: Global,
         plan: &Plan,
         fronts: Vec<Arc<BaseFronts, Global>>,
     ) -> Result<Solution, AllocError>
         requires { AreAllIn plan.now (map arc_value fronts.items) }
         ensures { IfOk result (IsSolutionIn plan.now) }
     {
-        Err(AllocError)
+        match plan.kind() {
+            Kind::Plain(plan) => Solution::unwrapped(alloc, plan, &fronts),
+            Kind::Long(plan) => Solution::passed(alloc, plan, fronts),
+        }
+    }
+
+    // The solution of a plan of sweeps, given the fronts of each of its bases in order.
+    fn unwrapped(
+        alloc: Global,
+        plan: &crew_solve::Plan,
+        fronts: &[Arc<BaseFronts, Global>],
+    ) -> Result<Solution, AllocError>
+        requires plain { IsForSweeps plan.now }
+        requires all { AreAllIn (plan_by_sweeps plan.now) (map arc_value fronts.now) }
+        ensures { IfOk result (IsSolutionIn (plan_by_sweeps plan.now)) }
+    {
+        let sweeps = unwrapped(alloc, plan, fronts)?;
+        let solution = crew_solve::Solution::of(alloc, plan, sweeps)?;
+        Solution::swept(alloc, plan, solution)
+    }
+
+    // The solution of a plan of sweeps, given that of these.
+    pub(crate) fn swept(
+        alloc: Global,
+        plan: &crew_solve::Plan,
+        solution: crew_solve::Solution,
+    ) -> Result<Solution, AllocError>
+        requires plain { IsForSweeps plan.now }
+        requires solved { Plain.IsSolutionIn plan.now solution }
+        ensures { IfOk result (IsSolutionIn (plan_by_sweeps plan.now)) }
+    {
+        let bases = wrapped(alloc, solution.fronts())?;
+        Ok(Solution {
+            bases,
+            made: Made::Plain(solution),
+        })
+    }
+
+    // The solution of a plan of passes, given the fronts of each of its bases in order.
+    pub(crate) fn passed(
+        alloc: Global,
+        plan: &LongPlan,
+        bases: Vec<Arc<BaseFronts, Global>>,
+    ) -> Result<Solution, AllocError>
+        requires { AreAllIn plan.now (map arc_value bases.items) }
+        ensures { IfOk result (IsSolutionIn plan.now) }
+    {
+        let net = Arc::try_clone(plan.net())?;
+        let trip_rig = net.settings().trip_rig;
+        let best = best_of(alloc, &bases, trip_rig)?;
+        Ok(Solution {
+            bases,
+            made: Made::Long(net, best),
+        })
+    }
+
+    // The solution by sweeps, where one was made.
+    pub(crate) fn by_sweeps(&self) -> Option<&crew_solve::Solution> {
+        match &self.made {
+            Made::Plain(solution) => Some(solution),
+            Made::Long(..) => None,
+        }
     }
 
     /// The network.
     pub fn net(&self) -> &Net
         ensures { result.now ≡ self.now.net }
     {
-        &self.net
+        match &self.made {
+            Made::Plain(solution) => solution.net(),
+            Made::Long(net, _) => &**net,
+        }
     }
 
     /// The best pairing, if there is one.
     pub fn best(&self) -> Option<&PricedPairing>
         ensures { option_copied result ≡ self.now.best }
     {
-        self.best.as_ref()
+        match &self.made {
+            Made::Plain(solution) => solution.best(),
+            Made::Long(_, best) => best.as_ref(),
+        }
     }
 
     /// The best pairing alone, if there is one.
     pub fn into_best(self) -> Option<PricedPairing>
         ensures { result ≡ self.best }
     {
-        self.best
+        let Solution { made, .. } = self;
+        match made {
+            Made::Plain(solution) => solution.into_best(),
+            Made::Long(_, best) => best,
+        }
     }
 
     /// Of the pairings of all bases that the fronts show those that come first by cost and walk: as
     /// many as the limit, or all where there are no more. The settings and the timetable are those
     /// whose network and fronts these are.
-    pub fn cheapest(&self, _alloc: Global, limit: usize) -> Result<Vec<PricedPairing>, AllocError>
+    pub fn cheapest(&self, alloc: Global, limit: usize) -> Result<Vec<PricedPairing>, AllocError>
         ensures { IfOk result (λ pairings. (s : Settings) (t : Timetable) → IsChecked s → IsSound t
             → HasNetOf s t self.now → AreFronts s s.fdp_total t (front_of self.now)
             → AreCheapest s t limit pairings.items) }
     {
-        Err(AllocError)
+        match &self.made {
+            Made::Plain(solution) => solution.cheapest(alloc, limit),
+            Made::Long(net, _) => {
+                cheapest_of(alloc, &self.bases, net.settings().trip_rig, limit)
+            }
+        }
     }
 
     /// Of all pairings that the fronts show, by cost and walk, the first that are taken, up to a limit:
@@ -115,7 +210,7 @@ impl Solution {
     /// are.
     pub fn apart(
         &self,
-        _alloc: Global,
+        alloc: Global,
         limit: usize,
         share: u32,
     ) -> Result<Vec<PricedPairing>, AllocError>
@@ -123,7 +218,12 @@ impl Solution {
             → HasNetOf s t self.now → AreFronts s s.fdp_total t (front_of self.now)
             → AreApart s t limit share pairings.items) }
     {
-        Err(AllocError)
+        match &self.made {
+            Made::Plain(solution) => solution.apart(alloc, limit, share),
+            Made::Long(net, _) => {
+                apart_of(alloc, &self.bases, net.settings().trip_rig, limit, share)
+            }
+        }
     }
 
     /// The fronts of a base; `None` where the code is no base.
@@ -149,7 +249,7 @@ impl Solution {
             base,
             key: key.copy(),
         };
-        let rank = self.net.rank(&node)?;
+        let rank = self.net().rank(&node)?;
         let fronts = fronts_of(&self.bases, base)?;
         Some(fronts.front(rank))
     }

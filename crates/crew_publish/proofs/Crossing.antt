@@ -29,8 +29,11 @@ use Rattle.crew_flights.specs.contracts.timetable.Timetable as Timetable
 use Rattle.crew_publish.specs.contracts.shown.Shown as Shown
 use Rattle.crew_publish.specs.contracts.viewer.Viewer as Viewer
 use Rattle.crew_publish.specs.contracts.viewer.Viewer.TheInside as Inside
-use Rattle.crew_solve.specs.contracts.base_fronts.BaseFronts as BaseFronts
-use Rattle.crew_solve.specs.contracts.solution.Solution as Solution
+use Rattle.crew_fronts.specs.contracts.base_fronts.BaseFronts as BaseFronts
+use Rattle.crew_fronts.specs.contracts.passed_fronts.PassedFronts as PassedFronts
+use Rattle.crew_plan.specs.contracts.solution.Solution as Solution
+use Rattle.crew_solve.specs.contracts.base_fronts.BaseFronts as SweptFronts
+use Rattle.crew_solve.specs.contracts.solution.Solution as SweptSolution
 use Rattle.crew_version.specs.contracts.draft.Draft as Draft
 use Rattle.crew_version.specs.contracts.version.Version as Version
 
@@ -38,13 +41,35 @@ ruleset parts = (sendable, crosses, maps_cross)
 
 -- ---- what a version holds
 
+swept-fronts-send : IsSend SweptFronts.the_row
+swept-fronts-send = search parts depth 40 fits 30000
+
+swept-fronts-sync : IsSync SweptFronts.the_row
+swept-fronts-sync = search parts depth 40 fits 30000
+
+ruleset with_swept = (parts, swept-fronts-send, swept-fronts-sync)
+
+swept-send : IsSend SweptSolution.the_row
+swept-send = search with_swept depth 40 fits 30000
+
+swept-sync : IsSync SweptSolution.the_row
+swept-sync = search with_swept depth 40 fits 30000
+
+passed-send : IsSend PassedFronts.the_row
+passed-send = search parts depth 40 fits 30000
+
+passed-sync : IsSync PassedFronts.the_row
+passed-sync = search parts depth 40 fits 30000
+
+ruleset with_passed = (parts, swept-fronts-send, swept-fronts-sync, passed-send, passed-sync)
+
 fronts-send : IsSend BaseFronts.the_row
-fronts-send = search parts depth 40 fits 30000
+fronts-send = search with_passed depth 40 fits 30000
 
 fronts-sync : IsSync BaseFronts.the_row
-fronts-sync = search parts depth 40 fits 30000
+fronts-sync = search with_passed depth 40 fits 30000
 
-ruleset with_fronts = (parts, fronts-send, fronts-sync)
+ruleset with_fronts = (parts, fronts-send, fronts-sync, swept-send, swept-sync)
 
 solution-send : IsSend Solution.the_row
 solution-send = search with_fronts depth 40 fits 30000

@@ -12,7 +12,7 @@ ghost use Rattle.crew_solve.specs.Machinery.Takes.{AreInOrder};
 ghost use Rattle.crew_vector.specs.declared.priced.PricedPairing.{PricedPairing as Pairing};
 
 use crate::base_fronts::BaseFronts;
-use crate::floors::{Floors, keep_above_floors, keep_low_floors, low_floor, unknown};
+use crate::floors::{Floors, keep_above_floors, keep_low_floors, known, low_floor};
 use crate::kept::Kept;
 use crate::taken::Taken;
 use crew_vector::PricedPairing;
@@ -86,7 +86,7 @@ pub(crate) fn apart_of(
         → pairings.items ≡ take limit (taken_from share [] all)) }
 {
     let mut taken = Taken::new(alloc, share)?;
-    let mut floors = unknown(alloc, fronts)?;
+    let mut floors = known(alloc, fronts)?;
     let mut many = LEAST;
     while taken.len() < limit {
         let before = taken.len();

@@ -1,20 +1,23 @@
 //! The fronts of a base.
-ghost use Rattle.std.specs.Prelude.{◌≡◌, ◌<◌, ◌≤◌, IsPermutation, Some, length, slice_get};
+ghost use Rattle.std.specs.Prelude.{◌≡◌, ◌<◌, ◌≤◌, IfOk, IsPermutation, None, Some, length, slice_get};
 ghost use Rattle.crew_flights.specs.Timetable.{IsSound, Timetable};
 ghost use Rattle.crew_pairing.specs.Duties.{AreDuties};
 ghost use Rattle.crew_pairing.specs.Events as Events;
 ghost use Rattle.crew_pairing.specs.declared.duty.Duty.{Duty as DutyOf};
 ghost use Rattle.crew_resource.specs.Members.{Member};
+ghost use Rattle.crew_solve.specs.Machinery.Floors.{AreFloors};
 ghost use Rattle.crew_solve.specs.Machinery.Homes.{IsFit};
 ghost use Rattle.crew_solve.specs.Machinery.Solved.{IsShowing};
 ghost use Rattle.crew_sweep.specs.Sweeps.{ShowsFronts, front_at};
 ghost use Rattle.crew_vector.specs.Fronts.{RiseByVector};
 
 use crate::entries::place_of;
+use crate::floors::Floors;
 use crate::front_view::FrontView;
 use crew_flights::Code;
 use crew_net::Net;
 use crew_sweep::Sweep;
+use std::alloc::{AllocError, Global};
 use std::marker::Model;
 
 /// The fronts of a base at its price, one for each duty of a network.
@@ -23,9 +26,12 @@ use std::marker::Model;
 #[derive(Drop)]
 pub struct BaseFronts {
     sweep: Sweep,
+    floors: Floors,
 }
 
 impl Model for BaseFronts {
+    ghost use Rattle.std.specs.Prelude.{None};
+    ghost use Rattle.crew_solve.specs.Machinery.Floors.{AreFloors};
     ghost use Rattle.crew_solve.specs.Machinery.Solved.{IsShowing};
     ghost use Rattle.crew_sweep.specs.Sweeps.{BaseSweep};
 
@@ -33,16 +39,24 @@ impl Model for BaseFronts {
 
     ghost view = { λ f. f.sweep };
 
-    ghost invariant = { λ f. IsShowing f.sweep };
+    ghost invariant = { λ f. IsShowing f.sweep × AreFloors None f.sweep f.floors };
 }
 
 impl BaseFronts {
     // The fronts that a sweep shows.
-    pub(crate) fn new(sweep: Sweep) -> Self
+    pub(crate) fn new(alloc: Global, sweep: Sweep) -> Result<Self, AllocError>
         requires { IsShowing sweep }
-        ensures { result ≡ sweep }
+        ensures { IfOk result (λ fronts. fronts ≡ sweep) }
     {
-        BaseFronts { sweep }
+        let floors = Floors::of(alloc, &sweep)?;
+        Ok(BaseFronts { sweep, floors })
+    }
+
+    // What the pairings of each departure cost at least.
+    pub(crate) fn floors(&self) -> &Floors
+        ensures { AreFloors None self.now result.now }
+    {
+        &self.floors
     }
 
     // The sweep that shows them.

@@ -17,6 +17,7 @@ ghost use Rattle.crew_sweep.specs.Sweeps.{in_order};
 ghost use Rattle.crew_vector.specs.declared.priced.PricedPairing.{PricedPairing as Pairing};
 
 use crate::base_fronts::BaseFronts;
+use crate::floors::keep_home;
 use crate::kept::Kept;
 use crate::walk_view::WalkView;
 use crew_flights::Code;
@@ -312,35 +313,6 @@ pub(crate) fn keep_from(
         least = least.min(cost);
     }
     Ok(least)
-}
-
-// Keeps the least of all that comes home to a base.
-fn keep_of(alloc: Global, sweep: &Sweep, trip_rig: u32, kept: &mut Kept) -> Result<(), AllocError>
-    requires rate { trip_rig ≡ sweep.now.net.settings.trip_rig }
-    requires fit { IsFit sweep.now }
-    ensures { OnOk result (kept.new ≡ keep_all kept.old (Spec.home_of sweep.now)) }
-{
-    for index in 0..sweep.net().by_report().len() {
-        keep_from(alloc, sweep, trip_rig, index, kept)?;
-    }
-    Ok(())
-}
-
-/// Keeps the least of all that comes home to its base.
-pub(crate) fn keep_home(
-    alloc: Global,
-    fronts: &[Arc<BaseFronts, Global>],
-    trip_rig: u32,
-    kept: &mut Kept,
-) -> Result<(), AllocError>
-    requires { Each (λ b. trip_rig ≡ b.net.settings.trip_rig) (map arc_value fronts.now) }
-    ensures { OnOk result
-        (kept.new ≡ keep_all kept.old (flat_map Spec.home_of (map arc_value fronts.now))) }
-{
-    for base in fronts {
-        keep_of(alloc, base.sweep(), trip_rig, kept)?;
-    }
-    Ok(())
 }
 
 /// The least of all that comes home to its base.

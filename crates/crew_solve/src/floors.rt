@@ -178,6 +178,28 @@ fn put_floors(
 }
 
 impl Floors {
+    /// The floors of a base's departures, before any pairing is taken: by the least duty pay of the
+    /// labels that each leaves with, and by what its duties add.
+    pub(crate) fn of(alloc: Global, sweep: &Sweep) -> Result<Floors, AllocError>
+        requires { IsFit sweep.now }
+        ensures { IfOk result (AreFloors None sweep.now) }
+    {
+        let net = sweep.net();
+        let trip_rig = net.settings().trip_rig;
+        let mut floors = Floors::unknown(alloc, net.by_report().len())?;
+        let mut none = Kept::new(alloc, 0);
+        floors.keep_of(alloc, sweep, trip_rig, &mut none)?;
+        Ok(floors)
+    }
+
+    // The same floors.
+    fn copy(&self, alloc: Global) -> Result<Floors, AllocError>
+        ensures { IfOk result (λ floors. floors ≡ self.now) }
+    {
+        let floors = self.floors.iter().copied().collect(alloc)?;
+        Ok(Floors { floors })
+    }
+
     // The floors of so many departures, none of which is known.
     fn unknown(alloc: Global, many: usize) -> Result<Floors, AllocError>
         ensures { IfOk result (λ floors. floors ≡ replicate many None) }
@@ -222,8 +244,8 @@ impl Floors {
     }
 }
 
-/// The floors of each base's departures, none of which is known.
-pub(crate) fn unknown(
+/// The floors of each base's departures, before any pairing is taken.
+pub(crate) fn known(
     alloc: Global,
     fronts: &[Arc<BaseFronts, Global>],
 ) -> Result<Vec<Floors>, AllocError>
@@ -232,8 +254,7 @@ pub(crate) fn unknown(
 {
     let mut floors = Vec::with_capacity(alloc, fronts.len())?;
     for base in fronts {
-        let many = base.sweep().net().by_report().len();
-        let one = Floors::unknown(alloc, many)?;
+        let one = base.floors().copy(alloc)?;
         floors.push(one)?;
     }
     Ok(floors)
@@ -270,7 +291,8 @@ pub(crate) fn keep_low_floors(
     Ok(())
 }
 
-/// Keeps the least of all that comes home to its base.
+/// Keeps the least of all that comes home to its base by the departures whose floors aren't more than
+/// is asked for.
 pub(crate) fn keep_above_floors(
     alloc: Global,
     fronts: &[Arc<BaseFronts, Global>],
@@ -289,4 +311,19 @@ pub(crate) fn keep_above_floors(
         floors[place].keep_of(alloc, base.sweep(), trip_rig, kept)?;
     }
     Ok(())
+}
+
+/// Keeps the least of all that comes home to its base.
+pub(crate) fn keep_home(
+    alloc: Global,
+    fronts: &[Arc<BaseFronts, Global>],
+    trip_rig: u32,
+    kept: &mut Kept,
+) -> Result<(), AllocError>
+    requires { Each (λ b. trip_rig ≡ b.net.settings.trip_rig) (map arc_value fronts.now) }
+    ensures { OnOk result
+        (kept.new ≡ keep_all kept.old (flat_map Spec.home_of (map arc_value fronts.now))) }
+{
+    let mut floors = known(alloc, fronts)?;
+    keep_above_floors(alloc, fronts, trip_rig, &mut floors, kept)
 }

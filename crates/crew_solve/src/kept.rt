@@ -135,11 +135,13 @@ impl Kept {
     pub(crate) fn new(alloc: Global, limit: usize) -> Self
         ensures { result ≡ Spec.nothing limit }
     {
+        let pairings = BTreeSet::new(alloc);
+        let bound = bound_of(&pairings, limit);
         Kept {
             limit,
             beside: None,
-            pairings: BTreeSet::new(alloc),
-            bound: None,
+            pairings,
+            bound,
         }
     }
 

@@ -214,7 +214,8 @@ impl Plan {
         let (base, price) = self.bases[place];
         let past = self.past.as_ref();
         let sweep = sweep_base(alloc, &self.net, &self.turns, past, base, price)?;
-        Ok(Arc::new(alloc, BaseFronts::new(sweep))?)
+        let fronts = BaseFronts::new(alloc, sweep)?;
+        Ok(Arc::new(alloc, fronts)?)
     }
 
     /// The fronts of the base at a place, in order of code. Where the earlier solution has some of

@@ -16,8 +16,9 @@ ghost use Rattle.crew_vector.specs.Bests.{AreFronts};
 
 use crate::apart::apart_of;
 use crate::base_fronts::BaseFronts;
-use crate::best::{best_of, keep_home};
+use crate::best::best_of;
 use crate::entries::fronts_of;
+use crate::floors::keep_home;
 use crate::front_view::FrontView;
 use crate::kept::Kept;
 use crate::plan::Plan;

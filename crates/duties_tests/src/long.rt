@@ -1,35 +1,19 @@
 //! Calls about pairings of up to 240 hours.
 
-ghost use Rattle.std.specs.Prelude.{◌≡◌, true};
-ghost use Rattle.crew_answers.specs.Ranges.{IsInRange};
+ghost use Rattle.crew_rules.specs.Settings.{IsChecked};
 
 use crate::desk::Desk;
 use crate::texts::{write_code, write_key, write_number};
-use crate::words::node_of;
-use crew_answers::LongValue;
-use crew_net::Node;
-use crew_pairing::{Key, Walk};
+use crate::words::{count_of, node_of};
+use crew_duty::list_duties;
+use crew_flights::Timetable;
+use crew_fronts::{FrontView, Vector, WalkView};
+use crew_pairing::Walk;
+use crew_plan::{Plan, Solution};
 use crew_rules::Settings;
-use crew_scratch::{Fronts, solve};
 use crew_vector::PricedPairing;
-use std::alloc::{AllocError, Global};
+use std::alloc::AllocError;
 use std::thread::Threads;
-
-// Whether settings are in their ranges, where pairings may have up to 240 hours.
-fn are_in_range(settings: &Settings, fdp_total: u32) -> bool
-    ensures { result ≡ true → IsInRange settings.now fdp_total }
-{
-    let short = Settings {
-        away_cap: 8_280,
-        ..*settings
-    };
-    if short.check().is_err() {
-        return false;
-    }
-    let away = (1 <= settings.away_cap) & (settings.away_cap <= 14_400);
-    let total = (1 <= fdp_total) & (fdp_total <= 11_400);
-    away & total
-}
 
 // Writes the keys of a walk.
 fn write_walk(text: &mut String, walk: &Walk) -> Result<(), AllocError> {
@@ -39,20 +23,49 @@ fn write_walk(text: &mut String, walk: &Walk) -> Result<(), AllocError> {
     Ok(())
 }
 
-// Writes a pairing, or `none`: its base, cost, minutes away and duties.
-fn write_best(text: &mut String, best: Option<&PricedPairing>) -> Result<(), AllocError> {
-    let Some(best) = best else {
-        return text.push_str(" none");
-    };
-    write_code(text, best.base)?;
-    write_number(text, best.cost)?;
-    write_number(text, best.away)?;
-    write_walk(text, &best.walk)
+// Writes the keys of a walk that is lent.
+fn write_lent_walk(text: &mut String, walk: &WalkView<'_>) -> Result<(), AllocError> {
+    for place in 0..walk.len() {
+        if let Some(key) = walk.key(place) {
+            write_key(text, ' ', key)?;
+        }
+    }
+    Ok(())
 }
 
-// Writes the seven sums of a value, and how many minutes before a report the last long rest ended.
-fn write_value(text: &mut String, value: &LongValue, report: i32) -> Result<(), AllocError> {
-    let sums = &value.sums;
+// Writes a pairing: its base, cost, minutes away and duties.
+fn write_pairing(text: &mut String, pairing: &PricedPairing) -> Result<(), AllocError> {
+    write_code(text, pairing.base)?;
+    write_number(text, pairing.cost)?;
+    write_number(text, pairing.away)?;
+    write_walk(text, &pairing.walk)
+}
+
+// Writes the best pairing, or `none`.
+fn write_best(text: &mut String, best: Option<&PricedPairing>) -> Result<(), AllocError> {
+    match best {
+        Some(best) => write_pairing(text, best),
+        None => text.push_str(" none"),
+    }
+}
+
+// Writes pairings, a comma between two, or `none`.
+fn write_pairings(text: &mut String, pairings: &[PricedPairing]) -> Result<(), AllocError> {
+    if pairings.is_empty() {
+        return text.push_str(" none");
+    }
+    for (place, pairing) in pairings.iter().enumerate() {
+        if place > 0 {
+            text.push(',')?;
+        }
+        write_pairing(text, pairing)?;
+    }
+    Ok(())
+}
+
+// Writes the seven sums of a vector, and the minutes since the last long rest.
+fn write_vector(text: &mut String, vector: &Vector) -> Result<(), AllocError> {
+    let sums = vector.sums();
     let numbers = [
         sums.duty_pay,
         sums.trip_rig,
@@ -61,7 +74,7 @@ fn write_value(text: &mut String, value: &LongValue, report: i32) -> Result<(), 
         sums.fly,
         sums.duties,
         sums.away,
-        i64::from(report).saturating_sub(value.rest_end.minute),
+        vector.since_rest(),
     ];
     for number in &numbers {
         write_number(text, *number)?;
@@ -69,39 +82,63 @@ fn write_value(text: &mut String, value: &LongValue, report: i32) -> Result<(), 
     Ok(())
 }
 
-// Writes entries, a comma between two.
-fn write_entries(
-    text: &mut String,
-    entries: &[(LongValue, Walk)],
-    report: i32,
-) -> Result<(), AllocError> {
-    for (place, (value, walk)) in entries.iter().enumerate() {
-        if place > 0 {
+// Writes the entries of a front, a comma between two.
+fn write_front(text: &mut String, front: &FrontView<'_>) -> Result<(), AllocError> {
+    let mut is_first = true;
+    for (vector, walk) in front.iter() {
+        if !is_first {
             text.push(',')?;
         }
-        write_value(text, value, report)?;
-        write_walk(text, walk)?;
+        write_vector(text, &vector)?;
+        write_lent_walk(text, &walk)?;
+        is_first = false;
     }
     Ok(())
 }
 
-// When the duty of a key reports.
-fn report_of(fronts: &Fronts, key: &Key) -> Option<i32> {
-    let net = fronts.net();
-    let rank = net.rank_of_key(key)?;
-    let duty = net.duties().as_slice().get(rank)?;
-    Some(duty.report)
+// What a timetable gives from scratch.
+fn solve<R: Threads + Sync + AllocGlobal>(
+    rt: &R,
+    settings: &Settings,
+    timetable: &Timetable,
+) -> Option<Solution>
+    requires { IsChecked settings.now }
+{
+    let duties = list_duties(rt, rt.alloc(), settings, timetable).ok()?;
+    let plan = Plan::of(rt.alloc(), settings, timetable, duties, None).ok()?;
+    plan.solve(rt, rt.alloc(), 1).ok()
 }
 
-// Writes the entries of a node's front.
-fn write_front(alloc: Global, text: &mut String, fronts: &Fronts, node: &Node) -> Option<()> {
-    let entries = fronts.front(alloc, node.base, &node.key).ok()??;
-    let report = report_of(fronts, &node.key)?;
-    write_entries(text, &entries, report).ok()
+// Answers what these words ask of a solution.
+fn ask<R: AllocGlobal>(
+    rt: &R,
+    solution: &Solution,
+    words: &[&str],
+    text: &mut String,
+) -> Option<()> {
+    match *words {
+        ["best"] => write_best(text, solution.best()).ok(),
+        ["cheapest", limit] => {
+            let pairings = solution.cheapest(rt.alloc(), count_of(limit)?).ok()?;
+            write_pairings(text, &pairings).ok()
+        }
+        ["apart", limit, share] => {
+            let share = share.parse::<u32>().ok()?;
+            let pairings = solution.apart(rt.alloc(), count_of(limit)?, share).ok()?;
+            write_pairings(text, &pairings).ok()
+        }
+        ["front", base, flight] => {
+            let node = node_of(base, flight)?;
+            let front = solution.front(node.base, &node.key)?;
+            write_front(text, &front).ok()
+        }
+        _ => None,
+    }
 }
 
-/// Answers the best pairing, or the front of a node of one leg, under a cap on all flight duty
-/// minutes, the first word.
+/// Answers the best pairing, those that come first by cost and walk, those of them that share few
+/// flights, or the front of a node of one leg, under a cap on all flight duty minutes, the first
+/// word.
 pub fn answer<R: Threads + Sync + AllocGlobal>(
     rt: &R,
     desk: &Desk,
@@ -109,17 +146,11 @@ pub fn answer<R: Threads + Sync + AllocGlobal>(
     text: &mut String,
 ) -> Option<()> {
     let (first, others) = words.split_first()?;
-    let fdp_total = first.parse::<u32>().ok()?;
-    if !are_in_range(&desk.settings, fdp_total) {
-        return None;
-    }
-    let solution = solve(rt, rt.alloc(), &desk.settings, fdp_total, &desk.timetable).ok()?;
-    match *others {
-        ["best"] => write_best(text, solution.best()).ok(),
-        ["front", base, flight] => {
-            let node = node_of(base, flight)?;
-            write_front(rt.alloc(), text, solution.fronts(), &node)
-        }
-        _ => None,
-    }
+    let settings = Settings {
+        fdp_total: first.parse::<u32>().ok()?,
+        ..desk.settings
+    };
+    settings.check().ok()?;
+    let solution = solve(rt, &settings, &desk.timetable)?;
+    ask(rt, &solution, others, text)
 }

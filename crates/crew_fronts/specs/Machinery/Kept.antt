@@ -1,21 +1,71 @@
--- What the fronts of a base keep.
-use Rattle.std.specs.Prelude.{◌≡◌, ◌≤◌, length}
-use Rattle.crew_answers.specs.Fronts.{RiseByVector}
+-- What the fronts of a base keep, and what they show.
+use Rattle.std.specs.Prelude.{◌≡◌, ◌<◌, ℕ, ℤ, false, List, Option, Some, None, [], get_or, length, map, slice_get}
+use Rattle.std.specs.List.{range_with_len}
+use Rattle.crew_answers.specs.LongVectors.{is_long}
 use Rattle.crew_answers.specs.Schedules.{IsDated}
+use Rattle.crew_answers.specs.ShortPairings.{with_no_pasts}
+use Rattle.crew_answers.specs.Shown.{shown_entries}
+use Rattle.crew_answers.specs.declared.value.LongValue.{LongValue}
+use Rattle.crew_answers.proofs.LongListed.{value_cmp}
 use Rattle.crew_flights.specs.Timetable.{IsSound, Timetable}
-use Rattle.crew_fronts.specs.Fronts.{BaseFronts, ShowsFronts}
-use Rattle.crew_pairing.specs.Duties.{AreDuties, RiseByKey}
+use Rattle.crew_fronts.specs.Fronts.{BaseFronts, Entries, ShowsFronts, is_plain}
+use Rattle.crew_fronts.specs.Machinery.Listed.{listed}
+use Rattle.crew_fronts.specs.Machinery.Values.{IsValue}
+use Rattle.crew_label.specs.Pools.{AreRising}
+use Rattle.crew_label.specs.Tables.{trail_in}
+use Rattle.crew_label.specs.Walks.{walk_of}
+use Rattle.crew_label.specs.declared.label.Label.{Label}
+use Rattle.crew_pairing.specs.Duties.{AreDuties}
 use Rattle.crew_pairing.specs.Events as Events
 use Rattle.crew_pairing.specs.declared.duty.Duty.{Duty}
-use Rattle.crew_resource.specs.Members.{Each, Member}
+use Rattle.crew_pass.specs.Passes.{BasePass, keyed_entries}
+use Rattle.crew_resource.specs.Members.{Member}
+use Rattle.crew_sweep.specs.Sweeps as Sweeps
+use Rattle.crew_sweep.specs.Sweeps.{BaseSweep}
 
--- one front for each duty, each in order of vector, and right in each timetable whose legal duties
--- the network has
-pub record IsShowing (b : BaseFronts) : Type 0 where
-  pub long : length b.fronts ≡ length b.net.duties
-  pub few : length b.net.duties ≤ 200_000
-  pub sound : (d : Duty) → Member b.net.duties d → Events.IsSound d
-  pub rise : RiseByKey b.net.duties
-  pub rises : Each RiseByVector b.fronts
-  pub right : (t : Timetable) → IsSound t → IsDated t → AreDuties b.net.settings t b.net.duties
-      → ShowsFronts t b
+-- the front that a sweep shows at a duty
+abbrev pub swept_front : BaseSweep → Duty → Entries
+swept_front b d = with_no_pasts (listed (Sweeps.front_at b d))
+
+abbrev pub fronts_of_sweep : BaseSweep → BaseFronts
+fronts_of_sweep b = record {
+  net = b.net;
+  base = b.base;
+  price = b.price;
+  fronts = map (swept_front b) b.net.duties;
+}
+
+-- the front that a pass leaves of the duty of a rank
+abbrev pub passed_front : BasePass LongValue → ℕ → Option Duty → Entries
+passed_front p rank None = []
+passed_front p rank (Some d) = shown_entries p.net.settings d (keyed_entries p rank)
+
+abbrev pub fronts_of_pass : List ℕ → ℤ → BasePass LongValue → BaseFronts
+fronts_of_pass base price p = record {
+  net = p.net;
+  base = base;
+  price = price;
+  fronts = map (λ rank. passed_front p rank (slice_get p.net.duties rank))
+      (range_with_len 0 (length p.net.duties));
+}
+
+-- its labels have values of their walks
+abbrev pub AreValued : BasePass LongValue → Type 0
+AreValued p = (rank : ℕ) (l : Label LongValue) → rank < length p.net.duties
+    → Member (get_or p.fronts rank []) l → IsValue (is_long p.net.settings) l.value
+    (length (walk_of (trail_in p.turns p.pools) l.before))
+
+-- they are listed by value
+abbrev pub AreListed : BasePass LongValue → Type 0
+AreListed p = (rank : ℕ) → rank < length p.net.duties
+    → AreRising value_cmp (get_or p.fronts rank [])
+
+-- a pass of settings that need more than the seven sums, right in each timetable whose legal duties
+-- its network has
+pub record IsPassed (base : List ℕ) (price : ℤ) (p : BasePass LongValue) : Type 0 where
+  pub long : is_plain p.net.settings ≡ false
+  pub sound : (d : Duty) → Member p.net.duties d → Events.IsSound d
+  pub valued : AreValued p
+  pub listed : AreListed p
+  pub right : (t : Timetable) → IsSound t → IsDated t
+      → AreDuties p.net.settings t p.net.duties → ShowsFronts t (fronts_of_pass base price p)

@@ -57,7 +57,7 @@ returns c =
     let fits = k.over.sound.bases e.0 e.1 (price-at k.timetable bases c.args.place e k.priced at) in
     let whole : to_z w64 (of_z w64 e.1) ≡ e.1 = omega (arith, ints, fits.least, fits.most) in
     let swept : IsSwept net e c.in_ok-sweep.sweep = subst (λ z. IsSwept net (e.0, z) c.in_ok-sweep.sweep) whole c.in_ok-sweep.ensures in
-    let is = sym (c.in_ok-new.ensures.ok ∙ c.new.ensures) in (
+    let is = sym (c.in_ok-new.ensures.ok ∙ c.in_ok-fronts.ensures) in (
       e,
       ap (λ (p : Plan). slice_get p.prices c.args.place) (sym c.self.view_is) ∙ at,
       subst (λ (p : Plan). IsSwept p.net e (arc_value c.in_ok-new.field-0)) c.self.view_is (subst (IsSwept net e) is swept),

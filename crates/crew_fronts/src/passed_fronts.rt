@@ -1,0 +1,137 @@
+//! The fronts of a base that a pass has left.
+ghost use Rattle.std.specs.Prelude.{◌≡◌, ◌<◌, ◌≤◌, IfOk, Some, false, length, slice_get};
+ghost use Rattle.crew_answers.specs.Fronts.{RiseByVector};
+ghost use Rattle.crew_answers.specs.Schedules.{IsDated};
+ghost use Rattle.crew_answers.specs.Shown as Answers;
+ghost use Rattle.crew_flights.specs.Timetable.{IsBasePrice, IsSound, Timetable};
+ghost use Rattle.crew_fronts.specs.Fronts.{ShowsFronts, front_at, is_plain};
+ghost use Rattle.crew_fronts.specs.Machinery.Kept.{AreListed};
+ghost use Rattle.crew_pairing.specs.Duties.{AreDuties, RiseByKey};
+ghost use Rattle.crew_pairing.specs.Events as Events;
+ghost use Rattle.crew_pairing.specs.declared.duty.Duty.{Duty};
+ghost use Rattle.crew_resource.specs.Members.{Member};
+ghost use Rattle.crew_rules.specs.Settings.{IsChecked};
+
+use crate::passed_front::PassedFront;
+use crew_answers::{LongResource, settings_of_sums};
+use crew_flights::Code;
+use crew_net::Net;
+use crew_pass::laws::long_passes_show_the_fronts;
+use crew_pass::{Course, pass};
+use crew_rules::Settings;
+use crew_vector::VectorResource;
+use std::alloc::{AllocError, Global};
+use std::marker::Model;
+
+/// The fronts of a base at its price that a pass has left.
+///
+/// A contract sees the network, the base and its price, and the front of each duty, by rank.
+#[derive(Drop)]
+pub(crate) struct PassedFronts {
+    base: Code,
+    price: i64,
+    fronts: crew_pass::BaseFronts<LongResource>,
+}
+
+impl Model for PassedFronts {
+    ghost use Rattle.std.specs.Coded.{codes};
+    ghost use Rattle.crew_fronts.specs.Fronts as Spec;
+    ghost use Rattle.crew_fronts.specs.Machinery.Kept.{IsPassed, fronts_of_pass};
+
+    ghost Value = { Spec.BaseFronts };
+
+    ghost view = { λ p. fronts_of_pass p.base p.price p.fronts };
+
+    ghost invariant = { λ p. IsPassed p.base p.price p.fronts };
+}
+
+// The resource of a base's pairings at its price.
+fn resource_of(settings: &Settings, price: i64) -> LongResource
+    requires { IsBasePrice price }
+    ensures { result ≡ Answers.long_resource settings.now settings.now.fdp_total price }
+{
+    let sums = VectorResource::under(&settings_of_sums(settings, settings.fdp_total), price);
+    LongResource::new(sums, settings)
+}
+
+// Goes over the fronts: the labels of each are listed by value.
+fn list(fronts: &crew_pass::BaseFronts<LongResource>)
+    ensures { AreListed fronts.now }
+{
+    for rank in 0..fronts.net().duty_count() {
+        let _ = fronts.front(rank).as_slice();
+    }
+}
+
+impl PassedFronts {
+    /// The fronts of a base at its price, by a pass over the course's network.
+    pub(crate) fn new(
+        alloc: Global,
+        course: &Course,
+        base: Code,
+        price: i64,
+    ) -> Result<PassedFronts, AllocError>
+        requires checked { IsChecked course.now.settings }
+        requires long { is_plain course.now.settings ≡ false }
+        requires price { IsBasePrice price }
+        requires sound { (d : Duty) → Member course.now.duties d → Events.IsSound d }
+        ensures own { IfOk result (λ made. (made.base ≡ base) × (made.price ≡ price)) }
+        ensures net { IfOk result (λ made. made.net ≡ course.now) }
+        ensures right { IfOk result (λ made. (t : Timetable) → IsSound t → IsDated t
+            → AreDuties course.now.settings t course.now.duties → ShowsFronts t made) }
+    {
+        long_passes_show_the_fronts();
+        let resource = resource_of(course.net().settings(), price);
+        let fronts = pass(alloc, course, &resource, base)?;
+        list(&fronts);
+        Ok(PassedFronts {
+            base,
+            price,
+            fronts,
+        })
+    }
+
+    /// The base.
+    pub(crate) fn base(&self) -> Code
+        ensures { result ≡ self.now.base }
+    {
+        self.base
+    }
+
+    /// The base's price.
+    pub(crate) fn price(&self) -> i64
+        ensures { result ≡ self.now.price }
+    {
+        self.price
+    }
+
+    /// The network.
+    pub(crate) fn net(&self) -> &Net
+        ensures net { result.now ≡ self.now.net }
+        ensures sound { (d : Duty) → Member self.now.net.duties d → Events.IsSound d }
+        ensures right { (t : Timetable) → IsSound t → IsDated t
+            → AreDuties self.now.net.settings t self.now.net.duties → ShowsFronts t self.now }
+    {
+        self.fronts.net()
+    }
+
+    /// The front of the duty of a rank.
+    pub(crate) fn front(&self, rank: usize) -> PassedFront<'_>
+        requires { rank < length self.now.net.duties }
+        ensures front { (d : Duty) → slice_get self.now.net.duties rank ≡ Some d
+            → result ≡ front_at self.now d }
+        ensures rises { RiseByVector result }
+    {
+        let net = self.fronts.net();
+        let _ = net.duty_count();
+        let duties = net.duties().as_slice();
+        let labels = self.fronts.front(rank).as_slice();
+        PassedFront::new(
+            self.fronts.table(),
+            duties,
+            net.settings(),
+            &duties[rank],
+            labels,
+        )
+    }
+}

@@ -1,0 +1,66 @@
+-- What a solution by passes answers.
+use Rattle.std.proofs.Common.{◌≡◌, ◌∙◌, ◌<◌, ℕ, zero, suc, List, [], ◌∷◌, Option, None, ap, refl, sym, subst, take, length, arith}
+use Rattle.std.specs.List.{flat_map}
+use Rattle.crew_answers.specs.Bests.{AreFronts, IsBest}
+use Rattle.crew_net.specs.Nets.{IsNetOf, Net}
+use Rattle.crew_fronts.specs.Fronts.{BaseFronts}
+use Rattle.crew_plan.specs.Apart.{AreApart}
+use Rattle.crew_plan.specs.Cheapest.{AreCheapest}
+use Rattle.crew_plan.specs.Machinery.Homes.{AreFirstApart, first_home, home_of}
+use Rattle.crew_plan.specs.Machinery.Kept.{IsLaid, IsSolved}
+use Rattle.crew_plan.specs.Plans.{AreAllIn, IsSolutionIn, Plan}
+use Rattle.crew_plan.specs.Solutions.{HasNetOf, Solution, front_among, front_of}
+use Rattle.crew_plan.proofs.Homing.{are-apart, are-cheapest, is-best}
+use Rattle.crew_plan.proofs.Placed.{all-solved, fronts-are, keys-of}
+use Rattle.crew_plan.proofs.Shorter.{AnswersTo, same-taken}
+use Rattle.crew_rules.specs.declared.settings.Settings.{Settings}
+use Rattle.crew_solve.proofs.Keeping.{kept-first, sorted}
+use Rattle.crew_solve.proofs.Swept.{over-of}
+use Rattle.crew_solve.specs.Apart as Plain
+use Rattle.crew_solve.specs.Machinery.Homes.{least_of}
+use Rattle.crew_vector.specs.declared.priced.PricedPairing.{PricedPairing}
+
+-- ---- the fronts of all bases of a plan make its solution
+
+pub passed-in : (plan : Plan) (solution : Solution) → IsLaid plan.net plan.prices → AreAllIn plan solution.bases → solution.net ≡ plan.net
+    → solution.best ≡ least_of None (flat_map (home_of plan.net.settings.trip_rig) solution.bases) → IsSolutionIn plan solution
+passed-in plan solution laid are is best = record {
+  network = λ s t of. (of.network.0, of.network.1, subst (IsNetOf s t of.network.0) (sym is) of.network.2);
+  scratch = λ s t checked sound of.
+      let net = plan.net in
+      let bases = solution.bases in
+      let ds = of.network.0 in
+      let built = of.network.2 in
+      let over = over-of s t ds net checked sound of.network.1 built laid.over.few in
+      let solved = all-solved plan bases are (keys-of net plan.prices laid) in
+      let fronts : AreFronts s s.fdp_total t (front_among bases) = subst (λ x. AreFronts x x.fdp_total t (front_among bases)) built.settings (fronts-are t plan bases over of.dated of.prices are) in
+      let least : IsBest s s.fdp_total t (least_of None (flat_map (home_of s.trip_rig) bases)) = is-best s t checked sound ds net bases solved of.network.1 built fronts in
+      let same : solution.best ≡ least_of None (flat_map (home_of s.trip_rig) bases) = best ∙ ap (λ (x : Settings). least_of None (flat_map (home_of x.trip_rig) bases)) built.settings in
+      record { fronts = fronts; best_is = subst (IsBest s s.fdp_total t) (sym same) least };
+}
+
+-- ---- the first of what comes home
+
+module _ (net : Net) (bases : List BaseFronts) (best : Option PricedPairing) (x : Solution) (solved : IsSolved net bases) (same : x ≡ record { net = net; bases = bases; best = best }) where
+  pub cheapest-home : (limit : ℕ) (ps : List PricedPairing) → ps ≡ first_home limit net.settings.trip_rig bases → AnswersTo x (λ s t. AreCheapest s t limit ps)
+  cheapest-home limit ps is = λ s t checked sound has fronts.
+      let here : HasNetOf s t (record { net = net; bases = bases; best = best }) = subst (HasNetOf s t) same has in
+      let right : AreFronts s s.fdp_total t (front_among bases) = subst (λ (y : Solution). AreFronts s s.fdp_total t (front_of y)) same fronts in
+      let all = is ∙ ap (λ (y : Settings). first_home limit y.trip_rig bases) here.2.settings in
+      subst (AreCheapest s t limit) (sym all) (are-cheapest s t checked sound here.0 net bases solved here.1 here.2 right limit)
+
+  few-all : (n : ℕ) (ps : List PricedPairing) → length (take n ps) < n → take n ps ≡ ps
+  few-all zero ps h = absurd (omega (arith, h))
+  few-all (suc n) [] h = refl
+  few-all (suc n) (p ∷ ps) h = ap (λ (l : List PricedPairing). p ∷ l) (few-all n ps (omega (arith, h)))
+
+  pub apart-home : (limit share : ℕ) (ps : List PricedPairing) → AreFirstApart limit share (flat_map (home_of net.settings.trip_rig) bases) ps → AnswersTo x (λ s t. AreApart s t limit share ps)
+  apart-home limit share ps h = λ s t checked sound has fronts.
+      let here : HasNetOf s t (record { net = net; bases = bases; best = best }) = subst (HasNetOf s t) same has in
+      let right : AreFronts s s.fdp_total t (front_among bases) = subst (λ (y : Solution). AreFronts s s.fdp_total t (front_of y)) same fronts in
+      let one = subst (λ (y : Settings). AreFirstApart limit share (flat_map (home_of y.trip_rig) bases) ps) here.2.settings h in
+      let all : List PricedPairing = flat_map (home_of s.trip_rig) bases in
+      let kept = kept-first one.0 all in
+      let few = few-all one.0 (sorted [] all) (subst (λ (l : List PricedPairing). length l < one.0) kept one.1) in
+      let first = one.2 ∙ (ap (λ l. take limit (Plain.taken_from share [] l)) (kept ∙ few) ∙ ap (take limit) (same-taken share [] (sorted [] all))) in
+      are-apart s t checked sound here.0 net bases solved here.1 here.2 right limit share ps first

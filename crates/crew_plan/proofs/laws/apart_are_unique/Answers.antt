@@ -1,0 +1,5 @@
+use Rattle.crew_plan.proofs.Sharing.{one-apart}
+use Rattle.crew_plan.proofs.laws.apart_are_unique.Goals as goal
+
+pub returns : goal.returns
+returns c = λ s t limit share a b. one-apart s t limit share a b

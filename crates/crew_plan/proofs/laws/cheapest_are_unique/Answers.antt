@@ -1,0 +1,5 @@
+use Rattle.crew_plan.proofs.OneList.{one-list}
+use Rattle.crew_plan.proofs.laws.cheapest_are_unique.Goals as goal
+
+pub returns : goal.returns
+returns c = λ s t limit a b. one-list s t limit a b

@@ -1,0 +1,56 @@
+//! Laws over the definitions alone.
+ghost use Rattle.std.specs.Prelude.{◌≡◌, ◌<◌, ◌≤◌, ◌≤ℤ◌, ℕ, List, Option, count_by, length, slice_get, take};
+ghost use Rattle.crew_answers.specs.Bests.{IsBest, IsPairing};
+ghost use Rattle.crew_flights.specs.Timetable.{IsSound, Timetable};
+ghost use Rattle.crew_pairing.specs.Pairings.{last_duty};
+ghost use Rattle.crew_rules.specs.Settings.{IsChecked};
+ghost use Rattle.crew_rules.specs.declared.settings.Settings.{Settings};
+ghost use Rattle.crew_plan.specs.Apart.{AreApart, flies};
+ghost use Rattle.crew_plan.specs.Cheapest.{AreCheapest, IsShown};
+ghost use Rattle.crew_vector.specs.declared.priced.PricedPairing.{PricedPairing};
+
+/// There is one list of the cheapest pairings, whatever the limit.
+pub fn cheapest_are_unique()
+    ensures { (s : Settings) (t : Timetable) (limit : ℕ) (a b : List PricedPairing)
+        → AreCheapest s t limit a → AreCheapest s t limit b → a ≡ b }
+{}
+
+/// The first of the cheapest pairings is the best, and there is none exactly where there is no best.
+pub fn first_of_the_cheapest_is_the_best()
+    ensures { (s : Settings) (t : Timetable) (limit : ℕ) (pairings : List PricedPairing)
+        (best : Option PricedPairing) → IsChecked s → IsSound t → 0 < limit
+        → AreCheapest s t limit pairings → IsBest s s.fdp_total t best → best ≡ slice_get pairings 0 }
+{}
+
+/// Each legal pairing, also one that fronts don't show, has one that they show with the same base
+/// and the same last duty that costs no more.
+pub fn fronts_show_one_that_costs_no_more()
+    ensures { (s : Settings) (t : Timetable) (p : PricedPairing) → IsChecked s → IsSound t
+        → (legal : IsPairing s s.fdp_total t p) → (q : PricedPairing) × (shown : IsShown s t q)
+        × (q.base ≡ p.base) × (last_duty shown.pairing.first shown.pairing.others
+        ≡ last_duty legal.first legal.others) × (q.cost ≤ℤ p.cost) }
+{}
+
+/// There is one list of pairings that share few flights, whatever the limit and the share.
+pub fn apart_are_unique()
+    ensures { (s : Settings) (t : Timetable) (limit share : ℕ) (a b : List PricedPairing)
+        → AreApart s t limit share a → AreApart s t limit share b → a ≡ b }
+{}
+
+/// Of pairings that share few flights those up to a limit are the first of those up to a greater one.
+pub fn apart_begin_those_up_to_more()
+    ensures { (s : Settings) (t : Timetable) (limit more share : ℕ) (a b : List PricedPairing)
+        → limit ≤ more → AreApart s t limit share a → AreApart s t more share b → a ≡ take limit b }
+{}
+
+/// Where as many may fly a flight as there are of the cheapest pairings, these are the ones.
+pub fn apart_with_room_are_the_cheapest()
+    ensures { (s : Settings) (t : Timetable) (limit share : ℕ) (a b : List PricedPairing)
+        → AreApart s t limit share a → AreCheapest s t limit b → length b ≤ share → a ≡ b }
+{}
+
+/// Of pairings that share few flights no more than the share fly a flight.
+pub fn apart_fly_no_flight_more_often()
+    ensures { (s : Settings) (t : Timetable) (limit share flight : ℕ) (pairings : List PricedPairing)
+        → AreApart s t limit share pairings → count_by (flies flight) pairings ≤ share }
+{}

@@ -1,8 +1,0 @@
-use Rattle.std.proofs.Common.{take}
-use Rattle.crew_flights.specs.declared.flight.Flight.{Flight}
-use Rattle.crew_resource.specs.Members.{Each}
-use Rattle.crew_time.specs.Instant.{IsInstant}
-use Rattle.crew_scratch.proofs.dates.pass_dates.Given as goal
-
-abbrev pub invariant-loop-flight : goal.invariant-loop-flight
-invariant-loop-flight l = Each (λ (flight : Flight). IsInstant flight.dep) (take l.flight-index l.flights)

@@ -1,2 +1,0 @@
-pub mod Solutions
-pub mod Machinery
