@@ -92,7 +92,7 @@ shown-as [] (b ∷ bs) h base d m = absurd h
 shown-as (c ∷ cs) [] h base d m = absurd h
 shown-as (c ∷ cs) (b ∷ bs) h base d m =
     let f = h.0.fronts d (subst (λ (n : Net). Member n.duties d) h.0.net m.0) in
-    let here : IsShownAs (Sweeps.front_at c d) (front_at b d) = record { entries = f.0; held = f.1; same = f.2 } in
+    let here : IsShownAs (Sweeps.front_at c d) (front_at b d) = record { entries = f.0; permuted = f.1; same = f.2 } in
     let rest = shown-as cs bs h.1 base d m.1 in
     let test : eq_by_cmp code_cmp c.base base ≡ eq_by_cmp code_cmp b.base base = ap (λ z. eq_by_cmp code_cmp z base) (sym h.0.base) in
     subst (λ k. IsShownAs (cond k (Sweeps.front_at c d) (PlainSolutions.front_among cs base d)) (front_among (b ∷ bs) base d)) (sym test)
@@ -207,7 +207,7 @@ module _ (s : Settings) (t : Timetable) (sound : IsSound t) (plain : is_plain s 
 
   front-too : (base : List ℕ) (price : ℤ) (d : Duty) (old : Shown) (new : Entries) → IsShownAs old new → PlainFronts.IsFrontAt s t base price d old → LongFronts.IsFrontAt s s.fdp_total t base price d new
   front-too base price d old new h f =
-      let right : PlainFronts.IsFrontAt s t base price d h.entries = front-reordered _ _ _ _ old h.entries h.held f in
+      let right : PlainFronts.IsFrontAt s t base price d h.entries = front-permuted _ _ _ _ old h.entries h.permuted f in
       subst (LongFronts.IsFrontAt s s.fdp_total t base price d) (sym h.same)
       (front-to-long s s.fdp_total t base price sound (not-long s plain) d h.entries (subst (λ x. PlainFronts.IsFrontAt x t base price d h.entries) (sym (own-settings s plain)) right))
 
