@@ -1,9 +1,9 @@
 //! Whether the version that a board sealed last is that from scratch.
 
 use crew_board::Board;
+use crew_duty::{DutyFault, list_duties};
 use crew_flights::Entry;
 use crew_net::Node;
-use crew_duty::{DutyFault, list_duties};
 use crew_plan::{Plan, Solution};
 use crew_vector::PricedPairing;
 use crew_version::Version;
@@ -43,7 +43,10 @@ fn is_same(version: &Version, solution: &Solution) -> bool {
 }
 
 // What a version's timetable gives from scratch.
-fn solve<R: Threads + Sync + AllocGlobal>(rt: &R, version: &Version) -> Result<Solution, DutyFault> {
+fn solve<R: Threads + Sync + AllocGlobal>(
+    rt: &R,
+    version: &Version,
+) -> Result<Solution, DutyFault> {
     let (settings, timetable) = (version.settings(), version.timetable());
     let duties = list_duties(rt, rt.alloc(), settings, timetable)?;
     let plan = Plan::of(rt.alloc(), settings, timetable, duties, None)?;

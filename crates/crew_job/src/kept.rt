@@ -12,8 +12,8 @@ use crate::job::Job;
 use crate::places::{base_place, node_in, place_in};
 use crate::shown::sealed_front;
 use crew_flights::Code;
-use crew_pairing::Duty;
 use crew_fronts::FrontView;
+use crew_pairing::Duty;
 use crew_version::Version;
 
 /// Whether a base and a duty are a node of a version.

@@ -17,9 +17,9 @@ use crate::kept::has_node;
 use crate::places::is_same_code;
 use crate::shown::sealed_front;
 use crew_flights::Code;
+use crew_fronts::BaseFronts;
 use crew_pairing::{Departure, Duty};
 use crew_resource::Placed;
-use crew_fronts::BaseFronts;
 
 /// Whether the version that was sealed last leaves as a ground does at a departure of a base.
 #[derive(Clone, Copy)]

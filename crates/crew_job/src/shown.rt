@@ -13,8 +13,8 @@ ghost use Rattle.crew_version.specs.Versions.{timetable_of};
 use crate::ground::Ground;
 use crate::job::Job;
 use crew_flights::Code;
-use crew_pairing::Duty;
 use crew_fronts::{BaseFronts, FrontView};
+use crew_pairing::Duty;
 use crew_version::Version;
 
 /// The front that a sweep shows of a duty of its network.

@@ -36,8 +36,7 @@ pub loop-vector-preserved : goal.loop-vector-preserved
 loop-vector-preserved c =
     let e : LongVector × List (List Leg) = (c.in-Some.vector, c.in-Some.walk) in
     let so_far = c.loop-vector.invariant in
-    let f = pairing_of c.args.trip_rig c.base-code.result in
-    (
+    let f = pairing_of c.args.trip_rig c.base-code.result in (
       so_far.0 ++ e ∷ [],
       append_assoc so_far.0 (e ∷ []) c.next.new.self ∙ (ap (λ (es : Es). so_far.0 ++ es) (sym c.in-Some.ensures.steps) ∙ so_far.1),
       c.in_ok-keep_entry.ensures
