@@ -1,11 +1,9 @@
 -- Where no pairing is long, fronts are what sweeps show, and so are the pairings that they show.
 use Rattle.std.proofs.Common.{◌≡◌, ◌∙◌, ◌≤◌, ◌++◌, ℕ, ℤ, Bool, true, false, cond, not, List, [], ◌∷◌, Option, ap, refl, sym, subst, take, arith}
 use Rattle.std.specs.Prelude.{nat_le}
-use Rattle.std.specs.List.Sorted.{IsPermutation}
 use Rattle.std.specs.Ordering.{eq_by_cmp}
 use Rattle.std.proofs.lemmas.Bool.{and_parts}
 use Rattle.std.proofs.lemmas.Bool.Decides.{nat_tests}
-use Rattle.std.proofs.lemmas.List.Sorted.{IsPermutation-refl, IsPermutation-sym}
 use Rattle.crew_answers.specs.Bests as Long
 use Rattle.crew_answers.specs.Fronts as LongFronts
 use Rattle.crew_answers.specs.LongVectors.{LongVector, is_long, long_vector_of, settings_of_sums}
@@ -15,9 +13,8 @@ use Rattle.crew_answers.proofs.ShortFronts.{entry-in, front-from-long, front-to-
 use Rattle.crew_answers.proofs.ShortPartials.{no-past, partial-from-long, partial-to-long, same-settings}
 use Rattle.crew_flights.specs.Codes.{code_cmp}
 use Rattle.crew_flights.specs.Timetable.{IsSound, Timetable}
-use Rattle.crew_fronts.specs.Fronts.{BaseFronts, Entries, front_at, is_plain}
+use Rattle.crew_fronts.specs.Fronts.{BaseFronts, Entries, HaveSame, front_at, is_plain}
 use Rattle.crew_net.specs.Nets.{IsNetOf, Net}
-use Rattle.crew_pairing.proofs.Shuffled.{Member-shuffled}
 use Rattle.crew_pairing.specs.Duties.{AreDuties, flights_of}
 use Rattle.crew_pairing.specs.Legs.{Leg}
 use Rattle.crew_pairing.specs.Pairings.{IsDuty, last_duty}
@@ -65,15 +62,14 @@ own-settings s e =
 
 -- ---- fronts in another order
 
-front-permuted : {V W : Type 0} (le : V → V → Bool) (wle : W → W → Bool) (At Clean : V → W → Type 0) (xs ys : List (V × W)) → IsPermutation xs ys → IsFront le wle At Clean xs → IsFront le wle At Clean ys
-front-permuted le wle At Clean xs ys p f =
-    let again = IsPermutation-sym xs ys p in
-    record {
-      clean = λ v w m. f.clean v w (Member-shuffled ys xs (v, w) again m);
-      undominated = λ v w m. f.undominated v w (Member-shuffled ys xs (v, w) again m);
-      least = λ v w y m c. f.least v w y (Member-shuffled ys xs (v, w) again m) c;
-      every = λ v u. let e = f.every v u in (e.0, Member-shuffled xs ys (v, e.0) p e.1);
-    }
+front-permuted : {V W : Type 0} (le : V → V → Bool) (wle : W → W → Bool) (At Clean : V → W → Type 0) (xs ys : List (V × W)) → ((e : V × W) → (Member xs e → Member ys e) × (Member ys e → Member xs e)) → IsFront le wle At Clean xs
+    → IsFront le wle At Clean ys
+front-permuted le wle At Clean xs ys p f = record {
+  clean = λ v w m. f.clean v w ((p (v, w)).1 m);
+  undominated = λ v w m. f.undominated v w ((p (v, w)).1 m);
+  least = λ v w y m c. f.least v w y ((p (v, w)).1 m) c;
+  every = λ v u. let e = f.every v u in (e.0, (p (v, e.0)).0 e.1);
+}
 
 sums-again : (es : Shown) → sums_of (with_no_pasts es) ≡ es
 sums-again [] = refl
@@ -82,7 +78,7 @@ sums-again (e ∷ es) = ap (λ (l : Shown). e ∷ l) (sums-again es)
 -- what is shown by sweeps and by fronts
 pub record IsShownAs (old : Shown) (new : Entries) : Type 0 where
   pub entries : Shown
-  pub permuted : IsPermutation old entries
+  pub permuted : HaveSame old entries
   pub same : new ≡ with_no_pasts entries
 
 either : (k : Bool) (a x : Shown) (b y : Entries) → IsShownAs a b → IsShownAs x y → IsShownAs (cond k a x) (cond k b y)
@@ -91,7 +87,7 @@ either false a x b y h k = k
 
 pub shown-as : (sweeps : List BaseSweep) (bases : List BaseFronts) → AreOfSweeps sweeps bases → (base : List ℕ) (d : Duty) → Each (λ (b : BaseFronts). Member b.net.duties d) bases
     → IsShownAs (PlainSolutions.front_among sweeps base d) (front_among bases base d)
-shown-as [] [] h base d m = record { entries = []; permuted = IsPermutation-refl []; same = refl }
+shown-as [] [] h base d m = record { entries = []; permuted = λ e. (λ m. m, λ m. m); same = refl }
 shown-as [] (b ∷ bs) h base d m = absurd h
 shown-as (c ∷ cs) [] h base d m = absurd h
 shown-as (c ∷ cs) (b ∷ bs) h base d m =
@@ -221,7 +217,7 @@ module _ (s : Settings) (t : Timetable) (sound : IsSound t) (plain : is_plain s 
       let sums = front-from-long s s.fdp_total t base price sound (not-long s plain) d (with_no_pasts h.entries) long in
       let right : PlainFronts.IsFrontAt s t base price d h.entries =
       subst (λ x. PlainFronts.IsFrontAt x t base price d h.entries) (own-settings s plain) (subst (PlainFronts.IsFrontAt Own t base price d) (sums-again h.entries) sums) in
-      front-permuted _ _ _ _ h.entries old (IsPermutation-sym old h.entries h.permuted) right
+      front-permuted _ _ _ _ h.entries old (λ e. ((h.permuted e).1, (h.permuted e).0)) right
 
   module _ (ds : List Duty) (net : Net) (are : AreDuties s t ds) (built : IsNetOf s t ds net) (sweeps : List BaseSweep) (bases : List BaseFronts) (each : AreOfSweeps sweeps bases) (nets : Each (λ (b : BaseFronts). b.net ≡ net) bases) where
     as-shown : (base : List ℕ) (d : Duty) → IsDuty s (flights_of t) d → IsShownAs (PlainSolutions.front_among sweeps base d) (front_among bases base d)

@@ -8,6 +8,7 @@
 //! `crew_pass`'s. `laws` has that the pairings that cost least are one list.
 #![tactic(auto)]
 
+mod alike;
 mod dates;
 mod homes;
 mod kept;

@@ -1,16 +1,19 @@
 //! What is to be made for a timetable where pairings may be long.
-ghost use Rattle.std.specs.Prelude.{◌≡◌, ◌<◌, ◌≤◌, IfOk, IfSome, false, length, true};
+ghost use Rattle.std.specs.Prelude.{◌≡◌, ◌<◌, ◌≤◌, IfOk, IfSome, false, length, map};
 ghost use Rattle.std.specs.Arc.{arc_value};
 ghost use Rattle.std.specs.FinMap as fin;
 ghost use Rattle.crew_flights.specs.Timetable.{IsSound};
 ghost use Rattle.crew_fronts.specs.Fronts as Fronts;
 ghost use Rattle.crew_net.specs.Nets.{IsNetOf};
 ghost use Rattle.crew_pairing.specs.Duties.{AreDuties};
-ghost use Rattle.crew_plan.specs.Machinery.Kept.{IsLaid};
+ghost use Rattle.crew_plan.specs.Machinery.Kept.{AreAt, IsLaid};
 ghost use Rattle.crew_plan.specs.Plans.{AreFrontsIn, IsPlanOf};
+ghost use Rattle.crew_resource.specs.Members.{Each};
 ghost use Rattle.crew_rules.specs.Settings.{IsChecked};
 
+use crate::alike::{is_of, is_under};
 use crate::dates::see_dates;
+use crate::solution::Solution;
 use crew_flights::{Code, Timetable};
 use crew_fronts::BaseFronts;
 use crew_net::Net;
@@ -29,17 +32,26 @@ use std::sync::Arc;
 pub(crate) struct LongPlan {
     course: Course,
     bases: Vec<(Code, i64)>,
+    // Earlier fronts over the same network.
+    past: Vec<Arc<BaseFronts, Global>>,
 }
 
 impl Model for LongPlan {
+    ghost use Rattle.std.specs.Coded.{codes};
+    ghost use Rattle.std.specs.Prelude.{◌≡◌, map};
+    ghost use Rattle.crew_fronts.specs.contracts.base_fronts.BaseFronts as fronts;
     ghost use Rattle.crew_plan.specs.Machinery.Kept.{IsLaid};
     ghost use Rattle.crew_plan.specs.Plans as Spec;
+    ghost use Rattle.crew_resource.specs.Members.{Each};
 
     ghost Value = { Spec.Plan };
 
+    ghost coded = { Prim.hlevel (codes, fronts.the_row.coded) };
+
     ghost view = { λ p. record { net = p.course; prices = p.bases.items } };
 
-    ghost invariant = { λ p. IsLaid p.course p.bases.items };
+    ghost invariant = { λ p. IsLaid p.course p.bases.items
+        × Each (λ b. b.net ≡ p.course) (map (λ a. a.value) p.past.items) };
 }
 
 // The bases of a timetable with their prices, in order.
@@ -85,52 +97,106 @@ fn net_beside(
     Ok(Arc::new(alloc, earlier.next(alloc, timetable, duties)?)?)
 }
 
-// Whether a network was made under these settings.
-fn is_under(net: &Net, settings: &Settings) -> bool
-    ensures { result ≡ true → net.now.settings ≡ settings.now }
-{
-    net.settings() == settings
-}
-
-// The network, if there is one that was made under these settings.
-fn alike<'a>(earlier: Option<&'a Net>, settings: &Settings) -> Option<&'a Net>
-    ensures { IfSome result (λ net. net.now.settings ≡ settings.now) }
-{
-    let earlier = earlier?;
-    if is_under(earlier, settings) {
-        Some(earlier)
-    } else {
-        None
-    }
-}
-
-// The network of all legal duties, beside an earlier one, if there is one.
-fn net_of(
+// The network of all legal duties, made for a timetable, beside an earlier one.
+fn net_after(
     alloc: Global,
     settings: &Settings,
     timetable: &Timetable,
     duties: Duties,
-    earlier: Option<&Net>,
+    earlier: &Net,
 ) -> Result<Arc<Net, Global>, AllocError>
     requires checked { IsChecked settings.now }
     requires duties { AreDuties settings.now timetable.now duties }
     requires few { length duties ≤ 200_000 }
     ensures { IfOk result (λ net. IsNetOf settings.now timetable.now duties (arc_value net)) }
 {
-    match alike(earlier, settings) {
-        Some(earlier) => net_beside(alloc, earlier, timetable, duties),
-        None => net_anew(alloc, settings, timetable, duties),
+    if is_under(earlier, settings) {
+        net_beside(alloc, earlier, timetable, duties)
+    } else {
+        net_anew(alloc, settings, timetable, duties)
     }
 }
 
+// The same fronts, shared.
+fn shared(
+    alloc: Global,
+    fronts: &[Arc<BaseFronts, Global>],
+) -> Result<Vec<Arc<BaseFronts, Global>>, AllocError>
+    ensures { IfOk result (λ all. map arc_value all.items ≡ map arc_value fronts.now) }
+{
+    let mut all = Vec::with_capacity(alloc, fronts.len())?;
+    for base in fronts {
+        all.push(Arc::try_clone(base)?)?;
+    }
+    Ok(all)
+}
+
+// The network of all legal duties, and earlier fronts over it: where the earlier network is the
+// timetable's own it is taken, with its fronts.
+fn ground_of(
+    alloc: Global,
+    settings: &Settings,
+    timetable: &Timetable,
+    duties: Duties,
+    bases: &[(Code, i64)],
+    earlier: Option<&Solution>,
+) -> Result<(Arc<Net, Global>, Vec<Arc<BaseFronts, Global>>), AllocError>
+    requires checked { IsChecked settings.now }
+    requires duties { AreDuties settings.now timetable.now duties }
+    requires few { length duties ≤ 200_000 }
+    requires bases { bases.now ≡ fin.entries timetable.now.bases }
+    ensures net { IfOk result
+        (λ ground. IsNetOf settings.now timetable.now duties (arc_value ground.0)) }
+    ensures past { IfOk result (λ ground. Each (λ b. b.net ≡ arc_value ground.0)
+        (map arc_value ground.1.items)) }
+{
+    let Some((net, fronts)) = passes_of(earlier) else {
+        return Ok((
+            net_anew(alloc, settings, timetable, duties)?,
+            Vec::new(alloc),
+        ));
+    };
+    if is_of(net, settings, bases, &duties) {
+        return Ok((Arc::try_clone(net)?, shared(alloc, fronts)?));
+    }
+    let net = net_after(alloc, settings, timetable, duties, net)?;
+    Ok((net, Vec::new(alloc)))
+}
+
+// The earlier fronts of a base at a price, if there are some.
+fn fronts_at(
+    past: &[Arc<BaseFronts, Global>],
+    base: Code,
+    price: i64,
+) -> Option<&Arc<BaseFronts, Global>>
+    ensures { IfSome result
+        (λ found. AreAt (map arc_value past.now) (base, price) (arc_value found.now)) }
+{
+    for fronts in past {
+        let _net = fronts.net();
+        if fronts.base() == base && fronts.price() == price {
+            return Some(fronts);
+        }
+    }
+    None
+}
+
+// The network of a solution by passes and its fronts.
+fn passes_of(earlier: Option<&Solution>) -> Option<(&Arc<Net, Global>, &[Arc<BaseFronts, Global>])>
+    ensures { IfSome result (λ passes. Each (λ b. b.net ≡ arc_value passes.0.now)
+        (map arc_value passes.1.now)) }
+{
+    earlier?.by_passes()
+}
+
 impl LongPlan {
-    /// The plan of a timetable, given its legal duties, beside an earlier network, if there is one.
+    /// The plan of a timetable, given its legal duties, beside an earlier solution, if there is one.
     pub(crate) fn of(
         alloc: Global,
         settings: &Settings,
         timetable: &Timetable,
         duties: Duties,
-        earlier: Option<&Net>,
+        earlier: Option<&Solution>,
     ) -> Result<LongPlan, AllocError>
         requires checked { IsChecked settings.now }
         requires long { Fronts.is_plain settings.now ≡ false }
@@ -140,9 +206,13 @@ impl LongPlan {
     {
         see_dates(alloc, timetable)?;
         let bases = bases_of(alloc, timetable)?;
-        let net = net_of(alloc, settings, timetable, duties, earlier)?;
+        let (net, past) = ground_of(alloc, settings, timetable, duties, &bases, earlier)?;
         let course = Course::new(alloc, net)?;
-        Ok(LongPlan { course, bases })
+        Ok(LongPlan {
+            course,
+            bases,
+            past,
+        })
     }
 
     /// The network.
@@ -160,7 +230,26 @@ impl LongPlan {
         self.bases.len()
     }
 
-    /// The fronts of the base at a place, in order of code, by a pass over its departures.
+    // The earlier fronts of the base at a place, at its price, if there are some.
+    fn kept(&self, place: usize) -> Option<&Arc<BaseFronts, Global>>
+        requires { place < length self.now.prices }
+        ensures { IfSome result (λ fronts. AreFrontsIn self.now place (arc_value fronts.now)) }
+    {
+        let (base, price) = self.bases[place];
+        fronts_at(&self.past, base, price)
+    }
+
+    // The fronts of the base at a place, by a pass over its departures.
+    fn passed(&self, alloc: Global, place: usize) -> Result<Arc<BaseFronts, Global>, AllocError>
+        requires { place < length self.now.prices }
+        ensures { IfOk result (λ fronts. AreFrontsIn self.now place (arc_value fronts)) }
+    {
+        let (base, price) = self.bases[place];
+        BaseFronts::passed(alloc, &self.course, base, price)
+    }
+
+    /// The fronts of the base at a place, in order of code: earlier ones over this network at the
+    /// base's price, or those of a pass over its departures.
     pub(crate) fn pass(
         &self,
         alloc: Global,
@@ -169,7 +258,9 @@ impl LongPlan {
         requires { place < length self.now.prices }
         ensures { IfOk result (λ fronts. AreFrontsIn self.now place (arc_value fronts)) }
     {
-        let (base, price) = self.bases[place];
-        BaseFronts::passed(alloc, &self.course, base, price)
+        match self.kept(place) {
+            Some(fronts) => Arc::try_clone(fronts),
+            None => self.passed(alloc, place),
+        }
     }
 }

@@ -111,10 +111,6 @@ fn long_of(
     ensures plan { IfOk result (λ kind. IsPlanOf settings.now timetable.now (plan_of kind)) }
     ensures kind { IfOk result IsOfKind }
 {
-    let earlier = match earlier {
-        Some(earlier) => Some(earlier.net()),
-        None => None,
-    };
     let plan = LongPlan::of(alloc, settings, timetable, duties, earlier)?;
     Ok(Kind::Long(plan))
 }
@@ -180,9 +176,9 @@ impl Plan {
         }
     }
 
-    /// The fronts of the base at a place, in order of code. Where no pairing of the settings is long
-    /// and the earlier solution has some of the base at the same price, they are made beside these,
-    /// and shared where the two networks are one; else they are made from scratch.
+    /// The fronts of the base at a place, in order of code. Where the earlier solution has some of
+    /// the base at the same price, they are shared where the two networks are one, and else made
+    /// beside these where no pairing of the settings is long; else they are made from scratch.
     pub fn sweep(&self, alloc: Global, place: usize) -> Result<Arc<BaseFronts, Global>, AllocError>
         requires { place < length self.now.prices }
         ensures { IfOk result (λ fronts. AreFrontsIn self.now place (arc_value fronts)) }

@@ -12,7 +12,7 @@ ghost use Rattle.crew_plan.specs.Machinery.Kept.{AreThoseOf};
 ghost use Rattle.crew_plan.specs.Machinery.Kinds.{IsForSweeps, plan_by_sweeps};
 ghost use Rattle.crew_plan.specs.Plans.{AreAllIn, IsSolutionIn};
 ghost use Rattle.crew_plan.specs.Solutions.{HasNetOf, IsFrontOf, front_of};
-ghost use Rattle.crew_resource.specs.Members.{Member};
+ghost use Rattle.crew_resource.specs.Members.{Each, Member};
 ghost use Rattle.crew_rules.specs.Settings.{IsChecked};
 ghost use Rattle.crew_rules.specs.declared.settings.Settings.{Settings};
 ghost use Rattle.crew_solve.specs.Plans as Plain;
@@ -154,6 +154,17 @@ impl Solution {
         match &self.made {
             Made::Plain(solution) => Some(solution),
             Made::Long(..) => None,
+        }
+    }
+
+    // The network and the fronts of a solution by passes.
+    pub(crate) fn by_passes(&self) -> Option<(&Arc<Net, Global>, &[Arc<BaseFronts, Global>])>
+        ensures { IfSome result (λ passes. Each (λ b. b.net ≡ arc_value passes.0.now)
+            (map arc_value passes.1.now)) }
+    {
+        match &self.made {
+            Made::Plain(_) => None,
+            Made::Long(net, _) => Some((net, &self.bases)),
         }
     }
 

@@ -2,9 +2,10 @@
 use Rattle.std.specs.Prelude.{◌≡◌, ℕ, ℤ, false, List, [], ◌∷◌, map, true}
 use Rattle.std.specs.FinMap as fin
 use Rattle.crew_answers.specs.Schedules.{IsDated}
-use Rattle.crew_flights.specs.Timetable.{Timetable}
-use Rattle.crew_fronts.specs.Fronts.{BaseFronts, IsOfSweep, front_at, is_plain}
+use Rattle.crew_flights.specs.Timetable.{IsSound, Timetable}
+use Rattle.crew_fronts.specs.Fronts.{BaseFronts, IsOfSweep, ShowsFronts, front_at, is_plain}
 use Rattle.crew_net.specs.Nets.{Net}
+use Rattle.crew_pairing.specs.Duties.{AreDuties}
 use Rattle.crew_pairing.specs.declared.duty.Duty.{Duty}
 use Rattle.crew_resource.specs.Members.{Each, Member}
 use Rattle.crew_plan.specs.Machinery.Homes.{IsPayable}
@@ -48,3 +49,10 @@ pub record AreThoseOf (bases : List BaseFronts) (base : List ℕ) (b : BaseFront
   pub among : Member bases b
   pub own : b.base ≡ base
   pub fronts : (d : Duty) → front_among bases base d ≡ front_at b d
+
+-- earlier fronts of a base at its price, right in each timetable that their network is of
+pub record AreAt (past : List BaseFronts) (base : List ℕ × ℤ) (b : BaseFronts) : Type 0 where
+  pub among : Member past b
+  pub own : (b.base, b.price) ≡ base
+  pub right : (t : Timetable) → IsSound t → IsDated t → AreDuties b.net.settings t b.net.duties
+      → ShowsFronts t b
