@@ -47,6 +47,8 @@ SETTINGS = (
     {"fly_cap": 480, "away_cap": 1800},
     {"deadheads": 1},
     {"deadheads": 1, "max_duties": 3, "guarantee": 0, "duty_rig": 0},
+    {"away_cap": 14400, "max_rest": 8280, "max_duties": 12, "fdp_cap": 1200},
+    {"away_cap": 14400, "max_duties": 12, "fdp_total": 2400},
 )
 LENGTHS = (45, 45, 60, 75, 75, 130, 160, 240, 240, 241, 300)  # of a flight: pairs of some reach Table A
 # Of `pairings,LIMIT` and of `pairings,LIMIT,SHARE`.

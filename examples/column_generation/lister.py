@@ -14,8 +14,10 @@ from datetime import datetime, timedelta
 
 DEFAULTS = {"lead": 60, "debrief": 30, "connect": 30, "sit": 240, "max_rest": 1800, "max_duties": 4,
             "fdp_cap": 3600, "fly_cap": 6000, "away_cap": 8280,
-            "duty_rig": 7, "trip_rig": 4, "duty_min": 2520, "guarantee": 4200, "deadheads": 0}
+            "duty_rig": 7, "trip_rig": 4, "duty_min": 2520, "guarantee": 4200, "deadheads": 0, "fdp_total": 11400}
 LEAST_REST, MOST_LEGS = 600, 8
+# 168 hours, and the 30 free from duty that lie within them before each report.
+WINDOW, LONG_REST = 10080, 1800
 
 # Table B: most hours of a flight duty period that starts in these hours, by 1 to 6 segments and 7 or more.
 TABLE_B = {
@@ -72,6 +74,11 @@ class Duty:
     release: int
     fdp: int
     fly: int
+
+    @property
+    def arrival(self) -> int:
+        """The last one, with which the flight duty period ends."""
+        return self.report + self.fdp
 
 
 Walk = tuple[tuple[tuple[int, bool], ...], ...]  # of each duty's legs the flight's number, and whether it is ridden
@@ -198,6 +205,27 @@ def pairing_of(duties: tuple[Duty, ...], limits: dict[str, int]) -> Pairing:
     return Pairing(duties[0].origin, walk, pay, away)
 
 
+def minutes_within(duties: tuple[Duty, ...], start: int, end: int) -> int:
+    """The minutes of flight duty periods between two instants."""
+    return sum(max(0, min(duty.arrival, end) - max(duty.report, start)) for duty in duties)
+
+
+def most_in_a_window(duties: tuple[Duty, ...]) -> int:
+    """The most flight duty minutes of 168 hours in a row. What a window holds rises and falls evenly as the window
+    moves, but where it begins or ends with a period."""
+    bounds = [bound for duty in duties for bound in (duty.report, duty.arrival)]
+    return max(minutes_within(duties, start, start + WINDOW) for bound in bounds for start in (bound, bound - WINDOW))
+
+
+def has_free_hours(duties: tuple[Duty, ...], report: int) -> bool:
+    """Whether the crew has 30 hours free from duty, from report to release, within the 168 before a report; the 30
+    before the first report are free, and of those before them nothing is known. They may as well end with a report."""
+    starts = (duty.report - LONG_REST for duty in duties)
+    return any(report - WINDOW <= start and start + LONG_REST <= report
+               and all(duty.release <= start or start + LONG_REST <= duty.report for duty in duties)
+               for start in starts)
+
+
 def partials(text: str, settings: dict[str, int]) -> list[tuple[Duty, ...]]:
     """All legal lists of duties from a base. Settings that aren't given are at their defaults."""
     (flights, bases), limits = read(text, settings), with_defaults(settings)
@@ -208,12 +236,14 @@ def partials(text: str, settings: dict[str, int]) -> list[tuple[Duty, ...]]:
 
     def is_within(duties: tuple[Duty, ...]) -> bool:
         return (duties[0].origin in bases and len(duties) <= limits["max_duties"]
-                # At most 60 hours of flight duty periods in 168 (117.23(c)).
-                and sum(duty.fdp for duty in duties) <= limits["fdp_cap"]
+                # At most 60 hours of flight duty periods in any 168, and 190 in 672 (117.23(c)).
+                and most_in_a_window(duties) <= limits["fdp_cap"]
+                and sum(duty.fdp for duty in duties) <= limits["fdp_total"]
                 # At most 100 hours of flight in 672 (117.23(b)(1)).
                 and sum(duty.fly for duty in duties) <= limits["fly_cap"]
-                # 30 hours free from duty in the 168 before each report: those before the first (117.25(b)).
-                and duties[-1].release - duties[0].report <= limits["away_cap"])
+                and duties[-1].release - duties[0].report <= limits["away_cap"]
+                # 30 hours free from duty in the 168 before each report (117.25(b)).
+                and all(has_free_hours(duties, duty.report) for duty in duties))
 
     return lists(legal_duties(list(flights.values()), limits), may_follow, is_within)
 
@@ -243,22 +273,49 @@ def best(text: str, settings: dict[str, int]) -> Pairing | None:
                key=lambda pairing: (cost(pairing, timetable), pairing.walk))
 
 
-Vector = tuple[int, ...]
+Periods = tuple[tuple[int, int], ...]
+Vector = tuple[tuple[int, ...], Periods]  # numbers, of which less is better, and the last periods of flight duty
+
+
+def since_rest(duties: tuple[Duty, ...]) -> int:
+    """Minutes from the end of the last long rest, or from the first report, to the last one."""
+    ends = [after.report for before, after in zip(duties, duties[1:]) if after.report - before.release >= LONG_REST]
+    return duties[-1].report - (ends or [duties[0].report])[-1]
+
+
+def last_periods(duties: tuple[Duty, ...]) -> Periods:
+    """What of the flight duty periods lies within the 168 hours that end with the last arrival."""
+    start = duties[-1].arrival - WINDOW
+    return tuple((max(duty.report, start), duty.arrival) for duty in duties if duty.arrival > start)
 
 
 def vector(duties: tuple[Duty, ...], timetable: Timetable, limits: dict[str, int]) -> Vector:
-    """Three costs, by duties, by minutes away and by the guarantee, and what the caps limit."""
+    """Three costs, by duties, by minutes away and by the guarantee, and what the caps limit. A pairing that may be
+    away more than 138 hours has a past besides, which tells what it may still do."""
     _, bases = timetable
     prices = bases[duties[0].origin] + sum(
         leg.flight.price for duty in duties for leg in duty.legs if not leg.ridden)
     away = duties[-1].release - duties[0].report
-    return (pays_of(duties, limits) - prices, limits["trip_rig"] * away - prices,
+    sums = (pays_of(duties, limits) - prices, limits["trip_rig"] * away - prices,
             limits["guarantee"] * len(duties) - prices,
             sum(duty.fdp for duty in duties), sum(duty.fly for duty in duties), len(duties), away)
+    if limits["away_cap"] <= WINDOW - LONG_REST:
+        return sums, ()
+    return (*sums, since_rest(duties)), last_periods(duties)
+
+
+def is_no_more(one: Periods, other: Periods) -> bool:
+    """Whether after every instant there are no more minutes of one than of the other: after those at which one of
+    their periods begins or ends."""
+    def after(periods: Periods, instant: int) -> int:
+        return sum(max(0, end - max(start, instant)) for start, end in periods)
+
+    return all(after(one, bound) <= after(other, bound) for period in one + other for bound in period)
 
 
 def is_beaten(one: Vector, others: set[Vector]) -> bool:
-    return any(other != one and all(a <= b for a, b in zip(other, one)) for other in others)
+    return any(other != one and all(a <= b for a, b in zip(other[0], one[0])) and is_no_more(other[1], one[1])
+               for other in others)
 
 
 def shown(text: str, settings: dict[str, int]) -> list[Pairing]:
