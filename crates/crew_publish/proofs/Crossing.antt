@@ -24,6 +24,9 @@ use Rattle.std_alloc.proofs.SendSync.{quiet, seen}
 use Rattle.crew_publish.specs.contracts.shown.OneChain as OneChain
 use Rattle.crew_publish.specs.contracts.shown.OneChainProtocolShownKnown.TheImpl.{ghosts as chain}
 use Rattle.std.proofs.MapsCrossing.{crosses as maps_cross}
+use Rattle.std.specs.declared.cmp.Ord.{Ghosts as OrdGhosts}
+use Rattle.std.specs.declared.cmp.PartialEq.{Ghosts as EqGhosts}
+use Rattle.std.specs.declared.cmp.PartialOrd.{Ghosts as PartialOrdGhosts}
 use Rattle.crew_flights.specs.contracts.entries.Folding as Folding
 use Rattle.crew_flights.specs.contracts.timetable.Timetable as Timetable
 use Rattle.crew_publish.specs.contracts.shown.Shown as Shown
@@ -31,7 +34,12 @@ use Rattle.crew_publish.specs.contracts.viewer.Viewer as Viewer
 use Rattle.crew_publish.specs.contracts.viewer.Viewer.TheInside as Inside
 use Rattle.crew_fronts.specs.contracts.base_fronts.BaseFronts as BaseFronts
 use Rattle.crew_fronts.specs.contracts.passed_fronts.PassedFronts as PassedFronts
+use Rattle.crew_label.specs.contracts.label.Label as Label
+use Rattle.crew_label.specs.contracts.pool.Pool as Pool
+use Rattle.crew_label.specs.contracts.table.Table as Labels
+use Rattle.crew_pass.specs.contracts.base_fronts.BaseFronts as Passed
 use Rattle.crew_plan.specs.contracts.solution.Solution as Solution
+use Rattle.crew_resource.specs.declared.resource.Resource.{Ghosts as ResourceGhosts}
 use Rattle.crew_solve.specs.contracts.base_fronts.BaseFronts as SweptFronts
 use Rattle.crew_solve.specs.contracts.solution.Solution as SweptSolution
 use Rattle.crew_version.specs.contracts.draft.Draft as Draft
@@ -55,11 +63,45 @@ swept-send = search with_swept depth 40 fits 30000
 swept-sync : IsSync SweptSolution.the_row
 swept-sync = search with_swept depth 40 fits 30000
 
+-- what passes leave, of any resource
+
+label-send : (V : RattleType) → IsSend V → IsSend (Label.the_row V)
+label-send V s = search parts depth 40 fits 30000
+
+label-sync : (V : RattleType) → IsSync V → IsSync (Label.the_row V)
+label-sync V s = search parts depth 40 fits 30000
+
+ruleset with_label = (parts, label-send, label-sync)
+
+pool-send : (R V F : RattleType) (g : ResourceGhosts R.Denot V.Denot F.Denot) (o : OrdGhosts V.Denot) (e : EqGhosts V.Denot) (p : PartialOrdGhosts V.Denot) → IsSend V → IsSend (Pool.the_row R V F g o e p)
+pool-send R V F g o e p s = search with_label depth 40 fits 30000
+
+pool-sync : (R V F : RattleType) (g : ResourceGhosts R.Denot V.Denot F.Denot) (o : OrdGhosts V.Denot) (e : EqGhosts V.Denot) (p : PartialOrdGhosts V.Denot) → IsSync V → IsSync (Pool.the_row R V F g o e p)
+pool-sync R V F g o e p s = search with_label depth 40 fits 30000
+
+ruleset with_pool = (parts, pool-send, pool-sync)
+
+labels-send : (R V F : RattleType) (g : ResourceGhosts R.Denot V.Denot F.Denot) (o : OrdGhosts V.Denot) (e : EqGhosts V.Denot) (p : PartialOrdGhosts V.Denot) → IsSend V → IsSync V → IsSend (Labels.the_row R V F g o e p)
+labels-send R V F g o e p s y = search with_pool depth 40 fits 30000
+
+labels-sync : (R V F : RattleType) (g : ResourceGhosts R.Denot V.Denot F.Denot) (o : OrdGhosts V.Denot) (e : EqGhosts V.Denot) (p : PartialOrdGhosts V.Denot) → IsSend V → IsSync V → IsSync (Labels.the_row R V F g o e p)
+labels-sync R V F g o e p s y = search with_pool depth 40 fits 30000
+
+ruleset with_labels = (parts, pool-send, pool-sync, labels-send, labels-sync)
+
+pass-send : (R V F : RattleType) (g : ResourceGhosts R.Denot V.Denot F.Denot) (o : OrdGhosts V.Denot) (e : EqGhosts V.Denot) (p : PartialOrdGhosts V.Denot) → IsSend V → IsSync V → IsSend (Passed.the_row R V F g o e p)
+pass-send R V F g o e p s y = search with_labels depth 40 fits 30000
+
+pass-sync : (R V F : RattleType) (g : ResourceGhosts R.Denot V.Denot F.Denot) (o : OrdGhosts V.Denot) (e : EqGhosts V.Denot) (p : PartialOrdGhosts V.Denot) → IsSend V → IsSync V → IsSync (Passed.the_row R V F g o e p)
+pass-sync R V F g o e p s y = search with_labels depth 40 fits 30000
+
+ruleset with_pass = (parts, pass-send, pass-sync)
+
 passed-send : IsSend PassedFronts.the_row
-passed-send = search parts depth 40 fits 30000
+passed-send = search with_pass depth 40 fits 30000
 
 passed-sync : IsSync PassedFronts.the_row
-passed-sync = search parts depth 40 fits 30000
+passed-sync = search with_pass depth 40 fits 30000
 
 ruleset with_passed = (parts, swept-fronts-send, swept-fronts-sync, passed-send, passed-sync)
 
