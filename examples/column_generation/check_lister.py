@@ -50,6 +50,14 @@ SETTINGS = (
     {"away_cap": 14400, "max_rest": 8280, "max_duties": 12, "fdp_cap": 1200},
     {"away_cap": 14400, "max_duties": 12, "fdp_total": 2400},
 )
+# Twenty under which pairings may take more than 138 hours, and of timetables that are small: how many of each.
+LONG = tuple({"away_cap": away, "max_rest": rest, **others} for away in (8281, 14400) for rest in (3000, 8280)
+             for others in ({"max_duties": 12}, {"max_duties": 7, "fdp_cap": 1200},
+                            {"max_duties": 12, "fdp_cap": 900, "fly_cap": 600},
+                            {"max_duties": 12, "fdp_total": 2000},
+                            {"max_duties": 6, "deadheads": 1, "guarantee": 0}))
+LONG_TIMETABLES, LONG_FLIGHTS = 8, (5, 7)
+SHORT = lister.DEFAULTS["away_cap"]
 LENGTHS = (45, 45, 60, 75, 75, 130, 160, 240, 240, 241, 300)  # of a flight: pairs of some reach Table A
 # Of `pairings,LIMIT` and of `pairings,LIMIT,SHARE`.
 LIMITS = (10000, 3)
@@ -77,11 +85,13 @@ def departure(draw: random.Random, crew: Crew, limits: dict[str, int]) -> dateti
     """After a time on the ground or a rest, often the least or the most that is legal, or a minute past it."""
     if crew.arrival is None:
         return crew.report + minutes(limits["lead"])
-    if draw.random() < 0.6:
+    is_long = limits["away_cap"] > SHORT
+    if draw.random() < (0.2 if is_long else 0.6):
         least, most = limits["connect"], limits["sit"]
         return crew.arrival + minutes(draw.choice((least - 1, least, least + 5, least + 20, most, most + 1)))
     least, most = lister.LEAST_REST, limits["max_rest"]
-    rest = draw.choice((least - 1, least, least + 45, least + 130, most, most + 1))
+    long = (lister.LONG_REST - 1, lister.LONG_REST, most - 1200, most, most) if is_long else ()
+    rest = draw.choice((least - 1, least, least + 45, least + 130, *long, most, most + 1))
     crew.report = crew.arrival + minutes(limits["debrief"] + rest)
     return crew.report + minutes(limits["lead"])
 
@@ -97,7 +107,8 @@ def arrival(draw: random.Random, crew: Crew, leaves: datetime) -> datetime:
 def timetable(draw: random.Random, settings: dict[str, int], flights: tuple[int, int]) -> str:
     """The records of so many flights, of one crew or more, among two or three airports."""
     limits = lister.DEFAULTS | settings
-    airports = draw.sample(sorted(ZONES), draw.choice((2, 3)))
+    is_long = limits["away_cap"] > SHORT
+    airports = draw.sample(sorted(ZONES), 2 if is_long else draw.choice((2, 3)))
     bases = draw.sample(airports, draw.choice((1, 2)))
     numbers = draw.sample(range(1, 1000), draw.randint(*flights))
     day = draw.choice(DAYS)
@@ -105,7 +116,7 @@ def timetable(draw: random.Random, settings: dict[str, int], flights: tuple[int,
     lines += [f"base,{base},{draw.randrange(-1000, 1001, 500)}" for base in bases]
     crew = None
     for number in numbers:
-        if crew is None or draw.random() < 0.2:
+        if crew is None or draw.random() < (0.05 if is_long else 0.2):
             # A report on the hour or the half, where rows of the tables begin, or a minute before.
             crew = Crew(draw.choice(bases), day + minutes(30 * draw.randrange(48) - draw.choice((0, 1))))
         leaves = departure(draw, crew, limits)
@@ -177,16 +188,19 @@ def difference(lines: list[str], text: str, settings: dict[str, int]) -> str | N
 
 
 def timetables(draw: random.Random, kinds: tuple) -> Iterator[tuple[str, dict[str, int]]]:
-    """The records of timetables, of so many of each kind, with settings in turn."""
+    """The records of timetables, of so many of each kind, with settings in turn, and of those with long pairings."""
     for count, flights in kinds:
         for place in range(count):
             settings = SETTINGS[place % len(SETTINGS)]
             yield timetable(draw, settings, flights), settings
+    for settings in LONG:
+        for _ in range(LONG_TIMETABLES):
+            yield timetable(draw, settings, LONG_FLIGHTS), settings
 
 
 def main() -> int:
     program = sys.argv[1] if len(sys.argv) > 1 else os.path.join(HERE, "..", "..", "crewprice")
-    agreed, listed, overnight, left_out, riding = 0, 0, 0, 0, 0
+    agreed, listed, overnight, left_out, riding, long = 0, 0, 0, 0, 0, 0
     for place, (text, settings) in enumerate(timetables(random.Random(SEED), TIMETABLES), 1):
         found = difference(answers(program, text, settings), text, settings)
         if found is None:
@@ -196,9 +210,11 @@ def main() -> int:
         pairings, shown = lister.pairings(text, settings), lister.shown(text, settings)
         listed += len(pairings)
         overnight += any(len(pairing.walk) > 1 for pairing in pairings)
+        long += any(pairing.away > SHORT for pairing in pairings)
         left_out += len(sharing(shown, 3)) < len(shown)
         riding += any("d" in words_of(pairing.walk) for pairing in sharing(shown, 3))
     print(f"{agreed} of {place} timetables agreed: {listed} pairings, with a rest in them in {overnight} timetables, "
+          f"more than 138 hours of them in {long}, "
           f"more than three that share a flight in {left_out}, and a crew that rides in one of those taken in {riding}")
     return 0 if agreed == place else 1
 
