@@ -1,4 +1,5 @@
 pub mod Forgetful
+pub mod Marks
 pub mod Misleading
 pub mod Sweeps
 pub mod Machinery

@@ -8,12 +8,15 @@
 //! only for one whose value is at most its own and whose sums differ or whose walk is no later. The
 //! crate promises that such a pool is one for each list of labels and is made label by label
 //! (`offer`), that pools merge in any order, and that fronts filtered from such pools are those of
-//! all labels (`laws`).
+//! all labels (`laws`). Of a resource with marks (`Marked`) a glance tells most pairs of values that
+//! are in no order.
 #![tactic(auto)]
 
 mod forgets;
 pub mod laws;
+mod marked;
 mod pool;
 
 pub use forgets::{Forgets, stands_for};
+pub use marked::Marked;
 pub use pool::offer;
