@@ -9,3 +9,6 @@ pub mod FrontPools
 pub mod Boarded
 pub mod Tabled
 pub mod Shifts
+pub mod Marked
+pub mod Held
+pub mod Indexed

@@ -12,13 +12,13 @@ use crate::merge::merge_lists;
 use crate::room::Room;
 use crate::stand::{Rule, push_copy};
 use crate::trails::Trails;
-use crew_forgetful::Forgets;
+use crew_forgetful::Marked;
 use crew_resource::{Placed, Resource};
 use std::alloc::{AllocError, Global};
 
 // The labels of a list for which no other may stand, in the order of their values: those of its
 // halves, merged.
-pub(crate) fn gather<P: Placed, R: Forgets<P>, T: Trails>(
+pub(crate) fn gather<P: Placed, R: Marked<P>, T: Trails>(
     alloc: Global,
     resource: &R,
     trails: &T,
@@ -59,7 +59,7 @@ fn copy_labels<R: Resource>(
 }
 
 // Two lists merged, as a list of its own.
-fn merged<P: Placed, R: Forgets<P>, T: Trails>(
+fn merged<P: Placed, R: Marked<P>, T: Trails>(
     alloc: Global,
     resource: &R,
     trails: &T,
@@ -84,6 +84,6 @@ fn merged<P: Placed, R: Forgets<P>, T: Trails>(
         → Member one.now l ⊎ Member two.now l) }
 {
     let mut room = Room::new(alloc);
-    merge_lists::<P, R, T>(resource, trails, rule, &mut room, one, two)?;
+    merge_lists::<P, R, T>(alloc, resource, trails, rule, &mut room, one, two)?;
     Ok(room.whole)
 }

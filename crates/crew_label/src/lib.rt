@@ -10,11 +10,14 @@
 //! what comes of it. Where nothing is forgotten, neither is needed (`laws`).
 #![tactic(auto)]
 
+mod blocks;
 mod board;
 mod gather;
+mod index;
 mod interleave;
 mod label;
 pub mod laws;
+mod marks;
 mod merge;
 mod pool;
 mod room;

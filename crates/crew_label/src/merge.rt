@@ -11,13 +11,14 @@ use crate::label::Label;
 use crate::room::Room;
 use crate::stand::{Rule, take_free};
 use crate::trails::Trails;
-use crew_forgetful::Forgets;
+use crew_forgetful::Marked;
 use crew_resource::{Placed, Resource};
-use std::alloc::AllocError;
+use std::alloc::{AllocError, Global};
 
 // Merges two lists of labels that rise into the room's whole list: of the second one those for
 // which none of the first may stand, and of the first those for which none of these may.
-pub(crate) fn merge_lists<P: Placed, R: Forgets<P>, T: Trails>(
+pub(crate) fn merge_lists<P: Placed, R: Marked<P>, T: Trails>(
+    alloc: Global,
     resource: &R,
     trails: &T,
     rule: Rule,
@@ -41,8 +42,8 @@ pub(crate) fn merge_lists<P: Placed, R: Forgets<P>, T: Trails>(
     ensures from { OnOk result ((l : Label R.Value) → Member room.new.whole.items l
         → Member one.now l ⊎ Member two.now l) }
 {
-    take_free::<P, R, T>(resource, trails, rule, &mut room.free, two, one)?;
-    take_free::<P, R, T>(resource, trails, rule, &mut room.kept, one, &room.free)?;
+    take_free::<P, R, T>(alloc, resource, trails, rule, &mut room.free, two, one)?;
+    take_free::<P, R, T>(alloc, resource, trails, rule, &mut room.kept, one, &room.free)?;
     interleave(resource, &mut room.whole, &room.kept, &room.free)?;
     Ok(())
 }

@@ -13,7 +13,7 @@ use crate::merge::merge_lists;
 use crate::room::Room;
 use crate::stand::Rule;
 use crate::trails::Trails;
-use crew_forgetful::Forgets;
+use crew_forgetful::Marked;
 use crew_resource::{Placed, Resource};
 use std::alloc::{AllocError, Global};
 use std::marker::Model;
@@ -90,13 +90,14 @@ impl<R: Resource> Pool<R> {
     /// they compared. On want of memory nothing changes.
     pub fn merge<P: Placed, T: Trails>(
         &mut self,
+        alloc: Global,
         resource: &R,
         trails: &T,
         room: &mut Room<R::Value>,
         list: &Pool<R>,
     ) -> Result<(), AllocError>
     where
-        R: Forgets<P>,
+        R: Marked<P>,
         requires tell { TellCount R.same_sums (R.count_of resource.now) }
         requires counts { AreCounted (R.count_of resource.now) (T.leads trails.now)
             (T.trail trails.now) self.old }
@@ -113,6 +114,7 @@ impl<R: Resource> Pool<R> {
         ensures err { OnErr result (self.new ≡ self.old) }
     {
         merge_lists::<P, R, T>(
+            alloc,
             resource,
             trails,
             Rule::Sums,
@@ -132,7 +134,7 @@ impl<R: Resource> Pool<R> {
         labels: &[Label<R::Value>],
     ) -> Result<Self, AllocError>
     where
-        R: Forgets<P>,
+        R: Marked<P>,
         requires tell { TellCount R.same_sums (R.count_of resource.now) }
         requires counts { AreCounted (R.count_of resource.now) (T.leads trails.now)
             (T.trail trails.now) labels.now }
@@ -154,7 +156,7 @@ impl<R: Resource> Pool<R> {
         labels: &[Label<R::Value>],
     ) -> Result<Self, AllocError>
     where
-        R: Forgets<P>,
+        R: Marked<P>,
         requires tell { TellCount R.same_sums (R.count_of resource.now) }
         requires counts { AreCounted (R.count_of resource.now) (T.leads trails.now)
             (T.trail trails.now) labels.now }

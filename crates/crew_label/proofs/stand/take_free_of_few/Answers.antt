@@ -6,8 +6,8 @@ use Rattle.crew_label.specs.Machinery.Rules.{same_by}
 use Rattle.crew_label.specs.Pools.{stands_label}
 use Rattle.crew_label.specs.declared.label.Label.{Label}
 use Rattle.crew_label.proofs.Listed.{filter_all, filter_in, filter_out}
-use Rattle.crew_label.proofs.stand.take_free.Goals as goal
-use Rattle.crew_label.proofs.stand.take_free.Goals.{then-not-is_reached+in_ok-push_copy, else-not-is_reached}
+use Rattle.crew_label.proofs.stand.take_free_of_few.Goals as goal
+use Rattle.crew_label.proofs.stand.take_free_of_few.Goals.{then-not-is_reached+in_ok-push_copy, else-not-is_reached}
 
 pub is_reached-requires-clause-label : goal.is_reached-requires-clause-label
 is_reached-requires-clause-label g c =

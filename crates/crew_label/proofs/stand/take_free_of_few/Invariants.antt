@@ -2,7 +2,7 @@ use Rattle.std.proofs.Common.{◌≡◌, not, take}
 use Rattle.std.specs.List.{filter, list_any}
 use Rattle.crew_label.specs.Machinery.Rules.{same_by}
 use Rattle.crew_label.specs.Pools.{stands_label}
-use Rattle.crew_label.proofs.stand.take_free.Given as goal
+use Rattle.crew_label.proofs.stand.take_free_of_few.Given as goal
 
 abbrev pub invariant-loop-label : goal.invariant-loop-label
 invariant-loop-label g l =

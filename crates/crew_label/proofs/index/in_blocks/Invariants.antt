@@ -1,0 +1,8 @@
+use Rattle.std.proofs.Common.{◌≡◌, false, take}
+use Rattle.std.specs.List.{list_any}
+use Rattle.crew_label.specs.Machinery.Indexes.{finds_block, test_at}
+use Rattle.crew_label.proofs.index.in_blocks.Given as goal
+
+abbrev pub invariant-loop-block : goal.invariant-loop-block
+invariant-loop-block g l =
+    list_any (finds_block (test_at g.R.Resource.below g.R.Forgets.same_sums (g.T.Trails.trail l.asked.trails.now) l.asked.rule l.asked.labels.now l.asked.label.now) l.asked.most) (take l.block-index l.blocks) ≡ false

@@ -1,0 +1,62 @@
+-- Labels by their marks: blocks of entries, and groups of blocks.
+use Rattle.std.specs.Prelude.{◌≡◌, Bool, true, false, ◌&&◌, ℕ, ◌+◌, List, [], ◌∷◌, Option, Some, None, ℤ, int_le, slice_get}
+use Rattle.std.specs.List.{list_any}
+use Rattle.crew_resource.specs.Members.{Member}
+use Rattle.crew_label.specs.Machinery.Marks.{are_at_most, mark_at}
+use Rattle.crew_label.specs.Machinery.Rules.{same_by}
+use Rattle.crew_label.specs.Pools.{stands_label}
+use Rattle.crew_label.specs.declared.blocks.Block.{Block}
+use Rattle.crew_label.specs.declared.blocks.Cut.{Cut}
+use Rattle.crew_label.specs.declared.blocks.Entry.{Entry}
+use Rattle.crew_label.specs.declared.index.Group.{Group}
+use Rattle.crew_label.specs.declared.label.Label.{Label}
+use Rattle.crew_label.specs.declared.label.Link.{Link}
+use Rattle.crew_label.specs.declared.stand.Rule.{Rule}
+
+-- the entry's mark at the cut is at most its middle
+abbrev pub is_low : Cut → Entry → Bool
+is_low c e = int_le (mark_at c.at e.marks) c.middle
+
+-- a block has the entry, and its least marks are at most the entry's
+pub record IsHeld (blocks : List Block) (e : Entry) : Type 0 where
+  pub block : Block
+  pub among : Member blocks block
+  pub below : are_at_most block.least e.marks ≡ true
+  pub has : Member block.entries.items e
+
+-- a group has such a block, and its least marks are at most the entry's
+pub record IsGrouped (groups : List Group) (e : Entry) : Type 0 where
+  pub group : Group
+  pub among : Member groups group
+  pub below : are_at_most group.least e.marks ≡ true
+  pub held : IsHeld group.blocks.items e
+
+-- an entry for each label, from a place on
+abbrev pub entries_from : {V : Type 0} → (V → List ℤ) → ℕ → List (Label V) → List Entry
+entries_from marks k [] = []
+entries_from marks k (l ∷ ls) =
+    record { marks = marks l.value; place = k } ∷ entries_from marks (k + 1) ls
+
+-- what a test says of what stands at a place
+abbrev pub passes : {X : Type 0} → (X → Bool) → Option X → Bool
+passes test None = false
+passes test (Some x) = test x
+
+-- whether the label at a place may stand for a label
+abbrev pub test_at : {V : Type 0} → (V → V → Bool) → (V → V → Bool) → (Link → List ℕ) → Rule
+    → List (Label V) → Label V → ℕ → Bool
+test_at below same trail rule labels label place =
+    passes (λ l. stands_label below (same_by below same rule) trail l label)
+    (slice_get labels place)
+
+-- what is found at marks of at most so much: by entries, blocks and groups
+abbrev pub finds_entry : (ℕ → Bool) → List ℤ → Entry → Bool
+finds_entry test most e = are_at_most e.marks most && test e.place
+
+abbrev pub finds_block : (ℕ → Bool) → List ℤ → Block → Bool
+finds_block test most b =
+    are_at_most b.least most && list_any (finds_entry test most) b.entries.items
+
+abbrev pub finds_group : (ℕ → Bool) → List ℤ → Group → Bool
+finds_group test most g =
+    are_at_most g.least most && list_any (finds_block test most) g.blocks.items

@@ -1,0 +1,306 @@
+//! An index of labels by their marks.
+ghost use Rattle.std.specs.Prelude.{◌≡◌, true, Some, None, MatchOption, IfOk, OnOk, slice_get};
+ghost use Rattle.crew_label.specs.Machinery.Marks.{are_at_most};
+ghost use Rattle.std.specs.List.{list_any};
+ghost use Rattle.crew_resource.specs.Members.{Member};
+ghost use Rattle.crew_forgetful.specs.Sweeps.{TellCount};
+ghost use Rattle.crew_label.specs.Machinery.Indexes.{IsGrouped, IsHeld, entries_from, finds_block, finds_entry, finds_group, test_at};
+ghost use Rattle.crew_label.specs.Machinery.Rules.{same_by};
+ghost use Rattle.crew_label.specs.Pools.{AreCounted, IsCounted, stands_label};
+ghost use Rattle.crew_label.specs.declared.blocks.Entry.{Entry};
+
+use crate::blocks::{Block, CUTS, Entry, divide, spread_of};
+use crate::label::Label;
+use crate::marks::are_at_most;
+use crate::stand::{Rule, may_stand};
+use crate::trails::Trails;
+use crew_forgetful::{Forgets, Marked};
+use crew_resource::{Placed, Resource};
+use std::alloc::{AllocError, Global};
+
+// How many entries a group and a block have at most, but where marks are alike.
+const GROUP: usize = 256;
+const BLOCK: usize = 16;
+
+/// Blocks that lie near each other, and marks that are at most those of each entry.
+#[derive(Drop)]
+pub(crate) struct Group {
+    pub(crate) least: [i32; 16],
+    pub(crate) blocks: Vec<Block>,
+}
+
+/// Labels in groups of blocks by their marks, told from a moment.
+#[derive(Drop)]
+pub(crate) struct Index {
+    pub(crate) groups: Vec<Group>,
+    pub(crate) moment: i32,
+}
+
+// The moment from which labels' marks are told: any serves.
+fn moment_of<P: Placed, R: Marked<P>>(resource: &R, labels: &[Label<R::Value>]) -> i32 {
+    match labels.first() {
+        None => 0,
+        Some(label) => resource.moment(&label.value),
+    }
+}
+
+// The entries of labels, in order.
+fn entries_of<P: Placed, R: Marked<P>>(
+    alloc: Global,
+    resource: &R,
+    labels: &[Label<R::Value>],
+    moment: i32,
+) -> Result<Vec<Entry>, AllocError>
+    ensures { IfOk result (λ entries. entries.items ≡ entries_from
+        (λ v. R.marks_of resource.now v moment) 0 labels.now) }
+{
+    let mut entries = Vec::with_capacity(alloc, labels.len())?;
+    for (place, label) in labels.iter().enumerate() {
+        let marks = resource.marks(&label.value, moment);
+        entries.push(Entry { marks, place })?;
+    }
+    Ok(entries)
+}
+
+// The blocks of a block.
+fn group_of(alloc: Global, block: Block) -> Result<Group, AllocError>
+    ensures least { IfOk result (λ group. group.least ≡ block.least) }
+    ensures held { IfOk result (λ group. (e : Entry) → Member block.entries.items e
+        → IsHeld group.blocks.items e) }
+{
+    let least = block.least;
+    let spread = spread_of(&block.entries);
+    let mut blocks = Vec::new(alloc);
+    divide(alloc, BLOCK, CUTS, &spread, block.entries, &mut blocks)?;
+    Ok(Group { least, blocks })
+}
+
+// Puts a block's group at the end of some.
+fn push_group(alloc: Global, groups: &mut Vec<Group>, block: Block) -> Result<(), AllocError>
+    ensures held { OnOk result ((e : Entry) → are_at_most block.least e.marks ≡ true
+        → Member block.entries.items e → IsGrouped groups.new.items e) }
+    ensures stays { OnOk result ((e : Entry) → IsGrouped groups.old.items e
+        → IsGrouped groups.new.items e) }
+{
+    let group = group_of(alloc, block)?;
+    groups.push(group)?;
+    Ok(())
+}
+
+// The groups of some blocks.
+fn groups_of(alloc: Global, blocks: Vec<Block>) -> Result<Vec<Group>, AllocError>
+    ensures { IfOk result (λ groups. (e : Entry) → IsHeld blocks.items e
+        → IsGrouped groups.items e) }
+{
+    let mut groups = Vec::with_capacity(alloc, blocks.len())?;
+    for block in blocks {
+        push_group(alloc, &mut groups, block)?;
+    }
+    Ok(groups)
+}
+
+impl Index {
+    /// The index of labels.
+    pub(crate) fn new<P: Placed, R: Marked<P>>(
+        alloc: Global,
+        resource: &R,
+        labels: &[Label<R::Value>],
+    ) -> Result<Index, AllocError>
+        ensures { IfOk result (λ index. (e : Entry) → Member (entries_from
+            (λ v. R.marks_of resource.now v index.moment) 0 labels.now) e
+            → IsGrouped index.groups.items e) }
+    {
+        let moment = moment_of::<P, R>(resource, labels);
+        let entries = entries_of::<P, R>(alloc, resource, labels, moment)?;
+        let spread = spread_of(&entries);
+        let mut blocks = Vec::new(alloc);
+        divide(alloc, GROUP, CUTS, &spread, entries, &mut blocks)?;
+        let groups = groups_of(alloc, blocks)?;
+        Ok(Index { groups, moment })
+    }
+}
+
+// What is asked of an index: whether one of its labels, at marks of at most so much, may stand for
+// a label.
+#[derive(Drop)]
+pub(crate) struct Asked<'a, 'r, R: Resource, T> {
+    pub(crate) resource: &'r R,
+    pub(crate) trails: &'r T,
+    pub(crate) rule: Rule,
+    pub(crate) labels: &'a [Label<R::Value>],
+    pub(crate) label: &'a Label<R::Value>,
+    pub(crate) most: [i32; 16],
+}
+
+// The label at a place.
+fn label_at<V>(labels: &[Label<V>], place: usize) -> Option<&Label<V>>
+    ensures { MatchOption result (slice_get labels.now place ≡ None)
+        (λ label. slice_get labels.now place ≡ Some label.now) }
+{
+    labels.get(place)
+}
+
+// Whether the label at a place may stand.
+fn may_stand_at<P: Placed, R: Forgets<P>, T: Trails>(
+    asked: &Asked<'_, '_, R, T>,
+    place: usize,
+) -> bool
+    requires tell { TellCount R.same_sums (R.count_of asked.now.resource.now) }
+    requires counted { AreCounted (R.count_of asked.now.resource.now) (T.leads asked.now.trails.now)
+        (T.trail asked.now.trails.now) asked.now.labels.now }
+    requires label { IsCounted (R.count_of asked.now.resource.now) (T.leads asked.now.trails.now)
+        (T.trail asked.now.trails.now) asked.now.label.now }
+    ensures { result ≡ (test_at R.below R.same_sums
+        (T.trail asked.now.trails.now) asked.now.rule asked.now.labels.now asked.now.label.now) place }
+{
+    match label_at(asked.labels, place) {
+        None => false,
+        Some(held) => {
+            may_stand::<P, R, T>(asked.resource, asked.trails, asked.rule, held, asked.label)
+        }
+    }
+}
+
+// Whether an entry's label may stand.
+fn finds_entry<P: Placed, R: Forgets<P>, T: Trails>(
+    asked: &Asked<'_, '_, R, T>,
+    entry: &Entry,
+) -> bool
+    requires tell { TellCount R.same_sums (R.count_of asked.now.resource.now) }
+    requires counted { AreCounted (R.count_of asked.now.resource.now) (T.leads asked.now.trails.now)
+        (T.trail asked.now.trails.now) asked.now.labels.now }
+    requires label { IsCounted (R.count_of asked.now.resource.now) (T.leads asked.now.trails.now)
+        (T.trail asked.now.trails.now) asked.now.label.now }
+    ensures { result ≡ finds_entry (test_at R.below R.same_sums
+        (T.trail asked.now.trails.now) asked.now.rule asked.now.labels.now asked.now.label.now) asked.now.most entry.now }
+{
+    are_at_most(&entry.marks, &asked.most) && may_stand_at::<P, R, T>(asked, entry.place)
+}
+
+// Whether one of some entries' labels may.
+fn in_entries<P: Placed, R: Forgets<P>, T: Trails>(
+    asked: &Asked<'_, '_, R, T>,
+    entries: &[Entry],
+) -> bool
+    requires tell { TellCount R.same_sums (R.count_of asked.now.resource.now) }
+    requires counted { AreCounted (R.count_of asked.now.resource.now) (T.leads asked.now.trails.now)
+        (T.trail asked.now.trails.now) asked.now.labels.now }
+    requires label { IsCounted (R.count_of asked.now.resource.now) (T.leads asked.now.trails.now)
+        (T.trail asked.now.trails.now) asked.now.label.now }
+    ensures { result ≡ list_any (finds_entry (test_at R.below R.same_sums
+        (T.trail asked.now.trails.now) asked.now.rule asked.now.labels.now asked.now.label.now) asked.now.most) entries.now }
+{
+    for entry in entries {
+        if finds_entry::<P, R, T>(asked, entry) {
+            return true;
+        }
+    }
+    false
+}
+
+// Whether one of a block's labels may.
+fn finds_block<P: Placed, R: Forgets<P>, T: Trails>(
+    asked: &Asked<'_, '_, R, T>,
+    block: &Block,
+) -> bool
+    requires tell { TellCount R.same_sums (R.count_of asked.now.resource.now) }
+    requires counted { AreCounted (R.count_of asked.now.resource.now) (T.leads asked.now.trails.now)
+        (T.trail asked.now.trails.now) asked.now.labels.now }
+    requires label { IsCounted (R.count_of asked.now.resource.now) (T.leads asked.now.trails.now)
+        (T.trail asked.now.trails.now) asked.now.label.now }
+    ensures { result ≡ finds_block (test_at R.below R.same_sums
+        (T.trail asked.now.trails.now) asked.now.rule asked.now.labels.now asked.now.label.now) asked.now.most block.now }
+{
+    are_at_most(&block.least, &asked.most) && in_entries::<P, R, T>(asked, &block.entries)
+}
+
+// Whether one of some blocks' labels may.
+fn in_blocks<P: Placed, R: Forgets<P>, T: Trails>(
+    asked: &Asked<'_, '_, R, T>,
+    blocks: &[Block],
+) -> bool
+    requires tell { TellCount R.same_sums (R.count_of asked.now.resource.now) }
+    requires counted { AreCounted (R.count_of asked.now.resource.now) (T.leads asked.now.trails.now)
+        (T.trail asked.now.trails.now) asked.now.labels.now }
+    requires label { IsCounted (R.count_of asked.now.resource.now) (T.leads asked.now.trails.now)
+        (T.trail asked.now.trails.now) asked.now.label.now }
+    ensures { result ≡ list_any (finds_block (test_at R.below R.same_sums
+        (T.trail asked.now.trails.now) asked.now.rule asked.now.labels.now asked.now.label.now) asked.now.most) blocks.now }
+{
+    for block in blocks {
+        if finds_block::<P, R, T>(asked, block) {
+            return true;
+        }
+    }
+    false
+}
+
+// Whether one of a group's labels may.
+fn finds_group<P: Placed, R: Forgets<P>, T: Trails>(
+    asked: &Asked<'_, '_, R, T>,
+    group: &Group,
+) -> bool
+    requires tell { TellCount R.same_sums (R.count_of asked.now.resource.now) }
+    requires counted { AreCounted (R.count_of asked.now.resource.now) (T.leads asked.now.trails.now)
+        (T.trail asked.now.trails.now) asked.now.labels.now }
+    requires label { IsCounted (R.count_of asked.now.resource.now) (T.leads asked.now.trails.now)
+        (T.trail asked.now.trails.now) asked.now.label.now }
+    ensures { result ≡ finds_group (test_at R.below R.same_sums
+        (T.trail asked.now.trails.now) asked.now.rule asked.now.labels.now asked.now.label.now) asked.now.most group.now }
+{
+    are_at_most(&group.least, &asked.most) && in_blocks::<P, R, T>(asked, &group.blocks)
+}
+
+// Whether one of some groups' labels may.
+fn in_groups<P: Placed, R: Forgets<P>, T: Trails>(
+    asked: &Asked<'_, '_, R, T>,
+    groups: &[Group],
+) -> bool
+    requires tell { TellCount R.same_sums (R.count_of asked.now.resource.now) }
+    requires counted { AreCounted (R.count_of asked.now.resource.now) (T.leads asked.now.trails.now)
+        (T.trail asked.now.trails.now) asked.now.labels.now }
+    requires label { IsCounted (R.count_of asked.now.resource.now) (T.leads asked.now.trails.now)
+        (T.trail asked.now.trails.now) asked.now.label.now }
+    ensures { result ≡ list_any (finds_group (test_at R.below R.same_sums
+        (T.trail asked.now.trails.now) asked.now.rule asked.now.labels.now asked.now.label.now) asked.now.most) groups.now }
+{
+    for group in groups {
+        if finds_group::<P, R, T>(asked, group) {
+            return true;
+        }
+    }
+    false
+}
+
+// Whether a label of those that an index has may stand for another label.
+pub(crate) fn is_reached_by<P: Placed, R: Marked<P>, T: Trails>(
+    resource: &R,
+    trails: &T,
+    rule: Rule,
+    index: &Index,
+    labels: &[Label<R::Value>],
+    label: &Label<R::Value>,
+) -> bool
+    requires tell { TellCount R.same_sums (R.count_of resource.now) }
+    requires index { (e : Entry) → Member (entries_from
+        (λ v. R.marks_of resource.now v index.now.moment) 0 labels.now) e
+        → IsGrouped index.now.groups.items e }
+    requires counted { AreCounted (R.count_of resource.now) (T.leads trails.now)
+        (T.trail trails.now) labels.now }
+    requires label { IsCounted (R.count_of resource.now) (T.leads trails.now)
+        (T.trail trails.now) label.now }
+    ensures { result ≡ list_any
+        (λ l. stands_label R.below (same_by R.below R.same_sums rule) (T.trail trails.now) l
+        label.now) labels.now }
+{
+    let most = resource.marks(&label.value, index.moment);
+    let asked = Asked {
+        resource,
+        trails,
+        rule,
+        labels,
+        label,
+        most,
+    };
+    in_groups::<P, R, T>(&asked, &index.groups)
+}
