@@ -13,6 +13,7 @@
 
 mod cost;
 pub mod laws;
+mod marks;
 mod resource;
 mod value;
 
