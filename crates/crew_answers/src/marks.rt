@@ -15,7 +15,7 @@ fn narrow(number: i64) -> i32
     number.clamp(-2_147_483_648, 2_147_483_647) as i32
 }
 
-/// A number that is the lesser, the greater the given one is.
+/// The same of -1 less the number, which falls where the number rises.
 #[inline]
 fn turn(number: i64) -> i32
     ensures { result ≡ turned number }
