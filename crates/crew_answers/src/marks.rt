@@ -61,9 +61,9 @@ impl Marked<Duty> for LongResource {
         ]
     }
 
-    /// The end of the last long rest.
+    /// The end of the last flight duty period, and 0 where there is none.
     #[inline]
     fn moment(&self, value: &LongValue) -> i32 {
-        narrow(value.rest_end.minute)
+        value.recent.history.end()
     }
 }
