@@ -1,5 +1,5 @@
 -- Settings that are checked are in range with their own cap on all flight duty minutes.
-use Rattle.std.proofs.Common.{◌≤◌, arith}
+use Rattle.std.proofs.Common.{arith}
 use Rattle.crew_rules.specs.Settings.{IsChecked}
 use Rattle.crew_rules.specs.declared.settings.Settings.{Settings}
 use Rattle.crew_answers.specs.Ranges.{IsInRange}

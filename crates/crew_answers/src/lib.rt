@@ -8,11 +8,12 @@
 //! are `crew_vector`'s over these partials and vectors. Where settings allow at most 138 hours all of
 //! it is what `crew_vector` defines (`laws`). `LongResource` keeps the three parts of a list from
 //! duty to duty, two of them forgetful: a list has a value exactly where it is a partial, which shows
-//! its vector, so fronts of values show the fronts.
+//! its vector, so fronts of values show the fronts. Values have sixteen marks, which rise with them.
 #![tactic(auto)]
 
 mod cost;
 pub mod laws;
+mod marks;
 mod resource;
 mod value;
 

@@ -25,7 +25,7 @@ fn minutes_of(start: i32, end: i32, t: i32) -> i64
 impl History {
     ghost use Rattle.std.specs.Prelude.{◌↔◌, ◌<◌, ◌<ℤ◌, ◌-ℤ◌, IsTrue, FitsSigned, List, [], length, Option, option_map};
     ghost use Rattle.std.specs.Int.{w32};
-    ghost use Rattle.crew_history.specs.Histories.{minutes_after, IsNoMore, EndsBefore, follows, grown, boarded_history};
+    ghost use Rattle.crew_history.specs.Histories.{minutes_after, IsNoMore, EndsBefore, follows, grown, boarded_history, last_end};
     ghost use Rattle.crew_history.specs.HistoryValues.{periods_of, history_at_most};
 
     /// No periods.
@@ -48,6 +48,18 @@ impl History {
             total += minutes_of(start, end, t);
         }
         total
+    }
+
+    /// The end of the last period, in minutes since 1970-01-01T00:00 UTC; 0 where there is none.
+    #[inline]
+    pub fn end(&self) -> i32
+        ensures { result ≡ last_end (pos 0) (periods_of self.now) }
+    {
+        if self.len == 0 {
+            0
+        } else {
+            self.periods[self.len - 1].1
+        }
     }
 
     /// Whether it has no more duty minutes than another after every instant: asked where its periods
