@@ -1,9 +1,9 @@
 -- Entries in blocks.
 use Rattle.std.proofs.Common.{◌≡◌, true, false, Bool, not, ◌⊎◌, inl, inr, List, [], ◌∷◌, ◌++◌, refl, sym, subst, ap, ◌∙◌, ℤ}
-use Rattle.std.specs.List.{filter, list_any}
+use Rattle.std.specs.List.{filter}
 use Rattle.crew_resource.specs.Members.{Member}
 use Rattle.crew_resource.proofs.Members.{Member-append_left, Member-append_right, Member-append, Member-filter_in}
-use Rattle.crew_label.specs.Machinery.Indexes.{IsGrouped, IsHeld}
+use Rattle.crew_label.specs.Machinery.Indexes.{IsHeld}
 use Rattle.crew_label.specs.Machinery.Marks.{are_at_most}
 use Rattle.crew_label.specs.declared.blocks.Block.{Block}
 use Rattle.crew_label.specs.declared.blocks.Entry.{Entry}
@@ -46,10 +46,10 @@ pub least_more : (es more : List Entry) (x : Entry) (least less : List ℤ) → 
 least_more es more x least less p f s k e m =
     let cases = Member-append es (x ∷ []) e (subst (λ (l : List Entry). Member l e) p m) in
     of cases where
-  of : Member es e ⊎ Member (x ∷ []) e → are_at_most less e.marks ≡ true
-  of (inl h) = at_most_between less least e.marks f (k e h)
-  of (inr (inl q)) = subst (λ (z : Entry). are_at_most less z.marks ≡ true) q s
-  of (inr (inr h)) = absurd h
+      of : Member es e ⊎ Member (x ∷ []) e → are_at_most less e.marks ≡ true
+      of (inl h) = at_most_between less least e.marks f (k e h)
+      of (inr (inl q)) = subst (λ (z : Entry). are_at_most less z.marks ≡ true) q s
+      of (inr (inr h)) = absurd h
 
 -- what is held by blocks and one more
 pub held_split : (blocks : List Block) (b : Block) (e : Entry) → IsHeld (blocks ++ b ∷ []) e

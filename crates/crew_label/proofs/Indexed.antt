@@ -1,18 +1,17 @@
 -- What an index finds.
-use Rattle.std.proofs.Common.{◌≡◌, ℕ, zero, suc, ◌+◌, ◌<◌, Bool, true, false, List, [], ◌∷◌, ◌++◌, Option, Some, None, ℤ, length, get_or, take, inl, inr, refl, sym, ◌∙◌, ap, subst, arith}
-use Rattle.std.specs.Prelude.{slice_get, ◌&&◌}
+use Rattle.std.proofs.Common.{◌≡◌, ℕ, suc, ◌+◌, ◌<◌, Bool, true, false, List, [], ◌∷◌, ◌++◌, Option, Some, None, ℤ, length, get_or, take, inl, inr, refl, sym, ◌∙◌, ap, subst, arith}
+use Rattle.std.specs.Prelude.{slice_get}
 use Rattle.std.specs.List.{list_any}
 use Rattle.std.proofs.lemmas.List.{length-take-le, take_more}
 use Rattle.crew_resource.specs.Members.{Member}
 use Rattle.crew_resource.proofs.Members.{Member-append_left, Member-append_right, Member-at, list_any_true}
 use Rattle.crew_label.specs.Machinery.Indexes.{IsGrouped, IsHeld, entries_from, finds_block, finds_entry, finds_group, passes}
 use Rattle.crew_label.specs.Machinery.Marks.{are_at_most}
-use Rattle.crew_label.specs.declared.blocks.Block.{Block}
 use Rattle.crew_label.specs.declared.blocks.Entry.{Entry}
 use Rattle.crew_label.specs.declared.index.Group.{Group}
 use Rattle.crew_label.specs.declared.label.Label.{Label}
 use Rattle.crew_label.proofs.Listed.{any_here}
-use Rattle.crew_label.proofs.Marked.{and_first, and_second, and_true, at_most_between}
+use Rattle.crew_label.proofs.Marked.{and_second, and_true, at_most_between}
 
 pub grouped_last : (groups new : List Group) (g : Group) (e : Entry) → new ≡ groups ++ g ∷ []
     → are_at_most g.least e.marks ≡ true → IsHeld g.blocks.items e → IsGrouped new e

@@ -1,6 +1,6 @@
 -- Marks, place by place.
-use Rattle.std.proofs.Common.{◌≡◌, true, Bool, ◌≤ℤ◌, ℤ, FitsSigned, to_z, of_z, w32, refl, ap, sym, rules, arith}
-use Rattle.std.specs.Prelude.{◌&&◌, int_le, List, [], ◌∷◌, ℕ, zero, suc, pos, slice_index_or}
+use Rattle.std.proofs.Common.{◌≡◌, true, Bool, ◌≤ℤ◌, ℤ, FitsSigned, to_z, of_z, w32, refl, arith}
+use Rattle.std.specs.Prelude.{◌&&◌, int_le, List, [], ◌∷◌, ℕ, zero, suc}
 use Rattle.crew_forgetful.specs.Marks.{AreAtMost}
 use Rattle.crew_label.specs.Machinery.Marks.{are_at_most, are_from, mark_at}
 use Rattle.std.proofs.lemmas.Int.{to_z-of_z}

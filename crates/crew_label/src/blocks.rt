@@ -1,5 +1,5 @@
 //! Entries of labels, divided into blocks whose marks are near each other.
-ghost use Rattle.std.specs.Prelude.{◌≡◌, ◌≤ℤ◌, true, not, pos, negsuc, slice_index_or, IfOk, OnOk};
+ghost use Rattle.std.specs.Prelude.{◌≡◌, ◌≤ℤ◌, true, not, pos, negsuc, IfOk, OnOk};
 ghost use Rattle.std.specs.List.{filter};
 ghost use Rattle.crew_resource.specs.Members.{Member};
 ghost use Rattle.crew_label.specs.Machinery.Indexes.{IsHeld, is_low};

@@ -20,6 +20,7 @@ use std::alloc::{AllocError, Global};
 
 // How many entries a group and a block have at most, but where marks are alike.
 const GROUP: usize = 256;
+
 const BLOCK: usize = 16;
 
 /// Blocks that lie near each other, and marks that are at most those of each entry.

@@ -43,7 +43,15 @@ pub(crate) fn merge_lists<P: Placed, R: Marked<P>, T: Trails>(
         → Member one.now l ⊎ Member two.now l) }
 {
     take_free::<P, R, T>(alloc, resource, trails, rule, &mut room.free, two, one)?;
-    take_free::<P, R, T>(alloc, resource, trails, rule, &mut room.kept, one, &room.free)?;
+    take_free::<P, R, T>(
+        alloc,
+        resource,
+        trails,
+        rule,
+        &mut room.kept,
+        one,
+        &room.free,
+    )?;
     interleave(resource, &mut room.whole, &room.kept, &room.free)?;
     Ok(())
 }

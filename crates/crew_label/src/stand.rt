@@ -30,7 +30,7 @@ fn is_same<P: Placed, R: Forgets<P>>(resource: &R, rule: Rule, a: &R::Value, b: 
     }
 }
 
-/// Whether a label may stand for another: its value is at most the other's, and its walk too where
+// Whether a label may stand for another: its value is at most the other's, and its walk too where
 // the rule asks it. Walks are compared only there.
 pub(crate) fn may_stand<P: Placed, R: Forgets<P>, T: Trails>(
     resource: &R,
@@ -78,7 +78,7 @@ fn is_reached<P: Placed, R: Forgets<P>, T: Trails>(
 }
 
 // So few labels are tried one by one: an index of them costs more than it saves.
-const FEW: usize = 64;
+const FEW: usize = 32;
 
 // The labels of a list for which none of another list may stand.
 pub(crate) fn take_free<P: Placed, R: Marked<P>, T: Trails>(

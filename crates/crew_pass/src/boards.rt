@@ -14,7 +14,7 @@ ghost use Rattle.crew_pass.specs.Machinery.Passing.{AreFront, IsLatest, IsPassab
 ghost use Rattle.crew_pass.specs.Passes.{CountsDuties};
 
 use crate::ground::{Found, Ground};
-use crew_forgetful::Forgets;
+use crew_forgetful::Marked;
 use crew_label::{Pool, Room, Table, board_pool};
 use crew_pairing::Duty;
 use std::alloc::{AllocError, Global};
@@ -22,7 +22,7 @@ use std::sync::Arc;
 
 // The front of the duty of a rank: what dominance leaves of the labels that board it from the pool of
 // its departure.
-fn duty_front<R: Forgets<Duty>>(
+fn duty_front<R: Marked<Duty>>(
     alloc: Global,
     ground: &Ground<R>,
     table: &Table<R>,
@@ -52,7 +52,7 @@ fn duty_front<R: Forgets<Duty>>(
 }
 
 // Keeps the front of the duty of a rank, and merges it into the pool of the duty's arrival.
-fn keep_front<R: Forgets<Duty>>(
+fn keep_front<R: Marked<Duty>>(
     alloc: Global,
     ground: &Ground<R>,
     table: &Table<R>,
@@ -83,13 +83,13 @@ fn keep_front<R: Forgets<Duty>>(
     let front = Arc::new(alloc, front)?;
     let place = ground.places[rank as usize] as usize;
     let arrival = &mut found.arrivals[place];
-    arrival.merge::<Duty, Table<R>>(ground.resource, table, room, &front)?;
+    arrival.merge::<Duty, Table<R>>(alloc, ground.resource, table, room, &front)?;
     found.fronts[rank as usize] = front;
     Ok(())
 }
 
 /// The fronts of the duties that leave at the departure at a place, whose pool the table had last.
-pub(crate) fn board_duties<R: Forgets<Duty>>(
+pub(crate) fn board_duties<R: Marked<Duty>>(
     alloc: Global,
     ground: &Ground<R>,
     table: &Table<R>,

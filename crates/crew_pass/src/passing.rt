@@ -16,7 +16,7 @@ use crate::course::Course;
 use crate::ground::{Found, Ground};
 use crate::waits::departure_pool;
 use crew_flights::Code;
-use crew_forgetful::Forgets;
+use crew_forgetful::Marked;
 use crew_label::{Pool, Room, Table};
 use crew_pairing::Duty;
 use crew_resource::Resource;
@@ -70,7 +70,7 @@ fn no_labels<R: Resource>(alloc: Global, count: usize) -> Result<Vec<Pool<R>>, A
 }
 
 // The pass goes on by one departure: its pool, and the fronts of its duties.
-fn pass_one<R: Forgets<Duty>>(
+fn pass_one<R: Marked<Duty>>(
     alloc: Global,
     ground: &Ground<R>,
     table: &mut Table<R>,
@@ -107,7 +107,7 @@ fn pass_one<R: Forgets<Duty>>(
 }
 
 /// The pass over all departures, in order of report, whose pools come into a table that has none yet.
-pub(crate) fn pass_all<R: Forgets<Duty>>(
+pub(crate) fn pass_all<R: Marked<Duty>>(
     alloc: Global,
     ground: &Ground<R>,
     mut table: Table<R>,
@@ -138,7 +138,7 @@ pub(crate) fn pass_all<R: Forgets<Duty>>(
 ///
 /// Each departure's pool is made of the empty label, where the base is, and of the labels of all
 /// arrivals in its window; each front is what dominance leaves of the labels that board its duty.
-pub fn pass<R: Forgets<Duty>>(
+pub fn pass<R: Marked<Duty>>(
     alloc: Global,
     course: &Course,
     resource: &R,

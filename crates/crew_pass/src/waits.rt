@@ -14,14 +14,14 @@ ghost use Rattle.crew_pass.specs.Machinery.Passing.{AreCovering, AreGathered, Id
 ghost use Rattle.crew_pass.specs.Passes.{CountsDuties};
 
 use crate::ground::Ground;
-use crew_forgetful::Forgets;
+use crew_forgetful::Marked;
 use crew_label::{Label, Pool, Room, Table, wait_pool};
 use crew_net::Window;
 use crew_pairing::{Arrival, Departure, Duty};
 use std::alloc::{AllocError, Global};
 
 // The empty label of a departure, where the base is.
-fn idle_pool<R: Forgets<Duty>>(
+fn idle_pool<R: Marked<Duty>>(
     alloc: Global,
     ground: &Ground<R>,
     departure: &Departure,
@@ -44,7 +44,7 @@ fn idle_pool<R: Forgets<Duty>>(
 }
 
 // Merges the labels of an arrival, as they stand at a departure, into the departure's pool.
-fn merge_waiting<R: Forgets<Duty>>(
+fn merge_waiting<R: Marked<Duty>>(
     alloc: Global,
     ground: &Ground<R>,
     table: &Table<R>,
@@ -73,12 +73,12 @@ fn merge_waiting<R: Forgets<Duty>>(
     let resource = ground.resource;
     let waited = wait_pool::<Duty, R>(alloc, resource, held, arrival, departure)?;
     let waited = Pool::of_labels::<Duty, Table<R>>(alloc, resource, table, &waited)?;
-    pool.merge::<Duty, Table<R>>(resource, table, room, &waited)?;
+    pool.merge::<Duty, Table<R>>(alloc, resource, table, room, &waited)?;
     Ok(())
 }
 
 // Merges the labels of the arrivals of a departure's window into its pool.
-fn merge_window<R: Forgets<Duty>>(
+fn merge_window<R: Marked<Duty>>(
     alloc: Global,
     ground: &Ground<R>,
     table: &Table<R>,
@@ -124,7 +124,7 @@ fn merge_window<R: Forgets<Duty>>(
 
 /// The pool of the departure at a place: of the empty label, where the base is, and of the labels of
 /// all arrivals in its window, as they stand at the departure.
-pub(crate) fn departure_pool<R: Forgets<Duty>>(
+pub(crate) fn departure_pool<R: Marked<Duty>>(
     alloc: Global,
     ground: &Ground<R>,
     table: &Table<R>,

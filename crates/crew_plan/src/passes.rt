@@ -11,7 +11,7 @@ use std::thread::{Threads, for_each_mut};
 
 // The fewest legal duties for whose passes threads are started: with fewer a thread costs more than
 // it gives.
-const SHARED: usize = 1_000;
+const SHARED: usize = 64;
 
 // In how many threads the passes over a network of so many duties are made.
 fn threads_for(workers: usize, duties: usize) -> usize

@@ -1,4 +1,4 @@
-use Rattle.std.proofs.Common.{◌≡◌, not, take}
+use Rattle.std.proofs.Common.{◌≡◌, take}
 use Rattle.std.specs.List.{filter}
 use Rattle.crew_label.specs.Machinery.Indexes.{is_low}
 use Rattle.crew_label.proofs.blocks.low_side.Given as goal

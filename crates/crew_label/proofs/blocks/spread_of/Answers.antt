@@ -1,4 +1,4 @@
-use Rattle.std.proofs.Common.{◌≡◌, rules, ◌+◌, get_or, take, List, []}
+use Rattle.std.proofs.Common.{◌+◌, get_or, take, []}
 use Rattle.std.proofs.lemmas.List.{take_more}
 use Rattle.crew_label.specs.declared.blocks.Entry.{Entry}
 use Rattle.crew_label.proofs.Held.{least_more}

@@ -1,4 +1,4 @@
-use Rattle.std.proofs.Common.{◌≡◌, ℕ, ℤ, true, not, List, FitsSigned, ap, rules, sym, subst, ◌∙◌, w32}
+use Rattle.std.proofs.Common.{◌≡◌, ℤ, true, not, List, FitsSigned, ap, rules, sym, subst, ◌∙◌, w32}
 use Rattle.std.specs.Prelude.{slice_get, ◌||◌}
 use Rattle.std.specs.List.{list_any}
 use Rattle.std.proofs.lemmas.Int.{to_z-of_z}
@@ -25,9 +25,9 @@ returns g c =
     let trail = g.T.Trails.trail c.args.trails.now in
     let test = λ (l : Label g.row.R-Value.Denot). stands_label g.R.Resource.below same trail l c.args.label.now in
     let asked = λ (l : Label g.row.R-Value.Denot) (m : Member c.args.labels.now l) (s : test l ≡ true).
-        subst (λ (q : List ℤ). are_at_most (marks l.value) q ≡ true) (sym told)
-        (asked_of (marks l.value) (marks c.args.label.now.value) (g.met.R.Marked.marks_rise r t l.value c.args.label.now.value
-        (and_first (g.R.Resource.below l.value c.args.label.now.value) (not (same l.value c.args.label.now.value) || ranks_at_most (walk_of trail l.before) (walk_of trail c.args.label.now.before)) s))) in
+    subst (λ (q : List ℤ). are_at_most (marks l.value) q ≡ true) (sym told)
+    (asked_of (marks l.value) (marks c.args.label.now.value) (g.met.R.Marked.marks_rise r t l.value c.args.label.now.value
+    (and_first (g.R.Resource.below l.value c.args.label.now.value) (not (same l.value c.args.label.now.value) || ranks_at_most (walk_of trail l.before) (walk_of trail c.args.label.now.before)) s))) in
     c.in_groups.ensures
     ∙ (ap (λ (gs : List Group). list_any (finds_group (λ place. passes test (slice_get c.args.labels.now place)) c.marks-most.result) gs) c.deref.ensures.value
     ∙ found_is_any marks c.args.labels.now c.args.index.now.groups.items test c.marks-most.result c.requires.index asked)

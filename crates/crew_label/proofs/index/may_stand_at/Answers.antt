@@ -1,4 +1,4 @@
-use Rattle.std.proofs.Common.{◌≡◌, ap, sym, ◌∙◌}
+use Rattle.std.proofs.Common.{ap, sym, ◌∙◌}
 use Rattle.crew_resource.proofs.Members.{Member-at}
 use Rattle.crew_label.specs.Machinery.Indexes.{passes}
 use Rattle.crew_label.specs.Machinery.Rules.{same_by}

@@ -1,4 +1,4 @@
-use Rattle.std.proofs.Common.{rules, ◌≡◌, true, ℕ, ℤ, pos, refl, FitsSigned, w32}
+use Rattle.std.proofs.Common.{rules, refl}
 use Rattle.crew_label.specs.Machinery.Marks.{are_at_most, mark_at}
 use Rattle.crew_label.proofs.Marked.{and_same, le_same}
 use Rattle.crew_label.proofs.marks.are_at_most.Goals as goal

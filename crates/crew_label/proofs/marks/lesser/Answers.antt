@@ -1,4 +1,4 @@
-use Rattle.std.proofs.Common.{rules, ◌≡◌, true, ℕ, ℤ, pos, refl, FitsSigned, w32}
+use Rattle.std.proofs.Common.{rules, refl}
 use Rattle.crew_label.specs.Machinery.Marks.{are_at_most, mark_at}
 use Rattle.crew_label.proofs.Marked.{and_true, le_true}
 use Rattle.crew_label.proofs.marks.lesser.Goals as goal
