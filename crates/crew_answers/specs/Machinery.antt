@@ -3,3 +3,4 @@ pub mod Joined
 pub mod JoinedLaws
 pub mod Marks
 pub mod Ranks
+pub mod Lapses

@@ -12,6 +12,7 @@
 #![tactic(auto)]
 
 mod cost;
+mod lapses;
 pub mod laws;
 mod marks;
 mod resource;

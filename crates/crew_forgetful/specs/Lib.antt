@@ -1,4 +1,5 @@
 pub mod Forgetful
+pub mod Lapses
 pub mod Marks
 pub mod Misleading
 pub mod Sweeps

@@ -9,14 +9,17 @@
 //! crate promises that such a pool is one for each list of labels and is made label by label
 //! (`offer`), that pools merge in any order, and that fronts filtered from such pools are those of
 //! all labels (`laws`). Of a resource with marks (`Marked`) a glance tells most pairs of values that
-//! are in no order.
+//! are in no order, and one that tells what lapses (`Lapses`) spares the labels that stand to each
+//! other as they did.
 #![tactic(auto)]
 
 mod forgets;
+mod lapses;
 pub mod laws;
 mod marked;
 mod pool;
 
 pub use forgets::{Forgets, stands_for};
+pub use lapses::Lapses;
 pub use marked::Marked;
 pub use pool::offer;

@@ -7,3 +7,4 @@ pub mod HistoryOfList
 pub mod OfDuties
 pub mod LegalOrder
 pub mod ShortPairings
+pub mod Uncut

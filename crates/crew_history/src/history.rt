@@ -25,7 +25,7 @@ fn minutes_of(start: i32, end: i32, t: i32) -> i64
 impl History {
     ghost use Rattle.std.specs.Prelude.{◌↔◌, ◌<◌, ◌<ℤ◌, ◌-ℤ◌, IsTrue, FitsSigned, List, [], length, Option, option_map};
     ghost use Rattle.std.specs.Int.{w32};
-    ghost use Rattle.crew_history.specs.Histories.{minutes_after, IsNoMore, EndsBefore, follows, grown, boarded_history, last_end};
+    ghost use Rattle.crew_history.specs.Histories.{minutes_after, IsNoMore, EndsBefore, follows, grown, boarded_history, last_end, begins_before};
     ghost use Rattle.crew_history.specs.HistoryValues.{periods_of, history_at_most};
 
     /// No periods.
@@ -60,6 +60,14 @@ impl History {
         } else {
             self.periods[self.len - 1].1
         }
+    }
+
+    /// Whether it has a period that starts before an instant.
+    #[inline]
+    pub fn begins_before(&self, t: i64) -> bool
+        ensures { result ≡ begins_before (periods_of self.now) t }
+    {
+        self.len > 0 && i64::from(self.periods[0].0) < t
     }
 
     /// Whether it has no more duty minutes than another after every instant: asked where its periods

@@ -1,5 +1,5 @@
 //! Laws over the definitions alone.
-ghost use Rattle.std.specs.Prelude.{◌≡◌, ◌≤◌, ℕ, Bool, true, IsTrue, ◌↔◌, ℤ, pos, ◌-ℤ◌, ◌≤ℤ◌, ◌<ℤ◌, List, [], ◌∷◌, ◌++◌, map, Option, Some};
+ghost use Rattle.std.specs.Prelude.{◌≡◌, ◌≤◌, ℕ, Bool, true, false, IsTrue, ◌↔◌, ℤ, pos, ◌-ℤ◌, ◌≤ℤ◌, ◌<ℤ◌, List, [], ◌∷◌, ◌++◌, map, Option, Some};
 ghost use Rattle.crew_flights.specs.Timetable.{IsSound, Timetable};
 ghost use Rattle.crew_rules.specs.declared.settings.Settings.{Settings};
 ghost use Rattle.crew_pairing.specs.Duties.{flights_of};
@@ -7,7 +7,7 @@ ghost use Rattle.crew_pairing.specs.Pairings.{AllRested, IsDuty, IsPartial};
 ghost use Rattle.crew_pairing.specs.declared.duty.Duty.{Duty};
 ghost use Rattle.crew_resource.specs.Members.{Each, Member};
 ghost use Rattle.crew_resource.specs.Resource.{OrderLaws};
-ghost use Rattle.crew_history.specs.Histories.{minutes_after, IsHistory, IsNoMore, is_no_more, cut, grown, EndsBefore, minutes_within, KeepsCap, boarded_history, history_from};
+ghost use Rattle.crew_history.specs.Histories.{minutes_after, IsHistory, IsNoMore, is_no_more, cut, grown, EndsBefore, minutes_within, KeepsCap, boarded_history, history_from, begins_before};
 ghost use Rattle.crew_history.specs.HistoryValues.{periods_of, history_at_most};
 ghost use Rattle.crew_history.specs.Limits.{AreInOrder, IsFreeBeforeReports, KeepsWindows, history_of, period_of, since_rest};
 ghost use Rattle.crew_history.specs.LongPairings.{IsLongPartial};
@@ -69,7 +69,8 @@ pub fn histories_are_ordered()
 {}
 
 /// One period more, and the cut to the window that ends with it, keep histories and their order;
-/// what was cut off before is not missed.
+/// what was cut off before is not missed. Where nothing of the lesser is cut off, it was no more
+/// before.
 pub fn histories_grow_in_order()
     ensures history { (window : ℤ) (h : List (ℤ × ℤ)) (p : ℤ × ℤ) → IsHistory h
         → EndsBefore h p.0 → p.0 <ℤ p.1 → IsHistory (grown window h p) }
@@ -81,6 +82,9 @@ pub fn histories_grow_in_order()
     ensures cut_before { (window c : ℤ) (h : List (ℤ × ℤ)) (p : ℤ × ℤ) → IsHistory h
         → EndsBefore h p.0 → p.0 <ℤ p.1 → c ≤ℤ (p.1 -ℤ window)
         → grown window (cut c h) p ≡ grown window h p }
+    ensures uncut { (window : ℤ) (h k : List (ℤ × ℤ)) (p : ℤ × ℤ) → IsHistory h
+        → begins_before h (p.1 -ℤ window) ≡ false
+        → IsNoMore (grown window h p) (grown window k p) → IsNoMore h k }
 {}
 
 /// Of the windows only those that end with a period need testing: with one period more only its

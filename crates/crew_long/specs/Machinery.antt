@@ -4,3 +4,4 @@ pub mod RestOrder
 pub mod RestStages
 pub mod Counted
 pub mod RecentStages
+pub mod Lapsing

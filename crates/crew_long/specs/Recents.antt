@@ -1,7 +1,7 @@
 -- The flight duty periods of the last window, kept from duty to duty, with a switch.
-use Rattle.std.specs.Prelude.{Bool, ◌&&◌, nat_le, nat_lt, int_le, ℤ, pos, List}
+use Rattle.std.specs.Prelude.{Bool, ◌&&◌, nat_le, nat_lt, int_le, ℤ, pos, ◌-ℤ◌, List}
 use Rattle.crew_pairing.specs.declared.duty.Duty.{Duty}
-use Rattle.crew_history.specs.Histories.{may_board}
+use Rattle.crew_history.specs.Histories.{begins_before, may_board}
 use Rattle.crew_history.specs.HistoryValues.{periods_of, history_at_most}
 use Rattle.crew_history.specs.Limits.{period_of}
 use Rattle.crew_long.specs.declared.recent.Recent.{Recent}
@@ -23,3 +23,7 @@ is_dated d = int_le (pos 0) d.report && int_le d.report (pos 2_000_000_000)
 abbrev pub may_take : ℤ → Recent → Duty → Bool
 may_take cap v d =
     nat_lt v.duties 12 && (is_dated d && may_board (pos 10_080) cap (recent_periods v) (period_of d))
+
+-- one of its periods starts before the 10,080 minutes that end with the duty's flight duty period
+abbrev pub is_cut : Bool → Recent → Duty → Bool
+is_cut is_on v d = is_on && begins_before (recent_periods v) ((period_of d).1 -ℤ pos 10_080)

@@ -1,5 +1,5 @@
 -- The end of the last long rest, kept from duty to duty, with a switch.
-use Rattle.std.specs.Prelude.{Bool, cond, not, ◌||◌, int_le, ℤ, pos, ◌-ℤ◌, Option, Some, None}
+use Rattle.std.specs.Prelude.{Bool, cond, not, ◌&&◌, ◌||◌, int_le, ℤ, pos, ◌-ℤ◌, Option, Some, None}
 use Rattle.std.specs.Ordering.{int_cmp}
 use Rattle.std.specs.declared.cmp.Ordering.{Ordering}
 use Rattle.crew_pairing.specs.declared.duty.Duty.{Duty}
@@ -33,3 +33,11 @@ board_rest is_on v d = cond (not is_on || int_le (d.report -ℤ v.minute) (pos 8
 
 abbrev pub rest_end_at : ℤ → RestEnd
 rest_end_at minute = record { minute = minute }
+
+-- a wait is a rest of 1,800 minutes or more, which sets the end anew
+abbrev pub is_rest : Bool → Arrival → Departure → Bool
+is_rest is_on x g = is_on && int_le (pos 1_800) (g.report -ℤ x.release)
+
+-- one end for all before a rest; off, the end itself
+abbrev pub rested_end : Bool → RestEnd → RestEnd
+rested_end is_on v = cond is_on (rest_end_at (pos 0)) v

@@ -5,7 +5,7 @@ ghost use Rattle.crew_pairing.specs.Events.{IsSound, MayFollow, arrival_of, depa
 ghost use Rattle.crew_resource.specs.Machinery.SumLaws.{no_grades};
 ghost use Rattle.crew_resource.specs.Machinery.SumStages.{no_counting};
 ghost use Rattle.crew_forgetful.specs.Machinery.Sums.{staged_forgetful};
-ghost use Rattle.crew_long.specs.RestEnds.{rest_end_at_most, idle_rest, wait_rest, board_rest};
+ghost use Rattle.crew_long.specs.RestEnds.{rest_end_at_most, idle_rest, wait_rest, board_rest, is_rest, rested_end};
 ghost use Rattle.crew_long.specs.Machinery.Folds.{value_by};
 ghost use Rattle.crew_long.specs.Machinery.RestOrder.{rest_end_order};
 ghost use Rattle.crew_long.specs.Machinery.RestStages.{open_rest, extend_rest, rest_steps, rest_staged, rest_shifts, rest_bounds};
@@ -27,6 +27,27 @@ pub struct SinceRest {
 }
 
 impl SinceRest {
+    /// Whether a wait is a rest of 1,800 minutes or more, which sets the end anew.
+    #[inline]
+    pub fn is_rest(&self, arrival: &Arrival, departure: &Departure) -> bool
+        requires { MayFollow arrival.now departure.now }
+        ensures { result ≡ is_rest self.now.is_on arrival.now departure.now }
+    {
+        self.is_on && departure.report - arrival.release >= 1_800
+    }
+
+    /// One end for all before a rest, which sets each of them anew. Off, the end itself.
+    #[inline]
+    pub fn rested_end(&self, value: &RestEnd) -> RestEnd
+        ensures { result ≡ rested_end self.now.is_on value.now }
+    {
+        if self.is_on {
+            RestEnd { minute: 0 }
+        } else {
+            *value
+        }
+    }
+
     #[inline]
     fn rested(&self, value: RestEnd, release: i64, report: i64) -> RestEnd
         requires { FitsSigned w64 (report -ℤ release) }

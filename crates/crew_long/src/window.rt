@@ -4,7 +4,7 @@ ghost use Rattle.crew_pairing.specs.Events.{IsSound};
 ghost use Rattle.crew_resource.specs.Machinery.SumLaws.{no_grades};
 ghost use Rattle.crew_resource.specs.Machinery.SumStages.{no_counting};
 ghost use Rattle.crew_forgetful.specs.Machinery.Sums.{staged_forgetful};
-ghost use Rattle.crew_long.specs.Recents.{recent_at_most};
+ghost use Rattle.crew_long.specs.Recents.{recent_at_most, is_cut};
 ghost use Rattle.crew_long.specs.Machinery.Folds.{value_by};
 ghost use Rattle.crew_long.specs.Machinery.RecentStages.{idle_recent, wait_recent, board_recent, open_recent, extend_recent, recent_order, recent_steps, recent_staged, recent_shifts, recent_bounds};
 
@@ -36,6 +36,16 @@ fn empty() -> Recent
 }
 
 impl Window {
+    /// Whether a period of a value starts before the 10,080 minutes that end with a duty's flight
+    /// duty period, so that the duty's boarding cuts it.
+    #[inline]
+    pub fn is_cutting(&self, value: &Recent, item: &Duty) -> bool
+        ensures { result ≡ is_cut self.now.is_on value.now item.now }
+    {
+        let arrival = i64::from(item.report) + i64::from(item.fdp);
+        self.is_on && value.history.begins_before(arrival - 10_080)
+    }
+
     #[inline]
     fn taken(&self, value: &Recent, item: &Duty) -> Option<Recent>
         requires { IsSound item.now }
