@@ -11,4 +11,7 @@ pub mod Tabled
 pub mod Shifts
 pub mod Marked
 pub mod Held
+pub mod Waiting
 pub mod Indexed
+pub mod Runs
+pub mod Parted

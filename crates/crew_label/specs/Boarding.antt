@@ -1,5 +1,6 @@
 -- Labels after a stage: those of a pool that board an item, and labels that wait.
 use Rattle.std.specs.Prelude.{◌≡◌, ℕ, ◌+◌, Bool, true, List, [], ◌∷◌, ◌++◌, Option, Some, None, slice_get}
+use Rattle.crew_resource.specs.Members.{Member}
 use Rattle.crew_label.specs.Walks.{walk_of}
 use Rattle.crew_label.specs.declared.label.Label.{Label}
 use Rattle.crew_label.specs.declared.label.Link.{Link}
@@ -27,3 +28,7 @@ pub record LeadInto {V : Type 0} (leads : Link → Bool) (trail : Link → List 
       → leads (record { duty = duty; place = k }) ≡ true
   pub walk : (k : ℕ) (l : Label V) → slice_get pool k ≡ Some l
       → trail (record { duty = duty; place = k }) ≡ walk_of trail l.before ++ duty ∷ []
+
+-- each value is one that a rest goes by
+abbrev pub AreRested : {V : Type 0} → (V → V) → List (Label V) → Type 0
+AreRested {V} rested labels = (l : Label V) → Member labels l → (v : V) × (l.value ≡ rested v)

@@ -3,3 +3,4 @@ pub mod Indexes
 pub mod Marks
 pub mod Merges
 pub mod Rules
+pub mod Runs

@@ -1,6 +1,7 @@
 //! Labels that board, and labels that wait.
 ghost use Rattle.std.specs.Prelude.{◌≡◌, ◌++◌, ◌∷◌, [], ℕ, Bool, List, Some, map, IfOk, OnOk};
 ghost use Rattle.std.specs.List.{flat_map};
+ghost use Rattle.std.specs.declared.cmp.Ordering.TheVariants.{Less};
 ghost use Rattle.crew_resource.specs.Events.{labelled};
 ghost use Rattle.crew_resource.specs.Members.{Member};
 ghost use Rattle.crew_label.specs.Boarding.{LeadInto, boarded_from, linked, waited_label};
@@ -15,7 +16,7 @@ use crew_resource::{Placed, Resource, Staged};
 use std::alloc::{AllocError, Global};
 
 // The most labels of a pool that a link can tell apart.
-const MOST: usize = 0xffff_ffff;
+pub(crate) const MOST: usize = 0xffff_ffff;
 
 /// The labels of a departure's pool that board an item, in the pool's order: each with its value at
 /// the item's end, and a link to where it stood.
@@ -63,7 +64,7 @@ pub fn board_pool<P: Placed, R: Staged<P>>(
 }
 
 // A value boards an item, if it can.
-fn board_label<P: Placed, R: Staged<P>>(
+pub(crate) fn board_label<P: Placed, R: Staged<P>>(
     resource: &R,
     view: &mut Vec<Label<R::Value>>,
     value: &R::Value,
@@ -102,6 +103,11 @@ pub fn wait_pool<P: Placed, R: Staged<P>>(
         → AreCounted (R.count_of resource.now) leads trail pool.now
         → AreCounted (R.count_of resource.now) leads trail waited.items) }
     ensures rises { IfOk result (λ waited. R.is_shift resource.now
+        → AreRising R.Value.cmp waited.items) }
+    ensures listed { IfOk result (λ waited. ((a b : Label R.Value) → Member pool.now a
+        → Member pool.now b → R.Value.cmp a.value b.value ≡ Less
+        → R.Value.cmp (R.waited resource.now a.value arrival.now departure.now)
+        (R.waited resource.now b.value arrival.now departure.now) ≡ Less)
         → AreRising R.Value.cmp waited.items) }
 {
     let mut waited = Vec::new(alloc);

@@ -59,7 +59,7 @@ fn copy_labels<R: Resource>(
 }
 
 // Two lists merged, as a list of its own.
-fn merged<P: Placed, R: Marked<P>, T: Trails>(
+pub(crate) fn merged<P: Placed, R: Marked<P>, T: Trails>(
     alloc: Global,
     resource: &R,
     trails: &T,

@@ -7,9 +7,15 @@
 //! walks (`crew_forgetful`), so a resource may forget a part of its values. A `Table` has the pools
 //! of departures; `Pool::merge` merges whole pools, `board_pool` and `wait_pool` take a pool's
 //! labels through a stage, and `Pool::front_of` and `Pool::of_labels` make a front and a pool of
-//! what comes of it. Where nothing is forgotten, neither is needed (`laws`).
+//! what comes of it. Which labels may stand for another is looked up in an index, by their marks
+//! (`index`), so that `Pool::merge` and these two compare few pairs of many. Of a resource that tells
+//! what lapses `front_aboard` boards a pool's labels and makes their front at once: it compares anew
+//! only those of which something lapses, or whose sums are the same; and after a wait `Pool::waited`
+//! takes a pool as it stands, where it is no rest, or the pool that every rest goes by
+//! (`Pool::rested`). Where nothing is forgotten, no front and no pool has to be made (`laws`).
 #![tactic(auto)]
 
+mod aboard;
 mod blocks;
 mod board;
 mod gather;
@@ -24,7 +30,9 @@ mod room;
 mod stand;
 mod table;
 mod trails;
+mod waited;
 
+pub use aboard::front_aboard;
 pub use board::{board_pool, wait_pool};
 pub use label::{Label, Link};
 pub use pool::Pool;

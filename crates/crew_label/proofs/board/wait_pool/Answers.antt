@@ -6,6 +6,7 @@ use Rattle.crew_label.specs.Pools.{AreCounted, AreRising}
 use Rattle.crew_label.specs.declared.label.Label.{Label}
 use Rattle.crew_label.proofs.Boarded.{waited_counted, waited_rises}
 use Rattle.crew_label.proofs.Listed.{mapped_all}
+use Rattle.crew_label.proofs.Waiting.{rises-on}
 use Rattle.crew_label.proofs.board.wait_pool.Goals as goal
 
 pub wait-value-requires : goal.wait-value-requires
@@ -27,3 +28,10 @@ returns-clause-rises g c s =
     let wait = λ (v : g.row.R-Value.Denot). g.R.Staged.waited r v c.args.arrival.now c.args.departure.now in
     subst (AreRising g.R.Value.Ord.cmp) (sym (c.loop-label.invariant ∙ mapped_all (waited_label wait) c.as_slice-label-items.result.now c.args.pool.now c.loop-label.label-index c.as_slice-label-items.ensures.all c.loop-label-test.false))
     (waited_rises wait g.R.Value.Ord.cmp (λ a b. (g.met.R.Staged.shifting r s).wait_listed a b c.args.arrival.now c.args.departure.now) c.args.pool.now c.as_slice-label-items.ensures.rises)
+
+pub returns-clause-listed : goal.returns-clause-listed
+returns-clause-listed g c keeps =
+    let r = c.args.resource.now in
+    let wait = λ (v : g.row.R-Value.Denot). g.R.Staged.waited r v c.args.arrival.now c.args.departure.now in
+    subst (AreRising g.R.Value.Ord.cmp) (sym (c.loop-label.invariant ∙ mapped_all (waited_label wait) c.as_slice-label-items.result.now c.args.pool.now c.loop-label.label-index c.as_slice-label-items.ensures.all c.loop-label-test.false))
+    (rises-on g.R.Value.Ord.cmp wait c.args.pool.now keeps c.as_slice-label-items.ensures.rises)
