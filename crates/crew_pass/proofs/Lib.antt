@@ -10,3 +10,4 @@ pub mod Departures
 pub mod Keyed
 pub mod Covering
 pub mod Alike
+pub mod Rested

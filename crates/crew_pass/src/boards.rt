@@ -10,19 +10,19 @@ ghost use Rattle.crew_pairing.specs.Events.{IsSound};
 ghost use Rattle.crew_pairing.specs.declared.duty.Duty.{Duty};
 ghost use Rattle.crew_resource.specs.Members.{Member};
 ghost use Rattle.crew_pass.specs.Machinery.Held.{AreHeld, leads_of, trail_of};
-ghost use Rattle.crew_pass.specs.Machinery.Passing.{AreFront, IsLatest, IsPassable, IsTakenIn, IsUnderWay, ways};
+ghost use Rattle.crew_pass.specs.Machinery.Passing.{AreFront, AreRestedOf, IsClean, IsLatest, IsPassable, IsTakenIn, IsUnderWay, ways};
 ghost use Rattle.crew_pass.specs.Passes.{CountsDuties};
 
 use crate::ground::{Found, Ground};
-use crew_forgetful::Marked;
-use crew_label::{Pool, Room, Table, board_pool};
+use crew_forgetful::Lapses;
+use crew_label::{Pool, Room, Table, front_aboard};
 use crew_pairing::Duty;
 use std::alloc::{AllocError, Global};
 use std::sync::Arc;
 
 // The front of the duty of a rank: what dominance leaves of the labels that board it from the pool of
 // its departure.
-fn duty_front<R: Marked<Duty>>(
+fn duty_front<R: Lapses<Duty>>(
     alloc: Global,
     ground: &Ground<R>,
     table: &Table<R>,
@@ -36,6 +36,9 @@ fn duty_front<R: Marked<Duty>>(
     requires into { LeadInto (leads_of table.now) (trail_of table.now) rank pool.now }
     requires pool { AreHeld (R.count_of ground.now.resource.now) (R.ready ground.now.resource.now)
         (R.most ground.now.resource.now) (length ground.now.net.now.duties) table.now pool.now }
+    requires clean { IsClean (ways R.below R.same_sums
+        (R.idle_of ground.now.resource.now) (R.waited ground.now.resource.now)
+        (R.boards ground.now.resource.now)) (trail_of table.now) pool.now }
     ensures front { IfOk result (λ front. (d : Duty)
         → slice_get ground.now.net.now.duties rank ≡ Some d → AreFront (ways R.below R.same_sums
         (R.idle_of ground.now.resource.now) (R.waited ground.now.resource.now)
@@ -47,12 +50,11 @@ fn duty_front<R: Marked<Duty>>(
         (length ground.now.net.now.duties) table.now) }
 {
     let duty = &ground.net.duties().as_slice()[rank as usize];
-    let view = board_pool::<Duty, R>(alloc, ground.resource, pool, duty, rank)?;
-    Pool::front_of::<Duty, Table<R>>(alloc, ground.resource, table, &view)
+    front_aboard::<Duty, R, Table<R>>(alloc, ground.resource, table, pool, duty, rank)
 }
 
 // Keeps the front of the duty of a rank, and merges it into the pool of the duty's arrival.
-fn keep_front<R: Marked<Duty>>(
+fn keep_front<R: Lapses<Duty>>(
     alloc: Global,
     ground: &Ground<R>,
     table: &Table<R>,
@@ -70,6 +72,12 @@ fn keep_front<R: Marked<Duty>>(
     requires held { (labels : List (Label R.Value)) → Member found.old.arrivals.items labels
         → AreHeld (R.count_of ground.now.resource.now) (R.arrived ground.now.resource.now)
         (R.most ground.now.resource.now) (length ground.now.net.now.duties) table.now labels }
+    requires rested { AreRestedOf (ways R.below R.same_sums
+        (R.idle_of ground.now.resource.now) (R.waited ground.now.resource.now)
+        (R.boards ground.now.resource.now)) (R.rested_of ground.now.resource.now)
+        (R.count_of ground.now.resource.now) (R.arrived ground.now.resource.now)
+        (R.most ground.now.resource.now) (length ground.now.net.now.duties) table.now
+        found.old.arrivals.items found.old.rested.items }
     requires front { AreHeld (R.count_of ground.now.resource.now)
         (R.arrived ground.now.resource.now) (R.most ground.now.resource.now)
         (length ground.now.net.now.duties) table.now front }
@@ -79,17 +87,24 @@ fn keep_front<R: Marked<Duty>>(
         (R.count_of ground.now.resource.now) (R.arrived ground.now.resource.now)
         (R.most ground.now.resource.now) (length ground.now.net.now.duties) table.now front
         (get_or ground.now.places.now rank 0) found.old.arrivals.items found.new.arrivals.items) }
+    ensures rested { OnOk result (AreRestedOf (ways R.below R.same_sums
+        (R.idle_of ground.now.resource.now) (R.waited ground.now.resource.now)
+        (R.boards ground.now.resource.now)) (R.rested_of ground.now.resource.now)
+        (R.count_of ground.now.resource.now) (R.arrived ground.now.resource.now)
+        (R.most ground.now.resource.now) (length ground.now.net.now.duties) table.now
+        found.new.arrivals.items found.new.rested.items) }
 {
     let front = Arc::new(alloc, front)?;
     let place = ground.places[rank as usize] as usize;
     let arrival = &mut found.arrivals[place];
     arrival.merge::<Duty, Table<R>>(alloc, ground.resource, table, room, &front)?;
+    found.rested[place] = Pool::new(alloc);
     found.fronts[rank as usize] = front;
     Ok(())
 }
 
 /// The fronts of the duties that leave at the departure at a place, whose pool the table had last.
-pub(crate) fn board_duties<R: Marked<Duty>>(
+pub(crate) fn board_duties<R: Lapses<Duty>>(
     alloc: Global,
     ground: &Ground<R>,
     table: &Table<R>,
@@ -102,6 +117,15 @@ pub(crate) fn board_duties<R: Marked<Duty>>(
     requires counts { CountsDuties R.same_sums (R.count_of ground.now.resource.now)
         (R.most ground.now.resource.now) (R.fits ground.now.resource.now) }
     requires latest { IsLatest ground.now.net.now table.now place pool.now }
+    requires clean { IsClean (ways R.below R.same_sums
+        (R.idle_of ground.now.resource.now) (R.waited ground.now.resource.now)
+        (R.boards ground.now.resource.now)) (trail_of table.now) pool.now }
+    requires rested { AreRestedOf (ways R.below R.same_sums
+        (R.idle_of ground.now.resource.now) (R.waited ground.now.resource.now)
+        (R.boards ground.now.resource.now)) (R.rested_of ground.now.resource.now)
+        (R.count_of ground.now.resource.now) (R.arrived ground.now.resource.now)
+        (R.most ground.now.resource.now) (length ground.now.net.now.duties) table.now
+        found.old.arrivals.items found.old.rested.items }
     requires way { IsUnderWay (ways R.below R.same_sums (R.idle_of ground.now.resource.now)
         (R.waited ground.now.resource.now) (R.boards ground.now.resource.now))
         (R.count_of ground.now.resource.now) (R.ready ground.now.resource.now)
@@ -109,13 +133,19 @@ pub(crate) fn board_duties<R: Marked<Duty>>(
         ground.now.base ground.now.turns.now table.now (map arc_value found.old.fronts.items)
         found.old.arrivals.items
         (λ rank. get_or ground.now.turns.now rank 0 + 1 < length table.now.pools) }
-    ensures { OnOk result (IsUnderWay (ways R.below R.same_sums
+    ensures way { OnOk result (IsUnderWay (ways R.below R.same_sums
         (R.idle_of ground.now.resource.now) (R.waited ground.now.resource.now)
         (R.boards ground.now.resource.now)) (R.count_of ground.now.resource.now)
         (R.ready ground.now.resource.now) (R.arrived ground.now.resource.now)
         (R.most ground.now.resource.now) ground.now.net.now ground.now.base ground.now.turns.now
         table.now (map arc_value found.new.fronts.items) found.new.arrivals.items
         (λ rank. get_or ground.now.turns.now rank 0 < length table.now.pools)) }
+    ensures rested { OnOk result (AreRestedOf (ways R.below R.same_sums
+        (R.idle_of ground.now.resource.now) (R.waited ground.now.resource.now)
+        (R.boards ground.now.resource.now)) (R.rested_of ground.now.resource.now)
+        (R.count_of ground.now.resource.now) (R.arrived ground.now.resource.now)
+        (R.most ground.now.resource.now) (length ground.now.net.now.duties) table.now
+        found.new.arrivals.items found.new.rested.items) }
 {
     let ranks = ground.net.leaving(place);
     for rank in ranks {

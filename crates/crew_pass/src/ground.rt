@@ -18,9 +18,11 @@ pub(crate) struct Ground<'a, 'r, R> {
 }
 
 /// What a pass has found so far beside the pools of departures: the fronts of duties by rank, none
-/// yet where the duty is still to come, and the pools of arrivals by place.
+/// yet where the duty is still to come, and the pools of arrivals by place, with those of what a rest
+/// there goes by: none where it isn't made yet.
 #[derive(Drop)]
 pub(crate) struct Found<R: Resource> {
     pub(crate) fronts: Vec<Arc<Pool<R>, Global>>,
     pub(crate) arrivals: Vec<Pool<R>>,
+    pub(crate) rested: Vec<Pool<R>>,
 }

@@ -7,7 +7,7 @@ ghost use Rattle.crew_label.specs.declared.label.Label.{Label};
 ghost use Rattle.crew_pairing.specs.Events.{IsSound, arrival_of, departure_of};
 ghost use Rattle.crew_pairing.specs.declared.duty.Duty.{Duty};
 ghost use Rattle.crew_resource.specs.Members.{Member};
-ghost use Rattle.crew_pass.specs.Machinery.Passing.{HasPassed, IsPassable, IsUnderWay, ways};
+ghost use Rattle.crew_pass.specs.Machinery.Passing.{AreRestedOf, HasPassed, IsPassable, IsUnderWay, ways};
 ghost use Rattle.crew_pass.specs.Passes.{CountsDuties, IsCoveredBy};
 
 use crate::base_fronts::BaseFronts;
@@ -16,7 +16,7 @@ use crate::course::Course;
 use crate::ground::{Found, Ground};
 use crate::waits::departure_pool;
 use crew_flights::Code;
-use crew_forgetful::Marked;
+use crew_forgetful::Lapses;
 use crew_label::{Pool, Room, Table};
 use crew_pairing::Duty;
 use crew_resource::Resource;
@@ -32,10 +32,18 @@ impl<R: Resource> Found<R> {
             → Member (map arc_value found.fronts.items) labels → labels ≡ []) }
         ensures no_labels { IfOk result (λ found. (labels : List (Label R.Value))
             → Member found.arrivals.items labels → labels ≡ []) }
+        ensures rested { IfOk result (λ found. length found.rested.items ≡ arrivals) }
+        ensures no_rested { IfOk result (λ found. (labels : List (Label R.Value))
+            → Member found.rested.items labels → labels ≡ []) }
     {
         let fronts = no_fronts(alloc, duties)?;
+        let rested = no_labels(alloc, arrivals)?;
         let arrivals = no_labels(alloc, arrivals)?;
-        Ok(Found { fronts, arrivals })
+        Ok(Found {
+            fronts,
+            arrivals,
+            rested,
+        })
     }
 }
 
@@ -70,7 +78,7 @@ fn no_labels<R: Resource>(alloc: Global, count: usize) -> Result<Vec<Pool<R>>, A
 }
 
 // The pass goes on by one departure: its pool, and the fronts of its duties.
-fn pass_one<R: Marked<Duty>>(
+fn pass_one<R: Lapses<Duty>>(
     alloc: Global,
     ground: &Ground<R>,
     table: &mut Table<R>,
@@ -89,6 +97,12 @@ fn pass_one<R: Marked<Duty>>(
         ground.now.base ground.now.turns.now table.old (map arc_value found.old.fronts.items)
         found.old.arrivals.items
         (λ rank. get_or ground.now.turns.now rank 0 < length table.old.pools) }
+    requires rested { AreRestedOf (ways R.below R.same_sums
+        (R.idle_of ground.now.resource.now) (R.waited ground.now.resource.now)
+        (R.boards ground.now.resource.now)) (R.rested_of ground.now.resource.now)
+        (R.count_of ground.now.resource.now) (R.arrived ground.now.resource.now)
+        (R.most ground.now.resource.now) (length ground.now.net.now.duties) table.old
+        found.old.arrivals.items found.old.rested.items }
     ensures more { OnOk result (length table.new.pools ≡ length table.old.pools + 1) }
     ensures way { OnOk result (IsUnderWay (ways R.below R.same_sums
         (R.idle_of ground.now.resource.now) (R.waited ground.now.resource.now)
@@ -97,8 +111,22 @@ fn pass_one<R: Marked<Duty>>(
         (R.most ground.now.resource.now) ground.now.net.now ground.now.base ground.now.turns.now
         table.new (map arc_value found.new.fronts.items) found.new.arrivals.items
         (λ rank. get_or ground.now.turns.now rank 0 < length table.new.pools)) }
+    ensures rested { OnOk result (AreRestedOf (ways R.below R.same_sums
+        (R.idle_of ground.now.resource.now) (R.waited ground.now.resource.now)
+        (R.boards ground.now.resource.now)) (R.rested_of ground.now.resource.now)
+        (R.count_of ground.now.resource.now) (R.arrived ground.now.resource.now)
+        (R.most ground.now.resource.now) (length ground.now.net.now.duties) table.new
+        found.new.arrivals.items found.new.rested.items) }
 {
-    let pool = departure_pool(alloc, ground, table, room, &found.arrivals, place)?;
+    let pool = departure_pool(
+        alloc,
+        ground,
+        table,
+        room,
+        &found.arrivals,
+        &mut found.rested,
+        place,
+    )?;
     let pool = Arc::new(alloc, pool)?;
     let shared = Arc::try_clone(&pool)?;
     table.add(pool)?;
@@ -107,7 +135,7 @@ fn pass_one<R: Marked<Duty>>(
 }
 
 /// The pass over all departures, in order of report, whose pools come into a table that has none yet.
-pub(crate) fn pass_all<R: Marked<Duty>>(
+pub(crate) fn pass_all<R: Lapses<Duty>>(
     alloc: Global,
     ground: &Ground<R>,
     mut table: Table<R>,
@@ -138,7 +166,7 @@ pub(crate) fn pass_all<R: Marked<Duty>>(
 ///
 /// Each departure's pool is made of the empty label, where the base is, and of the labels of all
 /// arrivals in its window; each front is what dominance leaves of the labels that board its duty.
-pub fn pass<R: Marked<Duty>>(
+pub fn pass<R: Lapses<Duty>>(
     alloc: Global,
     course: &Course,
     resource: &R,

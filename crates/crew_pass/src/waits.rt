@@ -1,7 +1,8 @@
 //! The pool of a departure.
-ghost use Rattle.std.specs.Prelude.{◌≡◌, ◌<◌, ◌≤◌, ◌++◌, ℕ, List, Some, IfOk, OnOk, length, map, slice_get};
+ghost use Rattle.std.specs.Prelude.{◌≡◌, ◌⊎◌, ◌<◌, ◌≤◌, ◌++◌, ℕ, true, false, List, Some, IfOk, OnOk, length, map, slice_get};
 ghost use Rattle.std.specs.Ordering.{eq_by_cmp};
 ghost use Rattle.crew_flights.specs.Codes.{code_cmp};
+ghost use Rattle.crew_label.specs.Boarding.{AreRested};
 ghost use Rattle.crew_label.specs.Pools.{ArePoolOf};
 ghost use Rattle.crew_label.specs.Walks.{shown};
 ghost use Rattle.crew_label.specs.declared.label.Label.{Label};
@@ -10,18 +11,18 @@ ghost use Rattle.crew_pairing.specs.Events.{MayFollow, may_wait};
 ghost use Rattle.crew_pairing.specs.declared.events.Departure.{Departure};
 ghost use Rattle.crew_resource.specs.Members.{Member};
 ghost use Rattle.crew_pass.specs.Machinery.Held.{AreHeld, trail_of};
-ghost use Rattle.crew_pass.specs.Machinery.Passing.{AreCovering, AreGathered, Idles, IsPassable, Waits, idle_labels, waited_entries, ways};
+ghost use Rattle.crew_pass.specs.Machinery.Passing.{AreCovering, AreGathered, AreRestedOf, Idles, IsClean, IsPassable, IsRested, MayBeRested, Waits, idle_labels, waited_entries, ways};
 ghost use Rattle.crew_pass.specs.Passes.{CountsDuties};
 
 use crate::ground::Ground;
-use crew_forgetful::Marked;
-use crew_label::{Label, Pool, Room, Table, wait_pool};
+use crew_forgetful::Lapses;
+use crew_label::{Label, Pool, Room, Table};
 use crew_net::Window;
 use crew_pairing::{Arrival, Departure, Duty};
 use std::alloc::{AllocError, Global};
 
 // The empty label of a departure, where the base is.
-fn idle_pool<R: Marked<Duty>>(
+fn idle_pool<R: Lapses<Duty>>(
     alloc: Global,
     ground: &Ground<R>,
     departure: &Departure,
@@ -43,8 +44,78 @@ fn idle_pool<R: Marked<Duty>>(
     Ok(Pool::from_rising(labels))
 }
 
-// Merges the labels of an arrival, as they stand at a departure, into the departure's pool.
-fn merge_waiting<R: Marked<Duty>>(
+// Merges labels of an arrival that stand at a departure to each other as they did into the
+// departure's pool.
+fn merge_waiting<R: Lapses<Duty>>(
+    alloc: Global,
+    ground: &Ground<R>,
+    table: &Table<R>,
+    room: &mut Room<R::Value>,
+    departure: &Departure,
+    arrival: &Arrival,
+    waiting: &Pool<R>,
+    pool: &mut Pool<R>,
+) -> Result<(), AllocError>
+    requires counts { CountsDuties R.same_sums (R.count_of ground.now.resource.now)
+        (R.most ground.now.resource.now) (R.fits ground.now.resource.now) }
+    requires follows { MayFollow arrival.now departure.now }
+    requires stays { (R.rests ground.now.resource.now arrival.now departure.now ≡ false)
+        ⊎ ((R.rests ground.now.resource.now arrival.now departure.now ≡ true)
+        × AreRested (R.rested_of ground.now.resource.now) waiting.now) }
+    requires waiting { AreHeld (R.count_of ground.now.resource.now)
+        (R.arrived ground.now.resource.now) (R.most ground.now.resource.now)
+        (length ground.now.net.now.duties) table.now waiting.now }
+    requires pool { AreHeld (R.count_of ground.now.resource.now) (R.ready ground.now.resource.now)
+        (R.most ground.now.resource.now) (length ground.now.net.now.duties) table.now pool.old }
+    ensures pool { OnOk result ((firsts candidates : List (R.Value × List ℕ))
+        → ArePoolOf R.below R.same_sums (trail_of table.now) firsts pool.old
+        → ArePoolOf R.below R.same_sums (trail_of table.now) candidates waiting.now
+        → ArePoolOf R.below R.same_sums (trail_of table.now)
+        (firsts ++ waited_entries (λ v. R.waited ground.now.resource.now v arrival.now departure.now)
+        candidates) pool.new) }
+    ensures held { OnOk result (AreHeld (R.count_of ground.now.resource.now)
+        (R.ready ground.now.resource.now) (R.most ground.now.resource.now)
+        (length ground.now.net.now.duties) table.now pool.new) }
+{
+    let resource = ground.resource;
+    let waited = waiting.waited::<Duty>(alloc, resource, arrival, departure)?;
+    pool.merge::<Duty, Table<R>>(alloc, resource, table, room, &waited)?;
+    Ok(())
+}
+
+// Makes what a rest of an arrival's labels goes by, unless it is made already.
+fn make_rested<R: Lapses<Duty>>(
+    alloc: Global,
+    ground: &Ground<R>,
+    table: &Table<R>,
+    held: &Pool<R>,
+    rested: &mut Pool<R>,
+) -> Result<(), AllocError>
+    requires counts { CountsDuties R.same_sums (R.count_of ground.now.resource.now)
+        (R.most ground.now.resource.now) (R.fits ground.now.resource.now) }
+    requires held { AreHeld (R.count_of ground.now.resource.now) (R.arrived ground.now.resource.now)
+        (R.most ground.now.resource.now) (length ground.now.net.now.duties) table.now held.now }
+    requires rested { MayBeRested (ways R.below R.same_sums (R.idle_of ground.now.resource.now)
+        (R.waited ground.now.resource.now) (R.boards ground.now.resource.now))
+        (R.rested_of ground.now.resource.now) (R.count_of ground.now.resource.now)
+        (R.arrived ground.now.resource.now) (R.most ground.now.resource.now)
+        (length ground.now.net.now.duties) table.now held.now rested.old }
+    ensures { OnOk result (IsRested (ways R.below R.same_sums (R.idle_of ground.now.resource.now)
+        (R.waited ground.now.resource.now) (R.boards ground.now.resource.now))
+        (R.rested_of ground.now.resource.now) (R.count_of ground.now.resource.now)
+        (R.arrived ground.now.resource.now) (R.most ground.now.resource.now)
+        (length ground.now.net.now.duties) table.now held.now rested.new) }
+{
+    if !rested.is_empty() {
+        return Ok(());
+    }
+    *rested = held.rested::<Duty, Table<R>>(alloc, ground.resource, table)?;
+    Ok(())
+}
+
+// Merges the labels of an arrival, as they stand at a departure, into the departure's pool: as they
+// are, or where the wait is a rest those that it goes by.
+fn merge_arrival<R: Lapses<Duty>>(
     alloc: Global,
     ground: &Ground<R>,
     table: &Table<R>,
@@ -52,6 +123,7 @@ fn merge_waiting<R: Marked<Duty>>(
     departure: &Departure,
     arrival: &Arrival,
     held: &Pool<R>,
+    rested: &mut Pool<R>,
     pool: &mut Pool<R>,
 ) -> Result<(), AllocError>
     requires counts { CountsDuties R.same_sums (R.count_of ground.now.resource.now)
@@ -59,6 +131,14 @@ fn merge_waiting<R: Marked<Duty>>(
     requires follows { MayFollow arrival.now departure.now }
     requires held { AreHeld (R.count_of ground.now.resource.now) (R.arrived ground.now.resource.now)
         (R.most ground.now.resource.now) (length ground.now.net.now.duties) table.now held.now }
+    requires clean { IsClean (ways R.below R.same_sums (R.idle_of ground.now.resource.now)
+        (R.waited ground.now.resource.now) (R.boards ground.now.resource.now))
+        (trail_of table.now) held.now }
+    requires rested { MayBeRested (ways R.below R.same_sums (R.idle_of ground.now.resource.now)
+        (R.waited ground.now.resource.now) (R.boards ground.now.resource.now))
+        (R.rested_of ground.now.resource.now) (R.count_of ground.now.resource.now)
+        (R.arrived ground.now.resource.now) (R.most ground.now.resource.now)
+        (length ground.now.net.now.duties) table.now held.now rested.old }
     requires pool { AreHeld (R.count_of ground.now.resource.now) (R.ready ground.now.resource.now)
         (R.most ground.now.resource.now) (length ground.now.net.now.duties) table.now pool.old }
     ensures pool { OnOk result ((firsts : List (R.Value × List ℕ))
@@ -69,16 +149,24 @@ fn merge_waiting<R: Marked<Duty>>(
     ensures held { OnOk result (AreHeld (R.count_of ground.now.resource.now)
         (R.ready ground.now.resource.now) (R.most ground.now.resource.now)
         (length ground.now.net.now.duties) table.now pool.new) }
+    ensures rested { OnOk result (MayBeRested (ways R.below R.same_sums
+        (R.idle_of ground.now.resource.now) (R.waited ground.now.resource.now)
+        (R.boards ground.now.resource.now)) (R.rested_of ground.now.resource.now)
+        (R.count_of ground.now.resource.now) (R.arrived ground.now.resource.now)
+        (R.most ground.now.resource.now) (length ground.now.net.now.duties) table.now held.now
+        rested.new) }
 {
-    let resource = ground.resource;
-    let waited = wait_pool::<Duty, R>(alloc, resource, held, arrival, departure)?;
-    let waited = Pool::of_labels::<Duty, Table<R>>(alloc, resource, table, &waited)?;
-    pool.merge::<Duty, Table<R>>(alloc, resource, table, room, &waited)?;
+    if ground.resource.is_rest(arrival, departure) {
+        make_rested(alloc, ground, table, held, rested)?;
+        merge_waiting(alloc, ground, table, room, departure, arrival, rested, pool)?;
+    } else {
+        merge_waiting(alloc, ground, table, room, departure, arrival, held, pool)?;
+    }
     Ok(())
 }
 
 // Merges the labels of the arrivals of a departure's window into its pool.
-fn merge_window<R: Marked<Duty>>(
+fn merge_window<R: Lapses<Duty>>(
     alloc: Global,
     ground: &Ground<R>,
     table: &Table<R>,
@@ -86,6 +174,7 @@ fn merge_window<R: Marked<Duty>>(
     departure: &Departure,
     window: Window,
     arrivals: &[Pool<R>],
+    rested: &mut Vec<Pool<R>>,
     pool: &mut Pool<R>,
 ) -> Result<(), AllocError>
     requires rests { ground.now.net.now.settings.max_rest ≤ 8_280 }
@@ -97,6 +186,16 @@ fn merge_window<R: Marked<Duty>>(
     requires held { (labels : List (Label R.Value)) → Member arrivals.now labels
         → AreHeld (R.count_of ground.now.resource.now) (R.arrived ground.now.resource.now)
         (R.most ground.now.resource.now) (length ground.now.net.now.duties) table.now labels }
+    requires clean { (labels : List (Label R.Value)) → Member arrivals.now labels
+        → IsClean (ways R.below R.same_sums
+        (R.idle_of ground.now.resource.now) (R.waited ground.now.resource.now)
+        (R.boards ground.now.resource.now)) (trail_of table.now) labels }
+    requires rested { AreRestedOf (ways R.below R.same_sums
+        (R.idle_of ground.now.resource.now) (R.waited ground.now.resource.now)
+        (R.boards ground.now.resource.now)) (R.rested_of ground.now.resource.now)
+        (R.count_of ground.now.resource.now) (R.arrived ground.now.resource.now)
+        (R.most ground.now.resource.now) (length ground.now.net.now.duties) table.now
+        arrivals.now rested.old.items }
     requires idle { AreGathered (ways R.below R.same_sums (R.idle_of ground.now.resource.now)
         (R.waited ground.now.resource.now) (R.boards ground.now.resource.now)) (trail_of table.now)
         (Idles (ways R.below R.same_sums (R.idle_of ground.now.resource.now)
@@ -113,23 +212,33 @@ fn merge_window<R: Marked<Duty>>(
     ensures held { OnOk result (AreHeld (R.count_of ground.now.resource.now)
         (R.ready ground.now.resource.now) (R.most ground.now.resource.now)
         (length ground.now.net.now.duties) table.now pool.new) }
+    ensures rested { OnOk result (AreRestedOf (ways R.below R.same_sums
+        (R.idle_of ground.now.resource.now) (R.waited ground.now.resource.now)
+        (R.boards ground.now.resource.now)) (R.rested_of ground.now.resource.now)
+        (R.count_of ground.now.resource.now) (R.arrived ground.now.resource.now)
+        (R.most ground.now.resource.now) (length ground.now.net.now.duties) table.now
+        arrivals.now rested.new.items) }
 {
     for at in window.from..window.end {
         let arrival = &ground.net.arrivals()[at];
         let held = &arrivals[at];
-        merge_waiting(alloc, ground, table, room, departure, arrival, held, pool)?;
+        let rest = &mut rested[at];
+        merge_arrival(
+            alloc, ground, table, room, departure, arrival, held, rest, pool,
+        )?;
     }
     Ok(())
 }
 
 /// The pool of the departure at a place: of the empty label, where the base is, and of the labels of
 /// all arrivals in its window, as they stand at the departure.
-pub(crate) fn departure_pool<R: Marked<Duty>>(
+pub(crate) fn departure_pool<R: Lapses<Duty>>(
     alloc: Global,
     ground: &Ground<R>,
     table: &Table<R>,
     room: &mut Room<R::Value>,
     arrivals: &[Pool<R>],
+    rested: &mut Vec<Pool<R>>,
     place: usize,
 ) -> Result<Pool<R>, AllocError>
     requires passable { IsPassable ground.now.net.now ground.now.turns.now ground.now.places.now }
@@ -140,6 +249,16 @@ pub(crate) fn departure_pool<R: Marked<Duty>>(
     requires held { (labels : List (Label R.Value)) → Member arrivals.now labels
         → AreHeld (R.count_of ground.now.resource.now) (R.arrived ground.now.resource.now)
         (R.most ground.now.resource.now) (length ground.now.net.now.duties) table.now labels }
+    requires clean { (labels : List (Label R.Value)) → Member arrivals.now labels
+        → IsClean (ways R.below R.same_sums
+        (R.idle_of ground.now.resource.now) (R.waited ground.now.resource.now)
+        (R.boards ground.now.resource.now)) (trail_of table.now) labels }
+    requires rested { AreRestedOf (ways R.below R.same_sums
+        (R.idle_of ground.now.resource.now) (R.waited ground.now.resource.now)
+        (R.boards ground.now.resource.now)) (R.rested_of ground.now.resource.now)
+        (R.count_of ground.now.resource.now) (R.arrived ground.now.resource.now)
+        (R.most ground.now.resource.now) (length ground.now.net.now.duties) table.now
+        arrivals.now rested.old.items }
     ensures covers { IfOk result (λ pool. (g : Departure)
         → slice_get ground.now.net.now.departures place ≡ Some g
         → AreCovering (ways R.below R.same_sums (R.idle_of ground.now.resource.now)
@@ -150,12 +269,21 @@ pub(crate) fn departure_pool<R: Marked<Duty>>(
     ensures held { IfOk result (AreHeld (R.count_of ground.now.resource.now)
         (R.ready ground.now.resource.now) (R.most ground.now.resource.now)
         (length ground.now.net.now.duties) table.now) }
+    ensures clean { IfOk result (λ pool. IsClean (ways R.below R.same_sums
+        (R.idle_of ground.now.resource.now) (R.waited ground.now.resource.now)
+        (R.boards ground.now.resource.now)) (trail_of table.now) pool) }
+    ensures rested { OnOk result (AreRestedOf (ways R.below R.same_sums
+        (R.idle_of ground.now.resource.now) (R.waited ground.now.resource.now)
+        (R.boards ground.now.resource.now)) (R.rested_of ground.now.resource.now)
+        (R.count_of ground.now.resource.now) (R.arrived ground.now.resource.now)
+        (R.most ground.now.resource.now) (length ground.now.net.now.duties) table.now
+        arrivals.now rested.new.items) }
 {
     let departure = &ground.net.departures()[place];
     let window = ground.net.window(place);
     let mut pool = idle_pool(alloc, ground, departure)?;
     merge_window(
-        alloc, ground, table, room, departure, window, arrivals, &mut pool,
+        alloc, ground, table, room, departure, window, arrivals, rested, &mut pool,
     )?;
     Ok(pool)
 }

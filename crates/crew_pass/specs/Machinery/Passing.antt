@@ -4,7 +4,7 @@ use Rattle.std.specs.List.{flat_map}
 use Rattle.std.specs.Ordering.{eq_by_cmp}
 use Rattle.crew_flights.specs.Codes.{code_cmp}
 use Rattle.crew_forgetful.specs.Forgetful.{Covers}
-use Rattle.crew_label.specs.Boarding.{LeadInto}
+use Rattle.crew_label.specs.Boarding.{AreRested, LeadInto}
 use Rattle.crew_label.specs.Pools.{ArePoolOf}
 use Rattle.crew_label.specs.Tables.{Tabled}
 use Rattle.crew_label.specs.Walks.{ranks_at_most, shown}
@@ -176,3 +176,31 @@ pub record HasPassed {V : Type 0} (w : Ways V) (count : V → ℤ) (ready arrive
   pub all : length t.pools ≡ length net.by_report
   pub way : IsUnderWay w count ready arrived most net base turns t fronts held
       (λ rank. get_or turns rank 0 < length t.pools)
+
+-- the labels are a pool
+abbrev pub IsClean : {V : Type 0} → Ways V → (Link → List ℕ) → List (Label V) → Type 0
+IsClean {V} w trail labels =
+    (listed : List (V × List ℕ)) × ArePoolOf w.below w.same trail listed labels
+
+-- what a rest of these labels goes by: their pool with rested values
+pub record IsRested {V : Type 0} (w : Ways V) (rested : V → V) (count : V → ℤ)
+    (arrived : ℕ → V → Type 0) (most : Option ℕ) (duties : ℕ) (t : Tabled V)
+    (labels pool : List (Label V)) : Type 0 where
+  pub those : ArePoolOf w.below w.same (trail_of t)
+      (waited_entries rested (map (shown (trail_of t)) labels)) pool
+  pub held : AreHeld count arrived most duties t pool
+  pub are : AreRested rested pool
+
+-- it is that, or none is made yet
+abbrev pub MayBeRested : {V : Type 0} → Ways V → (V → V) → (V → ℤ) → (ℕ → V → Type 0) → Option ℕ
+    → ℕ → Tabled V → List (Label V) → List (Label V) → Type 0
+MayBeRested w rested count arrived most duties t labels pool = (pool ≡ [])
+    ⊎ IsRested w rested count arrived most duties t labels pool
+
+-- so for each arrival by place
+pub record AreRestedOf {V : Type 0} (w : Ways V) (rested : V → V) (count : V → ℤ)
+    (arrived : ℕ → V → Type 0) (most : Option ℕ) (duties : ℕ) (t : Tabled V)
+    (held pools : List (List (Label V))) : Type 0 where
+  pub long : length pools ≡ length held
+  pub each : (place : ℕ) → MayBeRested w rested count arrived most duties t (get_or held place [])
+      (get_or pools place [])

@@ -21,9 +21,11 @@ loop-rank-init g c =
     let w = ways g.R.Resource.below g.R.Forgets.same_sums (g.R.Staged.idle_of r) (g.R.Staged.waited r) (g.R.Staged.boards r) in
     let latest = c.requires.latest in
     let value = arc_value {X = Pool g.row.R.Denot g.row.R-Value.Denot Duty} {Z = Global} in
-    let d = stands net.departures c.args.place (place-within net c.requires.passable.departs c.requires.passable.ordered latest.turn c.args.place latest.at) in
-    none-boarded w (g.R.Staged.count_of r) (g.R.Staged.ready r) (g.R.Staged.arrived r) (g.R.Staged.most r) net c.args.ground.now.base c.args.ground.now.turns.now c.args.ground.now.places.now c.requires.passable
-    c.args.table.now latest.turn c.args.place d.0 latest.last latest.at d.1 c.leaving-ranks.result.now (c.leaving-ranks.ensures d.0 d.1) (map value c.args.found.now.fronts.items) c.args.found.now.arrivals.items c.requires.way
+    let d = stands net.departures c.args.place (place-within net c.requires.passable.departs c.requires.passable.ordered latest.turn c.args.place latest.at) in (
+      none-boarded w (g.R.Staged.count_of r) (g.R.Staged.ready r) (g.R.Staged.arrived r) (g.R.Staged.most r) net c.args.ground.now.base c.args.ground.now.turns.now c.args.ground.now.places.now c.requires.passable
+          c.args.table.now latest.turn c.args.place d.0 latest.last latest.at d.1 c.leaving-ranks.result.now (c.leaving-ranks.ensures d.0 d.1) (map value c.args.found.now.fronts.items) c.args.found.now.arrivals.items c.requires.way,
+      c.requires.rested,
+    )
 
 pub duty_front-requires-clause-rank : goal.duty_front-requires-clause-rank
 duty_front-requires-clause-rank g c =
@@ -79,14 +81,16 @@ loop-rank-preserved g c =
     let w = ways g.R.Resource.below g.R.Forgets.same_sums (g.R.Staged.idle_of r) (g.R.Staged.waited r) (g.R.Staged.boards r) in
     let latest = c.requires.latest in
     let value = arc_value {X = Pool g.row.R.Denot g.row.R-Value.Denot Duty} {Z = Global} in
-    let d = stands net.departures c.args.place (place-within net c.requires.passable.departs c.requires.passable.ordered latest.turn c.args.place latest.at) in
-    one-boarded w (g.R.Staged.count_of r) (g.R.Staged.ready r) (g.R.Staged.arrived r) (g.R.Staged.most r) net c.args.ground.now.base c.args.ground.now.turns.now c.args.ground.now.places.now c.requires.passable
-    c.args.table.now latest.turn c.args.place d.0 latest.last latest.at d.1 c.leaving-ranks.result.now (c.leaving-ranks.ensures d.0 d.1) c.loop-rank.rank-index c.loop-rank-test.true
-    (map value c.loop-rank.found.fronts.items) c.loop-rank.found.arrivals.items (map value c.keep_front.new.found.fronts.items) c.keep_front.new.found.arrivals.items c.in_ok-front.front c.args.pool.now latest.pooled
-    c.loop-rank.invariant c.in_ok-keep_front.ensures.fronts c.in_ok-keep_front.ensures.arrivals c.in_ok-front.ensures.front c.in_ok-front.ensures.itself c.in_ok-front.ensures.held
+    let d = stands net.departures c.args.place (place-within net c.requires.passable.departs c.requires.passable.ordered latest.turn c.args.place latest.at) in (
+      one-boarded w (g.R.Staged.count_of r) (g.R.Staged.ready r) (g.R.Staged.arrived r) (g.R.Staged.most r) net c.args.ground.now.base c.args.ground.now.turns.now c.args.ground.now.places.now c.requires.passable
+          c.args.table.now latest.turn c.args.place d.0 latest.last latest.at d.1 c.leaving-ranks.result.now (c.leaving-ranks.ensures d.0 d.1) c.loop-rank.rank-index c.loop-rank-test.true
+          (map value c.loop-rank.found.fronts.items) c.loop-rank.found.arrivals.items (map value c.keep_front.new.found.fronts.items) c.keep_front.new.found.arrivals.items c.in_ok-front.front c.args.pool.now latest.pooled
+          c.loop-rank.invariant.0 c.in_ok-keep_front.ensures.fronts c.in_ok-keep_front.ensures.arrivals c.in_ok-front.ensures.front c.in_ok-front.ensures.itself c.in_ok-front.ensures.held,
+      c.in_ok-keep_front.ensures.rested,
+    )
 
-pub returns : goal.returns
-returns g c =
+pub returns-clause-way : goal.returns-clause-way
+returns-clause-way g c =
     let net = c.args.ground.now.net.now in
     let r = c.args.ground.now.resource.now in
     let w = ways g.R.Resource.below g.R.Forgets.same_sums (g.R.Staged.idle_of r) (g.R.Staged.waited r) (g.R.Staged.boards r) in
@@ -95,4 +99,4 @@ returns g c =
     let d = stands net.departures c.args.place (place-within net c.requires.passable.departs c.requires.passable.ordered latest.turn c.args.place latest.at) in
     all-boarded w (g.R.Staged.count_of r) (g.R.Staged.ready r) (g.R.Staged.arrived r) (g.R.Staged.most r) net c.args.ground.now.base c.args.ground.now.turns.now c.args.ground.now.places.now c.requires.passable
     c.args.table.now latest.turn c.args.place d.0 latest.last latest.at d.1 c.leaving-ranks.result.now (c.leaving-ranks.ensures d.0 d.1) c.loop-rank.rank-index
-    (map value c.loop-rank.found.fronts.items) c.loop-rank.found.arrivals.items c.loop-rank-test.false c.loop-rank.invariant
+    (map value c.loop-rank.found.fronts.items) c.loop-rank.found.arrivals.items c.loop-rank-test.false c.loop-rank.invariant.0

@@ -1,9 +1,10 @@
-use Rattle.std.proofs.Common.{◌≡◌, ◌∙◌, ◌≤◌, ℕ, suc, List, Some, length, map, arith, sym, ap, subst}
+use Rattle.std.proofs.Common.{◌≡◌, ◌∙◌, ◌≤◌, ℕ, suc, List, Some, length, map, arith, subst}
 use Rattle.std.specs.Prelude.{slice_get}
 use Rattle.std.proofs.lemmas.Result.{IfOk-weaker}
-use Rattle.crew_label.specs.Pools.{AreCounted}
+use Rattle.crew_label.specs.Boarding.{boarded_from}
 use Rattle.crew_label.specs.Walks.{ranks_at_most, shown}
 use Rattle.crew_label.specs.declared.label.Label.{Label}
+use Rattle.crew_label.proofs.Boarded.{boarded_counted, boarded_entries}
 use Rattle.crew_pairing.specs.declared.duty.Duty.{Duty}
 use Rattle.crew_resource.specs.Labels.{IsLocal}
 use Rattle.crew_resource.specs.Members.{Member}
@@ -13,8 +14,15 @@ use Rattle.crew_pass.proofs.Labels.{boarded-held, counted}
 use Rattle.crew_pass.proofs.Slices.{item-in, member-got, some-same}
 use Rattle.crew_pass.proofs.boards.duty_front.Goals as goal
 
-pub board_pool-requires : goal.board_pool-requires
-board_pool-requires g c l m =
+pub front_aboard-requires-clause-sound : goal.front_aboard-requires-clause-sound
+front_aboard-requires-clause-sound g c =
+    let duties = c.args.ground.now.net.now.duties in
+    let d = c.index-as_slice-rank.result in
+    let here = item-in duties c.as_slice.result.now c.args.rank d c.requires.rank (c.as_slice.ensures ∙ c.duties.ensures) c.index-as_slice-rank.is in
+    c.requires.sound d (member-got duties c.args.rank d here)
+
+pub front_aboard-requires-clause-boards : goal.front_aboard-requires-clause-boards
+front_aboard-requires-clause-boards g c l m =
     let r = c.args.ground.now.resource.now in
     let duties = c.args.ground.now.net.now.duties in
     let d = c.index-as_slice-rank.result in
@@ -24,13 +32,10 @@ board_pool-requires g c l m =
     let few : n ≤ c.requires.counts.limit = k.few c.requires.counts.limit c.requires.counts.has_most in
     (g.met.R.Staged.bounds r).boards n l.value d (c.requires.sound d (member-got duties c.args.rank d here)) (c.requires.counts.fit (suc n) (omega (arith, few))) k.bound
 
-pub front_of-requires-clause-counts : goal.front_of-requires-clause-counts
-front_of-requires-clause-counts g c =
+pub front_aboard-requires-clause-counts : goal.front_aboard-requires-clause-counts
+front_aboard-requires-clause-counts g c =
     let r = c.args.ground.now.resource.now in
-    let t = c.args.table.now in
-    let counts = counted (g.R.Staged.count_of r) (g.R.Staged.most r) (length c.args.ground.now.net.now.duties) t (g.R.Staged.ready r) c.args.pool.now c.requires.pool in
-    subst (λ (ls : List (Label g.row.R-Value.Denot)). AreCounted (g.R.Staged.count_of r) (leads_of t) (trail_of t) ls) (sym c.deref.ensures.value)
-    (c.in_ok-view.ensures.counts c.requires.counts.limit (leads_of t) (trail_of t) c.requires.counts.has_most c.requires.into counts)
+    counted (g.R.Staged.count_of r) (g.R.Staged.most r) (length c.args.ground.now.net.now.duties) c.args.table.now (g.R.Staged.ready r) c.args.pool.now c.requires.pool
 
 pub returns-clause-front : goal.returns-clause-front
 returns-clause-front g c =
@@ -40,11 +45,11 @@ returns-clause-front g c =
     let first = c.index-as_slice-rank.result in
     let w = ways g.R.Resource.below g.R.Forgets.same_sums (g.R.Staged.idle_of r) (g.R.Staged.waited r) (g.R.Staged.boards r) in
     let here = item-in duties c.as_slice.result.now c.args.rank first c.requires.rank (c.as_slice.ensures ∙ c.duties.ensures) c.index-as_slice-rank.is in
-    let is = ap (map (shown (trail_of t))) c.deref.ensures.value ∙ c.in_ok-view.ensures.entries (leads_of t) (trail_of t) c.requires.into in
-    IfOk-weaker c.front_of.result _ _ (λ front local (d : Duty) (at : slice_get duties c.args.rank ≡ Some d).
+    let is = boarded_entries (λ v. g.R.Staged.boards r v first) c.args.rank (leads_of t) (trail_of t) c.args.pool.now c.requires.into in
+    IfOk-weaker c.front_aboard.result _ _ (λ front local (d : Duty) (at : slice_get duties c.args.rank ≡ Some d).
     subst (λ (z : Duty). IsLocal g.R.Resource.below ranks_at_most (λ v k. Member (boarding w z c.args.rank (map (shown (trail_of t)) c.args.pool.now)) (v, k)) (map (shown (trail_of t)) front))
     (some-same (slice_get duties c.args.rank) first d here at)
-    (subst (λ (es : List (g.row.R-Value.Denot × List ℕ)). IsLocal g.R.Resource.below ranks_at_most (λ v k. Member es (v, k)) (map (shown (trail_of t)) front)) is local)) c.front_of.ensures.front
+    (subst (λ (es : List (g.row.R-Value.Denot × List ℕ)). IsLocal g.R.Resource.below ranks_at_most (λ v k. Member es (v, k)) (map (shown (trail_of t)) front)) is local)) c.front_aboard.ensures.front
 
 pub returns-clause-held : goal.returns-clause-held
 returns-clause-held g c =
@@ -55,11 +60,12 @@ returns-clause-held g c =
     let d = c.index-as_slice-rank.result in
     let here = item-in duties c.as_slice.result.now c.args.rank d c.requires.rank (c.as_slice.ensures ∙ c.duties.ensures) c.index-as_slice-rank.is in
     let sound = c.requires.sound d (member-got duties c.args.rank d here) in
+    let board = λ (v : g.row.R-Value.Denot). g.R.Staged.boards r v d in
+    let counting = g.met.R.Staged.counting r c.requires.counts.limit c.requires.counts.has_most in
     let counts = counted (g.R.Staged.count_of r) (g.R.Staged.most r) n t (g.R.Staged.ready r) c.args.pool.now c.requires.pool in
-    let view = boarded-held (g.R.Staged.count_of r) (g.R.Staged.ready r) (g.R.Staged.arrived r) (g.R.Staged.most r) n t (λ v. g.R.Staged.boards r v d) c.args.rank c.requires.counts.limit
-    c.requires.rank c.requires.counts.has_most (λ v z e. (g.met.R.Staged.counting r c.requires.counts.limit c.requires.counts.has_most).ends v z d e)
-    (λ m v z h e. (g.met.R.Staged.bounds r).board_arrived m v z d sound h e) c.args.pool.now c.in_ok-view.view.items c.requires.pool
-    (c.in_ok-view.ensures.entries (leads_of t) (trail_of t) c.requires.into)
-    (c.in_ok-view.ensures.counts c.requires.counts.limit (leads_of t) (trail_of t) c.requires.counts.has_most c.requires.into counts) in
-    IfOk-weaker c.front_of.result _ _ (λ front from (l : Label g.row.R-Value.Denot) (m : Member front l).
-    view l (subst (λ (ls : List (Label g.row.R-Value.Denot)). Member ls l) c.deref.ensures.value (from l m))) c.front_of.ensures.from
+    let view = boarded-held (g.R.Staged.count_of r) (g.R.Staged.ready r) (g.R.Staged.arrived r) (g.R.Staged.most r) n t board c.args.rank c.requires.counts.limit
+    c.requires.rank c.requires.counts.has_most (λ v z e. counting.ends v z d e)
+    (λ m v z h e. (g.met.R.Staged.bounds r).board_arrived m v z d sound h e) c.args.pool.now (boarded_from board c.args.rank 0 c.args.pool.now) c.requires.pool
+    (boarded_entries board c.args.rank (leads_of t) (trail_of t) c.args.pool.now c.requires.into)
+    (boarded_counted board c.args.rank (leads_of t) (trail_of t) (g.R.Staged.count_of r) (λ v z e. counting.one_more v z d e) c.args.pool.now c.requires.into counts) in
+    IfOk-weaker c.front_aboard.result _ _ (λ front from (l : Label g.row.R-Value.Denot) (m : Member front l). view l (from l m)) c.front_aboard.ensures.from

@@ -9,8 +9,10 @@ use Rattle.crew_pairing.specs.declared.duty.Duty.{Duty}
 use Rattle.crew_resource.specs.Members.{Member}
 use Rattle.crew_resource.proofs.Members.{Member-get_or}
 use Rattle.crew_pass.specs.Machinery.Held.{trail_of}
+use Rattle.crew_pass.specs.Machinery.Passing.{AreRestedOf, ways}
 use Rattle.crew_pass.proofs.Labels.{counted}
 use Rattle.crew_pass.proofs.Numbers.{get-within}
+use Rattle.crew_pass.proofs.Rested.{rested-gone}
 use Rattle.crew_pass.proofs.Slices.{get-at, item-in, stands}
 use Rattle.crew_pass.proofs.boards.keep_front.Goals as goal
 
@@ -73,3 +75,28 @@ returns-clause-arrivals g c =
           (λ k. c.requires.front l (subst (λ (ls : List (Label g.row.R-Value.Denot)). Member ls l) own k))
           (c.in_ok-merge.ensures.from l m);
     }
+
+pub returns-clause-rested : goal.returns-clause-rested
+returns-clause-rested g c =
+    let net = c.args.ground.now.net.now in
+    let r = c.args.ground.now.resource.now in
+    let w = ways g.R.Resource.below g.R.Forgets.same_sums (g.R.Staged.idle_of r) (g.R.Staged.waited r) (g.R.Staged.boards r) in
+    let place = get_or c.args.ground.now.places.now c.args.rank 0 in
+    let d = stands net.duties c.args.rank c.requires.rank in
+    let inside = get-within net.arrivals place (arrival_of d.0) (c.requires.places.exact c.args.rank d.0 d.1) in
+    let long = c.requires.arrivals in
+    let items = c.args.found.now.arrivals.items in
+    let within : place < length c.args.found.now.rested.items = omega (arith, inside, long, c.requires.rested.long) in
+    subst (λ (ls : List (Label g.row.R-Value.Denot)). AreRestedOf w (g.R.Lapses.rested_of r) (g.R.Staged.count_of r) (g.R.Staged.arrived r) (g.R.Staged.most r) (length net.duties) c.args.table.now
+    (set items place c.merge.new.self) (set c.args.found.now.rested.items place ls)) (sym c.new-2.ensures)
+    (rested-gone w (g.R.Lapses.rested_of r) (g.R.Staged.count_of r) (g.R.Staged.arrived r) (g.R.Staged.most r) (length net.duties) c.args.table.now items (set items place c.merge.new.self) c.args.found.now.rested.items place c.merge.new.self
+    c.requires.rested within refl)
+
+pub index_mut-requires : goal.index_mut-requires
+index_mut-requires g c =
+    let net = c.args.ground.now.net.now in
+    let place = get_or c.args.ground.now.places.now c.args.rank 0 in
+    let d = stands net.duties c.args.rank c.requires.rank in
+    let inside = get-within net.arrivals place (arrival_of d.0) (c.requires.places.exact c.args.rank d.0 d.1) in
+    let long = c.requires.arrivals in
+    omega (arith, inside, long, c.requires.rested.long, c.args.found.now.rested.ok.0)

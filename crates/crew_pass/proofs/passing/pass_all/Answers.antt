@@ -6,6 +6,7 @@ use Rattle.crew_label.specs.declared.pool.Pool.{Pool}
 use Rattle.crew_pairing.specs.declared.duty.Duty.{Duty}
 use Rattle.crew_pass.specs.Machinery.Passing.{ways}
 use Rattle.crew_pass.proofs.Departures.{none-passed}
+use Rattle.crew_pass.proofs.Rested.{none-rested}
 use Rattle.crew_pass.proofs.Slices.{at-within}
 use Rattle.crew_pass.proofs.passing.pass_all.Goals as goal
 
@@ -21,6 +22,8 @@ loop-place-init g c =
       ap length pools-is,
       none-passed w (g.R.Staged.count_of r) (g.R.Staged.ready r) (g.R.Staged.arrived r) (g.R.Staged.most r) net c.args.ground.now.base c.args.ground.now.turns.now c.args.table
           (map value c.in_ok-found.found.fronts.items) c.in_ok-found.found.arrivals.items leaves-is pools-is (found.fronts ∙ c.duty_count.ensures.count) (found.arrivals ∙ ap length c.arrivals.ensures.events) found.no_fronts found.no_labels,
+      none-rested w (g.R.Lapses.rested_of r) (g.R.Staged.count_of r) (g.R.Staged.arrived r) (g.R.Staged.most r) (length net.duties) c.args.table c.in_ok-found.found.arrivals.items c.in_ok-found.found.rested.items
+          (found.rested ∙ sym found.arrivals) found.no_rested,
     )
 
 pub pass_one-requires-clause-place : goal.pass_one-requires-clause-place

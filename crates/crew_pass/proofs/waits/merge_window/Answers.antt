@@ -4,13 +4,14 @@ use Rattle.crew_label.specs.Walks.{shown}
 use Rattle.crew_label.specs.declared.label.Label.{Label}
 use Rattle.crew_resource.proofs.Members.{Member-get_or}
 use Rattle.crew_pass.specs.Machinery.Held.{trail_of}
-use Rattle.crew_pass.specs.Machinery.Passing.{waited_entries, ways}
+use Rattle.crew_pass.specs.Machinery.Passing.{MayBeRested, waited_entries, ways}
+use Rattle.crew_pass.proofs.Rested.{rested-made}
 use Rattle.crew_pass.proofs.Slices.{get-at, item-in}
 use Rattle.crew_pass.proofs.Waiting.{follows, one-waits}
 use Rattle.crew_pass.proofs.waits.merge_window.Goals as goal
 
-pub merge_waiting-requires-clause-follows : goal.merge_waiting-requires-clause-follows
-merge_waiting-requires-clause-follows g c =
+pub merge_arrival-requires-clause-follows : goal.merge_arrival-requires-clause-follows
+merge_arrival-requires-clause-follows g c =
     let net = c.args.ground.now.net.now in
     let at = c.loop-at.at in
     let x = c.index-arrivals-at.result in
@@ -20,8 +21,8 @@ merge_waiting-requires-clause-follows g c =
     let here = item-in net.arrivals c.arrivals.result.now at x within c.arrivals.ensures.events c.index-arrivals-at.is in
     follows net.settings x c.args.departure.now c.requires.rests ((c.requires.window.exact at x here).1 (c.loop-at.auto.at, end))
 
-pub merge_waiting-requires-clause-held : goal.merge_waiting-requires-clause-held
-merge_waiting-requires-clause-held g c =
+pub merge_arrival-requires-clause-held : goal.merge_arrival-requires-clause-held
+merge_arrival-requires-clause-held g c =
     let net = c.args.ground.now.net.now in
     let at = c.loop-at.at in
     let end = c.loop-at-test.true in
@@ -30,6 +31,15 @@ merge_waiting-requires-clause-held g c =
     let within : at < length c.args.arrivals.now = omega (arith, end, most, long) in
     let labels = c.index-arrivals-at-in-loop-at.result in
     c.requires.held labels (Member-get_or c.args.arrivals.now at labels within (sym c.index-arrivals-at-in-loop-at.is))
+
+pub merge_arrival-requires-clause-clean : goal.merge_arrival-requires-clause-clean
+merge_arrival-requires-clause-clean g c =
+    let end = c.loop-at-test.true in
+    let most = c.requires.window.within in
+    let long = c.requires.long in
+    let within : c.loop-at.at < length c.args.arrivals.now = omega (arith, end, most, long) in
+    let labels = c.index-arrivals-at-in-loop-at.result in
+    c.requires.clean labels (Member-get_or c.args.arrivals.now c.loop-at.at labels within (sym c.index-arrivals-at-in-loop-at.is))
 
 pub loop-at-preserved : goal.loop-at-preserved
 loop-at-preserved g c =
@@ -49,8 +59,12 @@ loop-at-preserved g c =
     let labels = c.index-arrivals-at-in-loop-at.result in
     let same = sym (get-at arrivals at labels [] (item-in arrivals arrivals at labels inside refl c.index-arrivals-at-in-loop-at.is)) in
     let wait = λ (v : g.row.R-Value.Denot). g.R.Staged.waited r v x c.args.departure.now in (
-      one-waits w trail net c.args.ground.now.base arrivals c.args.departure.now c.args.window c.requires.window at x c.loop-at.pool c.merge_waiting.new.pool c.loop-at.auto.at end here c.loop-at.invariant.0
-          (λ firsts pool. subst (λ (ls : List (Label g.row.R-Value.Denot)). ArePoolOf g.R.Resource.below g.R.Forgets.same_sums trail (firsts ++ waited_entries wait (map (shown trail) ls)) c.merge_waiting.new.pool) same
-          (c.in_ok-merge_waiting.ensures.pool firsts pool)),
-      c.in_ok-merge_waiting.ensures.held,
+      one-waits w trail net c.args.ground.now.base arrivals c.args.departure.now c.args.window c.requires.window at x c.loop-at.pool c.merge_arrival.new.pool c.loop-at.auto.at end here c.loop-at.invariant.0
+          (λ firsts pool. subst (λ (ls : List (Label g.row.R-Value.Denot)). ArePoolOf g.R.Resource.below g.R.Forgets.same_sums trail (firsts ++ waited_entries wait (map (shown trail) ls)) c.merge_arrival.new.pool) same
+          (c.in_ok-merge_arrival.ensures.pool firsts pool)),
+      c.in_ok-merge_arrival.ensures.held,
+      rested-made w (g.R.Lapses.rested_of r) (g.R.Staged.count_of r) (g.R.Staged.arrived r) (g.R.Staged.most r) (length net.duties) c.args.table.now arrivals c.loop-at.rested.items at c.merge_arrival.new.rested
+          c.loop-at.invariant.2 (omega (arith, inside, c.loop-at.invariant.2.long))
+          (subst (λ (ls : List (Label g.row.R-Value.Denot)). MayBeRested w (g.R.Lapses.rested_of r) (g.R.Staged.count_of r) (g.R.Staged.arrived r) (g.R.Staged.most r) (length net.duties) c.args.table.now ls c.merge_arrival.new.rested) same
+          c.in_ok-merge_arrival.ensures.rested),
     )
