@@ -171,7 +171,8 @@ fn least_by(duty: &Duty, floor: i64) -> i64
     floor.saturating_add(i64::from(duty.pay) - duty.price)
 }
 
-// Keeps the least of the pairings that a duty ends, and makes none where the duty's cost too much.
+// Keeps the least of the pairings that a duty ends, and makes none where the duty's cost too much. A
+// duty that ends none that is asked for has no floor, and so brings nobody back to its departure.
 fn keep_by(
     alloc: Global,
     sweep: &Sweep,
@@ -194,13 +195,13 @@ fn keep_by(
     ensures floor { IfOk result (λ floor.
         CostFrom kept.old.beside floor (Spec.ended_by sweep.now index duty.now)) }
 {
+    if !kept.may_end(&duty.key) {
+        return Ok(i64::MAX);
+    }
     let minute = i64::from(duty.release);
     let least = least_by(duty, floor);
     if !kept.wants(least) {
         return Ok(least);
-    }
-    if !kept.may_end(&duty.key) {
-        return Ok(i64::MAX);
     }
     keep_boarding(alloc, sweep, trip_rig, index, rank, duty, minute, kept)
 }
@@ -264,12 +265,13 @@ fn floor_of(sweep: &Sweep, kept: &Kept, labels: &[(PairingVector, LabelWalk)]) -
     floor
 }
 
-// Whether one of the duties of these ranks ends at the base.
-fn comes_home(sweep: &Sweep, ranks: &[u32]) -> bool {
+// Whether one of the duties of these ranks ends at the base, and may end a pairing that is asked for.
+// Where none does no label of theirs needs to be looked at.
+fn comes_home(sweep: &Sweep, kept: &Kept, ranks: &[u32]) -> bool {
     let duties = sweep.net().duties().as_slice();
     for &rank in ranks {
         if let Some(duty) = duties.get(rank as usize) {
-            if duty.to == sweep.base() {
+            if duty.to == sweep.base() && kept.may_end(&duty.key) {
                 return true;
             }
         }
@@ -283,7 +285,7 @@ fn floor_at(sweep: &Sweep, kept: &Kept, index: usize, ranks: &[u32]) -> i64
     ensures { IsFloor kept.now.beside sweep.now result (get_or sweep.now.pools index []) }
 {
     let pool = sweep.pool(index);
-    if !comes_home(sweep, ranks) {
+    if !comes_home(sweep, kept, ranks) {
         return i64::MIN;
     }
     floor_of(sweep, kept, pool.as_slice())
