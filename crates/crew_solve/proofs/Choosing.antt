@@ -1,9 +1,10 @@
 -- The least that may be taken beside others are the first of these in order.
-use Rattle.std.proofs.Common.{◌≡◌, ◌∙◌, ◌<◌, ◌≤◌, ℕ, Bool, true, false, ◌&&◌, List, [], ◌∷◌, ◌++◌, Option, Some, inl, inr, refl, sym, ap, subst, ⊎_elim, arith, length, take}
+use Rattle.std.proofs.Common.{◌≡◌, ◌∙◌, ◌<◌, ◌≤◌, ℕ, pos, Bool, true, false, ◌&&◌, List, [], ◌∷◌, ◌++◌, Option, Some, inl, inr, refl, sym, ap, subst, ⊎_elim, arith, length, take}
 use Rattle.std.specs.Prelude.{filter}
 use Rattle.std.specs.Ordering.{ordering_reverse}
 use Rattle.std.specs.declared.cmp.Ordering.TheVariants.{Less, Equal, Greater}
 use Rattle.crew_pairing.proofs.Tree.{Each-member}
+use Rattle.crew_pairing.specs.Legs.{Leg}
 use Rattle.crew_resource.proofs.Members.{Member-append, Member-append_right, Member-filter_in, Member-filter_out}
 use Rattle.crew_resource.proofs.Rising.{same-rising}
 use Rattle.crew_resource.specs.Members.{Member}
@@ -12,6 +13,7 @@ use Rattle.crew_solve.proofs.OneList.{rising}
 use Rattle.crew_solve.proofs.Taking.{Whole, apart-from-fewer, at-least-itself, at-least-more, gains, later-by, past-later, rise-filter, whole-ended, whole-kept}
 use Rattle.crew_solve.specs.Apart.{is_apart, taken_from}
 use Rattle.crew_solve.specs.Cheapest.{RiseByCost, pairing_cmp, pairing_total}
+use Rattle.crew_solve.specs.Machinery.Floors.{may_begin}
 use Rattle.crew_solve.specs.Machinery.Keeps.{least_beside}
 use Rattle.crew_solve.specs.Machinery.Takes.{AreInOrder, Taken, is_past, last_of, looked_at, may_take}
 use Rattle.crew_vector.specs.declared.priced.PricedPairing.{PricedPairing}
@@ -111,6 +113,19 @@ might-look t found p h e =
 
 pub might-before : (n : ℕ) (t next : Taken) (ps : Ps) → next ≡ looked_at t (least_beside n t ps) → (p : PricedPairing) → may_take next p ≡ true → may_take t p ≡ true
 might-before n t next ps e p may = might-look t (least_beside n t ps) p (found-may n t ps) (ap (λ x. may_take x p) (sym e) ∙ may)
+
+-- what begins nothing that may be taken begins nothing after it
+fewer-begin : (a b : Bool) → (b ≡ true → a ≡ true) → a ≡ false → b ≡ false
+fewer-begin a false h e = refl
+fewer-begin a true h e = let both : true ≡ false = sym (h refl) ∙ e in absurd (let z : ⊥ = (cc) in z)
+
+pub begins-none : (n : ℕ) (t next : Taken) (ps : Ps) → next ≡ looked_at t (least_beside n t ps) → (w : List (List Leg)) → may_begin (Some t) w ≡ false → may_begin (Some next) w ≡ false
+begins-none n t next ps e w none =
+    let p : PricedPairing = record { base = []; walk = w; cost = pos 0; pay = pos 0; away = pos 0 } in
+    let found = least_beside n t ps in
+    let after = t.pairings ++ taken_from t.share t.pairings found in
+    let less = apart-from-fewer t.share t.pairings after p (at-least-more t.pairings t.pairings (taken_from t.share t.pairings found) (at-least-itself t.pairings)) in
+    ap (λ (x : Taken). may_begin (Some x) w) e ∙ fewer-begin (is_apart t.share t.pairings p) (is_apart t.share after p) less none
 
 -- ---- some of a list that are gone through once more
 

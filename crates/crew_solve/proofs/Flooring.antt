@@ -19,8 +19,8 @@ use Rattle.crew_solve.proofs.Floored.{keep-all-none, labelled-walk}
 use Rattle.crew_solve.proofs.Keeping.{keep-append, still-beside}
 use Rattle.crew_solve.proofs.Listed.{get-same}
 use Rattle.crew_solve.specs.Cheapest.{pairing_cmp}
-use Rattle.crew_solve.specs.Machinery.Floors.{AreFloors, AreFloorsOf, CostFrom, MayCost}
-use Rattle.crew_solve.specs.Machinery.Homes.{boarding, ended_by, home_from, home_of, priced, resource_of}
+use Rattle.crew_solve.specs.Machinery.Floors.{AreFloors, AreKnown, CostFrom, IsKnown, Known, MayCost, may_begin, nothing_known}
+use Rattle.crew_solve.specs.Machinery.Homes.{boarding, ended_by, home_from, home_of, priced, resource_of, walk_by_key}
 use Rattle.crew_solve.specs.Machinery.Keeps.{Kept, KeepsSome, is_wanted, keep, keep_all}
 use Rattle.crew_solve.specs.Machinery.Takes.{Taken}
 use Rattle.crew_sweep.specs.Sweeps.{BaseSweep, keyed}
@@ -131,7 +131,7 @@ set-by beside b floors index x h low more k (inr n) =
     let other : get_or (set floors index x) k None ≡ get_or floors k None = get_or-set_other floors index k x None n in
     subst (λ o. MayCost beside o (home_from b k)) (sym other) (h.right k)
 
-same-or : (m n : ℕ) → (m ≡ n) ⊎ (m ≢ n)
+pub same-or : (m n : ℕ) → (m ≡ n) ⊎ (m ≢ n)
 same-or zero zero = inl refl
 same-or zero (suc n) = inr (λ e. omega (arith, e))
 same-or (suc m) zero = inr (λ e. omega (arith, e))
@@ -144,47 +144,47 @@ floors-set beside b floors index x h low more = record {
   right = λ k. set-by beside b floors index x h low more k (same-or k index);
 }
 
-at-end : (beside : Option Taken) (b : BaseSweep) (f : List (Option ℤ)) → AreFloors beside b f → (place : ℕ) (x : BaseSweep) → slice_get (b ∷ []) place ≡ Some x → AreFloors beside x (get_or (f ∷ []) place [])
-at-end beside b f h zero x e = let q : b ≡ x = (cc) in subst (λ z. AreFloors beside z f) q h
+at-end : (beside : Option Taken) (b : BaseSweep) (f : Known) → IsKnown beside b f → (place : ℕ) (x : BaseSweep) → slice_get (b ∷ []) place ≡ Some x → IsKnown beside x (get_or (f ∷ []) place nothing_known)
+at-end beside b f h zero x e = let q : b ≡ x = (cc) in subst (λ z. IsKnown beside z f) q h
 at-end beside b f h (suc n) x e = absurd (let q : ⊥ = (cc) in q)
 
 -- those of a base more
-pub floors-more : (beside : Option Taken) (ss : List BaseSweep) (fs : List (List (Option ℤ))) (b : BaseSweep) (f : List (Option ℤ)) → AreFloorsOf beside ss fs → AreFloors beside b f
-    → AreFloorsOf beside (ss ++ b ∷ []) (fs ++ f ∷ [])
-floors-more beside [] [] b f h k = record { many = refl; right = at-end beside b f k }
-floors-more beside [] (g ∷ fs) b f h k = absurd (omega (arith, h.many))
-floors-more beside (s ∷ ss) [] b f h k = absurd (omega (arith, h.many))
-floors-more beside (s ∷ ss) (g ∷ fs) b f h k =
-    let rest : AreFloorsOf beside ss fs = record { many = omega (arith, h.many); right = λ place x e. h.right (suc place) x e } in
-    let more = floors-more beside ss fs b f rest k in
+pub known-more : (beside : Option Taken) (ss : List BaseSweep) (fs : List Known) (b : BaseSweep) (f : Known) → AreKnown beside ss fs → IsKnown beside b f
+    → AreKnown beside (ss ++ b ∷ []) (fs ++ f ∷ [])
+known-more beside [] [] b f h k = record { many = refl; right = at-end beside b f k }
+known-more beside [] (g ∷ fs) b f h k = absurd (omega (arith, h.many))
+known-more beside (s ∷ ss) [] b f h k = absurd (omega (arith, h.many))
+known-more beside (s ∷ ss) (g ∷ fs) b f h k =
+    let rest : AreKnown beside ss fs = record { many = omega (arith, h.many); right = λ place x e. h.right (suc place) x e } in
+    let more = known-more beside ss fs b f rest k in
     record { many = ap suc more.many; right = both-ends more.right (λ x e. h.right zero x e) }
   where
-    both-ends : ((place : ℕ) (x : BaseSweep) → slice_get (ss ++ b ∷ []) place ≡ Some x → AreFloors beside x (get_or (fs ++ f ∷ []) place [])) → ((x : BaseSweep) → slice_get (s ∷ ss) zero ≡ Some x → AreFloors beside x g)
-        → (place : ℕ) (x : BaseSweep) → slice_get (s ∷ (ss ++ b ∷ [])) place ≡ Some x → AreFloors beside x (get_or (g ∷ (fs ++ f ∷ [])) place [])
+    both-ends : ((place : ℕ) (x : BaseSweep) → slice_get (ss ++ b ∷ []) place ≡ Some x → IsKnown beside x (get_or (fs ++ f ∷ []) place nothing_known)) → ((x : BaseSweep) → slice_get (s ∷ ss) zero ≡ Some x → IsKnown beside x g)
+        → (place : ℕ) (x : BaseSweep) → slice_get (s ∷ (ss ++ b ∷ [])) place ≡ Some x → IsKnown beside x (get_or (g ∷ (fs ++ f ∷ [])) place nothing_known)
     both-ends later first zero x e = first x e
     both-ends later first (suc n) x e = later n x e
 
-set-of-by : (beside : Option Taken) (ss : List BaseSweep) (fs : List (List (Option ℤ))) (place : ℕ) (b : BaseSweep) (f : List (Option ℤ)) → AreFloorsOf beside ss fs → slice_get ss place ≡ Some b → place < length fs → AreFloors beside b f
-    → (k : ℕ) (x : BaseSweep) → slice_get ss k ≡ Some x → (k ≡ place) ⊎ (k ≢ place) → AreFloors beside x (get_or (set fs place f) k [])
+set-of-by : (beside : Option Taken) (ss : List BaseSweep) (fs : List Known) (place : ℕ) (b : BaseSweep) (f : Known) → AreKnown beside ss fs → slice_get ss place ≡ Some b → place < length fs → IsKnown beside b f
+    → (k : ℕ) (x : BaseSweep) → slice_get ss k ≡ Some x → (k ≡ place) ⊎ (k ≢ place) → IsKnown beside x (get_or (set fs place f) k nothing_known)
 set-of-by beside ss fs place b f h at low more k x e (inl i) =
-    let same : get_or (set fs place f) place [] ≡ f = get_or-set_same fs place f [] low in
+    let same : get_or (set fs place f) place nothing_known ≡ f = get_or-set_same fs place f nothing_known low in
     let own : Some b ≡ Some x = sym at ∙ (ap (slice_get ss) (sym i) ∙ e) in
     let is : b ≡ x = (cc) in
-    subst (λ j. AreFloors beside x (get_or (set fs place f) j [])) (sym i) (subst (AreFloors beside x) (sym same) (subst (λ z. AreFloors beside z f) is more))
+    subst (λ j. IsKnown beside x (get_or (set fs place f) j nothing_known)) (sym i) (subst (IsKnown beside x) (sym same) (subst (λ z. IsKnown beside z f) is more))
 set-of-by beside ss fs place b f h at low more k x e (inr n) =
-    let other : get_or (set fs place f) k [] ≡ get_or fs k [] = get_or-set_other fs place k f [] n in
-    subst (AreFloors beside x) (sym other) (h.right k x e)
+    let other : get_or (set fs place f) k nothing_known ≡ get_or fs k nothing_known = get_or-set_other fs place k f nothing_known n in
+    subst (IsKnown beside x) (sym other) (h.right k x e)
 
-pub floors-set-of : (beside : Option Taken) (ss : List BaseSweep) (fs : List (List (Option ℤ))) (place : ℕ) (b : BaseSweep) (f : List (Option ℤ)) → AreFloorsOf beside ss fs → slice_get ss place ≡ Some b → place < length fs → AreFloors beside b f
-    → AreFloorsOf beside ss (set fs place f)
-floors-set-of beside ss fs place b f h at low more = record {
+pub known-set : (beside : Option Taken) (ss : List BaseSweep) (fs : List Known) (place : ℕ) (b : BaseSweep) (f : Known) → AreKnown beside ss fs → slice_get ss place ≡ Some b → place < length fs → IsKnown beside b f
+    → AreKnown beside ss (set fs place f)
+known-set beside ss fs place b f h at low more = record {
   many = length-set fs place f ∙ h.many;
   right = λ k x e. set-of-by beside ss fs place b f h at low more k x e (same-or k place);
 }
 
--- a base's floors at its place, whatever stands beyond the end
-pub floors-at : (beside : Option Taken) (ss : List BaseSweep) (fs : List (List (Option ℤ))) (place : ℕ) (b : BaseSweep) (d : List (Option ℤ)) → AreFloorsOf beside ss fs → slice_get ss place ≡ Some b → place < length fs → AreFloors beside b (get_or fs place d)
-floors-at beside ss fs place b d h at low = subst (AreFloors beside b) (get-same fs place [] d low) (h.right place b at)
+-- what is known of a base, at its place, whatever stands beyond the end
+pub known-at : (beside : Option Taken) (ss : List BaseSweep) (fs : List Known) (place : ℕ) (b : BaseSweep) (d : Known) → AreKnown beside ss fs → slice_get ss place ≡ Some b → place < length fs → IsKnown beside b (get_or fs place d)
+known-at beside ss fs place b d h at low = subst (IsKnown beside b) (get-same fs place nothing_known d low) (h.right place b at)
 
 pub mapped-at : {A X : Type 0} (f : A → X) (xs : List A) (k : ℕ) (x : A) → slice_get xs k ≡ Some x → slice_get (map f xs) k ≡ Some (f x)
 mapped-at f [] k x e = absurd (let q : ⊥ = (cc) in q)
@@ -203,16 +203,23 @@ take-own {X = X} (x ∷ xs) ys = ap (λ (l : List X). x ∷ l) (take-own xs ys)
 pub written : {X : Type 0} (n : ℕ) (xs ys : List X) → n ≡ length xs → take n (xs ++ ys) ≡ xs
 written n xs ys e = ap (λ k. take k (xs ++ ys)) e ∙ take-own xs ys
 
--- ---- a floor stays true while less may be taken
+-- ---- what is known stays true while less may be taken
 
 stays : (t next : Option Taken) (o : Option ℤ) (ps : Ps) → ((p : PricedPairing) → is_wanted next p ≡ true → is_wanted t p ≡ true) → MayCost t o ps → MayCost next o ps
 stays t next None ps less h = tt
 stays t next (Some floor) ps less h = λ p m e. h p m (less p e)
 
-pub floors-stay : (t next : Option Taken) (ss : List BaseSweep) (fs : List (List (Option ℤ))) → ((p : PricedPairing) → is_wanted next p ≡ true → is_wanted t p ≡ true) → AreFloorsOf t ss fs → AreFloorsOf next ss fs
-floors-stay t next ss fs less h = record {
+floors-stay : (t next : Option Taken) (b : BaseSweep) (f : List (Option ℤ)) → ((p : PricedPairing) → is_wanted next p ≡ true → is_wanted t p ≡ true) → AreFloors t b f → AreFloors next b f
+floors-stay t next b f less h = record { many = h.many; right = λ index. stays t next (get_or f index None) (home_from b index) less (h.right index) }
+
+pub known-stays : (t next : Option Taken) (ss : List BaseSweep) (ks : List Known) → ((p : PricedPairing) → is_wanted next p ≡ true → is_wanted t p ≡ true) → ((w : List (List Leg)) → may_begin t w ≡ false → may_begin next w ≡ false)
+    → AreKnown t ss ks → AreKnown next ss ks
+known-stays t next ss ks less none h = record {
   many = h.many;
-  right = λ place b e. let k = h.right place b e in record { many = k.many; right = λ index. stays t next (get_or (get_or fs place []) index None) (home_from b index) less (k.right index) };
+  right = λ place b e. let k = h.right place b e in record {
+    floors = floors-stay t next b (get_or ks place nothing_known).floors less k.floors;
+    marks = λ walk m. none (walk_by_key b (record { walk = walk; duty = 4_294_967_295 })) (k.marks walk m);
+  };
 }
 
 -- ---- some of a list

@@ -26,6 +26,7 @@ pub mod Taking
 pub mod Flown
 pub mod Rooms
 pub mod Flooring
+pub mod Marking
 pub mod Cheapest
 pub mod OneList
 pub mod Below

@@ -5,14 +5,14 @@ ghost use Rattle.std.specs.Arc.{arc_value};
 ghost use Rattle.std.specs.List.{flat_map};
 ghost use Rattle.crew_resource.specs.Members.{Each};
 ghost use Rattle.crew_solve.specs.Apart.{taken_from};
-ghost use Rattle.crew_solve.specs.Machinery.Floors.{AreFloorsOf};
+ghost use Rattle.crew_solve.specs.Machinery.Floors.{AreKnown};
 ghost use Rattle.crew_solve.specs.Machinery.Homes.{home_of};
 ghost use Rattle.crew_solve.specs.Machinery.Keeps.{IsLook};
 ghost use Rattle.crew_solve.specs.Machinery.Takes.{AreInOrder};
 ghost use Rattle.crew_vector.specs.declared.priced.PricedPairing.{PricedPairing as Pairing};
 
 use crate::base_fronts::BaseFronts;
-use crate::floors::{Floors, keep_above_floors, keep_low_floors, known, low_floor};
+use crate::floors::{BaseKnown, keep_above_floors, keep_low_floors, known, low_floor};
 use crate::kept::Kept;
 use crate::taken::Taken;
 use crew_vector::PricedPairing;
@@ -47,19 +47,19 @@ fn take_next(
     trip_rig: u32,
     many: usize,
     taken: Taken,
-    floors: &mut [Floors],
+    known: &mut [BaseKnown],
 ) -> Result<(Taken, usize), AllocError>
     requires rate { Each (λ b. trip_rig ≡ b.net.settings.trip_rig) (map arc_value fronts.now) }
-    requires floors { AreFloorsOf (Some taken) (map arc_value fronts.now) floors.old }
+    requires known { AreKnown (Some taken) (map arc_value fronts.now) known.old }
     ensures look { IfOk result (λ next.
         IsLook many (flat_map home_of (map arc_value fronts.now)) taken next.0 next.1) }
-    ensures floors { IfOk result (λ next.
-        AreFloorsOf (Some next.0) (map arc_value fronts.now) floors.new) }
+    ensures known { IfOk result (λ next.
+        AreKnown (Some next.0) (map arc_value fronts.now) known.new) }
 {
     let mut kept = Kept::beside(alloc, many, taken);
-    let most = low_floor(alloc, floors, many.saturating_mul(LOW))?;
-    keep_low_floors(alloc, fronts, trip_rig, most, floors, &mut kept)?;
-    keep_above_floors(alloc, fronts, trip_rig, floors, &mut kept)?;
+    let most = low_floor(alloc, known, many.saturating_mul(LOW))?;
+    keep_low_floors(alloc, fronts, trip_rig, most, known, &mut kept)?;
+    keep_above_floors(alloc, fronts, trip_rig, known, &mut kept)?;
     let (beside, pairings) = kept.into_parts(alloc)?;
     let found = pairings.len();
     match beside {
@@ -86,11 +86,11 @@ pub(crate) fn apart_of(
         → pairings.items ≡ take limit (taken_from share [] all)) }
 {
     let mut taken = Taken::new(alloc, share)?;
-    let mut floors = known(alloc, fronts)?;
+    let mut known = known(alloc, fronts, true)?;
     let mut many = LEAST;
     while taken.len() < limit {
         let before = taken.len();
-        let (next, found) = take_next(alloc, fronts, trip_rig, many, taken, &mut floors)?;
+        let (next, found) = take_next(alloc, fronts, trip_rig, many, taken, &mut known)?;
         taken = next;
         if found < many {
             return Ok(taken.into_first(limit));

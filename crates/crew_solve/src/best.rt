@@ -1,14 +1,15 @@
 //! The least pairings of all that comes home.
-ghost use Rattle.std.specs.Prelude.{◌≡◌, ◌<◌, ◌≤◌, ◌≤ℤ◌, ◌∷◌, ℕ, IfOk, None, OnOk, Some, [], get_or, length, map, slice_get, true};
+ghost use Rattle.std.specs.Prelude.{◌≡◌, ◌⊎◌, ◌<◌, ◌≤◌, ◌≤ℤ◌, ◌∷◌, ℕ, IfOk, None, OnOk, Some, [], false, get_or, length, map, slice_get, true};
 ghost use Rattle.std.specs.Arc.{arc_value};
 ghost use Rattle.std.specs.List.{flat_map};
 ghost use Rattle.crew_pairing.specs.Events.{IsSound, departure_of};
 ghost use Rattle.crew_pairing.specs.declared.duty.Duty.{Duty};
+ghost use Rattle.crew_pool.specs.Counted.{AreWhole};
 ghost use Rattle.crew_pool.specs.LabelWalks.{walk_of_label};
 ghost use Rattle.crew_resource.specs.Machinery.Sum.{LiesWithin};
 ghost use Rattle.crew_resource.specs.Members.{Each, Member};
 ghost use Rattle.crew_solve.specs.Machinery.Floors as Floors;
-ghost use Rattle.crew_solve.specs.Machinery.Floors.{CostFrom, IsFloor, may_begin};
+ghost use Rattle.crew_solve.specs.Machinery.Floors.{AreMarks, CostFrom, IsFloor, may_begin};
 ghost use Rattle.crew_solve.specs.Machinery.Homes as Spec;
 ghost use Rattle.crew_solve.specs.Machinery.Keeps.{keep, keep_all};
 ghost use Rattle.crew_solve.specs.Machinery.Keyed.{AreReadable};
@@ -94,13 +95,22 @@ fn floor_with(kept: &Kept, cost: i64, walk: &WalkView<'_>, floor: i64) -> i64
     cost
 }
 
-// Keeps a label's pairing, whose walk is made only where it may be among the least. Gives what it and
-// those so far cost at least of which that is asked for.
+// Whether a walk is marked.
+fn is_marked(marks: &[bool], walk: u32) -> bool
+    ensures { result ≡ get_or marks.now walk false }
+{
+    marks.get(walk as usize).copied().unwrap_or(false)
+}
+
+// Keeps a label's pairing, whose walk is made only where it may be among the least, and which is
+// passed over where it begins with a walk that is marked. Gives what it and those so far cost at least
+// of which that is asked for.
 fn keep_label(
     alloc: Global,
     sweep: &Sweep,
     trip_rig: u32,
     minute: i64,
+    marks: &[bool],
     kept: &mut Kept,
     label: &(PairingVector, LabelWalk),
     floor: i64,
@@ -111,12 +121,16 @@ fn keep_label(
     requires there { label.now.1.walk < length sweep.now.walks }
     requires ranked { Each (λ rank. rank < length sweep.now.net.duties)
         (walk_of_label sweep.now.walks label.now.1) }
+    requires marks { AreMarks kept.old.beside sweep.now marks.now }
     ensures kept { OnOk result
         (kept.new ≡ keep kept.old (Spec.pairing_at sweep.now minute label.now)) }
     ensures less { IfOk result (λ next. next ≤ℤ floor) }
     ensures floor { IfOk result (λ next. CostFrom kept.old.beside next
         (Spec.pairing_at sweep.now minute label.now ∷ [])) }
 {
+    if is_marked(marks, label.1.walk) {
+        return Ok(floor);
+    }
     let vector = sweep.resource().show(&label.0, minute);
     let cost = vector.reduced_cost();
     let walk = WalkView::new(sweep, label.1);
@@ -140,6 +154,7 @@ fn keep_boarding(
     rank: u32,
     duty: &Duty,
     minute: i64,
+    marks: &[bool],
     kept: &mut Kept,
 ) -> Result<i64, AllocError>
     requires rate { trip_rig ≡ sweep.now.net.settings.trip_rig }
@@ -150,6 +165,7 @@ fn keep_boarding(
     requires within { LiesWithin 2_147_483_648 minute }
     requires sound { IsSound duty.now }
     requires fit { IsFit sweep.now }
+    requires marks { AreMarks kept.old.beside sweep.now marks.now }
     ensures kept { OnOk result
         (kept.new ≡ keep_all kept.old (Spec.ended_by sweep.now index duty.now)) }
     ensures floor { IfOk result (λ floor.
@@ -158,7 +174,7 @@ fn keep_boarding(
     let view = View::new(sweep.resource(), sweep.pool(index), duty, rank);
     let mut floor = i64::MAX;
     for label in view.iter() {
-        floor = keep_label(alloc, sweep, trip_rig, minute, kept, &label, floor)?;
+        floor = keep_label(alloc, sweep, trip_rig, minute, marks, kept, &label, floor)?;
     }
     Ok(floor)
 }
@@ -181,6 +197,7 @@ fn keep_by(
     rank: u32,
     duty: &Duty,
     floor: i64,
+    marks: &[bool],
     kept: &mut Kept,
 ) -> Result<i64, AllocError>
     requires rate { trip_rig ≡ sweep.now.net.settings.trip_rig }
@@ -190,6 +207,7 @@ fn keep_by(
     requires sound { IsSound duty.now }
     requires floor { IsFloor kept.old.beside sweep.now floor (get_or sweep.now.pools index []) }
     requires fit { IsFit sweep.now }
+    requires marks { AreMarks kept.old.beside sweep.now marks.now }
     ensures kept { OnOk result
         (kept.new ≡ keep_all kept.old (Spec.ended_by sweep.now index duty.now)) }
     ensures floor { IfOk result (λ floor.
@@ -203,7 +221,9 @@ fn keep_by(
     if !kept.wants(least) {
         return Ok(least);
     }
-    keep_boarding(alloc, sweep, trip_rig, index, rank, duty, minute, kept)
+    keep_boarding(
+        alloc, sweep, trip_rig, index, rank, duty, minute, marks, kept,
+    )
 }
 
 // Keeps the least of what comes home by the duty of a rank.
@@ -214,6 +234,7 @@ fn keep_at(
     index: usize,
     rank: u32,
     floor: i64,
+    marks: &[bool],
     kept: &mut Kept,
 ) -> Result<i64, AllocError>
     requires rate { trip_rig ≡ sweep.now.net.settings.trip_rig }
@@ -223,6 +244,7 @@ fn keep_at(
         → slice_get (in_order sweep.now.net) index ≡ Some (departure_of d) }
     requires floor { IsFloor kept.old.beside sweep.now floor (get_or sweep.now.pools index []) }
     requires fit { IsFit sweep.now }
+    requires marks { AreMarks kept.old.beside sweep.now marks.now }
     ensures kept { OnOk result
         (kept.new ≡ keep_all kept.old (Spec.home_at sweep.now index rank)) }
     ensures floor { IfOk result (λ floor.
@@ -232,35 +254,88 @@ fn keep_at(
     if duty.to != sweep.base() {
         return Ok(i64::MAX);
     }
-    keep_by(alloc, sweep, trip_rig, index, rank, duty, floor, kept)
+    keep_by(
+        alloc, sweep, trip_rig, index, rank, duty, floor, marks, kept,
+    )
 }
 
-// The lesser of a floor and a label's duty pay, if its walk may begin pairings that are asked for.
-fn floor_below(sweep: &Sweep, kept: &Kept, duty_pay: i64, label: LabelWalk, floor: i64) -> i64
+// Marks a walk, where there is a mark for it.
+fn mark(marks: &mut [bool], walk: u32)
+    ensures { (place : ℕ) → get_or marks.new place false ≡ true
+        → (walk ≡ place) ⊎ (get_or marks.old place false ≡ true) }
+{
+    let place = walk as usize;
+    if place >= marks.len() {
+        return;
+    }
+    marks[place] = true;
+}
+
+// Whether pairings that begin with a label's walk may be asked for. A walk that begins none is marked:
+// what may be asked for gets less, so nobody goes over its flights again, at this departure or another.
+fn may_begin_with(sweep: &Sweep, kept: &Kept, label: LabelWalk, marks: &mut [bool]) -> bool
     requires there { label.walk < length sweep.now.walks }
     requires ranked { Each (λ rank. rank < length sweep.now.net.duties)
         (walk_of_label sweep.now.walks label) }
+    requires whole { label.duty ≡ 4_294_967_295 }
+    requires marks { AreMarks kept.now.beside sweep.now marks.old }
+    ensures may { result ≡ may_begin kept.now.beside (Spec.walk_by_key sweep.now label) }
+    ensures marks { AreMarks kept.now.beside sweep.now marks.new }
+{
+    if is_marked(marks, label.walk) {
+        return false;
+    }
+    if kept.may_begin(&WalkView::new(sweep, label)) {
+        return true;
+    }
+    mark(marks, label.walk);
+    false
+}
+
+// The lesser of a floor and a label's duty pay, if its walk may begin pairings that are asked for.
+fn floor_below(
+    sweep: &Sweep,
+    kept: &Kept,
+    duty_pay: i64,
+    label: LabelWalk,
+    floor: i64,
+    marks: &mut [bool],
+) -> i64
+    requires there { label.walk < length sweep.now.walks }
+    requires ranked { Each (λ rank. rank < length sweep.now.net.duties)
+        (walk_of_label sweep.now.walks label) }
+    requires whole { label.duty ≡ 4_294_967_295 }
+    requires marks { AreMarks kept.now.beside sweep.now marks.old }
     ensures less { result ≤ℤ floor }
     ensures low { may_begin kept.now.beside (Spec.walk_by_key sweep.now label) ≡ true
         → result ≤ℤ duty_pay }
+    ensures marks { AreMarks kept.now.beside sweep.now marks.new }
 {
     if floor <= duty_pay {
         return floor;
     }
-    if !kept.may_begin(&WalkView::new(sweep, label)) {
+    if !may_begin_with(sweep, kept, label, marks) {
         return floor;
     }
     duty_pay
 }
 
 // The least duty pay of a departure's labels whose walks may begin pairings that are asked for.
-fn floor_of(sweep: &Sweep, kept: &Kept, labels: &[(PairingVector, LabelWalk)]) -> i64
-    requires { AreReadable sweep.now labels.now }
-    ensures { IsFloor kept.now.beside sweep.now result labels.now }
+fn floor_of(
+    sweep: &Sweep,
+    kept: &Kept,
+    labels: &[(PairingVector, LabelWalk)],
+    marks: &mut [bool],
+) -> i64
+    requires readable { AreReadable sweep.now labels.now }
+    requires whole { AreWhole labels.now }
+    requires marks { AreMarks kept.now.beside sweep.now marks.old }
+    ensures floor { IsFloor kept.now.beside sweep.now result labels.now }
+    ensures marks { AreMarks kept.now.beside sweep.now marks.new }
 {
     let mut floor = i64::MAX;
     for (vector, label) in labels {
-        floor = floor_below(sweep, kept, vector.duty_pay, *label, floor);
+        floor = floor_below(sweep, kept, vector.duty_pay, *label, floor, marks);
     }
     floor
 }
@@ -280,15 +355,17 @@ fn comes_home(sweep: &Sweep, kept: &Kept, ranks: &[u32]) -> bool {
 }
 
 // A floor of a departure's labels, where one of its duties comes home.
-fn floor_at(sweep: &Sweep, kept: &Kept, index: usize, ranks: &[u32]) -> i64
+fn floor_at(sweep: &Sweep, kept: &Kept, index: usize, ranks: &[u32], marks: &mut [bool]) -> i64
     requires index { index < length sweep.now.net.by_report }
-    ensures { IsFloor kept.now.beside sweep.now result (get_or sweep.now.pools index []) }
+    requires marks { AreMarks kept.now.beside sweep.now marks.old }
+    ensures floor { IsFloor kept.now.beside sweep.now result (get_or sweep.now.pools index []) }
+    ensures marks { AreMarks kept.now.beside sweep.now marks.new }
 {
     let pool = sweep.pool(index);
     if !comes_home(sweep, kept, ranks) {
         return i64::MIN;
     }
-    floor_of(sweep, kept, pool.as_slice())
+    floor_of(sweep, kept, pool.as_slice(), marks)
 }
 
 // Keeps the least of what comes home by the duties of a departure.
@@ -297,21 +374,24 @@ pub(crate) fn keep_from(
     sweep: &Sweep,
     trip_rig: u32,
     index: usize,
+    marks: &mut [bool],
     kept: &mut Kept,
 ) -> Result<i64, AllocError>
     requires rate { trip_rig ≡ sweep.now.net.settings.trip_rig }
     requires index { index < length sweep.now.net.by_report }
     requires fit { IsFit sweep.now }
+    requires marks { AreMarks kept.old.beside sweep.now marks.old }
     ensures kept { OnOk result (kept.new ≡ keep_all kept.old (Spec.home_from sweep.now index)) }
     ensures floor { IfOk result (λ floor.
         CostFrom kept.old.beside floor (Spec.home_from sweep.now index)) }
+    ensures marks { AreMarks kept.old.beside sweep.now marks.new }
 {
     let place = sweep.net().by_report()[index] as usize;
     let ranks = sweep.net().leaving(place);
-    let floor = floor_at(sweep, kept, index, ranks);
+    let floor = floor_at(sweep, kept, index, ranks, marks);
     let mut least = i64::MAX;
     for &rank in ranks {
-        let cost = keep_at(alloc, sweep, trip_rig, index, rank, floor, kept)?;
+        let cost = keep_at(alloc, sweep, trip_rig, index, rank, floor, marks, kept)?;
         least = least.min(cost);
     }
     Ok(least)

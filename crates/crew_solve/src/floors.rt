@@ -3,7 +3,7 @@ ghost use Rattle.std.specs.Prelude.{◌≡◌, ◌<◌, IfOk, List, None, OnOk, 
 ghost use Rattle.std.specs.Arc.{arc_value};
 ghost use Rattle.std.specs.List.{flat_map};
 ghost use Rattle.crew_resource.specs.Members.{Each};
-ghost use Rattle.crew_solve.specs.Machinery.Floors.{AreFloors, AreFloorsOf, MayCost};
+ghost use Rattle.crew_solve.specs.Machinery.Floors.{AreFloors, AreKnown, AreMarks, IsKnown, MayCost};
 ghost use Rattle.crew_solve.specs.Machinery.Homes as Spec;
 ghost use Rattle.crew_solve.specs.Machinery.Homes.{IsFit};
 ghost use Rattle.crew_solve.specs.Machinery.Keeps.{KeepsSome, keep_all};
@@ -56,20 +56,23 @@ fn keep_above(
     trip_rig: u32,
     index: usize,
     floor: Option<i64>,
+    marks: &mut [bool],
     kept: &mut Kept,
 ) -> Result<Option<i64>, AllocError>
     requires rate { trip_rig ≡ sweep.now.net.settings.trip_rig }
     requires index { index < length sweep.now.net.by_report }
     requires fit { IsFit sweep.now }
     requires floor { MayCost kept.old.beside floor (Spec.home_from sweep.now index) }
+    requires marks { AreMarks kept.old.beside sweep.now marks.old }
     ensures kept { OnOk result (kept.new ≡ keep_all kept.old (Spec.home_from sweep.now index)) }
     ensures floor { IfOk result (λ floor.
         MayCost kept.old.beside floor (Spec.home_from sweep.now index)) }
+    ensures marks { AreMarks kept.old.beside sweep.now marks.new }
 {
     if !may_want(kept, floor) {
         return Ok(floor);
     }
-    let least = keep_from(alloc, sweep, trip_rig, index, kept)?;
+    let least = keep_from(alloc, sweep, trip_rig, index, marks, kept)?;
     Ok(Some(least))
 }
 
@@ -79,16 +82,19 @@ fn keep_of(
     sweep: &Sweep,
     trip_rig: u32,
     floors: &mut [Option<i64>],
+    marks: &mut [bool],
     kept: &mut Kept,
 ) -> Result<(), AllocError>
     requires rate { trip_rig ≡ sweep.now.net.settings.trip_rig }
     requires fit { IsFit sweep.now }
     requires floors { AreFloors kept.old.beside sweep.now floors.old }
+    requires marks { AreMarks kept.old.beside sweep.now marks.old }
     ensures kept { OnOk result (kept.new ≡ keep_all kept.old (Spec.home_of sweep.now)) }
     ensures floors { OnOk result (AreFloors kept.old.beside sweep.now floors.new) }
+    ensures marks { OnOk result (AreMarks kept.old.beside sweep.now marks.new) }
 {
     for index in 0..sweep.net().by_report().len() {
-        let floor = keep_above(alloc, sweep, trip_rig, index, floors[index], kept)?;
+        let floor = keep_above(alloc, sweep, trip_rig, index, floors[index], marks, kept)?;
         floors[index] = floor;
     }
     Ok(())
@@ -111,20 +117,23 @@ fn keep_low(
     index: usize,
     most: i64,
     floor: Option<i64>,
+    marks: &mut [bool],
     kept: &mut Kept,
 ) -> Result<Option<i64>, AllocError>
     requires rate { trip_rig ≡ sweep.now.net.settings.trip_rig }
     requires index { index < length sweep.now.net.by_report }
     requires fit { IsFit sweep.now }
     requires floor { MayCost kept.old.beside floor (Spec.home_from sweep.now index) }
+    requires marks { AreMarks kept.old.beside sweep.now marks.old }
     ensures kept { OnOk result (KeepsSome (Spec.home_from sweep.now index) kept.old kept.new) }
     ensures floor { IfOk result (λ floor.
         MayCost kept.old.beside floor (Spec.home_from sweep.now index)) }
+    ensures marks { AreMarks kept.old.beside sweep.now marks.new }
 {
     if !is_low(floor, most) {
         return Ok(floor);
     }
-    let floor = keep_above(alloc, sweep, trip_rig, index, floor, kept)?;
+    let floor = keep_above(alloc, sweep, trip_rig, index, floor, marks, kept)?;
     Ok(floor)
 }
 
@@ -135,16 +144,28 @@ fn keep_low_of(
     trip_rig: u32,
     most: i64,
     floors: &mut [Option<i64>],
+    marks: &mut [bool],
     kept: &mut Kept,
 ) -> Result<(), AllocError>
     requires rate { trip_rig ≡ sweep.now.net.settings.trip_rig }
     requires fit { IsFit sweep.now }
     requires floors { AreFloors kept.old.beside sweep.now floors.old }
+    requires marks { AreMarks kept.old.beside sweep.now marks.old }
     ensures kept { OnOk result (KeepsSome (Spec.home_of sweep.now) kept.old kept.new) }
     ensures floors { OnOk result (AreFloors kept.old.beside sweep.now floors.new) }
+    ensures marks { OnOk result (AreMarks kept.old.beside sweep.now marks.new) }
 {
     for index in 0..sweep.net().by_report().len() {
-        let floor = keep_low(alloc, sweep, trip_rig, index, most, floors[index], kept)?;
+        let floor = keep_low(
+            alloc,
+            sweep,
+            trip_rig,
+            index,
+            most,
+            floors[index],
+            marks,
+            kept,
+        )?;
         floors[index] = floor;
     }
     Ok(())
@@ -188,7 +209,7 @@ impl Floors {
         let trip_rig = net.settings().trip_rig;
         let mut floors = Floors::unknown(alloc, net.by_report().len())?;
         let mut none = Kept::new(alloc, 0);
-        floors.keep_of(alloc, sweep, trip_rig, &mut none)?;
+        floors.find(alloc, sweep, trip_rig, &mut none)?;
         Ok(floors)
     }
 
@@ -208,8 +229,8 @@ impl Floors {
         Ok(Floors { floors })
     }
 
-    // Keeps the least of all that comes home to the base.
-    fn keep_of(
+    // Finds the floors, and keeps the least of all that comes home to the base.
+    fn find(
         &mut self,
         alloc: Global,
         sweep: &Sweep,
@@ -222,7 +243,61 @@ impl Floors {
         ensures kept { OnOk result (kept.new ≡ keep_all kept.old (Spec.home_of sweep.now)) }
         ensures floors { OnOk result (AreFloors kept.old.beside sweep.now self.new) }
     {
-        keep_of(alloc, sweep, trip_rig, &mut self.floors, kept)
+        let mut none = Vec::new(alloc);
+        keep_of(alloc, sweep, trip_rig, &mut self.floors, &mut none, kept)
+    }
+}
+
+/// What is known of a base: the floors of its departures, and a mark for each walk that was found to
+/// begin no pairing that may still be taken. Both stay true, as less and less may be taken.
+///
+/// A contract sees the list of the floors and that of the marks.
+#[derive(Drop)]
+pub(crate) struct BaseKnown {
+    floors: Vec<Option<i64>>,
+    marks: Vec<bool>,
+}
+
+impl Model for BaseKnown {
+    ghost use Rattle.crew_solve.specs.Machinery.Floors as Floors;
+
+    ghost Value = { Floors.Known };
+
+    ghost view = { λ k. record { floors = k.floors.items; marks = k.marks.items } };
+}
+
+impl BaseKnown {
+    // The floors of a base before any pairing is taken, and no mark, for so many walks.
+    fn of(alloc: Global, base: &BaseFronts, walks: usize) -> Result<BaseKnown, AllocError>
+        ensures { IfOk result (IsKnown None base.now) }
+    {
+        let Floors { floors } = base.floors().copy(alloc)?;
+        let marks = vec![in alloc; false; walks]?;
+        Ok(BaseKnown { floors, marks })
+    }
+
+    // Keeps the least of all that comes home to the base.
+    fn keep_of(
+        &mut self,
+        alloc: Global,
+        sweep: &Sweep,
+        trip_rig: u32,
+        kept: &mut Kept,
+    ) -> Result<(), AllocError>
+        requires rate { trip_rig ≡ sweep.now.net.settings.trip_rig }
+        requires fit { IsFit sweep.now }
+        requires known { IsKnown kept.old.beside sweep.now self.old }
+        ensures kept { OnOk result (kept.new ≡ keep_all kept.old (Spec.home_of sweep.now)) }
+        ensures known { OnOk result (IsKnown kept.old.beside sweep.now self.new) }
+    {
+        keep_of(
+            alloc,
+            sweep,
+            trip_rig,
+            &mut self.floors,
+            &mut self.marks,
+            kept,
+        )
     }
 
     // Keeps the least of what comes home to the base by the departures whose floors are low.
@@ -236,34 +311,52 @@ impl Floors {
     ) -> Result<(), AllocError>
         requires rate { trip_rig ≡ sweep.now.net.settings.trip_rig }
         requires fit { IsFit sweep.now }
-        requires floors { AreFloors kept.old.beside sweep.now self.old }
+        requires known { IsKnown kept.old.beside sweep.now self.old }
         ensures kept { OnOk result (KeepsSome (Spec.home_of sweep.now) kept.old kept.new) }
-        ensures floors { OnOk result (AreFloors kept.old.beside sweep.now self.new) }
+        ensures known { OnOk result (IsKnown kept.old.beside sweep.now self.new) }
     {
-        keep_low_of(alloc, sweep, trip_rig, most, &mut self.floors, kept)
+        keep_low_of(
+            alloc,
+            sweep,
+            trip_rig,
+            most,
+            &mut self.floors,
+            &mut self.marks,
+            kept,
+        )
     }
 }
 
-/// The floors of each base's departures, before any pairing is taken.
+/// What is known of each base before any pairing is taken, with room for marks or without.
 pub(crate) fn known(
     alloc: Global,
     fronts: &[Arc<BaseFronts, Global>],
-) -> Result<Vec<Floors>, AllocError>
-    ensures { IfOk result (λ floors. (beside : Option Taken)
-        → AreFloorsOf beside (map arc_value fronts.now) floors.items) }
+    marked: bool,
+) -> Result<Vec<BaseKnown>, AllocError>
+    ensures { IfOk result (λ known. (beside : Option Taken)
+        → AreKnown beside (map arc_value fronts.now) known.items) }
 {
-    let mut floors = Vec::with_capacity(alloc, fronts.len())?;
+    let mut known = Vec::with_capacity(alloc, fronts.len())?;
     for base in fronts {
-        let one = base.floors().copy(alloc)?;
-        floors.push(one)?;
+        let walks = if marked {
+            base.sweep().walks().count()
+        } else {
+            0
+        };
+        let one = BaseKnown::of(alloc, base, walks)?;
+        known.push(one)?;
     }
-    Ok(floors)
+    Ok(known)
 }
 
 /// A floor that at most so many different ones of those that are known don't exceed.
-pub(crate) fn low_floor(alloc: Global, floors: &[Floors], many: usize) -> Result<i64, AllocError> {
+pub(crate) fn low_floor(
+    alloc: Global,
+    known: &[BaseKnown],
+    many: usize,
+) -> Result<i64, AllocError> {
     let mut least = BTreeSet::new(alloc);
-    for base in floors {
+    for base in known {
         put_floors(&base.floors, many, &mut least)?;
     }
     Ok(least.last().copied().unwrap_or(i64::MIN))
@@ -275,18 +368,18 @@ pub(crate) fn keep_low_floors(
     fronts: &[Arc<BaseFronts, Global>],
     trip_rig: u32,
     most: i64,
-    floors: &mut [Floors],
+    known: &mut [BaseKnown],
     kept: &mut Kept,
 ) -> Result<(), AllocError>
     requires rate { Each (λ b. trip_rig ≡ b.net.settings.trip_rig) (map arc_value fronts.now) }
-    requires floors { AreFloorsOf kept.old.beside (map arc_value fronts.now) floors.old }
+    requires known { AreKnown kept.old.beside (map arc_value fronts.now) known.old }
     ensures kept { OnOk result
         (KeepsSome (flat_map Spec.home_of (map arc_value fronts.now)) kept.old kept.new) }
-    ensures floors { OnOk result
-        (AreFloorsOf kept.old.beside (map arc_value fronts.now) floors.new) }
+    ensures known { OnOk result
+        (AreKnown kept.old.beside (map arc_value fronts.now) known.new) }
 {
     for (place, base) in fronts.iter().enumerate() {
-        floors[place].keep_low_of(alloc, base.sweep(), trip_rig, most, kept)?;
+        known[place].keep_low_of(alloc, base.sweep(), trip_rig, most, kept)?;
     }
     Ok(())
 }
@@ -297,18 +390,18 @@ pub(crate) fn keep_above_floors(
     alloc: Global,
     fronts: &[Arc<BaseFronts, Global>],
     trip_rig: u32,
-    floors: &mut [Floors],
+    known: &mut [BaseKnown],
     kept: &mut Kept,
 ) -> Result<(), AllocError>
     requires rate { Each (λ b. trip_rig ≡ b.net.settings.trip_rig) (map arc_value fronts.now) }
-    requires floors { AreFloorsOf kept.old.beside (map arc_value fronts.now) floors.old }
+    requires known { AreKnown kept.old.beside (map arc_value fronts.now) known.old }
     ensures kept { OnOk result
         (kept.new ≡ keep_all kept.old (flat_map Spec.home_of (map arc_value fronts.now))) }
-    ensures floors { OnOk result
-        (AreFloorsOf kept.old.beside (map arc_value fronts.now) floors.new) }
+    ensures known { OnOk result
+        (AreKnown kept.old.beside (map arc_value fronts.now) known.new) }
 {
     for (place, base) in fronts.iter().enumerate() {
-        floors[place].keep_of(alloc, base.sweep(), trip_rig, kept)?;
+        known[place].keep_of(alloc, base.sweep(), trip_rig, kept)?;
     }
     Ok(())
 }
@@ -324,6 +417,6 @@ pub(crate) fn keep_home(
     ensures { OnOk result
         (kept.new ≡ keep_all kept.old (flat_map Spec.home_of (map arc_value fronts.now))) }
 {
-    let mut floors = known(alloc, fronts)?;
-    keep_above_floors(alloc, fronts, trip_rig, &mut floors, kept)
+    let mut known = known(alloc, fronts, false)?;
+    keep_above_floors(alloc, fronts, trip_rig, &mut known, kept)
 }

@@ -99,7 +99,8 @@ impl Solution {
     pub fn into_best(self) -> Option<PricedPairing>
         ensures { result ≡ self.best }
     {
-        self.best
+        let Solution { best, .. } = self;
+        best
     }
 
     /// Of the pairings of all bases that the fronts show those that come first by cost and walk: as

@@ -1,5 +1,5 @@
 -- What the pairings of a departure's labels cost at least.
-use Rattle.std.specs.Prelude.{◌≡◌, ◌≤ℤ◌, ◌+ℤ◌, ◌-ℤ◌, ℕ, ℤ, Bool, true, List, [], Option, Some, None, count_by, get_or, length, nat_lt, slice_get}
+use Rattle.std.specs.Prelude.{◌≡◌, ◌≤ℤ◌, ◌+ℤ◌, ◌-ℤ◌, ℕ, ℤ, Bool, false, true, List, [], Option, Some, None, count_by, get_or, length, nat_lt, slice_get}
 use Rattle.std.specs.List.{list_all}
 use Rattle.std.specs.Int.{saturate_signed, w64}
 use Rattle.crew_pairing.specs.Legs.{Leg}
@@ -45,9 +45,26 @@ pub record AreFloors (beside : Option Taken) (b : BaseSweep) (floors : List (Opt
   pub many : length floors ≡ length b.net.by_report
   pub right : (index : ℕ) → MayCost beside (get_or floors index None) (home_from b index)
 
--- those of each base
-pub record AreFloorsOf (beside : Option Taken) (sweeps : List BaseSweep)
-    (floors : List (List (Option ℤ))) : Type 0 where
-  pub many : length floors ≡ length sweeps
+-- pairings that begin with a walk that is marked, by its place, may not be asked for
+abbrev pub AreMarks : Option Taken → BaseSweep → List Bool → Type 0
+AreMarks beside b marks = (walk : ℕ) → get_or marks walk false ≡ true
+    → may_begin beside (walk_by_key b (record { walk = walk; duty = 4_294_967_295 })) ≡ false
+
+-- what is known of a base: its departures' floors, and which walks are marked
+pub record Known : Type 0 where
+  pub floors : List (Option ℤ)
+  pub marks : List Bool
+
+abbrev pub nothing_known : Known
+nothing_known = record { floors = []; marks = [] }
+
+pub record IsKnown (beside : Option Taken) (b : BaseSweep) (known : Known) : Type 0 where
+  pub floors : AreFloors beside b known.floors
+  pub marks : AreMarks beside b known.marks
+
+-- what is known of each base
+pub record AreKnown (beside : Option Taken) (sweeps : List BaseSweep) (known : List Known) : Type
+    0 where
+  pub many : length known ≡ length sweeps
   pub right : (place : ℕ) (b : BaseSweep) → slice_get sweeps place ≡ Some b
-      → AreFloors beside b (get_or floors place [])
+      → IsKnown beside b (get_or known place nothing_known)

@@ -3,7 +3,7 @@ use Rattle.std.specs.Arc.{arc_value}
 use Rattle.std.specs.List.{flat_map}
 use Rattle.crew_solve.proofs.Choosing.{again-in-order, all-whole, more-each, still-whole}
 use Rattle.crew_solve.proofs.Taking.{Whole, whole-begun}
-use Rattle.crew_solve.specs.Machinery.Floors.{AreFloorsOf}
+use Rattle.crew_solve.specs.Machinery.Floors.{AreKnown}
 use Rattle.crew_solve.proofs.Flooring.{written}
 use Rattle.crew_solve.specs.Machinery.Homes.{home_of}
 use Rattle.crew_solve.specs.Machinery.Keeps.{least_beside}
@@ -15,7 +15,7 @@ pub loop-alloc-init : goal.loop-alloc-init
 loop-alloc-init c = record {
   share = ap (λ (t : Taken). t.share) c.in_ok-taken.ensures;
   some = omega arith;
-  floors = c.in_ok-floors.ensures (Some c.in_ok-taken.taken);
+  known = c.in_ok-known.ensures (Some c.in_ok-taken.taken);
   whole = λ all are. ap (Whole all) c.in_ok-taken.ensures ∙ whole-begun c.args.share all;
 }
 
@@ -54,10 +54,10 @@ loop-alloc-preserved c =
     let look = c.in_ok-next.ensures.look in
     let seen = look.again ++ homes in
     let ss = map (arc_value {X = BaseSweep}) c.args.fronts.now in
-    let long : c.loop-alloc.floors.len ≡ length c.take_next.new.floors = omega (arith, c.loop-alloc.floors.ok.0, c.loop-alloc.invariant.floors.many, c.in_ok-next.ensures.floors.many) in
+    let long : c.loop-alloc.known.len ≡ length c.take_next.new.known = omega (arith, c.loop-alloc.known.ok.0, c.loop-alloc.invariant.known.many, c.in_ok-next.ensures.known.many) in
     record {
       share = ap (λ (x : Taken). x.share) look.taken ∙ c.loop-alloc.invariant.share;
       some = c.more_than-many.ensures;
-      floors = subst (AreFloorsOf (Some next) ss) (sym (written c.loop-alloc.floors.len c.take_next.new.floors _ long)) c.in_ok-next.ensures.floors;
+      known = subst (AreKnown (Some next) ss) (sym (written c.loop-alloc.known.len c.take_next.new.known _ long)) c.in_ok-next.ensures.known;
       whole = λ all are. still-whole seen all (again-in-order look.again homes all look.among are) many t next look.taken ∙ c.loop-alloc.invariant.whole all are;
     }

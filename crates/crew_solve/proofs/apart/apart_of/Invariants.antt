@@ -2,7 +2,7 @@ use Rattle.std.proofs.Common.{◌≡◌, ◌<◌, ◌-◌, List, [], Some, lengt
 use Rattle.std.specs.Arc.{arc_value}
 use Rattle.std.specs.List.{flat_map}
 use Rattle.crew_solve.specs.Apart.{taken_from}
-use Rattle.crew_solve.specs.Machinery.Floors.{AreFloorsOf}
+use Rattle.crew_solve.specs.Machinery.Floors.{AreKnown}
 use Rattle.crew_solve.specs.Machinery.Homes.{home_of}
 use Rattle.crew_solve.specs.Machinery.Takes.{AreInOrder}
 use Rattle.crew_solve.proofs.Taking.{Whole}
@@ -13,7 +13,7 @@ abbrev pub invariant-loop-alloc : goal.invariant-loop-alloc
 invariant-loop-alloc l = record {
   share : l.taken.share ≡ l.share;
   some : 0 < l.many;
-  floors : AreFloorsOf (Some l.taken) (map arc_value l.fronts) l.floors.items;
+  known : AreKnown (Some l.taken) (map arc_value l.fronts) l.known.items;
   whole : (all : List PricedPairing) → AreInOrder (flat_map home_of (map arc_value l.fronts)) all → Whole all l.taken ≡ taken_from l.share [] all;
 }
 

@@ -12,13 +12,13 @@ use Rattle.crew_sweep.proofs.Numbers.{get-member, get-within}
 use Rattle.crew_pool.specs.declared.label_walk.LabelWalk.{LabelWalk}
 use Rattle.crew_resource.proofs.Members.{Member-get_or}
 use Rattle.crew_resource.specs.Members.{Member}
-use Rattle.crew_solve.specs.Machinery.Floors.{CostFrom}
+use Rattle.crew_solve.specs.Machinery.Floors.{AreMarks, CostFrom}
 use Rattle.crew_solve.specs.Machinery.Homes.{IsShowable, ended_by, pairing_at, resource_of}
 use Rattle.crew_solve.specs.Machinery.Keeps.{Kept, keep, keep_all}
 use Rattle.crew_solve.proofs.Boarded.{are-whole, boarded-kept, boarded-pairings, boarded-shown, can-board}
 use Rattle.crew_pool.proofs.Listed.{map-itself}
 use Rattle.crew_solve.proofs.Flooring.{from-below, from-none}
-use Rattle.crew_solve.proofs.Keeping.{keep-one-more}
+use Rattle.crew_solve.proofs.Keeping.{keep-one-more, still-beside}
 use Rattle.crew_solve.proofs.best.keep_boarding.Goals as goal
 
 pub new-view-requires-clause-can : goal.new-view-requires-clause-can
@@ -73,6 +73,13 @@ keep_label-requires-clause-ranked c =
     let low = get-within b.net.duties c.args.rank d c.requires.duty in
     let least : c.args.rank < 4294967295 = omega (arith, low, c.requires.fit.few) in
     (boarded-kept (resource_of b) _ c.args.rank _ c.pool.result.now d c.pool.ensures.kept low least label (subst (λ (ls : List (PairingVector × LabelWalk)). Member ls label) all in-view)).1
+
+pub keep_label-requires-clause-marks : goal.keep_label-requires-clause-marks
+keep_label-requires-clause-marks c =
+    let b = c.args.sweep.now in
+    let first = c.args.kept.now in
+    let same : c.loop-label.kept.beside ≡ first.beside = ap (λ (k : Kept). k.beside) c.loop-label.invariant.kept ∙ still-beside first (map (pairing_at b c.args.duty.now.release) c.loop-label.yielded) in
+    subst (λ o. AreMarks o b c.args.marks.now) (sym same) c.requires.marks
 
 pub loop-label-init : goal.loop-label-init
 loop-label-init c = record {

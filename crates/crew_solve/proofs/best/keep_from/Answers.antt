@@ -11,7 +11,7 @@ use Rattle.crew_pairing.specs.Events.{departure_of}
 use Rattle.crew_resource.proofs.Members.{Member-get}
 use Rattle.crew_resource.specs.Members.{Member}
 use Rattle.crew_sweep.proofs.Numbers.{get-within}
-use Rattle.crew_solve.specs.Machinery.Floors.{CostFrom, IsFloor}
+use Rattle.crew_solve.specs.Machinery.Floors.{AreMarks, CostFrom, IsFloor}
 use Rattle.crew_solve.specs.Machinery.Homes.{home_at, leaving}
 use Rattle.crew_solve.proofs.Flooring.{from-more, from-none}
 use Rattle.crew_solve.proofs.Departing.{departs, leaves-own, rank-out}
@@ -65,7 +65,15 @@ keep_at-requires-clause-floor c =
     let pool = get_or b.pools c.args.index [] in
     let floor = to_z w64 (of_z w64 c.floor_at-floor.result) in
     let whole : floor ≡ c.floor_at-floor.result = omega (arith, ints) in
-    subst (λ o. IsFloor o b floor pool) (sym same) (subst (λ z. IsFloor first.beside b z pool) (sym whole) c.floor_at-floor.ensures)
+    subst (λ o. IsFloor o b floor pool) (sym same) (subst (λ z. IsFloor first.beside b z pool) (sym whole) c.floor_at-floor.ensures.floor)
+
+pub keep_at-requires-clause-marks : goal.keep_at-requires-clause-marks
+keep_at-requires-clause-marks c =
+    let b = c.args.sweep.now in
+    let first = c.args.kept.now in
+    let done = flat_map (home_at b c.args.index) (take c.loop-rank.rank-index c.leaving-ranks.result.now) in
+    let same : c.loop-rank.kept.beside ≡ first.beside = ap (λ (k : Kept). k.beside) c.loop-rank.invariant.kept ∙ still-beside first done in
+    subst (λ o. AreMarks o b c.floor_at-floor.new.marks) (sym same) c.floor_at-floor.ensures.marks
 
 pub loop-rank-init : goal.loop-rank-init
 loop-rank-init c = record {

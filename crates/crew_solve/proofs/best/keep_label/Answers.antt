@@ -8,6 +8,7 @@ use Rattle.crew_solve.specs.Machinery.Homes.{pairing_at, walk_by_key}
 use Rattle.crew_solve.specs.Machinery.Keeps.{is_wanted, keep}
 use Rattle.crew_solve.proofs.Floored.{as-much}
 use Rattle.crew_solve.proofs.Flooring.{from-one, from-unasked-one, keep-unasked}
+use Rattle.crew_solve.proofs.Marking.{unasked-marked}
 use Rattle.crew_solve.proofs.Pairings.{has-pay, paired, shown-as}
 use Rattle.crew_vector.specs.declared.priced.PricedPairing.{PricedPairing}
 use Rattle.crew_solve.proofs.best.keep_label.Goals as goal
@@ -89,3 +90,17 @@ returns-clause-floor c =
     let next : to_z w64 (of_z w64 c.min.result) ≡ c.min.result = omega (arith, ints) in
     let low : to_z w64 (of_z w64 c.args.floor) ≡ c.args.floor = omega (arith, ints) in
     from-one c.args.kept.now.beside _ p (less-than _ _ _ (next ∙ (c.min.ensures.value ∙ (λ i. int_min (low i) (own i)))))
+
+pub returns-then-is_marked-clause-kept : goal.returns-then-is_marked-clause-kept
+returns-then-is_marked-clause-kept c =
+    let b = c.args.sweep.now in
+    let k = c.args.kept.now in
+    let label = c.args.label.now in
+    sym (keep-unasked k (pairing_at b c.args.minute label) (unasked-marked k.beside b c.args.marks.now c.args.minute label c.requires.marks (sym c.is_marked.ensures ∙ c.if-is_marked.true)))
+
+pub returns-then-is_marked-clause-floor : goal.returns-then-is_marked-clause-floor
+returns-then-is_marked-clause-floor c =
+    let b = c.args.sweep.now in
+    let k = c.args.kept.now in
+    let label = c.args.label.now in
+    from-unasked-one k.beside _ (pairing_at b c.args.minute label) (unasked-marked k.beside b c.args.marks.now c.args.minute label c.requires.marks (sym c.is_marked.ensures ∙ c.if-is_marked.true))

@@ -1,7 +1,7 @@
 use Rattle.std.proofs.Common.{map}
 use Rattle.std.specs.Arc.{arc_value}
 use Rattle.std.specs.List.{flat_map}
-use Rattle.crew_solve.specs.Machinery.Floors.{AreFloorsOf}
+use Rattle.crew_solve.specs.Machinery.Floors.{AreKnown}
 use Rattle.crew_solve.specs.Machinery.Homes.{home_of}
 use Rattle.crew_solve.specs.Machinery.Keeps.{KeepsSome}
 use Rattle.crew_solve.proofs.floors.keep_low_floors.Given as goal
@@ -9,5 +9,5 @@ use Rattle.crew_solve.proofs.floors.keep_low_floors.Given as goal
 abbrev pub invariant-loop-place : goal.invariant-loop-place
 invariant-loop-place l = record {
   kept : KeepsSome (flat_map home_of (map arc_value l.fronts)) l.initial.kept l.kept;
-  floors : AreFloorsOf l.initial.kept.beside (map arc_value l.fronts) l.floors;
+  known : AreKnown l.initial.kept.beside (map arc_value l.fronts) l.known;
 }
