@@ -9,7 +9,6 @@ use Rattle.crew_label.specs.Machinery.Indexes.{IsGrouped, IsHeld, entries_from, 
 use Rattle.crew_label.specs.Machinery.Marks.{are_at_most}
 use Rattle.crew_label.specs.declared.blocks.Entry.{Entry}
 use Rattle.crew_label.specs.declared.index.Group.{Group}
-use Rattle.crew_label.specs.declared.label.Label.{Label}
 use Rattle.crew_label.proofs.Listed.{any_here}
 use Rattle.crew_label.proofs.Marked.{and_second, and_true, at_most_between}
 
@@ -33,11 +32,11 @@ grouped_more groups new g e p k =
       held = k.held;
     }
 
-module _ {V : Type 0} (marks : V → List ℤ) where
-  abbrev pub entry : ℕ → Label V → Entry
-  entry place l = record { marks = marks l.value; place = place }
+module _ {X : Type 0} (marks : X → List ℤ) where
+  abbrev pub entry : ℕ → X → Entry
+  entry place l = record { marks = marks l; place = place }
 
-  entries-append : (n : ℕ) (ls : List (Label V)) (l : Label V)
+  entries-append : (n : ℕ) (ls : List X) (l : X)
       → entries_from marks n (ls ++ l ∷ []) ≡ entries_from marks n ls ++ entry (n + length ls) l ∷ []
   entries-append n [] l = let e : n ≡ n + 0 = omega arith in ap (λ k. entry k l ∷ []) e
   entries-append n (x ∷ ls) l =
@@ -45,7 +44,7 @@ module _ {V : Type 0} (marks : V → List ℤ) where
       ap (λ es. entry n x ∷ es) (entries-append (n + 1) ls l ∙ ap (λ k. entries_from marks (n + 1) ls ++ entry k l ∷ []) e)
 
   -- one label more
-  pub entries-more : (ls : List (Label V)) (i : ℕ) (l : Label V) → i < length ls → l ≡ get_or ls i l
+  pub entries-more : (ls : List X) (i : ℕ) (l : X) → i < length ls → l ≡ get_or ls i l
       → entries_from marks 0 (take i ls) ++ entry i l ∷ [] ≡ entries_from marks 0 (take (i + 1) ls)
   entries-more ls i l h e =
       let place : i ≡ 0 + length (take i ls) = let k = length-take-le i ls (omega arith) in omega (arith, k) in
@@ -54,10 +53,10 @@ module _ {V : Type 0} (marks : V → List ℤ) where
       ∙ ap (entries_from marks 0) (ap (λ z. take i ls ++ z ∷ []) e ∙ sym (take_more ls i l h)))
 
   -- each label has an entry, where it stands
-  Entered : ℕ → List (Label V) → Label V → Type 0
+  Entered : ℕ → List X → X → Type 0
   Entered n ls l = (k : ℕ) × (slice_get ls k ≡ Some l) × Member (entries_from marks n ls) (entry (n + k) l)
 
-  entered : (n : ℕ) (ls : List (Label V)) (l : Label V) → Member ls l → Entered n ls l
+  entered : (n : ℕ) (ls : List X) (l : X) → Member ls l → Entered n ls l
   unfolding Entered
   entered n [] l m = absurd m
   entered n (x ∷ ls) l (inl p) =
@@ -68,7 +67,7 @@ module _ {V : Type 0} (marks : V → List ℤ) where
       let e : n + 1 + r.0 ≡ n + suc r.0 = omega arith in
       (suc r.0, r.1, inr (subst (λ k. Member (entries_from marks (n + 1) ls) (entry k l)) e r.2))
 
-  pub entry_of : (ls : List (Label V)) (l : Label V) → Member ls l
+  pub entry_of : (ls : List X) (l : X) → Member ls l
       → (k : ℕ) × (slice_get ls k ≡ Some l) × Member (entries_from marks 0 ls) (entry k l)
   unfolding Entered
   entry_of ls l m =
@@ -86,10 +85,10 @@ same_bool true b f g = sym (f refl)
 same_bool false true f g = g refl
 same_bool false false f g = refl
 
-module _ {V : Type 0} (marks : V → List ℤ) (ls : List (Label V)) (groups : List Group)
-    (test : Label V → Bool) (most : List ℤ)
+module _ {X : Type 0} (marks : X → List ℤ) (ls : List X) (groups : List Group)
+    (test : X → Bool) (most : List ℤ)
     (indexed : (e : Entry) → Member (entries_from marks 0 ls) e → IsGrouped groups e)
-    (asked : (l : Label V) → Member ls l → test l ≡ true → are_at_most (marks l.value) most ≡ true) where
+    (asked : (l : X) → Member ls l → test l ≡ true → are_at_most (marks l) most ≡ true) where
   at : ℕ → Bool
   at place = passes test (slice_get ls place)
 

@@ -117,7 +117,7 @@ module _ {V : Type 0} (cmp : V → V → Ordering) (total : IsTotalOrder cmp) wh
       slice_get-get_or ls j y h ∙ ap Some (sym k)
 
   -- the label at i comes first, and joins
-  pub merging-at : (one two whole : List (Label V)) (i j : ℕ) (x : Label V) → ComesFirst cmp one i two j → x ≡ get_or one i x
+  pub merging-at : (one two whole : List (Label V)) (i j : ℕ) (x : Label V) → ComesFirst (λ l m. cmp l.value m.value) one i two j → x ≡ get_or one i x
       → IsMerging cmp one two (drop i one) (drop j two) whole → IsMerging cmp one two (drop (i + 1) one) (drop j two) (whole ++ x ∷ [])
   merging-at one two whole i j x c e m =
       merging-more one two (drop (i + 1) one) (drop j two) whole x
@@ -134,10 +134,10 @@ is_less Less e = refl
 is_less Equal e = absurd (false≢true e)
 is_less Greater e = absurd (false≢true e)
 
-module _ {V : Type 0} where
-  pub at_place : (ls : List (Label V)) (k : ℕ) (x l : Label V) → k < length ls → x ≡ get_or ls k x → slice_get ls k ≡ Some l → x ≡ l
+module _ {X : Type 0} where
+  pub at_place : (ls : List X) (k : ℕ) (x l : X) → k < length ls → x ≡ get_or ls k x → slice_get ls k ≡ Some l → x ≡ l
   at_place ls k x l h e s = let q : Some x ≡ Some l = ap Some e ∙ (sym (slice_get-get_or ls k x h) ∙ s) in (cc)
 
-  -- of two values that differ, the one that isn't listed first is listed second
-  pub listed_second : (cmp : V → V → Ordering) (total : IsTotalOrder cmp) (exact : (a b : V) → cmp a b ≡ Equal → a ≡ b) (a b : V) → is_lt (cmp a b) ≡ false → (a ≡ b → ⊥) → cmp b a ≡ Less
-  listed_second cmp total exact a b f n = turned (cmp a b) (cmp b a) (total.antisymm b a) f (λ e. n (exact a b e))
+-- of two values that differ, the one that isn't listed first is listed second
+pub listed_second : {V : Type 0} (cmp : V → V → Ordering) (total : IsTotalOrder cmp) (exact : (a b : V) → cmp a b ≡ Equal → a ≡ b) (a b : V) → is_lt (cmp a b) ≡ false → (a ≡ b → ⊥) → cmp b a ≡ Less
+listed_second cmp total exact a b f n = turned (cmp a b) (cmp b a) (total.antisymm b a) f (λ e. n (exact a b e))

@@ -15,3 +15,4 @@ pub mod Waiting
 pub mod Indexed
 pub mod Runs
 pub mod Parted
+pub mod SeenLabels

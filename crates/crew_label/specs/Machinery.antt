@@ -4,3 +4,4 @@ pub mod Marks
 pub mod Merges
 pub mod Rules
 pub mod Runs
+pub mod Seeing

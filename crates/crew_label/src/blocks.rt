@@ -106,7 +106,7 @@ fn is_low(cut: Cut, entry: &Entry) -> bool
 fn low_side(alloc: Global, entries: &[Entry], cut: Cut) -> Result<Vec<Entry>, AllocError>
     ensures { IfOk result (λ side. side.items ≡ filter (λ e. is_low cut e) entries.now) }
 {
-    let mut side = Vec::new(alloc);
+    let mut side = Vec::with_capacity(alloc, entries.len())?;
     for entry in entries {
         if is_low(cut, entry) {
             side.push(*entry)?;
@@ -119,7 +119,7 @@ fn low_side(alloc: Global, entries: &[Entry], cut: Cut) -> Result<Vec<Entry>, Al
 fn high_side(alloc: Global, entries: &[Entry], cut: Cut) -> Result<Vec<Entry>, AllocError>
     ensures { IfOk result (λ side. side.items ≡ filter (λ e. not (is_low cut e)) entries.now) }
 {
-    let mut side = Vec::new(alloc);
+    let mut side = Vec::with_capacity(alloc, entries.len())?;
     for entry in entries {
         if !is_low(cut, entry) {
             side.push(*entry)?;

@@ -1,17 +1,19 @@
 //! An index of labels by their marks.
-ghost use Rattle.std.specs.Prelude.{◌≡◌, true, Some, None, MatchOption, IfOk, OnOk, slice_get};
+ghost use Rattle.std.specs.Prelude.{◌≡◌, ◌∷◌, [], true, Some, None, MatchOption, IfOk, OnOk, slice_get};
 ghost use Rattle.crew_label.specs.Machinery.Marks.{are_at_most};
 ghost use Rattle.std.specs.List.{list_any};
 ghost use Rattle.crew_resource.specs.Members.{Member};
 ghost use Rattle.crew_forgetful.specs.Sweeps.{TellCount};
 ghost use Rattle.crew_label.specs.Machinery.Indexes.{IsGrouped, IsHeld, entries_from, finds_block, finds_entry, finds_group, test_at};
 ghost use Rattle.crew_label.specs.Machinery.Rules.{same_by};
+ghost use Rattle.crew_label.specs.Machinery.Seeing.{AreMarked, labels_of};
 ghost use Rattle.crew_label.specs.Pools.{AreCounted, IsCounted, stands_label};
 ghost use Rattle.crew_label.specs.declared.blocks.Entry.{Entry};
 
 use crate::blocks::{Block, CUTS, Entry, divide, spread_of};
 use crate::label::Label;
 use crate::marks::are_at_most;
+use crate::seen::Seen;
 use crate::stand::{Rule, may_stand};
 use crate::trails::Trails;
 use crew_forgetful::{Forgets, Marked};
@@ -30,34 +32,16 @@ pub(crate) struct Group {
     pub(crate) blocks: Vec<Block>,
 }
 
-/// Labels in groups of blocks by their marks, told from a moment.
-#[derive(Drop)]
-pub(crate) struct Index {
-    pub(crate) groups: Vec<Group>,
-    pub(crate) moment: i32,
-}
-
-// The moment from which labels' marks are told: any serves.
-fn moment_of<P: Placed, R: Marked<P>>(resource: &R, labels: &[Label<R::Value>]) -> i32 {
-    match labels.first() {
-        None => 0,
-        Some(label) => resource.moment(&label.value),
-    }
-}
-
-// The entries of labels, in order.
-fn entries_of<P: Placed, R: Marked<P>>(
+// The entries of what is seen, in order.
+fn entries_of<R: Resource>(
     alloc: Global,
-    resource: &R,
-    labels: &[Label<R::Value>],
-    moment: i32,
+    list: &[Seen<'_, R::Value>],
 ) -> Result<Vec<Entry>, AllocError>
-    ensures { IfOk result (λ entries. entries.items ≡ entries_from
-        (λ v. R.marks_of resource.now v moment) 0 labels.now) }
+    ensures { IfOk result (λ entries. entries.items ≡ entries_from (λ s. s.marks.now) 0 list.now) }
 {
-    let mut entries = Vec::with_capacity(alloc, labels.len())?;
-    for (place, label) in labels.iter().enumerate() {
-        let marks = resource.marks(&label.value, moment);
+    let mut entries = Vec::with_capacity(alloc, list.len())?;
+    for (place, seen) in list.iter().enumerate() {
+        let marks = *seen.marks;
         entries.push(Entry { marks, place })?;
     }
     Ok(entries)
@@ -100,25 +84,20 @@ fn groups_of(alloc: Global, blocks: Vec<Block>) -> Result<Vec<Group>, AllocError
     Ok(groups)
 }
 
-impl Index {
-    /// The index of labels.
-    pub(crate) fn new<P: Placed, R: Marked<P>>(
-        alloc: Global,
-        resource: &R,
-        labels: &[Label<R::Value>],
-    ) -> Result<Index, AllocError>
-        ensures { IfOk result (λ index. (e : Entry) → Member (entries_from
-            (λ v. R.marks_of resource.now v index.moment) 0 labels.now) e
-            → IsGrouped index.groups.items e) }
-    {
-        let moment = moment_of::<P, R>(resource, labels);
-        let entries = entries_of::<P, R>(alloc, resource, labels, moment)?;
-        let spread = spread_of(&entries);
-        let mut blocks = Vec::new(alloc);
-        divide(alloc, GROUP, CUTS, &spread, entries, &mut blocks)?;
-        let groups = groups_of(alloc, blocks)?;
-        Ok(Index { groups, moment })
-    }
+// What is seen, in groups of blocks by marks.
+pub(crate) fn groups_by_marks<R: Resource>(
+    alloc: Global,
+    list: &[Seen<'_, R::Value>],
+) -> Result<Vec<Group>, AllocError>
+    ensures { IfOk result (λ groups. (e : Entry) → Member (entries_from (λ s. s.marks.now) 0 list.now) e
+        → IsGrouped groups.items e) }
+{
+    let entries = entries_of::<R>(alloc, list)?;
+    let spread = spread_of(&entries);
+    let mut blocks = Vec::new(alloc);
+    divide(alloc, GROUP, CUTS, &spread, entries, &mut blocks)?;
+    let groups = groups_of(alloc, blocks)?;
+    Ok(groups)
 }
 
 // What is asked of an index: whether one of its labels, at marks of at most so much, may stand for
@@ -128,17 +107,17 @@ pub(crate) struct Asked<'a, 'r, R: Resource, T> {
     pub(crate) resource: &'r R,
     pub(crate) trails: &'r T,
     pub(crate) rule: Rule,
-    pub(crate) labels: &'a [Label<R::Value>],
+    pub(crate) others: &'a [Seen<'a, R::Value>],
     pub(crate) label: &'a Label<R::Value>,
-    pub(crate) most: [i32; 16],
+    pub(crate) most: &'a [i32; 16],
 }
 
-// The label at a place.
-fn label_at<V>(labels: &[Label<V>], place: usize) -> Option<&Label<V>>
-    ensures { MatchOption result (slice_get labels.now place ≡ None)
-        (λ label. slice_get labels.now place ≡ Some label.now) }
+// What is seen at a place.
+fn seen_at<'s, 'a, V>(list: &'s [Seen<'a, V>], place: usize) -> Option<&'s Seen<'a, V>>
+    ensures { MatchOption result (slice_get list.now place ≡ None)
+        (λ seen. slice_get list.now place ≡ Some seen.now) }
 {
-    labels.get(place)
+    list.get(place)
 }
 
 // Whether the label at a place may stand.
@@ -148,16 +127,22 @@ fn may_stand_at<P: Placed, R: Forgets<P>, T: Trails>(
 ) -> bool
     requires tell { TellCount R.same_sums (R.count_of asked.now.resource.now) }
     requires counted { AreCounted (R.count_of asked.now.resource.now) (T.leads asked.now.trails.now)
-        (T.trail asked.now.trails.now) asked.now.labels.now }
+        (T.trail asked.now.trails.now) (labels_of asked.now.others.now) }
     requires label { IsCounted (R.count_of asked.now.resource.now) (T.leads asked.now.trails.now)
         (T.trail asked.now.trails.now) asked.now.label.now }
     ensures { result ≡ (test_at R.below R.same_sums
-        (T.trail asked.now.trails.now) asked.now.rule asked.now.labels.now asked.now.label.now) place }
+        (T.trail asked.now.trails.now) asked.now.rule asked.now.others.now asked.now.label.now) place }
 {
-    match label_at(asked.labels, place) {
+    match seen_at(asked.others, place) {
         None => false,
         Some(held) => {
-            may_stand::<P, R, T>(asked.resource, asked.trails, asked.rule, held, asked.label)
+            may_stand::<P, R, T>(
+                asked.resource,
+                asked.trails,
+                asked.rule,
+                held.label,
+                asked.label,
+            )
         }
     }
 }
@@ -169,13 +154,13 @@ fn finds_entry<P: Placed, R: Forgets<P>, T: Trails>(
 ) -> bool
     requires tell { TellCount R.same_sums (R.count_of asked.now.resource.now) }
     requires counted { AreCounted (R.count_of asked.now.resource.now) (T.leads asked.now.trails.now)
-        (T.trail asked.now.trails.now) asked.now.labels.now }
+        (T.trail asked.now.trails.now) (labels_of asked.now.others.now) }
     requires label { IsCounted (R.count_of asked.now.resource.now) (T.leads asked.now.trails.now)
         (T.trail asked.now.trails.now) asked.now.label.now }
     ensures { result ≡ finds_entry (test_at R.below R.same_sums
-        (T.trail asked.now.trails.now) asked.now.rule asked.now.labels.now asked.now.label.now) asked.now.most entry.now }
+        (T.trail asked.now.trails.now) asked.now.rule asked.now.others.now asked.now.label.now) asked.now.most.now entry.now }
 {
-    are_at_most(&entry.marks, &asked.most) && may_stand_at::<P, R, T>(asked, entry.place)
+    are_at_most(&entry.marks, asked.most) && may_stand_at::<P, R, T>(asked, entry.place)
 }
 
 // Whether one of some entries' labels may.
@@ -185,11 +170,11 @@ fn in_entries<P: Placed, R: Forgets<P>, T: Trails>(
 ) -> bool
     requires tell { TellCount R.same_sums (R.count_of asked.now.resource.now) }
     requires counted { AreCounted (R.count_of asked.now.resource.now) (T.leads asked.now.trails.now)
-        (T.trail asked.now.trails.now) asked.now.labels.now }
+        (T.trail asked.now.trails.now) (labels_of asked.now.others.now) }
     requires label { IsCounted (R.count_of asked.now.resource.now) (T.leads asked.now.trails.now)
         (T.trail asked.now.trails.now) asked.now.label.now }
     ensures { result ≡ list_any (finds_entry (test_at R.below R.same_sums
-        (T.trail asked.now.trails.now) asked.now.rule asked.now.labels.now asked.now.label.now) asked.now.most) entries.now }
+        (T.trail asked.now.trails.now) asked.now.rule asked.now.others.now asked.now.label.now) asked.now.most.now) entries.now }
 {
     for entry in entries {
         if finds_entry::<P, R, T>(asked, entry) {
@@ -206,13 +191,13 @@ fn finds_block<P: Placed, R: Forgets<P>, T: Trails>(
 ) -> bool
     requires tell { TellCount R.same_sums (R.count_of asked.now.resource.now) }
     requires counted { AreCounted (R.count_of asked.now.resource.now) (T.leads asked.now.trails.now)
-        (T.trail asked.now.trails.now) asked.now.labels.now }
+        (T.trail asked.now.trails.now) (labels_of asked.now.others.now) }
     requires label { IsCounted (R.count_of asked.now.resource.now) (T.leads asked.now.trails.now)
         (T.trail asked.now.trails.now) asked.now.label.now }
     ensures { result ≡ finds_block (test_at R.below R.same_sums
-        (T.trail asked.now.trails.now) asked.now.rule asked.now.labels.now asked.now.label.now) asked.now.most block.now }
+        (T.trail asked.now.trails.now) asked.now.rule asked.now.others.now asked.now.label.now) asked.now.most.now block.now }
 {
-    are_at_most(&block.least, &asked.most) && in_entries::<P, R, T>(asked, &block.entries)
+    are_at_most(&block.least, asked.most) && in_entries::<P, R, T>(asked, &block.entries)
 }
 
 // Whether one of some blocks' labels may.
@@ -222,11 +207,11 @@ fn in_blocks<P: Placed, R: Forgets<P>, T: Trails>(
 ) -> bool
     requires tell { TellCount R.same_sums (R.count_of asked.now.resource.now) }
     requires counted { AreCounted (R.count_of asked.now.resource.now) (T.leads asked.now.trails.now)
-        (T.trail asked.now.trails.now) asked.now.labels.now }
+        (T.trail asked.now.trails.now) (labels_of asked.now.others.now) }
     requires label { IsCounted (R.count_of asked.now.resource.now) (T.leads asked.now.trails.now)
         (T.trail asked.now.trails.now) asked.now.label.now }
     ensures { result ≡ list_any (finds_block (test_at R.below R.same_sums
-        (T.trail asked.now.trails.now) asked.now.rule asked.now.labels.now asked.now.label.now) asked.now.most) blocks.now }
+        (T.trail asked.now.trails.now) asked.now.rule asked.now.others.now asked.now.label.now) asked.now.most.now) blocks.now }
 {
     for block in blocks {
         if finds_block::<P, R, T>(asked, block) {
@@ -243,13 +228,13 @@ fn finds_group<P: Placed, R: Forgets<P>, T: Trails>(
 ) -> bool
     requires tell { TellCount R.same_sums (R.count_of asked.now.resource.now) }
     requires counted { AreCounted (R.count_of asked.now.resource.now) (T.leads asked.now.trails.now)
-        (T.trail asked.now.trails.now) asked.now.labels.now }
+        (T.trail asked.now.trails.now) (labels_of asked.now.others.now) }
     requires label { IsCounted (R.count_of asked.now.resource.now) (T.leads asked.now.trails.now)
         (T.trail asked.now.trails.now) asked.now.label.now }
     ensures { result ≡ finds_group (test_at R.below R.same_sums
-        (T.trail asked.now.trails.now) asked.now.rule asked.now.labels.now asked.now.label.now) asked.now.most group.now }
+        (T.trail asked.now.trails.now) asked.now.rule asked.now.others.now asked.now.label.now) asked.now.most.now group.now }
 {
-    are_at_most(&group.least, &asked.most) && in_blocks::<P, R, T>(asked, &group.blocks)
+    are_at_most(&group.least, asked.most) && in_blocks::<P, R, T>(asked, &group.blocks)
 }
 
 // Whether one of some groups' labels may.
@@ -259,11 +244,11 @@ fn in_groups<P: Placed, R: Forgets<P>, T: Trails>(
 ) -> bool
     requires tell { TellCount R.same_sums (R.count_of asked.now.resource.now) }
     requires counted { AreCounted (R.count_of asked.now.resource.now) (T.leads asked.now.trails.now)
-        (T.trail asked.now.trails.now) asked.now.labels.now }
+        (T.trail asked.now.trails.now) (labels_of asked.now.others.now) }
     requires label { IsCounted (R.count_of asked.now.resource.now) (T.leads asked.now.trails.now)
         (T.trail asked.now.trails.now) asked.now.label.now }
     ensures { result ≡ list_any (finds_group (test_at R.below R.same_sums
-        (T.trail asked.now.trails.now) asked.now.rule asked.now.labels.now asked.now.label.now) asked.now.most) groups.now }
+        (T.trail asked.now.trails.now) asked.now.rule asked.now.others.now asked.now.label.now) asked.now.most.now) groups.now }
 {
     for group in groups {
         if finds_group::<P, R, T>(asked, group) {
@@ -278,30 +263,29 @@ pub(crate) fn is_reached_by<P: Placed, R: Marked<P>, T: Trails>(
     resource: &R,
     trails: &T,
     rule: Rule,
-    index: &Index,
-    labels: &[Label<R::Value>],
-    label: &Label<R::Value>,
+    groups: &[Group],
+    others: &[Seen<'_, R::Value>],
+    seen: &Seen<'_, R::Value>,
 ) -> bool
     requires tell { TellCount R.same_sums (R.count_of resource.now) }
-    requires index { (e : Entry) → Member (entries_from
-        (λ v. R.marks_of resource.now v index.now.moment) 0 labels.now) e
-        → IsGrouped index.now.groups.items e }
+    requires groups { (e : Entry) → Member (entries_from (λ s. s.marks.now) 0 others.now) e
+        → IsGrouped groups.now e }
+    requires told { AreMarked (R.marks_of resource.now) (seen.now ∷ []) others.now }
     requires counted { AreCounted (R.count_of resource.now) (T.leads trails.now)
-        (T.trail trails.now) labels.now }
+        (T.trail trails.now) (labels_of others.now) }
     requires label { IsCounted (R.count_of resource.now) (T.leads trails.now)
-        (T.trail trails.now) label.now }
+        (T.trail trails.now) seen.now.label.now }
     ensures { result ≡ list_any
-        (λ l. stands_label R.below (same_by R.below R.same_sums rule) (T.trail trails.now) l
-        label.now) labels.now }
+        (λ s. stands_label R.below (same_by R.below R.same_sums rule) (T.trail trails.now)
+        s.label.now seen.now.label.now) others.now }
 {
-    let most = resource.marks(&label.value, index.moment);
     let asked = Asked {
         resource,
         trails,
         rule,
-        labels,
-        label,
-        most,
+        others,
+        label: seen.label,
+        most: seen.marks,
     };
-    in_groups::<P, R, T>(&asked, &index.groups)
+    in_groups::<P, R, T>(&asked, groups)
 }

@@ -27,6 +27,7 @@ mod marks;
 mod merge;
 mod pool;
 mod room;
+mod seen;
 mod stand;
 mod table;
 mod trails;

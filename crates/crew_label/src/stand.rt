@@ -1,12 +1,14 @@
 //! Which labels may stand for others.
-ghost use Rattle.std.specs.Prelude.{◌≡◌, List, [], ◌∷◌, ◌++◌, not, OnOk};
+ghost use Rattle.std.specs.Prelude.{◌≡◌, true, [], ◌∷◌, ◌++◌, not, IfOk, OnOk};
 ghost use Rattle.std.specs.List.{filter, list_any};
 ghost use Rattle.crew_forgetful.specs.Sweeps.{TellCount};
 ghost use Rattle.crew_label.specs.Machinery.Rules.{same_by};
+ghost use Rattle.crew_label.specs.Machinery.Seeing.{AreMarked, labels_of};
 ghost use Rattle.crew_label.specs.Pools.{AreCounted, IsCounted, stands_label};
 
-use crate::index::{Index, is_reached_by};
+use crate::index::{groups_by_marks, is_reached_by};
 use crate::label::Label;
+use crate::seen::{Seen, push_seen};
 use crate::trails::{Trails, walk_at_most};
 use crew_forgetful::{Forgets, Marked};
 use crew_resource::{Placed, Resource};
@@ -57,20 +59,20 @@ fn is_reached<P: Placed, R: Forgets<P>, T: Trails>(
     resource: &R,
     trails: &T,
     rule: Rule,
-    labels: &[Label<R::Value>],
+    others: &[Seen<'_, R::Value>],
     label: &Label<R::Value>,
 ) -> bool
     requires tell { TellCount R.same_sums (R.count_of resource.now) }
     requires counted { AreCounted (R.count_of resource.now) (T.leads trails.now)
-        (T.trail trails.now) labels.now }
+        (T.trail trails.now) (labels_of others.now) }
     requires label { IsCounted (R.count_of resource.now) (T.leads trails.now)
         (T.trail trails.now) label.now }
     ensures { result ≡ list_any
-        (λ l. stands_label R.below (same_by R.below R.same_sums rule) (T.trail trails.now) l
-        label.now) labels.now }
+        (λ s. stands_label R.below (same_by R.below R.same_sums rule) (T.trail trails.now)
+        s.label.now label.now) others.now }
 {
-    for held in labels {
-        if may_stand::<P, R, T>(resource, trails, rule, held, label) {
+    for held in others {
+        if may_stand::<P, R, T>(resource, trails, rule, held.label, label) {
             return true;
         }
     }
@@ -78,88 +80,95 @@ fn is_reached<P: Placed, R: Forgets<P>, T: Trails>(
 }
 
 // So few labels are tried one by one: an index of them costs more than it saves.
-const FEW: usize = 32;
+pub(crate) const FEW: usize = 32;
+
+// Whether neither list has so few.
+#[inline]
+pub(crate) fn are_many(one: usize, two: usize) -> bool {
+    one >= FEW && two >= FEW
+}
 
 // The labels of a list for which none of another list may stand.
-pub(crate) fn take_free<P: Placed, R: Marked<P>, T: Trails>(
+pub(crate) fn free_of<'a, P: Placed, R: Marked<P>, T: Trails>(
     alloc: Global,
     resource: &R,
     trails: &T,
     rule: Rule,
-    free: &mut Vec<Label<R::Value>>,
-    list: &[Label<R::Value>],
-    others: &[Label<R::Value>],
-) -> Result<(), AllocError>
+    marked: bool,
+    list: &[Seen<'a, R::Value>],
+    others: &[Seen<'a, R::Value>],
+) -> Result<Vec<Seen<'a, R::Value>>, AllocError>
     requires tell { TellCount R.same_sums (R.count_of resource.now) }
     requires list { AreCounted (R.count_of resource.now) (T.leads trails.now)
-        (T.trail trails.now) list.now }
+        (T.trail trails.now) (labels_of list.now) }
     requires others { AreCounted (R.count_of resource.now) (T.leads trails.now)
-        (T.trail trails.now) others.now }
-    ensures { OnOk result (free.new.items ≡ filter (λ m. not (list_any
-        (λ l. stands_label R.below (same_by R.below R.same_sums rule) (T.trail trails.now) l m)
-        others.now)) list.now) }
+        (T.trail trails.now) (labels_of others.now) }
+    requires told { marked ≡ true → AreMarked (R.marks_of resource.now) list.now others.now }
+    ensures { IfOk result (λ free. free.items ≡ filter (λ m. not (list_any
+        (λ s. stands_label R.below (same_by R.below R.same_sums rule) (T.trail trails.now)
+        s.label.now m.label.now) others.now)) list.now) }
 {
-    if list.len() < FEW || others.len() < FEW {
-        take_free_of_few::<P, R, T>(resource, trails, rule, free, list, others)
+    if marked && are_many(list.len(), others.len()) {
+        free_of_many::<P, R, T>(alloc, resource, trails, rule, list, others)
     } else {
-        take_free_of_many::<P, R, T>(alloc, resource, trails, rule, free, list, others)
+        free_of_few::<P, R, T>(alloc, resource, trails, rule, list, others)
     }
 }
 
 // The same, label by label.
-fn take_free_of_few<P: Placed, R: Forgets<P>, T: Trails>(
-    resource: &R,
-    trails: &T,
-    rule: Rule,
-    free: &mut Vec<Label<R::Value>>,
-    list: &[Label<R::Value>],
-    others: &[Label<R::Value>],
-) -> Result<(), AllocError>
-    requires tell { TellCount R.same_sums (R.count_of resource.now) }
-    requires list { AreCounted (R.count_of resource.now) (T.leads trails.now)
-        (T.trail trails.now) list.now }
-    requires others { AreCounted (R.count_of resource.now) (T.leads trails.now)
-        (T.trail trails.now) others.now }
-    ensures { OnOk result (free.new.items ≡ filter (λ m. not (list_any
-        (λ l. stands_label R.below (same_by R.below R.same_sums rule) (T.trail trails.now) l m)
-        others.now)) list.now) }
-{
-    free.clear();
-    for label in list {
-        if !is_reached::<P, R, T>(resource, trails, rule, others, label) {
-            push_copy(resource, free, label)?;
-        }
-    }
-    Ok(())
-}
-
-// The same, by an index of the others.
-fn take_free_of_many<P: Placed, R: Marked<P>, T: Trails>(
+fn free_of_few<'a, P: Placed, R: Forgets<P>, T: Trails>(
     alloc: Global,
     resource: &R,
     trails: &T,
     rule: Rule,
-    free: &mut Vec<Label<R::Value>>,
-    list: &[Label<R::Value>],
-    others: &[Label<R::Value>],
-) -> Result<(), AllocError>
+    list: &[Seen<'a, R::Value>],
+    others: &[Seen<'a, R::Value>],
+) -> Result<Vec<Seen<'a, R::Value>>, AllocError>
     requires tell { TellCount R.same_sums (R.count_of resource.now) }
     requires list { AreCounted (R.count_of resource.now) (T.leads trails.now)
-        (T.trail trails.now) list.now }
+        (T.trail trails.now) (labels_of list.now) }
     requires others { AreCounted (R.count_of resource.now) (T.leads trails.now)
-        (T.trail trails.now) others.now }
-    ensures { OnOk result (free.new.items ≡ filter (λ m. not (list_any
-        (λ l. stands_label R.below (same_by R.below R.same_sums rule) (T.trail trails.now) l m)
-        others.now)) list.now) }
+        (T.trail trails.now) (labels_of others.now) }
+    ensures { IfOk result (λ free. free.items ≡ filter (λ m. not (list_any
+        (λ s. stands_label R.below (same_by R.below R.same_sums rule) (T.trail trails.now)
+        s.label.now m.label.now) others.now)) list.now) }
 {
-    free.clear();
-    let index = Index::new::<P, R>(alloc, resource, others)?;
-    for label in list {
-        if !is_reached_by::<P, R, T>(resource, trails, rule, &index, others, label) {
-            push_copy(resource, free, label)?;
+    let mut free = Vec::with_capacity(alloc, list.len())?;
+    for seen in list {
+        if !is_reached::<P, R, T>(resource, trails, rule, others, seen.label) {
+            push_seen::<R>(&mut free, seen)?;
         }
     }
-    Ok(())
+    Ok(free)
+}
+
+// The same, by an index of the others.
+fn free_of_many<'a, P: Placed, R: Marked<P>, T: Trails>(
+    alloc: Global,
+    resource: &R,
+    trails: &T,
+    rule: Rule,
+    list: &[Seen<'a, R::Value>],
+    others: &[Seen<'a, R::Value>],
+) -> Result<Vec<Seen<'a, R::Value>>, AllocError>
+    requires tell { TellCount R.same_sums (R.count_of resource.now) }
+    requires list { AreCounted (R.count_of resource.now) (T.leads trails.now)
+        (T.trail trails.now) (labels_of list.now) }
+    requires others { AreCounted (R.count_of resource.now) (T.leads trails.now)
+        (T.trail trails.now) (labels_of others.now) }
+    requires told { AreMarked (R.marks_of resource.now) list.now others.now }
+    ensures { IfOk result (λ free. free.items ≡ filter (λ m. not (list_any
+        (λ s. stands_label R.below (same_by R.below R.same_sums rule) (T.trail trails.now)
+        s.label.now m.label.now) others.now)) list.now) }
+{
+    let mut free = Vec::with_capacity(alloc, list.len())?;
+    let groups = groups_by_marks::<R>(alloc, others)?;
+    for seen in list {
+        if !is_reached_by::<P, R, T>(resource, trails, rule, &groups, others, seen) {
+            push_seen::<R>(&mut free, seen)?;
+        }
+    }
+    Ok(free)
 }
 
 // Puts an equal label at the end of a list.

@@ -11,6 +11,7 @@ use Rattle.crew_label.specs.declared.blocks.Entry.{Entry}
 use Rattle.crew_label.specs.declared.index.Group.{Group}
 use Rattle.crew_label.specs.declared.label.Label.{Label}
 use Rattle.crew_label.specs.declared.label.Link.{Link}
+use Rattle.crew_label.specs.declared.seen.Seen.{Seen}
 use Rattle.crew_label.specs.declared.stand.Rule.{Rule}
 
 -- the entry's mark at the cut is at most its middle
@@ -31,11 +32,11 @@ pub record IsGrouped (groups : List Group) (e : Entry) : Type 0 where
   pub below : are_at_most group.least e.marks ≡ true
   pub held : IsHeld group.blocks.items e
 
--- an entry for each label, from a place on
-abbrev pub entries_from : {V : Type 0} → (V → List ℤ) → ℕ → List (Label V) → List Entry
+-- an entry for each element, from a place on
+abbrev pub entries_from : {X : Type 0} → (X → List ℤ) → ℕ → List X → List Entry
 entries_from marks k [] = []
-entries_from marks k (l ∷ ls) =
-    record { marks = marks l.value; place = k } ∷ entries_from marks (k + 1) ls
+entries_from marks k (x ∷ xs) =
+    record { marks = marks x; place = k } ∷ entries_from marks (k + 1) xs
 
 -- what a test says of what stands at a place
 abbrev pub passes : {X : Type 0} → (X → Bool) → Option X → Bool
@@ -44,10 +45,10 @@ passes test (Some x) = test x
 
 -- whether the label at a place may stand for a label
 abbrev pub test_at : {V : Type 0} → (V → V → Bool) → (V → V → Bool) → (Link → List ℕ) → Rule
-    → List (Label V) → Label V → ℕ → Bool
-test_at below same trail rule labels label place =
-    passes (λ l. stands_label below (same_by below same rule) trail l label)
-    (slice_get labels place)
+    → List (Seen V) → Label V → ℕ → Bool
+test_at below same trail rule others label place =
+    passes (λ s. stands_label below (same_by below same rule) trail s.label.now label)
+    (slice_get others place)
 
 -- what is found at marks of at most so much: by entries, blocks and groups
 abbrev pub finds_entry : (ℕ → Bool) → List ℤ → Entry → Bool

@@ -10,12 +10,11 @@ use Rattle.crew_label.specs.declared.label.Label.{Label}
 abbrev pub AreDistinct : {V : Type 0} → List (Label V) → List (Label V) → Type 0
 AreDistinct {V} one two = (l m : Label V) → Member one l → Member two m → l.value ≡ m.value → ⊥
 
--- there is a label at i, and it is listed before the one at j of the other list, if there is one
-pub record ComesFirst {V : Type 0} (cmp : V → V → Ordering) (one : List (Label V)) (i : ℕ)
-    (two : List (Label V)) (j : ℕ) : Type 0 where
+-- there is an element at i, and it is listed before the one at j of the other list, if there is one
+pub record ComesFirst {X : Type 0} (cmp : X → X → Ordering) (one : List X) (i : ℕ) (two : List X)
+    (j : ℕ) : Type 0 where
   pub there : i < length one
-  pub first : (l m : Label V) → slice_get one i ≡ Some l → slice_get two j ≡ Some m
-      → cmp l.value m.value ≡ Less
+  pub first : (x y : X) → slice_get one i ≡ Some x → slice_get two j ≡ Some y → cmp x y ≡ Less
 
 -- the labels of both lists, in their order
 pub record IsMerged {V : Type 0} (cmp : V → V → Ordering) (one two whole : List (Label V)) : Type

@@ -4,4 +4,4 @@ use Rattle.crew_label.proofs.index.entries_of.Given as goal
 
 abbrev pub invariant-loop-place : goal.invariant-loop-place
 invariant-loop-place g l =
-    l.entries.items ≡ entries_from (λ v. g.R.Marked.marks_of l.resource v l.moment) 0 (take l.place l.labels)
+    l.entries.items ≡ entries_from (λ s. s.marks.now) 0 (take l.place l.list)

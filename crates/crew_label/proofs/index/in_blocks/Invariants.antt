@@ -5,4 +5,4 @@ use Rattle.crew_label.proofs.index.in_blocks.Given as goal
 
 abbrev pub invariant-loop-block : goal.invariant-loop-block
 invariant-loop-block g l =
-    list_any (finds_block (test_at g.R.Resource.below g.R.Forgets.same_sums (g.T.Trails.trail l.asked.trails.now) l.asked.rule l.asked.labels.now l.asked.label.now) l.asked.most) (take l.block-index l.blocks) ≡ false
+    list_any (finds_block (test_at g.R.Resource.below g.R.Forgets.same_sums (g.T.Trails.trail l.asked.trails.now) l.asked.rule l.asked.others.now l.asked.label.now) l.asked.most.now) (take l.block-index l.blocks) ≡ false

@@ -5,4 +5,4 @@ use Rattle.crew_label.proofs.index.in_groups.Given as goal
 
 abbrev pub invariant-loop-group : goal.invariant-loop-group
 invariant-loop-group g l =
-    list_any (finds_group (test_at g.R.Resource.below g.R.Forgets.same_sums (g.T.Trails.trail l.asked.trails.now) l.asked.rule l.asked.labels.now l.asked.label.now) l.asked.most) (take l.group-index l.groups) ≡ false
+    list_any (finds_group (test_at g.R.Resource.below g.R.Forgets.same_sums (g.T.Trails.trail l.asked.trails.now) l.asked.rule l.asked.others.now l.asked.label.now) l.asked.most.now) (take l.group-index l.groups) ≡ false

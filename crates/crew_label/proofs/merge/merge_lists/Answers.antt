@@ -1,62 +1,57 @@
-use Rattle.std.proofs.Common.{List, inl, inr, sym, ◌∙◌, ap, subst, ⊎_elim}
+use Rattle.std.proofs.Common.{◌++◌, to_z, of_z, w32, List, inl, inr, sym, ◌∙◌, ap, subst, ⊎_elim}
 use Rattle.crew_resource.specs.Members.{Member}
-use Rattle.crew_resource.proofs.Values.{below_order}
 use Rattle.crew_label.specs.Machinery.Rules.{same_by}
-use Rattle.crew_label.specs.Pools.{AreRising}
+use Rattle.crew_label.specs.Machinery.Seeing.{AreTold, labels_of}
+use Rattle.crew_label.specs.Pools.{ArePoolOf, AreRising}
 use Rattle.crew_label.specs.declared.label.Label.{Label}
-use Rattle.crew_label.proofs.MergedPools.{free_of, free_out, kept_apart, merged_pool, rising_free}
-use Rattle.crew_label.proofs.RuleLaws.{rule_laws}
+use Rattle.crew_label.specs.declared.seen.Seen.{Seen}
+use Rattle.crew_label.proofs.SeenLabels.{labels_from}
 use Rattle.crew_label.proofs.merge.merge_lists.Goals as goal
 
-pub take_free-requires-2-clause-others : goal.take_free-requires-2-clause-others
-take_free-requires-2-clause-others g c l m =
-    let f = rule_laws g.R.Value.Ord.cmp g.R.Resource.below g.R.Forgets.same_sums g.met.R.Resource.order (g.met.R.Forgets.forgets c.args.resource.now).same_itself (g.met.R.Forgets.forgets c.args.resource.now).same_between c.args.rule in
-    let free = free_out g.R.Resource.below (same_by g.R.Resource.below g.R.Forgets.same_sums c.args.rule) (g.T.Trails.trail c.args.trails.now) (below_order g.met.R.Resource.order) f.0 f.1 c.args.one.now c.args.two.now l
-    (subst (λ (ls : List (Label g.row.R-Value.Denot)). Member ls l) (c.deref.ensures.value ∙ c.in_ok-take_free.ensures) m) in
-    c.requires.two_counts l free.0
+pub merge_seen-requires-clause-one_rises : goal.merge_seen-requires-clause-one_rises
+merge_seen-requires-clause-one_rises g c =
+    subst (AreRising g.R.Value.Ord.cmp) (sym (ap (λ (ss : List (Seen g.row.R-Value.Denot)). labels_of ss) c.deref-3.ensures.value ∙ c.in_ok-one.ensures.labels)) c.requires.one_rises
 
-pub interleave-requires-clause-one : goal.interleave-requires-clause-one
-interleave-requires-clause-one g c =
-    let f = rule_laws g.R.Value.Ord.cmp g.R.Resource.below g.R.Forgets.same_sums g.met.R.Resource.order (g.met.R.Forgets.forgets c.args.resource.now).same_itself (g.met.R.Forgets.forgets c.args.resource.now).same_between c.args.rule in
-    subst (AreRising g.R.Value.Ord.cmp) (sym (c.deref-2.ensures.value ∙ c.in_ok-take_free-2.ensures))
-    (rising_free g.R.Resource.below (same_by g.R.Resource.below g.R.Forgets.same_sums c.args.rule) (g.T.Trails.trail c.args.trails.now) (below_order g.met.R.Resource.order) f.0 f.1 g.R.Value.Ord.cmp c.deref.result.now c.args.one.now c.requires.one_rises)
+pub merge_seen-requires-clause-two_rises : goal.merge_seen-requires-clause-two_rises
+merge_seen-requires-clause-two_rises g c =
+    subst (AreRising g.R.Value.Ord.cmp) (sym (ap (λ (ss : List (Seen g.row.R-Value.Denot)). labels_of ss) c.deref-4.ensures.value ∙ c.in_ok-two.ensures.labels)) c.requires.two_rises
 
-pub interleave-requires-clause-two : goal.interleave-requires-clause-two
-interleave-requires-clause-two g c =
-    let f = rule_laws g.R.Value.Ord.cmp g.R.Resource.below g.R.Forgets.same_sums g.met.R.Resource.order (g.met.R.Forgets.forgets c.args.resource.now).same_itself (g.met.R.Forgets.forgets c.args.resource.now).same_between c.args.rule in
-    subst (AreRising g.R.Value.Ord.cmp) (sym (c.deref-3.ensures.value ∙ c.in_ok-take_free.ensures))
-    (rising_free g.R.Resource.below (same_by g.R.Resource.below g.R.Forgets.same_sums c.args.rule) (g.T.Trails.trail c.args.trails.now) (below_order g.met.R.Resource.order) f.0 f.1 g.R.Value.Ord.cmp c.args.one.now c.args.two.now c.requires.two_rises)
+pub merge_seen-requires-clause-one_counts : goal.merge_seen-requires-clause-one_counts
+merge_seen-requires-clause-one_counts g c l m =
+    c.requires.one_counts l (subst (λ (ls : List (Label g.row.R-Value.Denot)). Member ls l) (ap (λ (ss : List (Seen g.row.R-Value.Denot)). labels_of ss) c.deref-3.ensures.value ∙ c.in_ok-one.ensures.labels) m)
 
-pub interleave-requires-clause-distinct : goal.interleave-requires-clause-distinct
-interleave-requires-clause-distinct g c l m p q e =
-    let f = rule_laws g.R.Value.Ord.cmp g.R.Resource.below g.R.Forgets.same_sums g.met.R.Resource.order (g.met.R.Forgets.forgets c.args.resource.now).same_itself (g.met.R.Forgets.forgets c.args.resource.now).same_between c.args.rule in
-    let order = below_order g.met.R.Resource.order in
-    let trail = g.T.Trails.trail c.args.trails.now in
-    kept_apart g.R.Resource.below (same_by g.R.Resource.below g.R.Forgets.same_sums c.args.rule) trail order f.0 f.1 c.args.one.now c.args.two.now l m
-    (subst (λ (ls : List (Label g.row.R-Value.Denot)). Member ls l)
-    (c.deref-2.ensures.value ∙ (c.in_ok-take_free-2.ensures ∙ ap (λ (o : List (Label g.row.R-Value.Denot)). free_of g.R.Resource.below (same_by g.R.Resource.below g.R.Forgets.same_sums c.args.rule) trail order f.0 f.1 o c.args.one.now) (c.deref.ensures.value ∙ c.in_ok-take_free.ensures))) p)
-    (subst (λ (ls : List (Label g.row.R-Value.Denot)). Member ls m) (c.deref-3.ensures.value ∙ c.in_ok-take_free.ensures) q)
-    e
+pub merge_seen-requires-clause-two_counts : goal.merge_seen-requires-clause-two_counts
+merge_seen-requires-clause-two_counts g c l m =
+    c.requires.two_counts l (subst (λ (ls : List (Label g.row.R-Value.Denot)). Member ls l) (ap (λ (ss : List (Seen g.row.R-Value.Denot)). labels_of ss) c.deref-4.ensures.value ∙ c.in_ok-two.ensures.labels) m)
+
+pub merge_seen-requires-clause-told : goal.merge_seen-requires-clause-told
+merge_seen-requires-clause-told g c t =
+    let m = to_z w32 (of_z w32 c.moment_of-moment.result) in
+    let f = λ (v : g.row.R-Value.Denot). g.R.Marked.marks_of c.args.resource.now v m in (
+      m,
+      subst (λ (ss : List (Seen g.row.R-Value.Denot)). AreTold f ss) (sym c.deref-3.ensures.value) (c.in_ok-one.ensures.told f (c.deref.ensures.value ∙ c.in_ok-first.ensures t)),
+      subst (λ (ss : List (Seen g.row.R-Value.Denot)). AreTold f ss) (sym c.deref-4.ensures.value) (c.in_ok-two.ensures.told f (c.deref-2.ensures.value ∙ c.in_ok-second.ensures t)),
+    )
+
+pub returns-clause-rises : goal.returns-clause-rises
+returns-clause-rises g c =
+    subst (AreRising g.R.Value.Ord.cmp) (sym (c.in_ok-copy_seen.ensures ∙ ap (λ (ss : List (Seen g.row.R-Value.Denot)). labels_of ss) c.deref-5.ensures.value)) c.in_ok-whole.ensures.rises
 
 pub returns-clause-pool : goal.returns-clause-pool
 returns-clause-pool g c firsts seconds i j =
-    let f = rule_laws g.R.Value.Ord.cmp g.R.Resource.below g.R.Forgets.same_sums g.met.R.Resource.order (g.met.R.Forgets.forgets c.args.resource.now).same_itself (g.met.R.Forgets.forgets c.args.resource.now).same_between c.args.rule in
-    let order = below_order g.met.R.Resource.order in
     let trail = g.T.Trails.trail c.args.trails.now in
-    let merged = c.in_ok-interleave.ensures in
-    merged_pool g.R.Resource.below (same_by g.R.Resource.below g.R.Forgets.same_sums c.args.rule) trail order f.0 f.1 c.args.one.now c.args.two.now c.deref-3.result.now c.deref-2.result.now c.interleave.new.whole.items
-    (c.deref-3.ensures.value ∙ c.in_ok-take_free.ensures)
-    (c.deref-2.ensures.value ∙ (c.in_ok-take_free-2.ensures ∙ ap (λ (o : List (Label g.row.R-Value.Denot)). free_of g.R.Resource.below (same_by g.R.Resource.below g.R.Forgets.same_sums c.args.rule) trail order f.0 f.1 o c.args.one.now) (c.deref.ensures.value ∙ sym c.deref-3.ensures.value)))
-    merged.from merged.with_one merged.with_two firsts seconds i j
+    let same = same_by g.R.Resource.below g.R.Forgets.same_sums c.args.rule in
+    let labels = λ (ss : List (Seen g.row.R-Value.Denot)). labels_of ss in
+    subst (λ (ls : List (Label g.row.R-Value.Denot)). ArePoolOf g.R.Resource.below same trail (firsts ++ seconds) ls) (sym (c.in_ok-copy_seen.ensures ∙ ap labels c.deref-5.ensures.value))
+    (c.in_ok-whole.ensures.pool firsts seconds
+    (subst (λ (ls : List (Label g.row.R-Value.Denot)). ArePoolOf g.R.Resource.below same trail firsts ls) (sym (ap labels c.deref-3.ensures.value ∙ c.in_ok-one.ensures.labels)) i)
+    (subst (λ (ls : List (Label g.row.R-Value.Denot)). ArePoolOf g.R.Resource.below same trail seconds ls) (sym (ap labels c.deref-4.ensures.value ∙ c.in_ok-two.ensures.labels)) j))
 
 pub returns-clause-from : goal.returns-clause-from
 returns-clause-from g c l m =
-    let f = rule_laws g.R.Value.Ord.cmp g.R.Resource.below g.R.Forgets.same_sums g.met.R.Resource.order (g.met.R.Forgets.forgets c.args.resource.now).same_itself (g.met.R.Forgets.forgets c.args.resource.now).same_between c.args.rule in
-    let order = below_order g.met.R.Resource.order in
-    let trail = g.T.Trails.trail c.args.trails.now in
+    let labels = λ (ss : List (Seen g.row.R-Value.Denot)). labels_of ss in
     ⊎_elim
-    (λ k. inl (free_out g.R.Resource.below (same_by g.R.Resource.below g.R.Forgets.same_sums c.args.rule) trail order f.0 f.1 c.deref.result.now c.args.one.now l
-    (subst (λ (ls : List (Label g.row.R-Value.Denot)). Member ls l) (c.deref-2.ensures.value ∙ c.in_ok-take_free-2.ensures) k)).0)
-    (λ k. inr (free_out g.R.Resource.below (same_by g.R.Resource.below g.R.Forgets.same_sums c.args.rule) trail order f.0 f.1 c.args.one.now c.args.two.now l
-    (subst (λ (ls : List (Label g.row.R-Value.Denot)). Member ls l) (c.deref-3.ensures.value ∙ c.in_ok-take_free.ensures) k)).0)
-    (c.in_ok-interleave.ensures.from l m)
+    (λ k. inl (subst (λ (ls : List (Label g.row.R-Value.Denot)). Member ls l) (ap labels c.deref-3.ensures.value ∙ c.in_ok-one.ensures.labels) k))
+    (λ k. inr (subst (λ (ls : List (Label g.row.R-Value.Denot)). Member ls l) (ap labels c.deref-4.ensures.value ∙ c.in_ok-two.ensures.labels) k))
+    (labels_from c.in_ok-whole.whole.items c.deref-3.result.now c.deref-4.result.now c.in_ok-whole.ensures.from l
+    (subst (λ (ls : List (Label g.row.R-Value.Denot)). Member ls l) (c.in_ok-copy_seen.ensures ∙ ap labels c.deref-5.ensures.value) m))

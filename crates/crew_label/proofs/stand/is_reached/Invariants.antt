@@ -6,6 +6,6 @@ use Rattle.crew_label.proofs.stand.is_reached.Given as goal
 
 abbrev pub invariant-loop-held : goal.invariant-loop-held
 invariant-loop-held g l =
-    list_any (λ m. stands_label g.R.Resource.below (same_by g.R.Resource.below g.R.Forgets.same_sums l.rule) (g.T.Trails.trail l.trails) m l.label)
-    (take l.held-index l.labels)
+    list_any (λ s. stands_label g.R.Resource.below (same_by g.R.Resource.below g.R.Forgets.same_sums l.rule) (g.T.Trails.trail l.trails) s.label.now l.label)
+    (take l.held-index l.others)
     ≡ false

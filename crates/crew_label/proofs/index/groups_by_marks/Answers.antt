@@ -1,7 +1,7 @@
 use Rattle.std.proofs.Common.{List, sym, subst}
 use Rattle.crew_resource.specs.Members.{Member}
 use Rattle.crew_label.specs.declared.blocks.Entry.{Entry}
-use Rattle.crew_label.proofs.index.Index.new.Goals as goal
+use Rattle.crew_label.proofs.index.groups_by_marks.Goals as goal
 
 pub returns : goal.returns
 returns g c e m =
