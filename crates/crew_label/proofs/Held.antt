@@ -30,13 +30,13 @@ held_more blocks new b e p k =
     }
 
 -- what is on neither side isn't there
-pub on_a_side : (p : Entry → Bool) (es first second low high : List Entry) (e : Entry)
-    → first ≡ es → second ≡ es → low ≡ filter p first → high ≡ filter (λ x. not (p x)) second
+pub on_a_side : (p : Entry → Bool) (es all low high : List Entry) (e : Entry)
+    → all ≡ es → low ≡ filter p all → high ≡ filter (λ x. not (p x)) all
     → Member es e → Member low e ⊎ Member high e
-on_a_side p es first second low high e f s l h m = side (p e) refl where
+on_a_side p es all low high e f l h m = side (p e) refl where
   side : (b : Bool) → p e ≡ b → Member low e ⊎ Member high e
   side true t = inl (subst (λ (z : List Entry). Member z e) (sym (l ∙ ap (filter p) f)) (Member-filter_in p es e m t))
-  side false t = inr (subst (λ (z : List Entry). Member z e) (sym (h ∙ ap (filter (λ x. not (p x))) s)) (Member-filter_in (λ x. not (p x)) es e m (ap not t)))
+  side false t = inr (subst (λ (z : List Entry). Member z e) (sym (h ∙ ap (filter (λ x. not (p x))) f)) (Member-filter_in (λ x. not (p x)) es e m (ap not t)))
 
 -- the least marks of one entry more
 pub least_more : (es more : List Entry) (x : Entry) (least less : List ℤ) → more ≡ es ++ x ∷ []

@@ -102,30 +102,22 @@ fn is_low(cut: Cut, entry: &Entry) -> bool
     i64::from(mark_at(&entry.marks, cut.at)) <= cut.middle
 }
 
-// The entries on the low side of a cut.
-fn low_side(alloc: Global, entries: &[Entry], cut: Cut) -> Result<Vec<Entry>, AllocError>
-    ensures { IfOk result (λ side. side.items ≡ filter (λ e. is_low cut e) entries.now) }
+// The entries on the low side of a cut, and the others.
+fn sides(alloc: Global, entries: &[Entry], cut: Cut) -> Result<(Vec<Entry>, Vec<Entry>), AllocError>
+    ensures low { IfOk result (λ both. both.0.items ≡ filter (λ e. is_low cut e) entries.now) }
+    ensures high { IfOk result (λ both. both.1.items
+        ≡ filter (λ e. not (is_low cut e)) entries.now) }
 {
-    let mut side = Vec::with_capacity(alloc, entries.len())?;
+    let mut low = Vec::with_capacity(alloc, entries.len())?;
+    let mut high = Vec::with_capacity(alloc, entries.len())?;
     for entry in entries {
         if is_low(cut, entry) {
-            side.push(*entry)?;
+            low.push(*entry)?;
+        } else {
+            high.push(*entry)?;
         }
     }
-    Ok(side)
-}
-
-// The others.
-fn high_side(alloc: Global, entries: &[Entry], cut: Cut) -> Result<Vec<Entry>, AllocError>
-    ensures { IfOk result (λ side. side.items ≡ filter (λ e. not (is_low cut e)) entries.now) }
-{
-    let mut side = Vec::with_capacity(alloc, entries.len())?;
-    for entry in entries {
-        if !is_low(cut, entry) {
-            side.push(*entry)?;
-        }
-    }
-    Ok(side)
+    Ok((low, high))
 }
 
 // Puts entries into one block.
@@ -161,8 +153,7 @@ pub(crate) fn divide(
         return push_block(blocks, spread.least, entries);
     }
     let cut = cut_of(&spread, whole);
-    let low = low_side(alloc, &entries, cut)?;
-    let high = high_side(alloc, &entries, cut)?;
+    let (low, high) = sides(alloc, &entries, cut)?;
     divide(alloc, most, cuts - 1, whole, low, blocks)?;
     divide(alloc, most, cuts - 1, whole, high, blocks)?;
     Ok(())
