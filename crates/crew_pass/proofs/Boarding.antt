@@ -1,8 +1,9 @@
 -- The duties of one departure get their fronts, one after another.
-use Rattle.std.proofs.Common.{◌≡◌, ◌∙◌, ◌<◌, ◌≤◌, ◌+◌, ◌⊎◌, ℕ, zero, suc, Bool, true, false, cond, List, [], ◌∷◌, Option, Some, ℤ, length, map, set, take, get_or, inl, inr, refl, sym, ap, subst, ⊎_elim, arith}
+use Rattle.std.proofs.Common.{◌≡◌, ◌∙◌, ◌<◌, ◌≤◌, ◌+◌, ◌++◌, ◌⊎◌, ℕ, zero, suc, Bool, true, false, cond, List, [], ◌∷◌, Option, Some, ℤ, pos, length, map, set, take, get_or, inl, inr, refl, sym, ap, subst, ⊎_elim, arith, length-append}
 use Rattle.std.specs.Prelude.{slice_get}
 use Rattle.std.proofs.lemmas.Bool.Decides.{eqb_tells}
-use Rattle.std.proofs.lemmas.List.{take_all, take_more}
+use Rattle.std.proofs.lemmas.List.{get_or_append_left, length-map, map-append, take_all, take_more}
+use Rattle.std.proofs.Math.Seq.{get_or-append_seam}
 use Rattle.crew_label.specs.Pools.{ArePoolOf}
 use Rattle.crew_label.specs.Tables.{Tabled}
 use Rattle.crew_label.specs.Walks.{shown}
@@ -17,12 +18,12 @@ use Rattle.crew_resource.specs.Members.{Each, Member}
 use Rattle.crew_resource.proofs.Members.{Member-append, Member-append_left, Member-append_right, Member-get}
 use Rattle.crew_label.proofs.RisingLists.{each-member}
 use Rattle.crew_pass.specs.Machinery.Held.{AreHeld, trail_of}
-use Rattle.crew_pass.specs.Machinery.Numbered.{in_order}
-use Rattle.crew_pass.specs.Machinery.Passing.{AreFront, IsPassable, IsTakenIn, IsUnderWay, Ways}
+use Rattle.crew_pass.specs.Machinery.Numbered.{departure_at, in_order}
+use Rattle.crew_pass.specs.Machinery.Passing.{AreApart, AreFront, AreMade, IsMade, IsPassable, IsTakenIn, IsUnderWay, Ways, ranks_at}
 use Rattle.crew_pass.proofs.Fronts.{done-same, front-more}
 use Rattle.crew_pass.proofs.Numbers.{departure-itself, same-departure}
 use Rattle.crew_pass.proofs.Orders.{in-order-distinct, in-order-of}
-use Rattle.crew_pass.proofs.Slices.{places-out, ranks-in, ranks-out, some-same}
+use Rattle.crew_pass.proofs.Slices.{get-at, map-get, places-out, ranks-in, ranks-out, some-same}
 
 Rises : List ℕ → Type 0
 Rises [] = Unit {0}
@@ -51,10 +52,10 @@ rising-apart (x ∷ xs) h (suc i) l (inl e) =
 rising-apart (x ∷ xs) h (suc i) l (inr m) = rising-apart xs h.1 i (omega (arith, l)) m
 
 module _ {V : Type 0} (w : Ways V) (count : V → ℤ) (ready arrived : ℕ → V → Type 0) (most : Option ℕ) (net : Net) (base turns places : List ℕ) (passable : IsPassable net turns places)
-    (t : Tabled V) (turn place : ℕ) (g : Departure) (last : turn + 1 ≡ length t.pools) (at : slice_get net.by_report turn ≡ Some place) (there : slice_get net.departures place ≡ Some g)
+    (t : Tabled V) (turn place : ℕ) (g : Departure) (apart : AreApart net (length t.pools) turn) (at : slice_get net.by_report turn ≡ Some place) (there : slice_get net.departures place ≡ Some g)
     (ranks : List ℕ) (is : ranks ≡ ranks_where (leaves_at g) net.duties) where
   abbrev pub So : ℕ → ℕ → Type 0
-  So i q = (get_or turns q 0 + 1 < length t.pools) ⊎ Member (take i ranks) q
+  So i q = (get_or turns q 0 < turn) ⊎ Member (take i ranks) q
 
   abbrev pub Passed : List (List (Label V)) → List (List (Label V)) → (ℕ → Type 0) → Type 0
   Passed fronts held Done = IsUnderWay w count ready arrived most net base turns t fronts held Done
@@ -71,13 +72,13 @@ module _ {V : Type 0} (w : Ways V) (count : V → ℤ) (ready arrived : ℕ → 
   pub rank-known : (i : ℕ) → i < length ranks → (d : Duty) × (slice_get net.duties (get_or ranks i 0) ≡ Some d) × (get_or turns (get_or ranks i 0) 0 ≡ turn)
   rank-known i h = leaves (get_or ranks i 0) (Member-get ranks i 0 h)
 
-  pub none-boarded : (fronts held : List (List (Label V))) → Passed fronts held (λ q. get_or turns q 0 + 1 < length t.pools) → Passed fronts held (So 0)
-  none-boarded fronts held way = done-same w count ready arrived most net base turns places t fronts held (λ q. get_or turns q 0 + 1 < length t.pools) (So 0)
+  pub none-boarded : (fronts held : List (List (Label V))) → Passed fronts held (λ q. get_or turns q 0 < turn) → Passed fronts held (So 0)
+  none-boarded fronts held way = done-same w count ready arrived most net base turns places t fronts held (λ q. get_or turns q 0 < turn) (So 0)
       (λ q d known h. inl h) (λ q d known. ⊎_elim (λ h. h) (λ m. absurd m)) way
 
   new : (i : ℕ) → i < length ranks → So i (get_or ranks i 0) → ⊥
   new i h = ⊎_elim
-      (λ l. let k = (rank-known i h).2 in omega (arith, l, k, last))
+      (λ l. let k = (rank-known i h).2 in omega (arith, l, k))
       (λ m. rising-apart ranks (subst (λ (rs : List ℕ). Rises rs) (sym is) (places-rise 0 (leaves_at g) net.duties)) i h m)
 
   pub one-boarded : (i : ℕ) → i < length ranks → (fronts held now after : List (List (Label V))) (front pool : List (Label V)) → get_or t.pools turn [] ≡ pool → Passed fronts held (So i)
@@ -90,7 +91,7 @@ module _ {V : Type 0} (w : Ways V) (count : V → ℤ) (ready arrived : ℕ → 
       let rank = get_or ranks i 0 in
       let d = rank-known i h in
       let own : get_or t.pools (get_or turns rank 0) [] ≡ pool = ap (λ n. get_or t.pools n []) d.2 ∙ pooled in
-      let latest : get_or turns rank 0 + 1 ≡ length t.pools = ap (λ n. n + 1) d.2 ∙ last in
+      let alone : AreApart net (length t.pools) (get_or turns rank 0) = subst (λ n. AreApart net (length t.pools) n) (sym d.2) apart in
       let more = take_more ranks i 0 h in
       subst (λ (fs : List (List (Label V))). Passed fs after (So (i + 1))) (sym is-now)
       (done-same w count ready arrived most net base turns places t (set fronts rank front) after (λ q. So i q ⊎ (q ≡ rank)) (So (i + 1))
@@ -100,22 +101,84 @@ module _ {V : Type 0} (w : Ways V) (count : V → ℤ) (ready arrived : ℕ → 
       (λ q e known. ⊎_elim {C = So i q ⊎ (q ≡ rank)} (λ l. inl (inl l))
       (λ m. ⊎_elim {C = So i q ⊎ (q ≡ rank)} (λ k. inl (inr k)) (λ k. ⊎_elim {C = So i q ⊎ (q ≡ rank)} (λ s. inr (sym s)) (λ z. absurd z) k)
       (Member-append (take i ranks) (rank ∷ []) q (subst (λ (rs : List ℕ). Member rs q) more m))))
-      (front-more w count ready arrived most net base turns places passable t fronts held (So i) way rank d.0 d.1 (new i h) latest front after taken
+      (front-more w count ready arrived most net base turns places passable t fronts held (So i) way rank d.0 d.1 (new i h) alone front after taken
       (subst (λ (ls : List (Label V)). AreFront w (trail_of t) d.0 rank ls front) (sym own) (local d.0 d.1)) itself held-front))
 
-  pub all-boarded : (i : ℕ) (fronts held : List (List (Label V))) → length ranks ≤ i → Passed fronts held (So i) → Passed fronts held (λ q. get_or turns q 0 < length t.pools)
+  pub all-boarded : (i : ℕ) (fronts held : List (List (Label V))) → length ranks ≤ i → Passed fronts held (So i) → Passed fronts held (λ q. get_or turns q 0 < turn + 1)
   all-boarded i fronts held all way =
       let whole = take_all i ranks all in
-      done-same w count ready arrived most net base turns places t fronts held (So i) (λ q. get_or turns q 0 < length t.pools)
-      (λ q d known. ⊎_elim {C = get_or turns q 0 < length t.pools}
+      done-same w count ready arrived most net base turns places t fronts held (So i) (λ q. get_or turns q 0 < turn + 1)
+      (λ q d known. ⊎_elim {C = get_or turns q 0 < turn + 1}
       (λ l. omega (arith, l))
-      (λ m. let k = (leaves q (subst (λ (rs : List ℕ). Member rs q) whole m)).2 in omega (arith, k, last)))
+      (λ m. let k = (leaves q (subst (λ (rs : List ℕ). Member rs q) whole m)).2 in omega (arith, k)))
       (λ q d known l. ⊎_elim {C = So i q}
       (λ same.
       let is-at : get_or turns q 0 ≡ turn = same.1 in
       let equal : g ≡ departure_of d = some-same (slice_get (in_order net) turn) g (departure_of d) here (ap (slice_get (in_order net)) (sym is-at) ∙ passable.are_turns.exact q d known) in
       let passes = subst (λ (z : Departure). leaves_at z d ≡ true) (sym equal) (departure-itself (departure_of d)) in
       inr (subst (λ (rs : List ℕ). Member rs q) (sym whole) (subst (λ (rs : List ℕ). Member rs q) (sym is) (ranks-in (leaves_at g) net.duties q d known passes))))
-      (λ ne. let k = ne.1 in inl (omega (arith, k, l, last)))
+      (λ ne. let k = ne.1 in inl (omega (arith, k, l)))
       (eqb_tells (get_or turns q 0) turn))
       way
+
+-- the ranks of the duties that leave at a turn are those of its departure
+pub ranks-at : (net : Net) (turn place : ℕ) (g : Departure) → slice_get net.by_report turn ≡ Some place → slice_get net.departures place ≡ Some g → ranks_where (leaves_at g) net.duties ≡ ranks_at net turn
+ranks-at net turn place g at there =
+    ap (λ (z : Departure). ranks_where (leaves_at z) net.duties)
+    (sym (ap (λ (p : ℕ). departure_at net.departures p) (get-at net.by_report turn place 0 at) ∙ get-at net.departures place g (record { airport = []; report = pos 0 }) there))
+
+-- a front that is made, by its place
+pub made-here : {V A : Type 0} (w : Ways V) (count : V → ℤ) (arrived : ℕ → V → Type 0) (most : Option ℕ) (net : Net) (t : Tabled V) (pool : List (Label V)) (value : A → List (Label V)) (arcs : List A) (ranks others : List ℕ)
+    → ranks ≡ others → AreMade w count arrived most net t pool others (map value arcs) → (i : ℕ) (a : A) (front : List (Label V)) → i < length ranks → slice_get arcs i ≡ Some a → front ≡ value a
+    → IsMade w count arrived most net t pool (get_or ranks i 0) front
+made-here {V} {A} w count arrived most net t pool value arcs ranks others same made i a front h at own =
+    let h' = subst (λ (rs : List ℕ). i < length rs) same h in
+    let v : get_or (map value arcs) i [] ≡ value a = get-at (map value arcs) i (value a) [] (map-get value arcs i a at) in
+    subst (λ (rs : List ℕ). IsMade w count arrived most net t pool (get_or rs i 0) front) (sym same)
+    (subst (λ (ls : List (Label V)). IsMade w count arrived most net t pool (get_or others i 0) ls) (v ∙ sym own) (made.each i h'))
+
+-- how many fronts there are
+pub made-long : {V A : Type 0} (w : Ways V) (count : V → ℤ) (arrived : ℕ → V → Type 0) (most : Option ℕ) (net : Net) (t : Tabled V) (pool : List (Label V)) (value : A → List (Label V)) (arcs : List A) (ranks others : List ℕ)
+    → ranks ≡ others → AreMade w count arrived most net t pool others (map value arcs) → length arcs ≡ length ranks
+made-long w count arrived most net t pool value arcs ranks others same made = sym (length-map arcs value) ∙ (made.long ∙ sym (ap length same))
+
+module _ {V A : Type 0} (w : Ways V) (count : V → ℤ) (arrived : ℕ → V → Type 0) (most : Option ℕ) (net : Net) (t : Tabled V) (pool : List (Label V)) where
+  -- the fronts of the first so many duties are made
+  abbrev pub MadeSo : (A → List (Label V)) → List A → List ℕ → ℕ → Type 0
+  MadeSo value arcs ranks n = (length (map value arcs) ≡ n) × ((i : ℕ) → i < n → IsMade w count arrived most net t pool (get_or ranks i 0) (get_or (map value arcs) i []))
+
+  -- one more
+  pub made-more : (from : List (Label V)) → pool ≡ from → (value : A → List (Label V)) (arcs more : List A) (a : A) (ranks : List ℕ) (n : ℕ) → more ≡ arcs ++ a ∷ [] → (front : List (Label V)) → value a ≡ front
+      → MadeSo value arcs ranks n
+      → ((d : Duty) → slice_get net.duties (get_or ranks n 0) ≡ Some d → AreFront w (trail_of t) d (get_or ranks n 0) from front)
+      → ArePoolOf w.below w.same (trail_of t) (map (shown (trail_of t)) front) front → AreHeld count arrived most (length net.duties) t front
+      → MadeSo value more ranks (n + 1)
+  made-more from own value arcs more a ranks n is front same so local itself held =
+      let parts : map value more ≡ map value arcs ++ value a ∷ [] = ap (map value) is ∙ map-append value arcs (a ∷ []) in
+      let long = so.0 in
+      let longer : length (map value more) ≡ n + 1 = ap length parts ∙ (length-append (map value arcs) (value a ∷ []) ∙ ap (λ m. m + 1) long) in
+      let last : get_or (map value more) n [] ≡ front =
+      ap (λ (ls : List (List (Label V))). get_or ls n []) parts ∙ (ap (λ m. get_or (map value arcs ++ value a ∷ []) m []) (sym long) ∙ (get_or-append_seam (map value arcs) (value a) [] [] ∙ same)) in
+      let made : IsMade w count arrived most net t pool (get_or ranks n 0) front = record { local = λ d at. subst (λ (ls : List (Label V)). AreFront w (trail_of t) d (get_or ranks n 0) ls front) (sym own) (local d at); itself = itself; held = held } in (
+        longer,
+        λ i h. ⊎_elim {C = IsMade w count arrived most net t pool (get_or ranks i 0) (get_or (map value more) i [])}
+            (λ s.
+            subst (λ m. IsMade w count arrived most net t pool (get_or ranks m 0) (get_or (map value more) m [])) (sym s.1)
+            (subst (λ (ls : List (Label V)). IsMade w count arrived most net t pool (get_or ranks n 0) ls) (sym last) made))
+            (λ ne.
+            let k = ne.1 in
+            let less : i < n = omega (arith, h, k) in
+            let within : i < length (map value arcs) = omega (arith, less, long) in
+            let here = ap (λ (ls : List (List (Label V))). get_or ls i []) parts ∙ get_or_append_left (map value arcs) (value a ∷ []) [] i within in
+            subst (λ (ls : List (Label V)). IsMade w count arrived most net t pool (get_or ranks i 0) ls) (sym here) (so.1 i less))
+            (eqb_tells i n),
+      )
+
+  -- all of them
+  pub made-all : (value : A → List (Label V)) (arcs : List A) (ranks others : List ℕ) → ranks ≡ others → (n : ℕ) → length ranks ≤ n → n ≤ length ranks → MadeSo value arcs ranks n
+      → AreMade w count arrived most net t pool others (map value arcs)
+  made-all value arcs ranks others same n most' least so =
+      let long = so.0 in
+      let all : length (map value arcs) ≡ length ranks = omega (arith, long, most', least) in
+      subst (λ (rs : List ℕ). AreMade w count arrived most net t pool rs (map value arcs)) same
+      (record { long = all; each = λ i h. so.1 i (omega (arith, h, least, most')) })

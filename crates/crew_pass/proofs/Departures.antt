@@ -35,7 +35,7 @@ module _ {V : Type 0} (t t' : Tabled V) (stays : (link : Link) → leads_of t li
   leads-still None h = tt
   leads-still (Some link) h = (stays link h).0
 
-  walk-stays : (o : Option Link) → Leads (leads_of t) o → walk_of (trail_of t') o ≡ walk_of (trail_of t) o
+  pub walk-stays : (o : Option Link) → Leads (leads_of t) o → walk_of (trail_of t') o ≡ walk_of (trail_of t) o
   walk-stays None h = refl
   walk-stays (Some link) h = (stays link h).1
 
@@ -54,29 +54,16 @@ module _ {V : Type 0} (t t' : Tabled V) (stays : (link : Link) → leads_of t li
         let k = h l m in
         record { leading = leads-still l.before k.leading; entry = subst (IsEntry count Bound most duties) (sym (shown-stays l k.leading)) k.entry }
 
-  module _ (w : Ways V) (count : V → ℤ) (ready arrived : ℕ → V → Type 0) (most : Option ℕ) (net : Net) (base turns : List ℕ) (fronts held : List (List (Label V)))
-      (way : IsUnderWay w count ready arrived most net base turns t fronts held (λ q. get_or turns q 0 < length t.pools))
-      (pool : List (Label V)) (leaves-is : t'.leaves ≡ t.leaves) (pools-is : t'.pools ≡ t.pools ++ pool ∷ []) where
+  module _ (w : Ways V) (count : V → ℤ) (ready arrived : ℕ → V → Type 0) (most : Option ℕ) (net : Net) (base turns : List ℕ) (fronts held : List (List (Label V))) (Done : ℕ → Type 0)
+      (way : IsUnderWay w count ready arrived most net base turns t fronts held Done) where
     abbrev n : ℕ
     n = length net.duties
-
-    pub longer : length t'.pools ≡ length t.pools + 1
-    longer = ap length pools-is ∙ length-append t.pools (pool ∷ [])
-
-    old-pool : (i : ℕ) → i < length t.pools → get_or t'.pools i [] ≡ get_or t.pools i []
-    old-pool i h = ap (λ ps. get_or ps i []) pools-is ∙ get_or_append_left t.pools (pool ∷ []) [] i h
-
-    pub new-pool : get_or t'.pools (length t.pools) [] ≡ pool
-    new-pool = ap (λ ps. get_or ps (length t.pools) []) pools-is ∙ get_or-append_seam t.pools pool [] []
 
     held-at : (q : ℕ) → map (shown (trail_of t')) (get_or held q []) ≡ map (shown (trail_of t)) (get_or held q [])
     held-at q = all-stay count most n arrived (get_or held q []) (at-held count arrived most n t held way.held_arrived q)
 
     front-at : (q : ℕ) → map (shown (trail_of t')) (get_or fronts q []) ≡ map (shown (trail_of t)) (get_or fronts q [])
     front-at q = all-stay count most n arrived (get_or fronts q []) (at-held count arrived most n t fronts way.fronts_arrived q)
-
-    pool-at : (i : ℕ) → i < length t.pools → map (shown (trail_of t')) (get_or t'.pools i []) ≡ map (shown (trail_of t)) (get_or t.pools i [])
-    pool-at i h = ap (map (shown (trail_of t'))) (old-pool i h) ∙ all-stay count most n ready (get_or t.pools i []) (at-held count ready most n t t.pools way.pools_ready i)
 
     waits-to : (g : Departure) (v : V) (k : List ℕ) → Waits w net base (trail_of t) held g v k → Waits w net base (trail_of t') held g v k
     waits-to g v k = ⊎_elim {C = Waits w net base (trail_of t') held g v k} inl (λ c.
@@ -86,7 +73,7 @@ module _ {V : Type 0} (t t' : Tabled V) (stays : (link : Link) → leads_of t li
     waits-from g v k = ⊎_elim {C = Waits w net base (trail_of t) held g v k} inl (λ c.
         inr (c.0, (c.1.0, c.1.1, c.1.2, c.1.3, subst (λ (es : List (V × List ℕ)). Member es (c.1.1, k)) (held-at c.0) c.1.4, c.1.5)))
 
-    covering-still : (g : Departure) (now was : List (Label V)) → map (shown (trail_of t')) now ≡ map (shown (trail_of t)) was
+    pub covering-still : (g : Departure) (now was : List (Label V)) → map (shown (trail_of t')) now ≡ map (shown (trail_of t)) was
         → AreCovering w (trail_of t) (Waits w net base (trail_of t) held g) was → AreCovering w (trail_of t') (Waits w net base (trail_of t') held g) now
     covering-still g now was same c = record {
       part = λ v k m. waits-to g v k (c.part v k (subst (λ (es : List (V × List ℕ)). Member es (v, k)) same m));
@@ -95,52 +82,61 @@ module _ {V : Type 0} (t t' : Tabled V) (stays : (link : Link) → leads_of t li
           (u.0, u.1, subst (λ (es : List (V × List ℕ)). Member es (u.0, u.1)) (sym same) u.2, u.3);
     }
 
-    -- a departure more, with what covers the labels that may stand there
-    pub departure-more : (g : Departure) → slice_get (in_order net) (length t.pools) ≡ Some g
-        → AreCovering w (trail_of t) (Waits w net base (trail_of t) held g) pool → AreHeld count ready most n t pool
-        → IsUnderWay w count ready arrived most net base turns t' fronts held (λ q. get_or turns q 0 + 1 < length t'.pools)
-    departure-more g at covers pool-held = record {
-      turned = leaves-is ∙ way.turned;
-      fronts_long = way.fronts_long;
-      held_long = way.held_long;
-      pooled = λ i h l at-i. ⊎_elim {C = AreCovering w (trail_of t') (Waits w net base (trail_of t') held h) (get_or t'.pools i [])}
-          (λ s.
-          let is-last : i ≡ length t.pools = s.1 in
-          let same = some-same (slice_get (in_order net) (length t.pools)) g h at (ap (slice_get (in_order net)) (sym is-last) ∙ at-i) in
-          let entries = ap (λ (m : ℕ). map (shown (trail_of t')) (get_or t'.pools m [])) is-last ∙ (ap (map (shown (trail_of t'))) new-pool ∙ all-stay count most n ready pool pool-held) in
-          covering-still h (get_or t'.pools i []) pool entries (subst (λ (z : Departure). AreCovering w (trail_of t) (Waits w net base (trail_of t) held z) pool) same covers))
-          (λ ne.
-          let k = ne.1 in
-          let less : i < length t.pools = omega (arith, l, k, longer) in
-          covering-still h (get_or t'.pools i []) (get_or t.pools i []) (pool-at i less) (way.pooled i h less at-i))
-          (eqb_tells i (length t.pools));
-      gathered = λ q x at-q.
-          let c = way.gathered q x at-q in
-          record {
-            listed = c.listed;
-            pool = subst (λ (es : List (V × List ℕ)). IsPool w.below w.same ranks_at_most (λ v k. Member c.listed (v, k)) es) (sym (held-at q)) c.pool;
-            among = λ v k m.
-                let a = c.among v k m in
-                let done = a.2 in
-                let still : get_or turns a.0 0 + 1 < length t'.pools = omega (arith, done, longer) in
-                (a.0, a.1, still, a.3, a.4, subst (λ (es : List (V × List ℕ)). Member es (v, k)) (sym (front-at a.0)) a.5);
-            every = λ v k a.
-                let done = a.2 in
-                let was : get_or turns a.0 0 < length t.pools = omega (arith, done, longer) in
-                c.every v k (a.0, a.1, was, a.3, a.4, subst (λ (es : List (V × List ℕ)). Member es (v, k)) (front-at a.0) a.5);
-          };
-      filtered = λ q d known done.
-          let was : get_or turns q 0 < length t.pools = omega (arith, done, longer) in
-          subst (λ (es : List (V × List ℕ)). IsLocal w.below ranks_at_most (λ v k. Member (boarding w d q (map (shown (trail_of t')) (get_or t'.pools (get_or turns q 0) []))) (v, k)) es) (sym (front-at q))
-          (subst (λ (es : List (V × List ℕ)). IsLocal w.below ranks_at_most (λ v k. Member (boarding w d q es) (v, k)) (map (shown (trail_of t)) (get_or fronts q []))) (sym (pool-at (get_or turns q 0) was))
-          (way.filtered q d known was));
-      pools_ready = λ labels m. ⊎_elim {C = AreHeld count ready most n t' labels}
-          (λ k. held-still count most n ready labels (way.pools_ready labels k))
-          (⊎_elim {C = AreHeld count ready most n t' labels} (λ e. held-still count most n ready labels (subst (λ (ls : List (Label V)). AreHeld count ready most n t ls) e pool-held)) (λ z. absurd z))
-          (Member-append t.pools (pool ∷ []) labels (subst (λ (ps : List (List (Label V))). Member ps labels) pools-is m));
-      held_arrived = λ labels m. held-still count most n arrived labels (way.held_arrived labels m);
-      fronts_arrived = λ labels m. held-still count most n arrived labels (way.fronts_arrived labels m);
-    }
+    module _ (reached : (q : ℕ) → Done q → get_or turns q 0 < length t.pools) (pool : List (Label V)) (leaves-is : t'.leaves ≡ t.leaves) (pools-is : t'.pools ≡ t.pools ++ pool ∷ []) where
+      pub longer : length t'.pools ≡ length t.pools + 1
+      longer = ap length pools-is ∙ length-append t.pools (pool ∷ [])
+
+      old-pool : (i : ℕ) → i < length t.pools → get_or t'.pools i [] ≡ get_or t.pools i []
+      old-pool i h = ap (λ ps. get_or ps i []) pools-is ∙ get_or_append_left t.pools (pool ∷ []) [] i h
+
+      pub new-pool : get_or t'.pools (length t.pools) [] ≡ pool
+      new-pool = ap (λ ps. get_or ps (length t.pools) []) pools-is ∙ get_or-append_seam t.pools pool [] []
+
+      pool-at : (i : ℕ) → i < length t.pools → map (shown (trail_of t')) (get_or t'.pools i []) ≡ map (shown (trail_of t)) (get_or t.pools i [])
+      pool-at i h = ap (map (shown (trail_of t'))) (old-pool i h) ∙ all-stay count most n ready (get_or t.pools i []) (at-held count ready most n t t.pools way.pools_ready i)
+
+      -- a departure more, with what covers the labels that may stand there
+      pub departure-more : (g : Departure) → slice_get (in_order net) (length t.pools) ≡ Some g
+          → AreCovering w (trail_of t) (Waits w net base (trail_of t) held g) pool → AreHeld count ready most n t pool
+          → IsUnderWay w count ready arrived most net base turns t' fronts held Done
+      departure-more g at covers pool-held = record {
+        turned = leaves-is ∙ way.turned;
+        fronts_long = way.fronts_long;
+        held_long = way.held_long;
+        pooled = λ i h l at-i. ⊎_elim {C = AreCovering w (trail_of t') (Waits w net base (trail_of t') held h) (get_or t'.pools i [])}
+            (λ s.
+            let is-last : i ≡ length t.pools = s.1 in
+            let same = some-same (slice_get (in_order net) (length t.pools)) g h at (ap (slice_get (in_order net)) (sym is-last) ∙ at-i) in
+            let entries = ap (λ (m : ℕ). map (shown (trail_of t')) (get_or t'.pools m [])) is-last ∙ (ap (map (shown (trail_of t'))) new-pool ∙ all-stay count most n ready pool pool-held) in
+            covering-still h (get_or t'.pools i []) pool entries (subst (λ (z : Departure). AreCovering w (trail_of t) (Waits w net base (trail_of t) held z) pool) same covers))
+            (λ ne.
+            let k = ne.1 in
+            let less : i < length t.pools = omega (arith, l, k, longer) in
+            covering-still h (get_or t'.pools i []) (get_or t.pools i []) (pool-at i less) (way.pooled i h less at-i))
+            (eqb_tells i (length t.pools));
+        gathered = λ q x at-q.
+            let c = way.gathered q x at-q in
+            record {
+              listed = c.listed;
+              pool = subst (λ (es : List (V × List ℕ)). IsPool w.below w.same ranks_at_most (λ v k. Member c.listed (v, k)) es) (sym (held-at q)) c.pool;
+              among = λ v k m.
+                  let a = c.among v k m in
+                  (a.0, a.1, a.2, a.3, a.4, subst (λ (es : List (V × List ℕ)). Member es (v, k)) (sym (front-at a.0)) a.5);
+              every = λ v k a.
+                  c.every v k (a.0, a.1, a.2, a.3, a.4, subst (λ (es : List (V × List ℕ)). Member es (v, k)) (front-at a.0) a.5);
+            };
+        filtered = λ q d known done.
+            let was = reached q done in
+            subst (λ (es : List (V × List ℕ)). IsLocal w.below ranks_at_most (λ v k. Member (boarding w d q (map (shown (trail_of t')) (get_or t'.pools (get_or turns q 0) []))) (v, k)) es) (sym (front-at q))
+            (subst (λ (es : List (V × List ℕ)). IsLocal w.below ranks_at_most (λ v k. Member (boarding w d q es) (v, k)) (map (shown (trail_of t)) (get_or fronts q []))) (sym (pool-at (get_or turns q 0) was))
+            (way.filtered q d known done));
+        pools_ready = λ labels m. ⊎_elim {C = AreHeld count ready most n t' labels}
+            (λ k. held-still count most n ready labels (way.pools_ready labels k))
+            (⊎_elim {C = AreHeld count ready most n t' labels} (λ e. held-still count most n ready labels (subst (λ (ls : List (Label V)). AreHeld count ready most n t ls) e pool-held)) (λ z. absurd z))
+            (Member-append t.pools (pool ∷ []) labels (subst (λ (ps : List (List (Label V))). Member ps labels) pools-is m));
+        held_arrived = λ labels m. held-still count most n arrived labels (way.held_arrived labels m);
+        fronts_arrived = λ labels m. held-still count most n arrived labels (way.fronts_arrived labels m);
+      }
 
 -- before the first departure
 module _ {V : Type 0} (w : Ways V) (count : V → ℤ) (ready arrived : ℕ → V → Type 0) (most : Option ℕ) (net : Net) (base turns : List ℕ) (t : Tabled V) (fronts held : List (List (Label V)))

@@ -1,5 +1,5 @@
 -- A pass goes on: a front more, a departure more.
-use Rattle.std.proofs.Common.{◌≡◌, ◌∙◌, ◌<◌, ◌+◌, ◌⊎◌, ◌++◌, ℕ, true, List, [], Option, Some, ℤ, length, map, set, get_or, inl, inr, refl, sym, ap, subst, ⊎_elim, arith}
+use Rattle.std.proofs.Common.{◌≡◌, ◌∙◌, ◌<◌, ◌⊎◌, ◌++◌, ℕ, true, List, [], Option, Some, ℤ, length, map, set, get_or, inl, inr, refl, sym, ap, subst, ⊎_elim, arith}
 use Rattle.std.specs.Prelude.{slice_get}
 use Rattle.std.proofs.lemmas.Bool.Decides.{eqb_tells}
 use Rattle.std.proofs.lemmas.Grind.{get_or-set_at}
@@ -19,9 +19,9 @@ use Rattle.crew_resource.specs.Members.{Member}
 use Rattle.crew_resource.proofs.Members.{Member-append, Member-append_left, Member-append_right}
 use Rattle.crew_pass.specs.Machinery.Held.{AreHeld, trail_of}
 use Rattle.crew_pass.specs.Machinery.Numbered.{in_order}
-use Rattle.crew_pass.specs.Machinery.Passing.{AreFront, AreGathered, Arrives, IsPassable, IsTakenIn, IsUnderWay, Waits, Ways}
+use Rattle.crew_pass.specs.Machinery.Passing.{AreApart, AreFront, AreGathered, Arrives, IsPassable, IsTakenIn, IsUnderWay, Waits, Ways}
 use Rattle.crew_pass.proofs.Numbers.{get-within}
-use Rattle.crew_pass.proofs.Orders.{arrivals-distinct, no-waiting}
+use Rattle.crew_pass.proofs.Orders.{arrivals-distinct}
 use Rattle.crew_pass.proofs.Slices.{member-got, set-long, some-same}
 
 module _ {V : Type 0} (w : Ways V) (count : V → ℤ) (ready arrived : ℕ → V → Type 0) (most : Option ℕ) (net : Net) (base turns places : List ℕ) where
@@ -51,7 +51,7 @@ module _ {V : Type 0} (w : Ways V) (count : V → ℤ) (ready arrived : ℕ → 
   }
 
   module _ (passable : IsPassable net turns places) (t : Tabled V) (fronts held : List (List (Label V))) (Done : ℕ → Type 0) (way : Way t fronts held Done)
-      (rank : ℕ) (d : Duty) (known : slice_get net.duties rank ≡ Some d) (new : Done rank → ⊥) (last : get_or turns rank 0 + 1 ≡ length t.pools)
+      (rank : ℕ) (d : Duty) (known : slice_get net.duties rank ≡ Some d) (new : Done rank → ⊥) (alone : AreApart net (length t.pools) (get_or turns rank 0))
       (front : List (Label V)) (after : List (List (Label V))) (taken : IsTakenIn w.below w.same count arrived most (length net.duties) t front (get_or places rank 0) held after) where
     abbrev trail : Link → List ℕ
     trail = trail_of t
@@ -90,7 +90,7 @@ module _ {V : Type 0} (w : Ways V) (count : V → ℤ) (ready arrived : ℕ → 
     apart : (i : ℕ) (g : Departure) → i < length t.pools → slice_get (in_order net) i ≡ Some g → (q : ℕ) (x : Arrival) → slice_get net.arrivals q ≡ Some x → may_wait net.settings x g ≡ true → q ≡ p → ⊥
     apart i g h at q x here waits e =
         let same = some-same (slice_get net.arrivals p) x (arrival_of d) (ap (slice_get net.arrivals) (sym e) ∙ here) at-p in
-        no-waiting net passable.departs passable.ordered i (get_or turns rank 0) g d (omega (arith, h, last)) at (passable.are_turns.exact rank d known) (passable.sound d (member-got net.duties rank d known))
+        alone i g d h at (passable.are_turns.exact rank d known) (member-got net.duties rank d known)
         (subst (λ (y : Arrival). may_wait net.settings y g ≡ true) same waits)
 
     waits-there : (i : ℕ) (g : Departure) → i < length t.pools → slice_get (in_order net) i ≡ Some g → (v : V) (k : List ℕ) → Waits w net base trail held g v k → Waits w net base trail after g v k

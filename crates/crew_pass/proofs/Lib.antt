@@ -9,5 +9,8 @@ pub mod Boarding
 pub mod Departures
 pub mod Keyed
 pub mod Covering
+pub mod Added
 pub mod Alike
 pub mod Rested
+pub mod Claimed
+pub mod Batched

@@ -2,3 +2,4 @@
 pub mod Numbered
 pub mod Held
 pub mod Passing
+pub mod Claims

@@ -1,5 +1,5 @@
 //! The fronts of the duties of a departure.
-ghost use Rattle.std.specs.Prelude.{◌≡◌, ◌<◌, ◌+◌, ℕ, List, Some, IfOk, OnOk, get_or, length, map, set, slice_get};
+ghost use Rattle.std.specs.Prelude.{◌≡◌, ◌<◌, ◌+◌, ℕ, List, [], Some, IfOk, OnOk, get_or, length, map, set, slice_get};
 ghost use Rattle.std.specs.Arc.{arc_value};
 ghost use Rattle.crew_label.specs.Boarding.{LeadInto};
 ghost use Rattle.crew_label.specs.Pools.{ArePoolOf};
@@ -10,7 +10,7 @@ ghost use Rattle.crew_pairing.specs.Events.{IsSound};
 ghost use Rattle.crew_pairing.specs.declared.duty.Duty.{Duty};
 ghost use Rattle.crew_resource.specs.Members.{Member};
 ghost use Rattle.crew_pass.specs.Machinery.Held.{AreHeld, leads_of, trail_of};
-ghost use Rattle.crew_pass.specs.Machinery.Passing.{AreFront, AreRestedOf, IsClean, IsLatest, IsPassable, IsTakenIn, IsUnderWay, ways};
+ghost use Rattle.crew_pass.specs.Machinery.Passing.{AreFront, AreMade, AreRestedOf, IsBoardable, IsClean, IsPassable, IsTakenIn, IsUnderWay, ranks_at, ways};
 ghost use Rattle.crew_pass.specs.Passes.{CountsDuties};
 
 use crate::ground::{Found, Ground};
@@ -61,7 +61,7 @@ fn keep_front<R: Lapses<Duty>>(
     room: &mut Room<R::Value>,
     found: &mut Found<R>,
     rank: u32,
-    front: Pool<R>,
+    front: Arc<Pool<R>, Global>,
 ) -> Result<(), AllocError>
     requires places { AreArrivalPlaces ground.now.net.now ground.now.places.now }
     requires counts { CountsDuties R.same_sums (R.count_of ground.now.resource.now)
@@ -80,13 +80,13 @@ fn keep_front<R: Lapses<Duty>>(
         found.old.arrivals.items found.old.rested.items }
     requires front { AreHeld (R.count_of ground.now.resource.now)
         (R.arrived ground.now.resource.now) (R.most ground.now.resource.now)
-        (length ground.now.net.now.duties) table.now front }
+        (length ground.now.net.now.duties) table.now (arc_value front) }
     ensures fronts { OnOk result (map arc_value found.new.fronts.items
-        ≡ set (map arc_value found.old.fronts.items) rank front) }
+        ≡ set (map arc_value found.old.fronts.items) rank (arc_value front)) }
     ensures arrivals { OnOk result (IsTakenIn R.below R.same_sums
         (R.count_of ground.now.resource.now) (R.arrived ground.now.resource.now)
-        (R.most ground.now.resource.now) (length ground.now.net.now.duties) table.now front
-        (get_or ground.now.places.now rank 0) found.old.arrivals.items found.new.arrivals.items) }
+        (R.most ground.now.resource.now) (length ground.now.net.now.duties) table.now
+        (arc_value front) (get_or ground.now.places.now rank 0) found.old.arrivals.items found.new.arrivals.items) }
     ensures rested { OnOk result (AreRestedOf (ways R.below R.same_sums
         (R.idle_of ground.now.resource.now) (R.waited ground.now.resource.now)
         (R.boards ground.now.resource.now)) (R.rested_of ground.now.resource.now)
@@ -94,7 +94,6 @@ fn keep_front<R: Lapses<Duty>>(
         (R.most ground.now.resource.now) (length ground.now.net.now.duties) table.now
         found.new.arrivals.items found.new.rested.items) }
 {
-    let front = Arc::new(alloc, front)?;
     let place = ground.places[rank as usize] as usize;
     let arrival = &mut found.arrivals[place];
     arrival.merge::<Duty, Table<R>>(alloc, ground.resource, table, room, &front)?;
@@ -103,23 +102,67 @@ fn keep_front<R: Lapses<Duty>>(
     Ok(())
 }
 
-/// The fronts of the duties that leave at the departure at a place, whose pool the table had last.
-pub(crate) fn board_duties<R: Lapses<Duty>>(
+/// The fronts of the duties that leave at a turn, whose pool the table has.
+pub(crate) fn duty_fronts<R: Lapses<Duty>>(
+    alloc: Global,
+    ground: &Ground<R>,
+    table: &Table<R>,
+    turn: usize,
+) -> Result<Vec<Arc<Pool<R>, Global>>, AllocError>
+    requires passable { IsPassable ground.now.net.now ground.now.turns.now ground.now.places.now }
+    requires counts { CountsDuties R.same_sums (R.count_of ground.now.resource.now)
+        (R.most ground.now.resource.now) (R.fits ground.now.resource.now) }
+    requires turned { table.now.leaves ≡ ground.now.turns.now }
+    requires ready { (labels : List (Label R.Value)) → Member table.now.pools labels
+        → AreHeld (R.count_of ground.now.resource.now) (R.ready ground.now.resource.now)
+        (R.most ground.now.resource.now) (length ground.now.net.now.duties) table.now labels }
+    requires boardable { IsBoardable (ways R.below R.same_sums (R.idle_of ground.now.resource.now)
+        (R.waited ground.now.resource.now) (R.boards ground.now.resource.now))
+        ground.now.net.now table.now turn }
+    ensures { IfOk result (λ fronts. AreMade (ways R.below R.same_sums (R.idle_of ground.now.resource.now)
+        (R.waited ground.now.resource.now) (R.boards ground.now.resource.now))
+        (R.count_of ground.now.resource.now) (R.arrived ground.now.resource.now)
+        (R.most ground.now.resource.now) ground.now.net.now table.now
+        (get_or table.now.pools turn []) (ranks_at ground.now.net.now turn)
+        (map arc_value fronts.items)) }
+{
+    let Some(pool) = table.get(turn) else {
+        unreachable!();
+    };
+    let place = ground.net.by_report()[turn] as usize;
+    let ranks = ground.net.leaving(place);
+    let mut fronts = Vec::new(alloc);
+    for rank in ranks {
+        let front = duty_front(alloc, ground, table, pool, *rank)?;
+        let front = Arc::new(alloc, front)?;
+        fronts.push(front)?;
+    }
+    Ok(fronts)
+}
+
+/// Keeps the fronts of the duties that leave at a turn, and merges each into the pool of its duty's
+/// arrival.
+pub(crate) fn keep_fronts<R: Lapses<Duty>>(
     alloc: Global,
     ground: &Ground<R>,
     table: &Table<R>,
     room: &mut Room<R::Value>,
     found: &mut Found<R>,
-    place: usize,
-    pool: &Pool<R>,
+    turn: usize,
+    fronts: &[Arc<Pool<R>, Global>],
 ) -> Result<(), AllocError>
     requires passable { IsPassable ground.now.net.now ground.now.turns.now ground.now.places.now }
     requires counts { CountsDuties R.same_sums (R.count_of ground.now.resource.now)
         (R.most ground.now.resource.now) (R.fits ground.now.resource.now) }
-    requires latest { IsLatest ground.now.net.now table.now place pool.now }
-    requires clean { IsClean (ways R.below R.same_sums
-        (R.idle_of ground.now.resource.now) (R.waited ground.now.resource.now)
-        (R.boards ground.now.resource.now)) (trail_of table.now) pool.now }
+    requires boardable { IsBoardable (ways R.below R.same_sums (R.idle_of ground.now.resource.now)
+        (R.waited ground.now.resource.now) (R.boards ground.now.resource.now))
+        ground.now.net.now table.now turn }
+    requires made { AreMade (ways R.below R.same_sums (R.idle_of ground.now.resource.now)
+        (R.waited ground.now.resource.now) (R.boards ground.now.resource.now))
+        (R.count_of ground.now.resource.now) (R.arrived ground.now.resource.now)
+        (R.most ground.now.resource.now) ground.now.net.now table.now
+        (get_or table.now.pools turn []) (ranks_at ground.now.net.now turn)
+        (map arc_value fronts.now) }
     requires rested { AreRestedOf (ways R.below R.same_sums
         (R.idle_of ground.now.resource.now) (R.waited ground.now.resource.now)
         (R.boards ground.now.resource.now)) (R.rested_of ground.now.resource.now)
@@ -131,15 +174,14 @@ pub(crate) fn board_duties<R: Lapses<Duty>>(
         (R.count_of ground.now.resource.now) (R.ready ground.now.resource.now)
         (R.arrived ground.now.resource.now) (R.most ground.now.resource.now) ground.now.net.now
         ground.now.base ground.now.turns.now table.now (map arc_value found.old.fronts.items)
-        found.old.arrivals.items
-        (λ rank. get_or ground.now.turns.now rank 0 + 1 < length table.now.pools) }
+        found.old.arrivals.items (λ rank. get_or ground.now.turns.now rank 0 < turn) }
     ensures way { OnOk result (IsUnderWay (ways R.below R.same_sums
         (R.idle_of ground.now.resource.now) (R.waited ground.now.resource.now)
         (R.boards ground.now.resource.now)) (R.count_of ground.now.resource.now)
         (R.ready ground.now.resource.now) (R.arrived ground.now.resource.now)
         (R.most ground.now.resource.now) ground.now.net.now ground.now.base ground.now.turns.now
         table.now (map arc_value found.new.fronts.items) found.new.arrivals.items
-        (λ rank. get_or ground.now.turns.now rank 0 < length table.now.pools)) }
+        (λ rank. get_or ground.now.turns.now rank 0 < turn + 1)) }
     ensures rested { OnOk result (AreRestedOf (ways R.below R.same_sums
         (R.idle_of ground.now.resource.now) (R.waited ground.now.resource.now)
         (R.boards ground.now.resource.now)) (R.rested_of ground.now.resource.now)
@@ -147,9 +189,10 @@ pub(crate) fn board_duties<R: Lapses<Duty>>(
         (R.most ground.now.resource.now) (length ground.now.net.now.duties) table.now
         found.new.arrivals.items found.new.rested.items) }
 {
+    let place = ground.net.by_report()[turn] as usize;
     let ranks = ground.net.leaving(place);
-    for rank in ranks {
-        let front = duty_front(alloc, ground, table, pool, *rank)?;
+    for (at, rank) in ranks.iter().enumerate() {
+        let front = Arc::try_clone(&fronts[at])?;
         keep_front(alloc, ground, table, room, found, *rank, front)?;
     }
     Ok(())

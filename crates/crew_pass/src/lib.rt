@@ -12,7 +12,10 @@
 #![tactic(auto)]
 
 mod base_fronts;
+mod batch;
+mod batches;
 mod boards;
+mod claims;
 mod course;
 mod ground;
 pub mod laws;
@@ -24,4 +27,4 @@ mod waits;
 pub use base_fronts::BaseFronts;
 pub use course::Course;
 pub use long::long_fronts;
-pub use passing::pass;
+pub use passing::{pass, pass_by_threads};

@@ -11,10 +11,11 @@ ghost use Rattle.crew_pass.specs.Machinery.Passing.{AreRestedOf, HasPassed, IsPa
 ghost use Rattle.crew_pass.specs.Passes.{CountsDuties, IsCoveredBy};
 
 use crate::base_fronts::BaseFronts;
-use crate::boards::board_duties;
+use crate::batches::pass_next;
+use crate::boards::{duty_fronts, keep_fronts};
 use crate::course::Course;
 use crate::ground::{Found, Ground};
-use crate::waits::departure_pool;
+use crate::waits::{pool_at, rest_window};
 use crew_flights::Code;
 use crew_forgetful::Lapses;
 use crew_label::{Pool, Room, Table};
@@ -22,6 +23,7 @@ use crew_pairing::Duty;
 use crew_resource::Resource;
 use std::alloc::{AllocError, Global};
 use std::sync::Arc;
+use std::thread::Threads;
 
 impl<R: Resource> Found<R> {
     // No front yet of so many duties, and no label yet at so many arrivals.
@@ -118,19 +120,19 @@ fn pass_one<R: Lapses<Duty>>(
         (R.most ground.now.resource.now) (length ground.now.net.now.duties) table.new
         found.new.arrivals.items found.new.rested.items) }
 {
-    let pool = departure_pool(
+    let turn = table.len();
+    rest_window(
         alloc,
         ground,
         table,
-        room,
         &found.arrivals,
         &mut found.rested,
         place,
     )?;
-    let pool = Arc::new(alloc, pool)?;
-    let shared = Arc::try_clone(&pool)?;
+    let pool = pool_at(alloc, ground, table, &found.arrivals, &found.rested, turn)?;
     table.add(pool)?;
-    board_duties(alloc, ground, table, room, found, place, &shared)?;
+    let fronts = duty_fronts(alloc, ground, table, turn)?;
+    keep_fronts(alloc, ground, table, room, found, turn, &fronts)?;
     Ok(())
 }
 
@@ -157,6 +159,40 @@ pub(crate) fn pass_all<R: Lapses<Duty>>(
     for place in net.by_report() {
         let place = *place as usize;
         pass_one(alloc, ground, &mut table, &mut room, &mut found, place)?;
+    }
+    Ok((table, found))
+}
+
+/// The same by threads, at most so many: departures none of which waits on another's duties are passed
+/// at once.
+pub(crate) fn pass_all_by_threads<T: Threads + Sync, R: Lapses<Duty> + Sync>(
+    rt: &T,
+    alloc: Global,
+    threads: usize,
+    ground: &Ground<R>,
+    mut table: Table<R>,
+) -> Result<(Table<R>, Found<R>), AllocError>
+where
+    R::Value: Send + Sync,
+    requires none { table ≡ record { leaves = ground.now.turns.now; pools = [] } }
+    requires passable { IsPassable ground.now.net.now ground.now.turns.now ground.now.places.now }
+    requires counts { CountsDuties R.same_sums (R.count_of ground.now.resource.now)
+        (R.most ground.now.resource.now) (R.fits ground.now.resource.now) }
+    ensures { IfOk result (λ passed. HasPassed (ways R.below R.same_sums
+        (R.idle_of ground.now.resource.now) (R.waited ground.now.resource.now)
+        (R.boards ground.now.resource.now)) (R.count_of ground.now.resource.now)
+        (R.ready ground.now.resource.now) (R.arrived ground.now.resource.now)
+        (R.most ground.now.resource.now) ground.now.net.now ground.now.base ground.now.turns.now
+        passed.0 (map arc_value passed.1.fronts.items) passed.1.arrivals.items) }
+{
+    let net = ground.net;
+    let mut room = Room::new(alloc);
+    let mut found = Found::new(alloc, net.duty_count(), net.arrivals().len())?;
+    let count = net.by_report().len();
+    for _ in 0..count {
+        pass_next(
+            rt, alloc, threads, ground, &mut table, &mut room, &mut found,
+        )?;
     }
     Ok((table, found))
 }
@@ -192,5 +228,40 @@ pub fn pass<R: Lapses<Duty>>(
         base,
     };
     let (table, found) = pass_all(alloc, &ground, table)?;
+    Ok(BaseFronts::new(shared, table, found.fronts))
+}
+
+/// The same pass in at most so many threads, this one among them: departures that report so soon after
+/// one another that none of them waits on a duty of another are gone through at once.
+pub fn pass_by_threads<T: Threads + Sync, R: Lapses<Duty> + Sync>(
+    rt: &T,
+    alloc: Global,
+    threads: usize,
+    course: &Course,
+    resource: &R,
+    base: Code,
+) -> Result<BaseFronts<R>, AllocError>
+where
+    R::Value: Send + Sync,
+    requires sound { (d : Duty) → Member course.now.duties d → IsSound d }
+    requires counts { CountsDuties R.same_sums (R.count_of resource.now) (R.most resource.now)
+        (R.fits resource.now) }
+    ensures net { IfOk result (λ passed. passed.net ≡ course.now) }
+    ensures covered { IfOk result (IsCoveredBy R.below R.same_sums (network_of
+        (schedule_of course.now.settings base course.now.duties) departure_of arrival_of
+        (R.idle_of resource.now) (R.waited resource.now) (R.boards resource.now))) }
+{
+    let net = course.net();
+    let turns = course.turns();
+    let shared = Arc::try_clone(net)?;
+    let table = Table::new(alloc, Arc::try_clone(turns)?);
+    let ground = Ground {
+        net,
+        turns: turns.as_slice(),
+        places: course.places(),
+        resource,
+        base,
+    };
+    let (table, found) = pass_all_by_threads(rt, alloc, threads, &ground, table)?;
     Ok(BaseFronts::new(shared, table, found.fronts))
 }

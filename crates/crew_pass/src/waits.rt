@@ -1,5 +1,6 @@
 //! The pool of a departure.
 ghost use Rattle.std.specs.Prelude.{◌≡◌, ◌⊎◌, ◌<◌, ◌≤◌, ◌++◌, ℕ, true, false, List, Some, IfOk, OnOk, length, map, slice_get};
+ghost use Rattle.std.specs.Arc.{arc_value};
 ghost use Rattle.std.specs.Ordering.{eq_by_cmp};
 ghost use Rattle.crew_flights.specs.Codes.{code_cmp};
 ghost use Rattle.crew_label.specs.Boarding.{AreRested};
@@ -11,7 +12,7 @@ ghost use Rattle.crew_pairing.specs.Events.{MayFollow, may_wait};
 ghost use Rattle.crew_pairing.specs.declared.events.Departure.{Departure};
 ghost use Rattle.crew_resource.specs.Members.{Member};
 ghost use Rattle.crew_pass.specs.Machinery.Held.{AreHeld, trail_of};
-ghost use Rattle.crew_pass.specs.Machinery.Passing.{AreCovering, AreGathered, AreRestedOf, Idles, IsClean, IsPassable, IsRested, MayBeRested, Waits, idle_labels, waited_entries, ways};
+ghost use Rattle.crew_pass.specs.Machinery.Passing.{AreCovering, AreGathered, AreRestedOf, AreSources, Idles, IsClean, IsPassable, IsPoolAt, IsRested, MayBeRested, Waits, idle_labels, waited_entries, ways};
 ghost use Rattle.crew_pass.specs.Passes.{CountsDuties};
 
 use crate::ground::Ground;
@@ -20,6 +21,7 @@ use crew_label::{Label, Pool, Room, Table};
 use crew_net::Window;
 use crew_pairing::{Arrival, Departure, Duty};
 use std::alloc::{AllocError, Global};
+use std::sync::Arc;
 
 // The empty label of a departure, where the base is.
 fn idle_pool<R: Lapses<Duty>>(
@@ -83,6 +85,27 @@ fn merge_waiting<R: Lapses<Duty>>(
     Ok(())
 }
 
+// What a rest of an arrival's labels goes by.
+fn rested_pool<R: Lapses<Duty>>(
+    alloc: Global,
+    ground: &Ground<R>,
+    table: &Table<R>,
+    held: &Pool<R>,
+) -> Result<Pool<R>, AllocError>
+    requires counts { CountsDuties R.same_sums (R.count_of ground.now.resource.now)
+        (R.most ground.now.resource.now) (R.fits ground.now.resource.now) }
+    requires held { AreHeld (R.count_of ground.now.resource.now) (R.arrived ground.now.resource.now)
+        (R.most ground.now.resource.now) (length ground.now.net.now.duties) table.now held.now }
+    ensures { IfOk result (IsRested (ways R.below R.same_sums (R.idle_of ground.now.resource.now)
+        (R.waited ground.now.resource.now) (R.boards ground.now.resource.now))
+        (R.rested_of ground.now.resource.now) (R.count_of ground.now.resource.now)
+        (R.arrived ground.now.resource.now) (R.most ground.now.resource.now)
+        (length ground.now.net.now.duties) table.now held.now) }
+{
+    let rested = held.rested::<Duty, Table<R>>(alloc, ground.resource, table)?;
+    Ok(rested)
+}
+
 // Makes what a rest of an arrival's labels goes by, unless it is made already.
 fn make_rested<R: Lapses<Duty>>(
     alloc: Global,
@@ -109,7 +132,51 @@ fn make_rested<R: Lapses<Duty>>(
     if !rested.is_empty() {
         return Ok(());
     }
-    *rested = held.rested::<Duty, Table<R>>(alloc, ground.resource, table)?;
+    *rested = rested_pool(alloc, ground, table, held)?;
+    Ok(())
+}
+
+// Merges the labels of an arrival, as they stand at a departure after a rest, into the departure's
+// pool: those that the rest goes by, which are made for it where they aren't made yet.
+fn merge_rest<R: Lapses<Duty>>(
+    alloc: Global,
+    ground: &Ground<R>,
+    table: &Table<R>,
+    room: &mut Room<R::Value>,
+    departure: &Departure,
+    arrival: &Arrival,
+    held: &Pool<R>,
+    rested: &Pool<R>,
+    pool: &mut Pool<R>,
+) -> Result<(), AllocError>
+    requires counts { CountsDuties R.same_sums (R.count_of ground.now.resource.now)
+        (R.most ground.now.resource.now) (R.fits ground.now.resource.now) }
+    requires follows { MayFollow arrival.now departure.now }
+    requires rests { R.rests ground.now.resource.now arrival.now departure.now ≡ true }
+    requires held { AreHeld (R.count_of ground.now.resource.now) (R.arrived ground.now.resource.now)
+        (R.most ground.now.resource.now) (length ground.now.net.now.duties) table.now held.now }
+    requires rested { MayBeRested (ways R.below R.same_sums (R.idle_of ground.now.resource.now)
+        (R.waited ground.now.resource.now) (R.boards ground.now.resource.now))
+        (R.rested_of ground.now.resource.now) (R.count_of ground.now.resource.now)
+        (R.arrived ground.now.resource.now) (R.most ground.now.resource.now)
+        (length ground.now.net.now.duties) table.now held.now rested.now }
+    requires pool { AreHeld (R.count_of ground.now.resource.now) (R.ready ground.now.resource.now)
+        (R.most ground.now.resource.now) (length ground.now.net.now.duties) table.now pool.old }
+    ensures pool { OnOk result ((firsts : List (R.Value × List ℕ))
+        → ArePoolOf R.below R.same_sums (trail_of table.now) firsts pool.old
+        → ArePoolOf R.below R.same_sums (trail_of table.now)
+        (firsts ++ waited_entries (λ v. R.waited ground.now.resource.now v arrival.now departure.now)
+        (map (shown (trail_of table.now)) held.now)) pool.new) }
+    ensures held { OnOk result (AreHeld (R.count_of ground.now.resource.now)
+        (R.ready ground.now.resource.now) (R.most ground.now.resource.now)
+        (length ground.now.net.now.duties) table.now pool.new) }
+{
+    if rested.is_empty() {
+        let made = rested_pool(alloc, ground, table, held)?;
+        merge_waiting(alloc, ground, table, room, departure, arrival, &made, pool)?;
+    } else {
+        merge_waiting(alloc, ground, table, room, departure, arrival, rested, pool)?;
+    }
     Ok(())
 }
 
@@ -123,7 +190,7 @@ fn merge_arrival<R: Lapses<Duty>>(
     departure: &Departure,
     arrival: &Arrival,
     held: &Pool<R>,
-    rested: &mut Pool<R>,
+    rested: &Pool<R>,
     pool: &mut Pool<R>,
 ) -> Result<(), AllocError>
     requires counts { CountsDuties R.same_sums (R.count_of ground.now.resource.now)
@@ -138,7 +205,7 @@ fn merge_arrival<R: Lapses<Duty>>(
         (R.waited ground.now.resource.now) (R.boards ground.now.resource.now))
         (R.rested_of ground.now.resource.now) (R.count_of ground.now.resource.now)
         (R.arrived ground.now.resource.now) (R.most ground.now.resource.now)
-        (length ground.now.net.now.duties) table.now held.now rested.old }
+        (length ground.now.net.now.duties) table.now held.now rested.now }
     requires pool { AreHeld (R.count_of ground.now.resource.now) (R.ready ground.now.resource.now)
         (R.most ground.now.resource.now) (length ground.now.net.now.duties) table.now pool.old }
     ensures pool { OnOk result ((firsts : List (R.Value × List ℕ))
@@ -149,16 +216,11 @@ fn merge_arrival<R: Lapses<Duty>>(
     ensures held { OnOk result (AreHeld (R.count_of ground.now.resource.now)
         (R.ready ground.now.resource.now) (R.most ground.now.resource.now)
         (length ground.now.net.now.duties) table.now pool.new) }
-    ensures rested { OnOk result (MayBeRested (ways R.below R.same_sums
-        (R.idle_of ground.now.resource.now) (R.waited ground.now.resource.now)
-        (R.boards ground.now.resource.now)) (R.rested_of ground.now.resource.now)
-        (R.count_of ground.now.resource.now) (R.arrived ground.now.resource.now)
-        (R.most ground.now.resource.now) (length ground.now.net.now.duties) table.now held.now
-        rested.new) }
 {
     if ground.resource.is_rest(arrival, departure) {
-        make_rested(alloc, ground, table, held, rested)?;
-        merge_waiting(alloc, ground, table, room, departure, arrival, rested, pool)?;
+        merge_rest(
+            alloc, ground, table, room, departure, arrival, held, rested, pool,
+        )?;
     } else {
         merge_waiting(alloc, ground, table, room, departure, arrival, held, pool)?;
     }
@@ -174,7 +236,7 @@ fn merge_window<R: Lapses<Duty>>(
     departure: &Departure,
     window: Window,
     arrivals: &[Pool<R>],
-    rested: &mut Vec<Pool<R>>,
+    rested: &[Pool<R>],
     pool: &mut Pool<R>,
 ) -> Result<(), AllocError>
     requires rests { ground.now.net.now.settings.max_rest ≤ 8_280 }
@@ -195,7 +257,7 @@ fn merge_window<R: Lapses<Duty>>(
         (R.boards ground.now.resource.now)) (R.rested_of ground.now.resource.now)
         (R.count_of ground.now.resource.now) (R.arrived ground.now.resource.now)
         (R.most ground.now.resource.now) (length ground.now.net.now.duties) table.now
-        arrivals.now rested.old.items }
+        arrivals.now rested.now }
     requires idle { AreGathered (ways R.below R.same_sums (R.idle_of ground.now.resource.now)
         (R.waited ground.now.resource.now) (R.boards ground.now.resource.now)) (trail_of table.now)
         (Idles (ways R.below R.same_sums (R.idle_of ground.now.resource.now)
@@ -212,17 +274,11 @@ fn merge_window<R: Lapses<Duty>>(
     ensures held { OnOk result (AreHeld (R.count_of ground.now.resource.now)
         (R.ready ground.now.resource.now) (R.most ground.now.resource.now)
         (length ground.now.net.now.duties) table.now pool.new) }
-    ensures rested { OnOk result (AreRestedOf (ways R.below R.same_sums
-        (R.idle_of ground.now.resource.now) (R.waited ground.now.resource.now)
-        (R.boards ground.now.resource.now)) (R.rested_of ground.now.resource.now)
-        (R.count_of ground.now.resource.now) (R.arrived ground.now.resource.now)
-        (R.most ground.now.resource.now) (length ground.now.net.now.duties) table.now
-        arrivals.now rested.new.items) }
 {
     for at in window.from..window.end {
         let arrival = &ground.net.arrivals()[at];
         let held = &arrivals[at];
-        let rest = &mut rested[at];
+        let rest = &rested[at];
         merge_arrival(
             alloc, ground, table, room, departure, arrival, held, rest, pool,
         )?;
@@ -238,7 +294,7 @@ pub(crate) fn departure_pool<R: Lapses<Duty>>(
     table: &Table<R>,
     room: &mut Room<R::Value>,
     arrivals: &[Pool<R>],
-    rested: &mut Vec<Pool<R>>,
+    rested: &[Pool<R>],
     place: usize,
 ) -> Result<Pool<R>, AllocError>
     requires passable { IsPassable ground.now.net.now ground.now.turns.now ground.now.places.now }
@@ -258,7 +314,7 @@ pub(crate) fn departure_pool<R: Lapses<Duty>>(
         (R.boards ground.now.resource.now)) (R.rested_of ground.now.resource.now)
         (R.count_of ground.now.resource.now) (R.arrived ground.now.resource.now)
         (R.most ground.now.resource.now) (length ground.now.net.now.duties) table.now
-        arrivals.now rested.old.items }
+        arrivals.now rested.now }
     ensures covers { IfOk result (λ pool. (g : Departure)
         → slice_get ground.now.net.now.departures place ≡ Some g
         → AreCovering (ways R.below R.same_sums (R.idle_of ground.now.resource.now)
@@ -272,6 +328,81 @@ pub(crate) fn departure_pool<R: Lapses<Duty>>(
     ensures clean { IfOk result (λ pool. IsClean (ways R.below R.same_sums
         (R.idle_of ground.now.resource.now) (R.waited ground.now.resource.now)
         (R.boards ground.now.resource.now)) (trail_of table.now) pool) }
+{
+    let departure = &ground.net.departures()[place];
+    let window = ground.net.window(place);
+    let mut pool = idle_pool(alloc, ground, departure)?;
+    merge_window(
+        alloc, ground, table, room, departure, window, arrivals, rested, &mut pool,
+    )?;
+    Ok(pool)
+}
+
+// Makes what rests go by at the arrivals of a departure's window, where it isn't made already.
+fn rest_arrivals<R: Lapses<Duty>>(
+    alloc: Global,
+    ground: &Ground<R>,
+    table: &Table<R>,
+    departure: &Departure,
+    window: Window,
+    arrivals: &[Pool<R>],
+    rested: &mut Vec<Pool<R>>,
+) -> Result<(), AllocError>
+    requires rests { ground.now.net.now.settings.max_rest ≤ 8_280 }
+    requires counts { CountsDuties R.same_sums (R.count_of ground.now.resource.now)
+        (R.most ground.now.resource.now) (R.fits ground.now.resource.now) }
+    requires window { IsWindow (λ x. may_wait ground.now.net.now.settings x departure.now)
+        ground.now.net.now.arrivals window }
+    requires long { length arrivals.now ≡ length ground.now.net.now.arrivals }
+    requires held { (labels : List (Label R.Value)) → Member arrivals.now labels
+        → AreHeld (R.count_of ground.now.resource.now) (R.arrived ground.now.resource.now)
+        (R.most ground.now.resource.now) (length ground.now.net.now.duties) table.now labels }
+    requires rested { AreRestedOf (ways R.below R.same_sums
+        (R.idle_of ground.now.resource.now) (R.waited ground.now.resource.now)
+        (R.boards ground.now.resource.now)) (R.rested_of ground.now.resource.now)
+        (R.count_of ground.now.resource.now) (R.arrived ground.now.resource.now)
+        (R.most ground.now.resource.now) (length ground.now.net.now.duties) table.now
+        arrivals.now rested.old.items }
+    ensures { OnOk result (AreRestedOf (ways R.below R.same_sums
+        (R.idle_of ground.now.resource.now) (R.waited ground.now.resource.now)
+        (R.boards ground.now.resource.now)) (R.rested_of ground.now.resource.now)
+        (R.count_of ground.now.resource.now) (R.arrived ground.now.resource.now)
+        (R.most ground.now.resource.now) (length ground.now.net.now.duties) table.now
+        arrivals.now rested.new.items) }
+{
+    for at in window.from..window.end {
+        let arrival = &ground.net.arrivals()[at];
+        if ground.resource.is_rest(arrival, departure) {
+            let rest = &mut rested[at];
+            make_rested(alloc, ground, table, &arrivals[at], rest)?;
+        }
+    }
+    Ok(())
+}
+
+/// Makes what rests in the window of the departure at a place go by, where it isn't made already.
+pub(crate) fn rest_window<R: Lapses<Duty>>(
+    alloc: Global,
+    ground: &Ground<R>,
+    table: &Table<R>,
+    arrivals: &[Pool<R>],
+    rested: &mut Vec<Pool<R>>,
+    place: usize,
+) -> Result<(), AllocError>
+    requires passable { IsPassable ground.now.net.now ground.now.turns.now ground.now.places.now }
+    requires counts { CountsDuties R.same_sums (R.count_of ground.now.resource.now)
+        (R.most ground.now.resource.now) (R.fits ground.now.resource.now) }
+    requires place { place < length ground.now.net.now.departures }
+    requires long { length arrivals.now ≡ length ground.now.net.now.arrivals }
+    requires held { (labels : List (Label R.Value)) → Member arrivals.now labels
+        → AreHeld (R.count_of ground.now.resource.now) (R.arrived ground.now.resource.now)
+        (R.most ground.now.resource.now) (length ground.now.net.now.duties) table.now labels }
+    requires rested { AreRestedOf (ways R.below R.same_sums
+        (R.idle_of ground.now.resource.now) (R.waited ground.now.resource.now)
+        (R.boards ground.now.resource.now)) (R.rested_of ground.now.resource.now)
+        (R.count_of ground.now.resource.now) (R.arrived ground.now.resource.now)
+        (R.most ground.now.resource.now) (length ground.now.net.now.duties) table.now
+        arrivals.now rested.old.items }
     ensures rested { OnOk result (AreRestedOf (ways R.below R.same_sums
         (R.idle_of ground.now.resource.now) (R.waited ground.now.resource.now)
         (R.boards ground.now.resource.now)) (R.rested_of ground.now.resource.now)
@@ -281,9 +412,36 @@ pub(crate) fn departure_pool<R: Lapses<Duty>>(
 {
     let departure = &ground.net.departures()[place];
     let window = ground.net.window(place);
-    let mut pool = idle_pool(alloc, ground, departure)?;
-    merge_window(
-        alloc, ground, table, room, departure, window, arrivals, rested, &mut pool,
-    )?;
+    rest_arrivals(alloc, ground, table, departure, window, arrivals, rested)
+}
+
+/// A pool of the departure at a turn, shared.
+pub(crate) fn pool_at<R: Lapses<Duty>>(
+    alloc: Global,
+    ground: &Ground<R>,
+    table: &Table<R>,
+    arrivals: &[Pool<R>],
+    rested: &[Pool<R>],
+    turn: usize,
+) -> Result<Arc<Pool<R>, Global>, AllocError>
+    requires passable { IsPassable ground.now.net.now ground.now.turns.now ground.now.places.now }
+    requires counts { CountsDuties R.same_sums (R.count_of ground.now.resource.now)
+        (R.most ground.now.resource.now) (R.fits ground.now.resource.now) }
+    requires turn { turn < length ground.now.net.now.by_report }
+    requires sources { AreSources (ways R.below R.same_sums (R.idle_of ground.now.resource.now)
+        (R.waited ground.now.resource.now) (R.boards ground.now.resource.now))
+        (R.rested_of ground.now.resource.now) (R.count_of ground.now.resource.now)
+        (R.arrived ground.now.resource.now) (R.most ground.now.resource.now) ground.now.net.now
+        table.now arrivals.now rested.now }
+    ensures { IfOk result (λ pool. IsPoolAt (ways R.below R.same_sums (R.idle_of ground.now.resource.now)
+        (R.waited ground.now.resource.now) (R.boards ground.now.resource.now))
+        (R.count_of ground.now.resource.now) (R.ready ground.now.resource.now)
+        (R.most ground.now.resource.now) ground.now.net.now ground.now.base table.now arrivals.now
+        turn (arc_value pool)) }
+{
+    let place = ground.net.by_report()[turn] as usize;
+    let mut room = Room::new(alloc);
+    let pool = departure_pool(alloc, ground, table, &mut room, arrivals, rested, place)?;
+    let pool = Arc::new(alloc, pool)?;
     Ok(pool)
 }

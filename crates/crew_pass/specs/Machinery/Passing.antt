@@ -1,5 +1,5 @@
 -- What a pass over the departures of a base has made so far, with duties by rank and events by place.
-use Rattle.std.specs.Prelude.{◌≡◌, ◌<◌, ◌≤◌, ◌+◌, ◌⊎◌, ℕ, ℤ, Bool, true, cond, List, [], ◌∷◌, ◌++◌, Option, Some, None, get_or, length, map, set, slice_get}
+use Rattle.std.specs.Prelude.{◌≡◌, ◌<◌, ◌≤◌, ◌⊎◌, ℕ, ℤ, Bool, true, cond, List, [], ◌∷◌, ◌++◌, Option, Some, None, get_or, length, map, set, slice_get}
 use Rattle.std.specs.List.{flat_map}
 use Rattle.std.specs.Ordering.{eq_by_cmp}
 use Rattle.crew_flights.specs.Codes.{code_cmp}
@@ -10,8 +10,9 @@ use Rattle.crew_label.specs.Tables.{Tabled}
 use Rattle.crew_label.specs.Walks.{ranks_at_most, shown}
 use Rattle.crew_label.specs.declared.label.Label.{Label}
 use Rattle.crew_label.specs.declared.label.Link.{Link}
-use Rattle.crew_net.specs.Events.{AreEvents, arrival_cmp, departure_cmp}
+use Rattle.crew_net.specs.Events.{AreEvents, arrival_cmp, departure_cmp, leaves_at}
 use Rattle.crew_net.specs.Nets.{AreArrivalPlaces, AreByReport, Net}
+use Rattle.crew_net.specs.Ranks.{ranks_where}
 use Rattle.crew_pairing.specs.Duties.{RiseByKey}
 use Rattle.crew_pairing.specs.Events.{IsSound, arrival_of, departure_of, may_wait}
 use Rattle.crew_pairing.specs.declared.duty.Duty.{Duty}
@@ -21,7 +22,7 @@ use Rattle.crew_resource.specs.Events.{labelled}
 use Rattle.crew_resource.specs.Labels.{IsLocal}
 use Rattle.crew_resource.specs.Members.{Member}
 use Rattle.crew_pass.specs.Machinery.Held.{AreHeld, leads_of, trail_of}
-use Rattle.crew_pass.specs.Machinery.Numbered.{AreTurns, in_order}
+use Rattle.crew_pass.specs.Machinery.Numbered.{AreTurns, departure_at, in_order}
 
 -- a network has its events in order, its duties by key, and rests within the bound
 pub record IsCharted (net : Net) : Type 0 where
@@ -159,15 +160,47 @@ pub record IsTakenIn {V : Type 0} (below same : V → V → Bool) (count : V →
       → ArePoolOf below same (trail_of t) (firsts ++ seconds) merged
   pub held : AreHeld count arrived most duties t merged
 
--- the pool of the departure at a place is the last of the table's, and links of its duties lead to it
-pub record IsLatest {V : Type 0} (net : Net) (t : Tabled V) (place : ℕ) (pool : List (Label V)) :
-    Type 0 where
-  pub turn : ℕ
-  pub last : turn + 1 ≡ length t.pools
-  pub at : slice_get net.by_report turn ≡ Some place
-  pub pooled : get_or t.pools turn [] ≡ pool
+-- none of the first so many departures waits on a duty that leaves at a turn
+abbrev pub AreApart : Net → ℕ → ℕ → Type 0
+AreApart net many turn = (i : ℕ) (g : Departure) (d : Duty) → i < many
+    → slice_get (in_order net) i ≡ Some g → slice_get (in_order net) turn ≡ Some (departure_of d)
+    → Member net.duties d → may_wait net.settings (arrival_of d) g ≡ true → ⊥
+
+-- the pool of the departure at a turn is in the table, and links of its duties lead to it
+pub record IsLinked {V : Type 0} (w : Ways V) (t : Tabled V) (turn : ℕ) : Type 0 where
+  pub within : turn < length t.pools
+  pub clean : (listed : List (V × List ℕ))
+      × ArePoolOf w.below w.same (trail_of t) listed (get_or t.pools turn [])
   pub into : (rank : ℕ) → slice_get t.leaves rank ≡ Some turn
-      → LeadInto (leads_of t) (trail_of t) rank pool
+      → LeadInto (leads_of t) (trail_of t) rank (get_or t.pools turn [])
+
+-- and none of the table's departures waits on the duties that leave there
+pub record IsBoardable {V : Type 0} (w : Ways V) (net : Net) (t : Tabled V) (turn : ℕ) : Type 0 where
+  pub ordered : turn < length net.by_report
+  pub linked : IsLinked w t turn
+  pub apart : AreApart net (length t.pools) turn
+
+-- the front of a duty that boards from a pool, which may be kept
+pub record IsMade {V : Type 0} (w : Ways V) (count : V → ℤ) (arrived : ℕ → V → Type 0)
+    (most : Option ℕ) (net : Net) (t : Tabled V) (pool : List (Label V)) (rank : ℕ)
+    (front : List (Label V)) : Type 0 where
+  pub local : (d : Duty) → slice_get net.duties rank ≡ Some d
+      → AreFront w (trail_of t) d rank pool front
+  pub itself : ArePoolOf w.below w.same (trail_of t) (map (shown (trail_of t)) front) front
+  pub held : AreHeld count arrived most (length net.duties) t front
+
+-- so of some duties, one after another
+pub record AreMade {V : Type 0} (w : Ways V) (count : V → ℤ) (arrived : ℕ → V → Type 0)
+    (most : Option ℕ) (net : Net) (t : Tabled V) (pool : List (Label V)) (ranks : List ℕ)
+    (fronts : List (List (Label V))) : Type 0 where
+  pub long : length fronts ≡ length ranks
+  pub each : (i : ℕ) → i < length ranks
+      → IsMade w count arrived most net t pool (get_or ranks i 0) (get_or fronts i [])
+
+-- the ranks of the duties that leave at a turn
+abbrev pub ranks_at : Net → ℕ → List ℕ
+ranks_at net turn = ranks_where
+    (leaves_at (departure_at net.departures (get_or net.by_report turn 0))) net.duties
 
 -- all departures are passed
 pub record HasPassed {V : Type 0} (w : Ways V) (count : V → ℤ) (ready arrived : ℕ → V → Type 0)
@@ -204,3 +237,22 @@ pub record AreRestedOf {V : Type 0} (w : Ways V) (rested : V → V) (count : V �
   pub long : length pools ≡ length held
   pub each : (place : ℕ) → MayBeRested w rested count arrived most duties t (get_or held place [])
       (get_or pools place [])
+
+-- what the pools of departures are made of: those of arrivals, and those that rests there go by
+pub record AreSources {V : Type 0} (w : Ways V) (rest : V → V) (count : V → ℤ)
+    (arrived : ℕ → V → Type 0) (most : Option ℕ) (net : Net) (t : Tabled V)
+    (arrivals pools : List (List (Label V))) : Type 0 where
+  pub long : length arrivals ≡ length net.arrivals
+  pub held : (labels : List (Label V)) → Member arrivals labels
+      → AreHeld count arrived most (length net.duties) t labels
+  pub clean : (labels : List (Label V)) → Member arrivals labels → IsClean w (trail_of t) labels
+  pub rested : AreRestedOf w rest count arrived most (length net.duties) t arrivals pools
+
+-- a pool of the departure at a turn
+pub record IsPoolAt {V : Type 0} (w : Ways V) (count : V → ℤ) (ready : ℕ → V → Type 0)
+    (most : Option ℕ) (net : Net) (base : List ℕ) (t : Tabled V) (arrivals : List (List (Label V)))
+    (turn : ℕ) (pool : List (Label V)) : Type 0 where
+  pub covers : (g : Departure) → slice_get (in_order net) turn ≡ Some g
+      → AreCovering w (trail_of t) (Waits w net base (trail_of t) arrivals g) pool
+  pub held : AreHeld count ready most (length net.duties) t pool
+  pub clean : IsClean w (trail_of t) pool

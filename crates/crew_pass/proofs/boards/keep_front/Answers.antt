@@ -1,4 +1,4 @@
-use Rattle.std.proofs.Common.{◌<◌, ◌∙◌, List, [], Global, length, map, set, arith, get_or, refl, sym, ap, subst, ⊎_elim}
+use Rattle.std.proofs.Common.{◌<◌, List, [], Global, length, set, arith, get_or, refl, sym, subst, ⊎_elim}
 use Rattle.std.specs.Arc.{arc_value}
 use Rattle.std.proofs.lemmas.List.{map-set}
 use Rattle.crew_label.specs.Pools.{ArePoolOf}
@@ -42,13 +42,13 @@ pub merge-requires-clause-list_counts : goal.merge-requires-clause-list_counts
 merge-requires-clause-list_counts g c l m =
     let net = c.args.ground.now.net.now in
     let r = c.args.ground.now.resource.now in
-    counted (g.R.Staged.count_of r) (g.R.Staged.most r) (length net.duties) c.args.table.now (g.R.Staged.arrived r) c.args.front c.requires.front l
-    (subst (λ (ls : List (Label g.row.R-Value.Denot)). Member ls l) (c.deref.ensures ∙ c.in_ok-front.ensures.ok) m)
+    counted (g.R.Staged.count_of r) (g.R.Staged.most r) (length net.duties) c.args.table.now (g.R.Staged.arrived r) (arc_value {X = Pool g.row.R.Denot g.row.R-Value.Denot Duty} {Z = Global} c.args.front) c.requires.front l
+    (subst (λ (ls : List (Label g.row.R-Value.Denot)). Member ls l) c.deref.ensures m)
 
 pub returns-clause-fronts : goal.returns-clause-fronts
 returns-clause-fronts g c =
     let value = arc_value {X = Pool g.row.R.Denot g.row.R-Value.Denot Duty} {Z = Global} in
-    map-set value c.args.found.now.fronts.items c.args.rank c.in_ok-front.front ∙ ap (set (map value c.args.found.now.fronts.items) c.args.rank) c.in_ok-front.ensures.ok
+    map-set value c.args.found.now.fronts.items c.args.rank c.args.front
 
 pub returns-clause-arrivals : goal.returns-clause-arrivals
 returns-clause-arrivals g c =
@@ -62,7 +62,7 @@ returns-clause-arrivals g c =
     let within : place < length items = omega (arith, inside, long) in
     let labels = c.index_mut-arrival.result.now in
     let same = get-at items place labels [] (item-in items items place labels within refl c.index_mut-arrival.ensures.value) in
-    let own = c.deref.ensures ∙ c.in_ok-front.ensures.ok in
+    let own = c.deref.ensures in
     record {
       merged = c.merge.new.self;
       now = refl;
@@ -88,7 +88,7 @@ returns-clause-rested g c =
     let items = c.args.found.now.arrivals.items in
     let within : place < length c.args.found.now.rested.items = omega (arith, inside, long, c.requires.rested.long) in
     subst (λ (ls : List (Label g.row.R-Value.Denot)). AreRestedOf w (g.R.Lapses.rested_of r) (g.R.Staged.count_of r) (g.R.Staged.arrived r) (g.R.Staged.most r) (length net.duties) c.args.table.now
-    (set items place c.merge.new.self) (set c.args.found.now.rested.items place ls)) (sym c.new-2.ensures)
+    (set items place c.merge.new.self) (set c.args.found.now.rested.items place ls)) (sym c.new.ensures)
     (rested-gone w (g.R.Lapses.rested_of r) (g.R.Staged.count_of r) (g.R.Staged.arrived r) (g.R.Staged.most r) (length net.duties) c.args.table.now items (set items place c.merge.new.self) c.args.found.now.rested.items place c.merge.new.self
     c.requires.rested within refl)
 

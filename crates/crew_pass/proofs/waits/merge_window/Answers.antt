@@ -1,11 +1,10 @@
-use Rattle.std.proofs.Common.{◌<◌, List, [], ◌++◌, length, map, arith, refl, sym, subst}
+use Rattle.std.proofs.Common.{◌<◌, List, [], ◌++◌, get_or, length, map, arith, refl, sym, subst}
 use Rattle.crew_label.specs.Pools.{ArePoolOf}
 use Rattle.crew_label.specs.Walks.{shown}
 use Rattle.crew_label.specs.declared.label.Label.{Label}
 use Rattle.crew_resource.proofs.Members.{Member-get_or}
 use Rattle.crew_pass.specs.Machinery.Held.{trail_of}
 use Rattle.crew_pass.specs.Machinery.Passing.{MayBeRested, waited_entries, ways}
-use Rattle.crew_pass.proofs.Rested.{rested-made}
 use Rattle.crew_pass.proofs.Slices.{get-at, item-in}
 use Rattle.crew_pass.proofs.Waiting.{follows, one-waits}
 use Rattle.crew_pass.proofs.waits.merge_window.Goals as goal
@@ -41,6 +40,28 @@ merge_arrival-requires-clause-clean g c =
     let labels = c.index-arrivals-at-in-loop-at.result in
     c.requires.clean labels (Member-get_or c.args.arrivals.now c.loop-at.at labels within (sym c.index-arrivals-at-in-loop-at.is))
 
+pub merge_arrival-requires-clause-rested : goal.merge_arrival-requires-clause-rested
+merge_arrival-requires-clause-rested g c =
+    let net = c.args.ground.now.net.now in
+    let r = c.args.ground.now.resource.now in
+    let w = ways g.R.Resource.below g.R.Forgets.same_sums (g.R.Staged.idle_of r) (g.R.Staged.waited r) (g.R.Staged.boards r) in
+    let arrivals = c.args.arrivals.now in
+    let pools = c.args.rested.now in
+    let at = c.loop-at.at in
+    let end = c.loop-at-test.true in
+    let most = c.requires.window.within in
+    let long = c.requires.long in
+    let also = c.requires.rested.long in
+    let inside : at < length arrivals = omega (arith, end, most, long) in
+    let there : at < length pools = omega (arith, inside, also) in
+    let labels = c.index-arrivals-at-in-loop-at.result in
+    let pool = c.index-rested-at.result in
+    let same = get-at arrivals at labels [] (item-in arrivals arrivals at labels inside refl c.index-arrivals-at-in-loop-at.is) in
+    let made = get-at pools at pool [] (item-in pools pools at pool there refl c.index-rested-at.is) in
+    let May = MayBeRested w (g.R.Lapses.rested_of r) (g.R.Staged.count_of r) (g.R.Staged.arrived r) (g.R.Staged.most r) (length net.duties) c.args.table.now in
+    subst (λ (ls : List (Label g.row.R-Value.Denot)). May ls pool) same
+    (subst (λ (ps : List (Label g.row.R-Value.Denot)). May (get_or arrivals at []) ps) made (c.requires.rested.each at))
+
 pub loop-at-preserved : goal.loop-at-preserved
 loop-at-preserved g c =
     let net = c.args.ground.now.net.now in
@@ -63,8 +84,4 @@ loop-at-preserved g c =
           (λ firsts pool. subst (λ (ls : List (Label g.row.R-Value.Denot)). ArePoolOf g.R.Resource.below g.R.Forgets.same_sums trail (firsts ++ waited_entries wait (map (shown trail) ls)) c.merge_arrival.new.pool) same
           (c.in_ok-merge_arrival.ensures.pool firsts pool)),
       c.in_ok-merge_arrival.ensures.held,
-      rested-made w (g.R.Lapses.rested_of r) (g.R.Staged.count_of r) (g.R.Staged.arrived r) (g.R.Staged.most r) (length net.duties) c.args.table.now arrivals c.loop-at.rested.items at c.merge_arrival.new.rested
-          c.loop-at.invariant.2 (omega (arith, inside, c.loop-at.invariant.2.long))
-          (subst (λ (ls : List (Label g.row.R-Value.Denot)). MayBeRested w (g.R.Lapses.rested_of r) (g.R.Staged.count_of r) (g.R.Staged.arrived r) (g.R.Staged.most r) (length net.duties) c.args.table.now ls c.merge_arrival.new.rested) same
-          c.in_ok-merge_arrival.ensures.rested),
     )

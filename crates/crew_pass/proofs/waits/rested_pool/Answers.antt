@@ -4,7 +4,7 @@ use Rattle.crew_label.specs.declared.label.Label.{Label}
 use Rattle.crew_resource.proofs.Members.{Member-map_out}
 use Rattle.crew_pass.specs.Machinery.Passing.{ways}
 use Rattle.crew_pass.proofs.Rested.{rested-held}
-use Rattle.crew_pass.proofs.waits.make_rested.Goals as goal
+use Rattle.crew_pass.proofs.waits.rested_pool.Goals as goal
 
 pub returns : goal.returns
 returns g c =
@@ -15,7 +15,7 @@ returns g c =
     record {
       those = c.in_ok-rested.ensures.pool;
       held = rested-held w rested (g.R.Staged.count_of r) (g.R.Staged.arrived r) (g.R.Staged.most r) (length c.args.ground.now.net.now.duties) c.args.table.now
-          laws.rested_counts laws.rested_arrived c.args.held.now c.in_ok-rested.field-0 c.requires.held c.in_ok-rested.ensures.from;
+          laws.rested_counts laws.rested_arrived c.args.held.now c.in_ok-rested.rested c.requires.held c.in_ok-rested.ensures.from;
       are = λ l m.
           let s = Member-map_out (waited_label rested) c.args.held.now l (c.in_ok-rested.ensures.from l m) in
           (s.0.value, sym (ap (λ (x : Label g.row.R-Value.Denot). x.value) s.2));

@@ -1,0 +1,67 @@
+-- Departures that report within the least rest after a first one: none waits on another's duties.
+use Rattle.std.proofs.Common.{◌≡◌, ◌<◌, ◌≤◌, ◌+◌, ℕ, ℤ, pos, true, length, Some, sym, arith, subst, w64, to_z, of_z}
+use Rattle.std.specs.Prelude.{slice_get, int_le, ◌≤ℤ◌, ◌-ℤ◌}
+use Rattle.std.proofs.lemmas.Bool.{and_parts}
+use Rattle.std.proofs.lemmas.Int.{ints}
+use Rattle.crew_net.specs.Events.{AreEvents, departure_cmp}
+use Rattle.crew_net.specs.Machinery.Moments.{IsReal}
+use Rattle.crew_net.specs.Nets.{AreByReport, Net}
+use Rattle.crew_pairing.specs.Events.{IsSound, departure_of}
+use Rattle.crew_pairing.specs.declared.duty.Duty.{Duty}
+use Rattle.crew_pairing.specs.declared.events.Departure.{Departure}
+use Rattle.crew_resource.specs.Members.{Member}
+use Rattle.crew_pass.specs.Machinery.Numbered.{in_order}
+use Rattle.crew_pass.specs.Machinery.Passing.{AreApart}
+use Rattle.crew_pass.proofs.Orders.{in-order-at, in-order-long}
+use Rattle.crew_pass.proofs.Slices.{stands}
+
+-- the first so many departures report less than the least rest after a first report
+abbrev pub AreClose : Net → ℤ → ℕ → Type 0
+AreClose net first many = (i : ℕ) (g : Departure) → i < many → slice_get (in_order net) i ≡ Some g → (g.report -ℤ first) ≤ℤ pos 599
+
+-- the report of a departure is read as it is
+pub whole : (minute : ℤ) → IsReal minute → to_z w64 (of_z w64 minute) ≡ minute
+whole minute real =
+    let least = real.least in
+    let most = real.most in
+    omega (arith, ints, least, most)
+
+-- a report that is no later lies within it too
+soon : (report first : ℤ) → report ≤ℤ first → (report -ℤ first) ≤ℤ pos 599
+soon report first h = grind (arith, ints)
+
+-- a report within the least rest after the first has no rest after a release that is no earlier
+unrested : (first to report release : ℤ) → (to -ℤ first) ≤ℤ pos 599 → first ≤ℤ report → pos 0 ≤ℤ (release -ℤ report) → int_le (pos 600) (to -ℤ release) ≡ true → ⊥
+unrested first to report release p q r s = grind (arith, ints)
+
+module _ (net : Net) (departs : AreEvents departure_of departure_cmp net.duties net.departures) (ordered : AreByReport net.departures net.by_report) where
+  -- no report before a lesser one
+  rising : (i j : ℕ) (g h : Departure) → i ≤ j → slice_get (in_order net) i ≡ Some g → slice_get (in_order net) j ≡ Some h → g.report ≤ℤ h.report
+  rising i j g h before here there =
+      let a = in-order-at net departs ordered i g here in
+      let b = in-order-at net departs ordered j h there in
+      ordered.rising i j a.0 b.0 g h before a.1 b.1 a.2 b.2
+
+  -- a departure stands at each turn
+  stands-at : (turn : ℕ) → turn < length net.by_report → (g : Departure) × (slice_get (in_order net) turn ≡ Some g)
+  stands-at turn h =
+      let long = in-order-long net departs ordered in
+      stands (in_order net) turn (omega (arith, h, long))
+
+  -- the departures up to a first one
+  pub close-first : (from : ℕ) (first : ℤ) → from < length net.by_report → ((g : Departure) → slice_get (in_order net) from ≡ Some g → first ≡ g.report) → AreClose net first (from + 1)
+  close-first from first within exact i g h here =
+      let f = stands-at from within in
+      let e = exact f.0 f.1 in
+      let r = rising i from g f.0 (omega (arith, h)) here f.1 in
+      soon g.report first (subst (λ m. g.report ≤ℤ m) (sym e) r)
+
+  -- none of them waits on a duty that leaves at the first's turn or later
+  pub close-apart : ((d : Duty) → Member net.duties d → IsSound d) → (from many : ℕ) (first : ℤ) → from < length net.by_report
+      → ((g : Departure) → slice_get (in_order net) from ≡ Some g → first ≡ g.report) → AreClose net first many → (turn : ℕ) → from ≤ turn → AreApart net many turn
+  close-apart sound from many first within exact close turn after i g d h here there m waits =
+      let rest = and_parts _ _ (and_parts _ _ waits).1 in
+      let f = stands-at from within in
+      let e = exact f.0 f.1 in
+      let r = rising from turn f.0 (departure_of d) after f.1 there in
+      unrested first g.report d.report d.release (close i g h here) (subst (λ m. m ≤ℤ d.report) (sym e) r) (sound d m).elapsed rest.0

@@ -1,0 +1,9 @@
+use Rattle.std.proofs.Common.{arith}
+use Rattle.crew_pass.proofs.batches.pools_at_once.Goals as goal
+
+pub map_claimed-requires-after_bounds : goal.map_claimed-requires-after_bounds
+map_claimed-requires-after_bounds g c x y i h =
+    let first = c.requires.turns.0 in
+    let last = c.requires.turns.1 in
+    let fits = c.ranges.end.fits in
+    (omega (arith, h, first, last), omega (arith, h, first, fits), c.requires.passable, c.requires.counts, c.requires.sources)

@@ -1,0 +1,396 @@
+//! Departures of a batch, passed at once.
+ghost use Rattle.std.specs.Prelude.{◌≡◌, ◌<◌, ◌≤◌, ◌+◌, ◌-◌, ◌^◌, ℕ, List, [], IfOk, OnOk, get_or, length, map, slice_index_or, vec_len};
+ghost use Rattle.std.specs.Arc.{arc_value};
+ghost use Rattle.crew_label.specs.declared.label.Label.{Label};
+ghost use Rattle.crew_resource.specs.Members.{Member};
+ghost use Rattle.crew_pass.specs.Machinery.Held.{AreHeld};
+ghost use Rattle.crew_pass.specs.Machinery.Passing.{AreApart, AreMade, AreRestedOf, AreSources, IsBoardable, IsLinked, IsPassable, IsPoolAt, IsUnderWay, ranks_at, ways};
+ghost use Rattle.crew_pass.specs.Passes.{CountsDuties};
+
+use crate::batch::batch_end;
+use crate::boards::{duty_fronts, keep_fronts};
+use crate::claims::map_claimed;
+use crate::ground::{Found, Ground};
+use crate::waits::{pool_at, rest_window};
+use crew_forgetful::Lapses;
+use crew_label::{Pool, Room, Table};
+use crew_pairing::Duty;
+use crew_resource::Resource;
+use std::alloc::{AllocError, Global};
+use std::sync::Arc;
+use std::thread::Threads;
+
+// Some pools, shared, or want of memory.
+type Pools<R> = Vec<Result<Arc<Pool<R>, Global>, AllocError>>;
+
+// The fronts of some departures' duties, or want of memory.
+type Fronts<R> = Vec<Result<Vec<Arc<Pool<R>, Global>>, AllocError>>;
+
+// The pools of the departures from a turn on, up to another.
+fn pools_at_once<T: Threads + Sync, R: Lapses<Duty> + Sync>(
+    rt: &T,
+    alloc: Global,
+    threads: usize,
+    ground: &Ground<R>,
+    table: &Table<R>,
+    arrivals: &[Pool<R>],
+    rested: &[Pool<R>],
+    from: usize,
+    end: usize,
+) -> Result<Pools<R>, AllocError>
+where
+    R::Value: Send + Sync,
+    requires passable { IsPassable ground.now.net.now ground.now.turns.now ground.now.places.now }
+    requires counts { CountsDuties R.same_sums (R.count_of ground.now.resource.now)
+        (R.most ground.now.resource.now) (R.fits ground.now.resource.now) }
+    requires turns { (from ≤ end) × (end ≤ length ground.now.net.now.by_report) }
+    requires sources { AreSources (ways R.below R.same_sums (R.idle_of ground.now.resource.now)
+        (R.waited ground.now.resource.now) (R.boards ground.now.resource.now))
+        (R.rested_of ground.now.resource.now) (R.count_of ground.now.resource.now)
+        (R.arrived ground.now.resource.now) (R.most ground.now.resource.now) ground.now.net.now
+        table.now arrivals.now rested.now }
+    ensures long { IfOk result (λ pools. vec_len pools ≡ end - from) }
+    ensures each { IfOk result (λ pools. (i : ℕ) (d : _) → i < end - from
+        → IfOk (slice_index_or pools.items i d) (λ pool. IsPoolAt (ways R.below R.same_sums (R.idle_of ground.now.resource.now)
+        (R.waited ground.now.resource.now) (R.boards ground.now.resource.now))
+        (R.count_of ground.now.resource.now) (R.ready ground.now.resource.now)
+        (R.most ground.now.resource.now) ground.now.net.now ground.now.base table.now arrivals.now
+        (from + i) (arc_value pool))) }
+{
+    let part = |at: usize| -> Result<Arc<Pool<R>, Global>, AllocError>
+        requires { (from + at < length ground.now.net.now.by_report)
+            × (from + at < 2 ^ 64)
+            × IsPassable ground.now.net.now ground.now.turns.now ground.now.places.now
+            × CountsDuties R.same_sums (R.count_of ground.now.resource.now)
+            (R.most ground.now.resource.now) (R.fits ground.now.resource.now)
+            × AreSources (ways R.below R.same_sums (R.idle_of ground.now.resource.now)
+            (R.waited ground.now.resource.now) (R.boards ground.now.resource.now))
+            (R.rested_of ground.now.resource.now) (R.count_of ground.now.resource.now)
+            (R.arrived ground.now.resource.now) (R.most ground.now.resource.now) ground.now.net.now
+            table.now arrivals.now rested.now }
+        ensures { IfOk result (λ pool. IsPoolAt (ways R.below R.same_sums (R.idle_of ground.entry.now.resource.now)
+            (R.waited ground.entry.now.resource.now) (R.boards ground.entry.now.resource.now))
+            (R.count_of ground.entry.now.resource.now) (R.ready ground.entry.now.resource.now)
+            (R.most ground.entry.now.resource.now) ground.entry.now.net.now ground.entry.now.base table.entry.now arrivals.entry.now
+            (from + at) (arc_value pool)) }
+    { pool_at(alloc, ground, table, arrivals, rested, from + at) };
+    map_claimed(rt, alloc, threads, end - from, &part)
+}
+
+// The fronts of the duties of the departures from a turn on, up to another, whose pools the table has.
+fn fronts_at_once<T: Threads + Sync, R: Lapses<Duty> + Sync>(
+    rt: &T,
+    alloc: Global,
+    threads: usize,
+    ground: &Ground<R>,
+    table: &Table<R>,
+    from: usize,
+    end: usize,
+) -> Result<Fronts<R>, AllocError>
+where
+    R::Value: Send + Sync,
+    requires passable { IsPassable ground.now.net.now ground.now.turns.now ground.now.places.now }
+    requires counts { CountsDuties R.same_sums (R.count_of ground.now.resource.now)
+        (R.most ground.now.resource.now) (R.fits ground.now.resource.now) }
+    requires turns { from ≤ end }
+    requires turned { table.now.leaves ≡ ground.now.turns.now }
+    requires ready { (labels : List (Label R.Value)) → Member table.now.pools labels
+        → AreHeld (R.count_of ground.now.resource.now) (R.ready ground.now.resource.now)
+        (R.most ground.now.resource.now) (length ground.now.net.now.duties) table.now labels }
+    requires boardable { (turn : ℕ) → from ≤ turn → turn < end → IsBoardable (ways R.below R.same_sums (R.idle_of ground.now.resource.now)
+        (R.waited ground.now.resource.now) (R.boards ground.now.resource.now))
+        ground.now.net.now table.now (turn) }
+    ensures long { IfOk result (λ fronts. vec_len fronts ≡ end - from) }
+    ensures each { IfOk result (λ fronts. (i : ℕ) (d : _) → i < end - from
+        → IfOk (slice_index_or fronts.items i d) (λ made. AreMade (ways R.below R.same_sums (R.idle_of ground.now.resource.now)
+        (R.waited ground.now.resource.now) (R.boards ground.now.resource.now))
+        (R.count_of ground.now.resource.now) (R.arrived ground.now.resource.now)
+        (R.most ground.now.resource.now) ground.now.net.now table.now
+        (get_or table.now.pools (from + i) []) (ranks_at ground.now.net.now (from + i))
+        (map arc_value made.items))) }
+{
+    let part = |at: usize| -> Result<Vec<Arc<Pool<R>, Global>>, AllocError>
+        requires { (from + at < 2 ^ 64)
+            × IsPassable ground.now.net.now ground.now.turns.now ground.now.places.now
+            × CountsDuties R.same_sums (R.count_of ground.now.resource.now)
+            (R.most ground.now.resource.now) (R.fits ground.now.resource.now)
+            × (table.now.leaves ≡ ground.now.turns.now)
+            × ((labels : List (Label R.Value)) → Member table.now.pools labels
+            → AreHeld (R.count_of ground.now.resource.now) (R.ready ground.now.resource.now)
+            (R.most ground.now.resource.now) (length ground.now.net.now.duties) table.now labels)
+            × (IsBoardable (ways R.below R.same_sums (R.idle_of ground.now.resource.now)
+            (R.waited ground.now.resource.now) (R.boards ground.now.resource.now))
+            ground.now.net.now table.now (from + at)) }
+        ensures { IfOk result (λ made. AreMade (ways R.below R.same_sums (R.idle_of ground.entry.now.resource.now)
+            (R.waited ground.entry.now.resource.now) (R.boards ground.entry.now.resource.now))
+            (R.count_of ground.entry.now.resource.now) (R.arrived ground.entry.now.resource.now)
+            (R.most ground.entry.now.resource.now) ground.entry.now.net.now table.entry.now
+            (get_or table.entry.now.pools (from + at) []) (ranks_at ground.entry.now.net.now (from + at))
+            (map arc_value made.items)) }
+    { duty_fronts(alloc, ground, table, from + at) };
+    map_claimed(rt, alloc, threads, end - from, &part)
+}
+
+// Puts the pools of the departures from a turn on into the table.
+fn add_pools<R: Lapses<Duty>>(
+    ground: &Ground<R>,
+    table: &mut Table<R>,
+    found: &Found<R>,
+    from: usize,
+    pools: &[Result<Arc<Pool<R>, Global>, AllocError>],
+) -> Result<(), AllocError>
+    requires passable { IsPassable ground.now.net.now ground.now.turns.now ground.now.places.now }
+    requires counts { CountsDuties R.same_sums (R.count_of ground.now.resource.now)
+        (R.most ground.now.resource.now) (R.fits ground.now.resource.now) }
+    requires from { length table.old.pools ≡ from }
+    requires turns { from + length pools.now ≤ length ground.now.net.now.by_report }
+    requires way { IsUnderWay (ways R.below R.same_sums (R.idle_of ground.now.resource.now)
+        (R.waited ground.now.resource.now) (R.boards ground.now.resource.now))
+        (R.count_of ground.now.resource.now) (R.ready ground.now.resource.now)
+        (R.arrived ground.now.resource.now) (R.most ground.now.resource.now) ground.now.net.now
+        ground.now.base ground.now.turns.now table.old (map arc_value found.now.fronts.items)
+        found.now.arrivals.items (λ rank. get_or ground.now.turns.now rank 0 < from) }
+    requires rested { AreRestedOf (ways R.below R.same_sums (R.idle_of ground.now.resource.now)
+        (R.waited ground.now.resource.now) (R.boards ground.now.resource.now))
+        (R.rested_of ground.now.resource.now) (R.count_of ground.now.resource.now)
+        (R.arrived ground.now.resource.now) (R.most ground.now.resource.now)
+        (length ground.now.net.now.duties) table.old found.now.arrivals.items found.now.rested.items }
+    requires pools { (i : ℕ) (d : _) → i < length pools.now
+        → IfOk (slice_index_or pools.now i d) (λ pool. IsPoolAt (ways R.below R.same_sums (R.idle_of ground.now.resource.now)
+        (R.waited ground.now.resource.now) (R.boards ground.now.resource.now))
+        (R.count_of ground.now.resource.now) (R.ready ground.now.resource.now)
+        (R.most ground.now.resource.now) ground.now.net.now ground.now.base table.old found.now.arrivals.items
+        (from + i) (arc_value pool)) }
+    ensures long { OnOk result (length table.new.pools ≡ from + length pools.now) }
+    ensures way { OnOk result (IsUnderWay (ways R.below R.same_sums (R.idle_of ground.now.resource.now)
+        (R.waited ground.now.resource.now) (R.boards ground.now.resource.now))
+        (R.count_of ground.now.resource.now) (R.ready ground.now.resource.now)
+        (R.arrived ground.now.resource.now) (R.most ground.now.resource.now) ground.now.net.now
+        ground.now.base ground.now.turns.now table.new (map arc_value found.now.fronts.items)
+        found.now.arrivals.items (λ rank. get_or ground.now.turns.now rank 0 < from)) }
+    ensures rested { OnOk result (AreRestedOf (ways R.below R.same_sums (R.idle_of ground.now.resource.now)
+        (R.waited ground.now.resource.now) (R.boards ground.now.resource.now))
+        (R.rested_of ground.now.resource.now) (R.count_of ground.now.resource.now)
+        (R.arrived ground.now.resource.now) (R.most ground.now.resource.now)
+        (length ground.now.net.now.duties) table.new found.now.arrivals.items found.now.rested.items) }
+    ensures linked { OnOk result ((turn : ℕ) → from ≤ turn → turn < from + length pools.now
+        → IsLinked (ways R.below R.same_sums (R.idle_of ground.now.resource.now)
+        (R.waited ground.now.resource.now) (R.boards ground.now.resource.now))
+        table.new turn) }
+{
+    for pool in pools {
+        let Ok(pool) = pool else {
+            return Err(AllocError);
+        };
+        let pool = Arc::try_clone(pool)?;
+        table.add(pool)?;
+    }
+    Ok(())
+}
+
+// Keeps the fronts of the departures from a turn on, one after another.
+fn keep_all<R: Lapses<Duty>>(
+    alloc: Global,
+    ground: &Ground<R>,
+    table: &Table<R>,
+    room: &mut Room<R::Value>,
+    found: &mut Found<R>,
+    from: usize,
+    fronts: &[Result<Vec<Arc<Pool<R>, Global>>, AllocError>],
+) -> Result<(), AllocError>
+    requires passable { IsPassable ground.now.net.now ground.now.turns.now ground.now.places.now }
+    requires counts { CountsDuties R.same_sums (R.count_of ground.now.resource.now)
+        (R.most ground.now.resource.now) (R.fits ground.now.resource.now) }
+    requires turns { from + length fronts.now < 2 ^ 64 }
+    requires boardable { (turn : ℕ) → from ≤ turn → turn < from + length fronts.now
+        → IsBoardable (ways R.below R.same_sums (R.idle_of ground.now.resource.now)
+        (R.waited ground.now.resource.now) (R.boards ground.now.resource.now))
+        ground.now.net.now table.now (turn) }
+    requires made { (i : ℕ) (d : _) → i < length fronts.now
+        → IfOk (slice_index_or fronts.now i d) (λ made. AreMade (ways R.below R.same_sums (R.idle_of ground.now.resource.now)
+        (R.waited ground.now.resource.now) (R.boards ground.now.resource.now))
+        (R.count_of ground.now.resource.now) (R.arrived ground.now.resource.now)
+        (R.most ground.now.resource.now) ground.now.net.now table.now
+        (get_or table.now.pools (from + i) []) (ranks_at ground.now.net.now (from + i))
+        (map arc_value made.items)) }
+    requires rested { AreRestedOf (ways R.below R.same_sums (R.idle_of ground.now.resource.now)
+        (R.waited ground.now.resource.now) (R.boards ground.now.resource.now))
+        (R.rested_of ground.now.resource.now) (R.count_of ground.now.resource.now)
+        (R.arrived ground.now.resource.now) (R.most ground.now.resource.now)
+        (length ground.now.net.now.duties) table.now found.old.arrivals.items found.old.rested.items }
+    requires way { IsUnderWay (ways R.below R.same_sums (R.idle_of ground.now.resource.now)
+        (R.waited ground.now.resource.now) (R.boards ground.now.resource.now))
+        (R.count_of ground.now.resource.now) (R.ready ground.now.resource.now)
+        (R.arrived ground.now.resource.now) (R.most ground.now.resource.now) ground.now.net.now
+        ground.now.base ground.now.turns.now table.now (map arc_value found.old.fronts.items)
+        found.old.arrivals.items (λ rank. get_or ground.now.turns.now rank 0 < from) }
+    ensures way { OnOk result (IsUnderWay (ways R.below R.same_sums (R.idle_of ground.now.resource.now)
+        (R.waited ground.now.resource.now) (R.boards ground.now.resource.now))
+        (R.count_of ground.now.resource.now) (R.ready ground.now.resource.now)
+        (R.arrived ground.now.resource.now) (R.most ground.now.resource.now) ground.now.net.now
+        ground.now.base ground.now.turns.now table.now (map arc_value found.new.fronts.items)
+        found.new.arrivals.items (λ rank. get_or ground.now.turns.now rank 0 < from + length fronts.now)) }
+    ensures rested { OnOk result (AreRestedOf (ways R.below R.same_sums (R.idle_of ground.now.resource.now)
+        (R.waited ground.now.resource.now) (R.boards ground.now.resource.now))
+        (R.rested_of ground.now.resource.now) (R.count_of ground.now.resource.now)
+        (R.arrived ground.now.resource.now) (R.most ground.now.resource.now)
+        (length ground.now.net.now.duties) table.now found.new.arrivals.items found.new.rested.items) }
+{
+    for (at, made) in fronts.iter().enumerate() {
+        let Ok(made) = made else {
+            return Err(AllocError);
+        };
+        keep_fronts(alloc, ground, table, room, found, from + at, made)?;
+    }
+    Ok(())
+}
+
+// Makes what rests go by in the windows of the departures from a turn on, up to another, where it
+// isn't made already.
+fn rest_batch<R: Lapses<Duty>>(
+    alloc: Global,
+    ground: &Ground<R>,
+    table: &Table<R>,
+    found: &mut Found<R>,
+    from: usize,
+    end: usize,
+) -> Result<(), AllocError>
+    requires passable { IsPassable ground.now.net.now ground.now.turns.now ground.now.places.now }
+    requires counts { CountsDuties R.same_sums (R.count_of ground.now.resource.now)
+        (R.most ground.now.resource.now) (R.fits ground.now.resource.now) }
+    requires turns { end ≤ length ground.now.net.now.by_report }
+    requires way { IsUnderWay (ways R.below R.same_sums (R.idle_of ground.now.resource.now)
+        (R.waited ground.now.resource.now) (R.boards ground.now.resource.now))
+        (R.count_of ground.now.resource.now) (R.ready ground.now.resource.now)
+        (R.arrived ground.now.resource.now) (R.most ground.now.resource.now) ground.now.net.now
+        ground.now.base ground.now.turns.now table.now (map arc_value found.old.fronts.items)
+        found.old.arrivals.items (λ rank. get_or ground.now.turns.now rank 0 < from) }
+    requires rested { AreRestedOf (ways R.below R.same_sums (R.idle_of ground.now.resource.now)
+        (R.waited ground.now.resource.now) (R.boards ground.now.resource.now))
+        (R.rested_of ground.now.resource.now) (R.count_of ground.now.resource.now)
+        (R.arrived ground.now.resource.now) (R.most ground.now.resource.now)
+        (length ground.now.net.now.duties) table.now found.old.arrivals.items found.old.rested.items }
+    ensures arrivals { OnOk result (found.new.arrivals ≡ found.old.arrivals) }
+    ensures fronts { OnOk result (found.new.fronts ≡ found.old.fronts) }
+    ensures rested { OnOk result (AreRestedOf (ways R.below R.same_sums (R.idle_of ground.now.resource.now)
+        (R.waited ground.now.resource.now) (R.boards ground.now.resource.now))
+        (R.rested_of ground.now.resource.now) (R.count_of ground.now.resource.now)
+        (R.arrived ground.now.resource.now) (R.most ground.now.resource.now)
+        (length ground.now.net.now.duties) table.now found.old.arrivals.items found.new.rested.items) }
+{
+    for turn in from..end {
+        let place = ground.net.by_report()[turn] as usize;
+        let arrivals = found.arrivals.as_slice();
+        rest_window(alloc, ground, table, arrivals, &mut found.rested, place)?;
+    }
+    Ok(())
+}
+
+// The pass goes on by the departures up to a turn, none of which waits on another's duties: their
+// pools, and the fronts of their duties.
+fn pass_batch<T: Threads + Sync, R: Lapses<Duty> + Sync>(
+    rt: &T,
+    alloc: Global,
+    threads: usize,
+    ground: &Ground<R>,
+    table: &mut Table<R>,
+    room: &mut Room<R::Value>,
+    found: &mut Found<R>,
+    end: usize,
+) -> Result<(), AllocError>
+where
+    R::Value: Send + Sync,
+    requires passable { IsPassable ground.now.net.now ground.now.turns.now ground.now.places.now }
+    requires counts { CountsDuties R.same_sums (R.count_of ground.now.resource.now)
+        (R.most ground.now.resource.now) (R.fits ground.now.resource.now) }
+    requires more { length table.old.pools < end }
+    requires turns { end ≤ length ground.now.net.now.by_report }
+    requires apart { (turn : ℕ) → length table.old.pools ≤ turn → turn < end
+        → AreApart ground.now.net.now end turn }
+    requires way { IsUnderWay (ways R.below R.same_sums (R.idle_of ground.now.resource.now)
+        (R.waited ground.now.resource.now) (R.boards ground.now.resource.now))
+        (R.count_of ground.now.resource.now) (R.ready ground.now.resource.now)
+        (R.arrived ground.now.resource.now) (R.most ground.now.resource.now) ground.now.net.now
+        ground.now.base ground.now.turns.now table.old (map arc_value found.old.fronts.items)
+        found.old.arrivals.items (λ rank. get_or ground.now.turns.now rank 0 < length table.old.pools) }
+    requires rested { AreRestedOf (ways R.below R.same_sums (R.idle_of ground.now.resource.now)
+        (R.waited ground.now.resource.now) (R.boards ground.now.resource.now))
+        (R.rested_of ground.now.resource.now) (R.count_of ground.now.resource.now)
+        (R.arrived ground.now.resource.now) (R.most ground.now.resource.now)
+        (length ground.now.net.now.duties) table.old found.old.arrivals.items found.old.rested.items }
+    ensures long { OnOk result (length table.new.pools ≡ end) }
+    ensures way { OnOk result (IsUnderWay (ways R.below R.same_sums (R.idle_of ground.now.resource.now)
+        (R.waited ground.now.resource.now) (R.boards ground.now.resource.now))
+        (R.count_of ground.now.resource.now) (R.ready ground.now.resource.now)
+        (R.arrived ground.now.resource.now) (R.most ground.now.resource.now) ground.now.net.now
+        ground.now.base ground.now.turns.now table.new (map arc_value found.new.fronts.items)
+        found.new.arrivals.items (λ rank. get_or ground.now.turns.now rank 0 < length table.new.pools)) }
+    ensures rested { OnOk result (AreRestedOf (ways R.below R.same_sums (R.idle_of ground.now.resource.now)
+        (R.waited ground.now.resource.now) (R.boards ground.now.resource.now))
+        (R.rested_of ground.now.resource.now) (R.count_of ground.now.resource.now)
+        (R.arrived ground.now.resource.now) (R.most ground.now.resource.now)
+        (length ground.now.net.now.duties) table.new found.new.arrivals.items found.new.rested.items) }
+{
+    let from = table.len();
+    rest_batch(alloc, ground, table, found, from, end)?;
+    let arrivals = found.arrivals.as_slice();
+    let rested = found.rested.as_slice();
+    let pools = pools_at_once(
+        rt, alloc, threads, ground, table, arrivals, rested, from, end,
+    )?;
+    add_pools(ground, table, found, from, pools.as_slice())?;
+    let fronts = fronts_at_once(rt, alloc, threads, ground, table, from, end)?;
+    keep_all(alloc, ground, table, room, found, from, fronts.as_slice())?;
+    Ok(())
+}
+
+/// The pass goes on by a batch of departures, unless all are passed.
+pub(crate) fn pass_next<T: Threads + Sync, R: Lapses<Duty> + Sync>(
+    rt: &T,
+    alloc: Global,
+    threads: usize,
+    ground: &Ground<R>,
+    table: &mut Table<R>,
+    room: &mut Room<R::Value>,
+    found: &mut Found<R>,
+) -> Result<(), AllocError>
+where
+    R::Value: Send + Sync,
+    requires passable { IsPassable ground.now.net.now ground.now.turns.now ground.now.places.now }
+    requires counts { CountsDuties R.same_sums (R.count_of ground.now.resource.now)
+        (R.most ground.now.resource.now) (R.fits ground.now.resource.now) }
+    requires most { length table.old.pools ≤ length ground.now.net.now.by_report }
+    requires way { IsUnderWay (ways R.below R.same_sums (R.idle_of ground.now.resource.now)
+        (R.waited ground.now.resource.now) (R.boards ground.now.resource.now))
+        (R.count_of ground.now.resource.now) (R.ready ground.now.resource.now)
+        (R.arrived ground.now.resource.now) (R.most ground.now.resource.now) ground.now.net.now
+        ground.now.base ground.now.turns.now table.old (map arc_value found.old.fronts.items)
+        found.old.arrivals.items (λ rank. get_or ground.now.turns.now rank 0 < length table.old.pools) }
+    requires rested { AreRestedOf (ways R.below R.same_sums (R.idle_of ground.now.resource.now)
+        (R.waited ground.now.resource.now) (R.boards ground.now.resource.now))
+        (R.rested_of ground.now.resource.now) (R.count_of ground.now.resource.now)
+        (R.arrived ground.now.resource.now) (R.most ground.now.resource.now)
+        (length ground.now.net.now.duties) table.old found.old.arrivals.items found.old.rested.items }
+    ensures most { OnOk result (length table.new.pools ≤ length ground.now.net.now.by_report) }
+    ensures more { OnOk result ((n : ℕ) → n < length ground.now.net.now.by_report
+        → n ≤ length table.old.pools → n < length table.new.pools) }
+    ensures way { OnOk result (IsUnderWay (ways R.below R.same_sums (R.idle_of ground.now.resource.now)
+        (R.waited ground.now.resource.now) (R.boards ground.now.resource.now))
+        (R.count_of ground.now.resource.now) (R.ready ground.now.resource.now)
+        (R.arrived ground.now.resource.now) (R.most ground.now.resource.now) ground.now.net.now
+        ground.now.base ground.now.turns.now table.new (map arc_value found.new.fronts.items)
+        found.new.arrivals.items (λ rank. get_or ground.now.turns.now rank 0 < length table.new.pools)) }
+    ensures rested { OnOk result (AreRestedOf (ways R.below R.same_sums (R.idle_of ground.now.resource.now)
+        (R.waited ground.now.resource.now) (R.boards ground.now.resource.now))
+        (R.rested_of ground.now.resource.now) (R.count_of ground.now.resource.now)
+        (R.arrived ground.now.resource.now) (R.most ground.now.resource.now)
+        (length ground.now.net.now.duties) table.new found.new.arrivals.items found.new.rested.items) }
+{
+    let from = table.len();
+    if from >= ground.net.by_report().len() {
+        return Ok(());
+    }
+    let end = batch_end(ground, from);
+    pass_batch(rt, alloc, threads, ground, table, room, found, end)?;
+    Ok(())
+}
