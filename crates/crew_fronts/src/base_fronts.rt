@@ -22,6 +22,7 @@ use crew_pass::Course;
 use std::alloc::{AllocError, Global};
 use std::marker::Model;
 use std::sync::Arc;
+use std::thread::Threads;
 
 /// The fronts of a base at its price, one for each duty of a network.
 ///
@@ -95,6 +96,32 @@ impl BaseFronts {
             → AreDuties course.now.settings t course.now.duties → ShowsFronts t (arc_value made)) }
     {
         let fronts = PassedFronts::new(alloc, course, base, price)?;
+        let kind = BaseKind::Passed(fronts);
+        Ok(Arc::new(alloc, BaseFronts { kind })?)
+    }
+
+    /// The same fronts, by a pass in at most so many threads, this one among them.
+    pub fn passed_by_threads<T: Threads + Sync>(
+        rt: &T,
+        alloc: Global,
+        threads: usize,
+        course: &Course,
+        base: Code,
+        price: i64,
+    ) -> Result<Arc<BaseFronts, Global>, AllocError>
+        requires checked { IsChecked course.now.settings }
+        requires long { is_plain course.now.settings ≡ false }
+        requires price { IsBasePrice price }
+        requires sound { (d : DutyOf) → Member course.now.duties d → Events.IsSound d }
+        requires rise { RiseByKey course.now.duties }
+        requires few { length course.now.duties ≤ 200_000 }
+        ensures own { IfOk result (λ made. ((arc_value made).base ≡ base)
+            × ((arc_value made).price ≡ price)) }
+        ensures net { IfOk result (λ made. (arc_value made).net ≡ course.now) }
+        ensures right { IfOk result (λ made. (t : Timetable) → IsSound t → IsDated t
+            → AreDuties course.now.settings t course.now.duties → ShowsFronts t (arc_value made)) }
+    {
+        let fronts = PassedFronts::by_threads(rt, alloc, threads, course, base, price)?;
         let kind = BaseKind::Passed(fronts);
         Ok(Arc::new(alloc, BaseFronts { kind })?)
     }

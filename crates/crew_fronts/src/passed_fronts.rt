@@ -1,27 +1,33 @@
 //! The fronts of a base that a pass has left.
 ghost use Rattle.std.specs.Prelude.{◌≡◌, ◌<◌, ◌≤◌, IfOk, Some, false, length, slice_get};
 ghost use Rattle.crew_answers.specs.Fronts.{RiseByVector};
-ghost use Rattle.crew_answers.specs.Schedules.{IsDated};
+ghost use Rattle.crew_answers.specs.Schedules.{IsDated, schedule_of};
 ghost use Rattle.crew_answers.specs.Shown as Answers;
-ghost use Rattle.crew_flights.specs.Timetable.{IsBasePrice, IsSound, Timetable};
-ghost use Rattle.crew_fronts.specs.Fronts.{ShowsFronts, front_at, is_plain};
-ghost use Rattle.crew_fronts.specs.Machinery.Kept.{AreListed};
+ghost use Rattle.crew_answers.specs.declared.resource.LongResource.{LongResource};
+ghost use Rattle.crew_flights.specs.Timetable.{IsSound, Timetable};
+ghost use Rattle.crew_forgetful.specs.Sweeps.{network_of};
+ghost use Rattle.crew_fronts.specs.Fronts.{ShowsFronts, front_at};
+ghost use Rattle.crew_fronts.specs.Machinery.Kept.{AreListed, IsGround, fronts_of_pass};
 ghost use Rattle.crew_pairing.specs.Duties.{AreDuties, RiseByKey};
 ghost use Rattle.crew_pairing.specs.Events as Events;
-ghost use Rattle.crew_pairing.specs.declared.duty.Duty.{Duty};
+ghost use Rattle.crew_pairing.specs.Events.{arrival_of, departure_of};
+ghost use Rattle.crew_pairing.specs.declared.duty.Duty.{Duty as DutyOf};
+ghost use Rattle.crew_pass.specs.Passes.{CountsDuties, IsCoveredBy};
 ghost use Rattle.crew_resource.specs.Members.{Member};
-ghost use Rattle.crew_rules.specs.Settings.{IsChecked};
 
 use crate::passed_front::PassedFront;
 use crew_answers::{LongResource, settings_of_sums};
 use crew_flights::Code;
+use crew_forgetful::Forgets;
 use crew_net::Net;
+use crew_pairing::Duty;
 use crew_pass::laws::long_passes_show_the_fronts;
-use crew_pass::{Course, pass};
-use crew_rules::Settings;
+use crew_pass::{Course, pass, pass_by_threads};
+use crew_resource::{Resource, Staged};
 use crew_vector::VectorResource;
 use std::alloc::{AllocError, Global};
 use std::marker::Model;
+use std::thread::Threads;
 
 /// The fronts of a base at its price that a pass has left.
 ///
@@ -45,11 +51,18 @@ impl Model for PassedFronts {
     ghost invariant = { λ p. IsPassed p.base p.price p.fronts };
 }
 
-// The resource of a base's pairings at its price.
-fn resource_of(settings: &Settings, price: i64) -> LongResource
-    requires { IsBasePrice price }
-    ensures { result ≡ Answers.long_resource settings.now settings.now.fdp_total price }
+// The resource of a base's pairings at its price, which counts their duties.
+fn resource_of(course: &Course, price: i64) -> LongResource
+    requires { IsGround course.now price }
+    ensures is { result ≡ Answers.long_resource course.now.settings course.now.settings.fdp_total
+        price }
+    ensures counts { CountsDuties ⟦<LongResource as Forgets<Duty>>⟧.same_sums
+        (⟦<LongResource as Staged<Duty>>⟧.count_of result)
+        (⟦<LongResource as Staged<Duty>>⟧.most result)
+        (⟦<LongResource as Staged<Duty>>⟧.fits result) }
 {
+    long_passes_show_the_fronts();
+    let settings = course.net().settings();
     let sums = VectorResource::under(&settings_of_sums(settings, settings.fdp_total), price);
     LongResource::new(sums, settings)
 }
@@ -64,6 +77,30 @@ fn list(fronts: &crew_pass::BaseFronts<LongResource>)
 }
 
 impl PassedFronts {
+    // The fronts that a pass with a base's resource at its price has left, each listed by value.
+    fn of(base: Code, price: i64, fronts: crew_pass::BaseFronts<LongResource>) -> PassedFronts
+        requires ground { IsGround fronts.net price }
+        requires covered { (r : LongResource) → r ≡ Answers.long_resource fronts.net.settings
+            fronts.net.settings.fdp_total price
+            → IsCoveredBy ⟦<LongResource as Resource>⟧.below
+            ⟦<LongResource as Forgets<Duty>>⟧.same_sums (network_of
+            (schedule_of fronts.net.settings base fronts.net.duties) departure_of arrival_of
+            (⟦<LongResource as Staged<Duty>>⟧.idle_of r)
+            (⟦<LongResource as Staged<Duty>>⟧.waited r)
+            (⟦<LongResource as Staged<Duty>>⟧.boards r)) fronts }
+        ensures made { result ≡ fronts_of_pass base price fronts }
+        ensures right { (t : Timetable) → IsSound t → IsDated t
+            → AreDuties fronts.net.settings t fronts.net.duties → ShowsFronts t result }
+    {
+        long_passes_show_the_fronts();
+        list(&fronts);
+        PassedFronts {
+            base,
+            price,
+            fronts,
+        }
+    }
+
     /// The fronts of a base at its price, by a pass over the course's network.
     pub(crate) fn new(
         alloc: Global,
@@ -71,24 +108,35 @@ impl PassedFronts {
         base: Code,
         price: i64,
     ) -> Result<PassedFronts, AllocError>
-        requires checked { IsChecked course.now.settings }
-        requires long { is_plain course.now.settings ≡ false }
-        requires price { IsBasePrice price }
-        requires sound { (d : Duty) → Member course.now.duties d → Events.IsSound d }
+        requires { IsGround course.now price }
         ensures own { IfOk result (λ made. (made.base ≡ base) × (made.price ≡ price)) }
         ensures net { IfOk result (λ made. made.net ≡ course.now) }
         ensures right { IfOk result (λ made. (t : Timetable) → IsSound t → IsDated t
             → AreDuties course.now.settings t course.now.duties → ShowsFronts t made) }
     {
-        long_passes_show_the_fronts();
-        let resource = resource_of(course.net().settings(), price);
+        let resource = resource_of(course, price);
         let fronts = pass(alloc, course, &resource, base)?;
-        list(&fronts);
-        Ok(PassedFronts {
-            base,
-            price,
-            fronts,
-        })
+        Ok(PassedFronts::of(base, price, fronts))
+    }
+
+    /// The same fronts, by a pass in at most so many threads, this one among them.
+    pub(crate) fn by_threads<T: Threads + Sync>(
+        rt: &T,
+        alloc: Global,
+        threads: usize,
+        course: &Course,
+        base: Code,
+        price: i64,
+    ) -> Result<PassedFronts, AllocError>
+        requires { IsGround course.now price }
+        ensures own { IfOk result (λ made. (made.base ≡ base) × (made.price ≡ price)) }
+        ensures net { IfOk result (λ made. made.net ≡ course.now) }
+        ensures right { IfOk result (λ made. (t : Timetable) → IsSound t → IsDated t
+            → AreDuties course.now.settings t course.now.duties → ShowsFronts t made) }
+    {
+        let resource = resource_of(course, price);
+        let fronts = pass_by_threads(rt, alloc, threads, course, &resource, base)?;
+        Ok(PassedFronts::of(base, price, fronts))
     }
 
     /// The base.
@@ -108,7 +156,7 @@ impl PassedFronts {
     /// The network.
     pub(crate) fn net(&self) -> &Net
         ensures net { result.now ≡ self.now.net }
-        ensures sound { (d : Duty) → Member self.now.net.duties d → Events.IsSound d }
+        ensures sound { (d : DutyOf) → Member self.now.net.duties d → Events.IsSound d }
         ensures right { (t : Timetable) → IsSound t → IsDated t
             → AreDuties self.now.net.settings t self.now.net.duties → ShowsFronts t self.now }
     {
@@ -118,7 +166,7 @@ impl PassedFronts {
     /// The front of the duty of a rank.
     pub(crate) fn front(&self, rank: usize) -> PassedFront<'_>
         requires { rank < length self.now.net.duties }
-        ensures front { (d : Duty) → slice_get self.now.net.duties rank ≡ Some d
+        ensures front { (d : DutyOf) → slice_get self.now.net.duties rank ≡ Some d
             → result ≡ front_at self.now d }
         ensures rises { RiseByVector result }
     {

@@ -23,6 +23,7 @@ use crew_rules::Settings;
 use std::alloc::{AllocError, Global};
 use std::marker::Model;
 use std::sync::Arc;
+use std::thread::Threads;
 
 /// What is to be made for a timetable where pairings may be long: the network and what passes over it
 /// go by, and its bases, each of which is passed over by itself.
@@ -248,6 +249,21 @@ impl LongPlan {
         BaseFronts::passed(alloc, &self.course, base, price)
     }
 
+    // The same fronts, by a pass in at most so many threads, this one among them.
+    fn passed_by_threads<T: Threads + Sync>(
+        &self,
+        rt: &T,
+        alloc: Global,
+        threads: usize,
+        place: usize,
+    ) -> Result<Arc<BaseFronts, Global>, AllocError>
+        requires { place < length self.now.prices }
+        ensures { IfOk result (λ fronts. AreFrontsIn self.now place (arc_value fronts)) }
+    {
+        let (base, price) = self.bases[place];
+        BaseFronts::passed_by_threads(rt, alloc, threads, &self.course, base, price)
+    }
+
     /// The fronts of the base at a place, in order of code: earlier ones over this network at the
     /// base's price, or those of a pass over its departures.
     pub(crate) fn pass(
@@ -261,6 +277,23 @@ impl LongPlan {
         match self.kept(place) {
             Some(fronts) => Arc::try_clone(fronts),
             None => self.passed(alloc, place),
+        }
+    }
+
+    /// The same fronts, those of a pass made in at most so many threads, this one among them.
+    pub(crate) fn pass_by_threads<T: Threads + Sync>(
+        &self,
+        rt: &T,
+        alloc: Global,
+        threads: usize,
+        place: usize,
+    ) -> Result<Arc<BaseFronts, Global>, AllocError>
+        requires { place < length self.now.prices }
+        ensures { IfOk result (λ fronts. AreFrontsIn self.now place (arc_value fronts)) }
+    {
+        match self.kept(place) {
+            Some(fronts) => Arc::try_clone(fronts),
+            None => self.passed_by_threads(rt, alloc, threads, place),
         }
     }
 }

@@ -20,6 +20,12 @@ fn threads_for(workers: usize, duties: usize) -> usize
     if duties < SHARED { 1 } else { workers.max(1) }
 }
 
+// How many of so many threads the pass over each of so many bases goes by: all together are no more
+// than these.
+fn share_of(threads: usize, bases: usize) -> usize {
+    (threads / bases.max(1)).max(1)
+}
+
 // Places for the fronts of so many bases, of which none are made yet.
 fn unmade(alloc: Global, count: usize) -> Result<Vec<Option<Arc<BaseFronts, Global>>>, AllocError>
     ensures { IfOk result (λ passed. length passed.items ≡ count) }
@@ -31,7 +37,8 @@ fn unmade(alloc: Global, count: usize) -> Result<Vec<Option<Arc<BaseFronts, Glob
     Ok(passed)
 }
 
-// Passes over each base into its place, in at most so many threads, this one among them.
+// Passes over each base into its place, in at most so many threads, this one among them. Where there
+// are more of them than bases, the pass over each base goes by its share of them.
 fn pass_in<R: Threads + Sync>(
     rt: &R,
     alloc: Global,
@@ -46,6 +53,7 @@ fn pass_in<R: Threads + Sync>(
         → IfSome (slice_index_or passed.new place d)
         (λ fronts. AreFrontsIn plan.now place (arc_value fronts)) }
 {
+    let share = share_of(threads, passed.len());
     for_each_mut(
         rt,
         passed,
@@ -55,7 +63,7 @@ fn pass_in<R: Threads + Sync>(
             ensures { IfSome passed.new
                 (λ fronts. AreFrontsIn plan.entry.now place (arc_value fronts)) }
         {
-            *passed = plan.pass(alloc, place).ok();
+            *passed = plan.pass_by_threads(rt, alloc, share, place).ok();
         },
     );
 }
@@ -78,7 +86,8 @@ fn all_made(
 }
 
 /// The fronts of all bases of a plan, in order, whatever the number of workers. So many threads at
-/// most make them, each those of whole bases; with 0 or 1, and for few duties, it is the calling
+/// most make them, which are shared out among the bases: where there are twice as many as bases or
+/// more, the pass over a base goes by several. With 0 or 1, and for few duties, it is the calling
 /// thread alone.
 pub(crate) fn pass_all<R: Threads + Sync>(
     rt: &R,

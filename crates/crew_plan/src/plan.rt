@@ -189,9 +189,11 @@ impl Plan {
         }
     }
 
-    /// All fronts and the best pairing. So many threads at most make the fronts of the bases, whole
-    /// bases to each, and no more than there are bases; with 0 workers or 1, and for few duties, the
-    /// calling thread makes all of them, and also those for which no thread can be started.
+    /// All fronts and the best pairing. So many threads at most make the fronts of the bases, among
+    /// which they are shared out; where there are twice as many as bases or more, the pass over a base
+    /// goes by several, for pairings that need more than the seven sums. With 0 workers or 1, and for
+    /// few duties, the calling thread makes all of them, and also those for which no thread can be
+    /// started.
     pub fn solve<R: Threads + Sync>(
         &self,
         rt: &R,

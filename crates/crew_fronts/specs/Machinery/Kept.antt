@@ -7,7 +7,7 @@ use Rattle.crew_answers.specs.ShortPairings.{with_no_pasts}
 use Rattle.crew_answers.specs.Shown.{shown_entries}
 use Rattle.crew_answers.specs.declared.value.LongValue.{LongValue}
 use Rattle.crew_answers.proofs.LongListed.{value_cmp}
-use Rattle.crew_flights.specs.Timetable.{IsSound, Timetable}
+use Rattle.crew_flights.specs.Timetable.{IsBasePrice, IsSound, Timetable}
 use Rattle.crew_fronts.specs.Fronts.{BaseFronts, Entries, ShowsFronts, is_plain}
 use Rattle.crew_fronts.specs.Machinery.Listed.{listed}
 use Rattle.crew_fronts.specs.Machinery.Values.{IsValue}
@@ -15,11 +15,13 @@ use Rattle.crew_label.specs.Pools.{AreRising}
 use Rattle.crew_label.specs.Tables.{trail_in}
 use Rattle.crew_label.specs.Walks.{walk_of}
 use Rattle.crew_label.specs.declared.label.Label.{Label}
+use Rattle.crew_net.specs.Nets.{Net}
 use Rattle.crew_pairing.specs.Duties.{AreDuties}
 use Rattle.crew_pairing.specs.Events as Events
 use Rattle.crew_pairing.specs.declared.duty.Duty.{Duty}
 use Rattle.crew_pass.specs.Passes.{BasePass, keyed_entries}
 use Rattle.crew_resource.specs.Members.{Member}
+use Rattle.crew_rules.specs.Settings.{IsChecked}
 use Rattle.crew_sweep.specs.Sweeps as Sweeps
 use Rattle.crew_sweep.specs.Sweeps.{BaseSweep}
 
@@ -48,6 +50,13 @@ fronts_of_pass base price p = record {
   fronts = map (λ rank. passed_front p rank (slice_get p.net.duties rank))
       (range_with_len 0 (length p.net.duties));
 }
+
+-- a network to be passed over at a base's price: its settings need more than the seven sums
+pub record IsGround (net : Net) (price : ℤ) : Type 0 where
+  pub checked : IsChecked net.settings
+  pub long : is_plain net.settings ≡ false
+  pub priced : IsBasePrice price
+  pub sound : (d : Duty) → Member net.duties d → Events.IsSound d
 
 -- its labels have values of their walks
 abbrev pub AreValued : BasePass LongValue → Type 0

@@ -1,0 +1,52 @@
+use Rattle.std.proofs.Common.{◌≡◌, ◌∙◌, ◌<◌, Result, IfOk, Ok, Err, arith, length, of_z, refl, subst, sym, to_z, w64}
+use Rattle.std.proofs.lemmas.Int.{ints}
+use Rattle.std.specs.Arc.{arc_value}
+use Rattle.crew_flights.specs.Timetable.{IsBasePrice}
+use Rattle.crew_fronts.specs.Fronts.{BaseFronts}
+use Rattle.crew_plan.specs.Plans.{AreFrontsIn, Plan}
+use Rattle.crew_solve.proofs.Departing.{read-at}
+use Rattle.crew_solve.proofs.Swept.{price-at}
+use Rattle.crew_vector.proofs.LegalDuties.{duties-sound}
+use Rattle.crew_plan.proofs.long_plan.LongPlan.passed_by_threads.Goals as goal
+
+pub passed_by_threads-requires-clause-sound : goal.passed_by_threads-requires-clause-sound
+passed_by_threads-requires-clause-sound g c =
+    let k = c.self.invariant.0 in
+    let net = c.self.inside.course in
+    λ _ _. duties-sound net.settings k.timetable net.duties k.over.checked k.over.sound k.over.duties
+
+pub passed_by_threads-requires-clause-price : goal.passed_by_threads-requires-clause-price
+passed_by_threads-requires-clause-price g c =
+    let k = c.self.invariant.0 in
+    let bases = c.self.inside.bases.items in
+    let e = c.index.result.now in
+    let h : c.args.place < length bases = subst (λ (p : Plan). c.args.place < length p.prices) (sym c.self.view_is) c.requires in
+    let at = read-at bases bases c.args.place e refl h c.index.ensures in
+    let fits = k.over.sound.bases e.0 e.1 (price-at k.timetable bases c.args.place e k.priced at) in
+    let whole : to_z w64 (of_z w64 e.1) ≡ e.1 = omega (arith, ints, fits.least, fits.most) in
+    λ _ _. subst IsBasePrice (sym whole) fits
+
+both : {X E : Type 0} (r : Result X E) (P Q R S : X → Type 0) → ((x : X) → P x → Q x → R x → S x) → IfOk r P → IfOk r Q → IfOk r R → IfOk r S
+both (Ok x) P Q R S h p q k = h x p q k
+both (Err e) P Q R S h p q k = tt
+
+pub returns : goal.returns
+returns g c =
+    let k = c.self.invariant.0 in
+    let net = c.self.inside.course in
+    let bases = c.self.inside.bases.items in
+    let e = c.index.result.now in
+    let h : c.args.place < length bases = subst (λ (p : Plan). c.args.place < length p.prices) (sym c.self.view_is) c.requires in
+    let at = read-at bases bases c.args.place e refl h c.index.ensures in
+    let fits = k.over.sound.bases e.0 e.1 (price-at k.timetable bases c.args.place e k.priced at) in
+    let whole : to_z w64 (of_z w64 e.1) ≡ e.1 = omega (arith, ints, fits.least, fits.most) in
+    both c.passed_by_threads.result _ _ _ (λ fronts. AreFrontsIn c.args.self.now c.args.place (arc_value {X = BaseFronts} fronts)) (λ fronts own same right.
+    subst (λ (p : Plan). AreFrontsIn p c.args.place (arc_value {X = BaseFronts} fronts)) c.self.view_is (
+      e,
+      at,
+      record {
+        own = λ i. (own.0 i, (own.1 ∙ whole) i);
+        same = same;
+        fronts = right;
+      },
+    )) c.passed_by_threads.ensures.own c.passed_by_threads.ensures.net c.passed_by_threads.ensures.right
