@@ -1,7 +1,7 @@
 //! Timetables, edits, and logs of them.
 use crate::call::{Call, call_of, code_of, small};
 use crew_clocks::read_minute;
-use crew_flights::{Edit, Entry, Flight, FlightId, Folding, Timetable, Verdict, fold};
+use crew_flights::{Edit, Entry, Flight, FlightId, Timetable, Verdict, fold};
 use crew_time::{ClockMinute, Minute};
 use std::alloc::{AllocError, Global};
 
@@ -143,19 +143,6 @@ pub fn show(timetable: &Timetable, call: &Call<'_>, out: &mut String) -> Result<
     }
 }
 
-/// What a timetable answers an edit, and what a copy shows that was made before it.
-pub fn apply_beside_a_copy(
-    alloc: Global,
-    timetable: &mut Timetable,
-    call: &Call<'_>,
-    out: &mut String,
-) -> Result<(), AllocError> {
-    let copied = timetable.copy(alloc)?;
-    apply(timetable, &call_of(call.text), out)?;
-    out.push_str("; the copy: ")?;
-    put_counts(out, &copied)
-}
-
 /// Adds an entry: its seat, its number and its edit.
 pub fn enter(
     entries: &mut Vec<Entry>,
@@ -188,38 +175,4 @@ pub fn fold_all(
         out.push_str("; ")?;
     }
     show(&timetable, call, out)
-}
-
-// A copy of a folding takes an entry: what it is answered, and what its timetable has then.
-fn take_beside(
-    alloc: Global,
-    folding: &Folding,
-    entry: &Entry,
-    call: &Call<'_>,
-    out: &mut String,
-) -> Result<(), AllocError> {
-    let mut copied = folding.copy(alloc)?;
-    put_verdict(out, copied.take(entry)?)?;
-    out.push_str(", ")?;
-    show(&copied.into_timetable(), call, out)
-}
-
-/// Takes the first entries, as many as the third word says, into a folding, and the last one into a
-/// copy of it: what the copy has then of a flight or a base, and what the folding.
-pub fn fold_beside_a_copy(
-    alloc: Global,
-    entries: &[Entry],
-    call: &Call<'_>,
-    out: &mut String,
-) -> Result<(), AllocError> {
-    let Some(last) = entries.last() else {
-        return write!(out, "no entries");
-    };
-    let mut folding = Folding::new(alloc);
-    for entry in entries.iter().take(small(call.numbers[2]) as usize) {
-        folding.take(entry)?;
-    }
-    take_beside(alloc, &folding, last, call, out)?;
-    out.push_str("; left: ")?;
-    show(folding.timetable(), call, out)
 }

@@ -19,11 +19,9 @@ mod flights;
 mod fronts;
 mod jobs;
 mod long;
-mod rides;
 mod rules;
 mod show;
 mod times;
-mod trips;
 mod vectors;
 
 use call::{Call, call_of};
@@ -65,13 +63,6 @@ fn answer_alone(alloc: Global, call: &Call<'_>, out: &mut String) -> Result<(), 
         "long" => long::long(call, out),
         "opening" => jobs::opening(alloc, call, out),
         "ways" => jobs::ways(alloc, call, out),
-        "trip-steps" => trips::steps(out),
-        "trip-stages" => trips::stages(out),
-        "trip-values" => trips::values(out),
-        "trip-grades" => trips::grades(out),
-        "trip-ordered" => trips::ordered(out),
-        "trip-staged" => trips::staged(out),
-        "trip-pool" => trips::pool(alloc, out),
         _ => write!(out, "no such call"),
     }
 }
@@ -94,11 +85,9 @@ fn answer(
             flights::apply(&mut state.timetable, call, out)
         }
         "flights" => flights::apply_many(&mut state.timetable, call, out),
-        "beside-a-copy" => flights::apply_beside_a_copy(alloc, &mut state.timetable, call, out),
         "show" => flights::show(&state.timetable, call, out),
         "entry" => flights::enter(&mut state.entries, call, out),
         "fold" => flights::fold_all(alloc, &state.entries, call, out),
-        "fold-beside-a-copy" => flights::fold_beside_a_copy(alloc, &state.entries, call, out),
         "offer" => fronts::offer(alloc, &mut state.fronts, call, out),
         "offers" => fronts::offer_many(alloc, &mut state.fronts, call, out),
         "entries" => fronts::entries(&state.fronts, out),
