@@ -1,15 +1,14 @@
 -- What labels that board have, and labels that wait.
-use Rattle.std.proofs.Common.{◌≡◌, ℕ, suc, ◌+◌, ◌<◌, Bool, true, List, [], ◌∷◌, ◌++◌, Option, Some, None, ℤ, pos, ◌+ℤ◌, length, get_or, map, take, inl, inr, refl, sym, ◌∙◌, ap, subst, ⊎_elim, arith, append-nil, append_assoc, length-append, Ordering}
+use Rattle.std.proofs.Common.{◌≡◌, ℕ, suc, ◌+◌, ◌<◌, Bool, true, List, [], ◌∷◌, ◌++◌, Option, Some, None, ℤ, pos, ◌+ℤ◌, length, get_or, map, take, inl, inr, refl, sym, ◌∙◌, ap, subst, ⊎_elim, arith, append-nil, append_assoc, length-append}
 use Rattle.std.specs.Prelude.{slice_get}
 use Rattle.std.specs.List.{flat_map}
-use Rattle.std.specs.declared.cmp.Ordering.TheVariants.{Less}
 use Rattle.std.proofs.lemmas.Int.{ints}
 use Rattle.std.proofs.lemmas.List.{length-take-le, map-append, take_more}
 use Rattle.crew_resource.specs.Events.{labelled}
-use Rattle.crew_resource.specs.Members.{Each, Member}
+use Rattle.crew_resource.specs.Members.{Member}
 use Rattle.crew_resource.proofs.Members.{Member-append, Member-map_out}
 use Rattle.crew_label.specs.Boarding.{LeadInto, boarded_from, linked, waited_label}
-use Rattle.crew_label.specs.Pools.{AreCounted, AreRising, IsCounted}
+use Rattle.crew_label.specs.Pools.{AreCounted, IsCounted}
 use Rattle.crew_label.specs.Walks.{shown, walk_of}
 use Rattle.crew_label.specs.declared.label.Label.{Label}
 use Rattle.crew_label.specs.declared.label.Link.{Link}
@@ -104,25 +103,6 @@ module _ {V : Type 0} (board : V → Option V) (duty : ℕ) where
       pub boarded_counted : (ls : List (Label V)) → LeadInto leads trail duty ls → AreCounted count leads trail ls → AreCounted count leads trail (boarded_from board duty 0 ls)
       boarded_counted ls h c = counted_from 0 ls (into-first ls h) c
 
-  module _ (cmp : V → V → Ordering) (listed : (a b y z : V) → board a ≡ Some y → board b ≡ Some z → cmp y z ≡ cmp a b) where
-    each_linked : (v y : V) → board v ≡ Some y → (n : ℕ) (l : Label V) (o : Option V) → board l.value ≡ o → cmp v l.value ≡ Less → (rest : List (Label V)) → Each (λ m. cmp y m.value ≡ Less) rest
-        → Each (λ m. cmp y m.value ≡ Less) (linked o (link_at n) ++ rest)
-    each_linked v y e n l None f h rest r = r
-    each_linked v y e n l (Some z) f h rest r = (listed v l.value y z e f ∙ h, r)
-
-    each_boarded : (v y : V) → board v ≡ Some y → (n : ℕ) (ls : List (Label V)) → Each (λ m. cmp v m.value ≡ Less) ls → Each (λ m. cmp y m.value ≡ Less) (boarded_from board duty n ls)
-    each_boarded v y e n [] h = tt
-    each_boarded v y e n (l ∷ ls) h = each_linked v y e n l (board l.value) refl h.0 (boarded_from board duty (n + 1) ls) (each_boarded v y e (n + 1) ls h.1)
-
-    rising_linked : (n : ℕ) (l : Label V) (o : Option V) → board l.value ≡ o → (ls : List (Label V)) → Each (λ m. cmp l.value m.value ≡ Less) ls → AreRising cmp (boarded_from board duty (n + 1) ls)
-        → AreRising cmp (linked o (link_at n) ++ boarded_from board duty (n + 1) ls)
-    rising_linked n l None e ls h r = r
-    rising_linked n l (Some z) e ls h r = (each_boarded l.value z e (n + 1) ls h, r)
-
-    pub boarded_rises : (n : ℕ) (ls : List (Label V)) → AreRising cmp ls → AreRising cmp (boarded_from board duty n ls)
-    boarded_rises n [] h = tt
-    boarded_rises n (l ∷ ls) h = rising_linked n l (board l.value) refl ls h.0 (boarded_rises (n + 1) ls h.1)
-
 module _ {V : Type 0} (wait : V → V) where
   pub waited_counted : (count : V → ℤ) (none_more : (v : V) → count (wait v) ≡ count v) (leads : Link → Bool) (trail : Link → List ℕ) (ls : List (Label V))
       → AreCounted count leads trail ls → AreCounted count leads trail (map (waited_label wait) ls)
@@ -130,12 +110,3 @@ module _ {V : Type 0} (wait : V → V) where
       let from = Member-map_out (waited_label wait) ls m k in
       let i = c from.0 from.1 in
       subst (IsCounted count leads trail) from.2 record { leading = i.leading; counts = none_more from.0.value ∙ i.counts }
-
-  module _ (cmp : V → V → Ordering) (listed : (a b : V) → cmp (wait a) (wait b) ≡ cmp a b) where
-    each_waited : (v : V) (ls : List (Label V)) → Each (λ m. cmp v m.value ≡ Less) ls → Each (λ m. cmp (wait v) m.value ≡ Less) (map (waited_label wait) ls)
-    each_waited v [] h = tt
-    each_waited v (l ∷ ls) h = (listed v l.value ∙ h.0, each_waited v ls h.1)
-
-    pub waited_rises : (ls : List (Label V)) → AreRising cmp ls → AreRising cmp (map (waited_label wait) ls)
-    waited_rises [] h = tt
-    waited_rises (l ∷ ls) h = (each_waited l.value ls h.0, waited_rises ls h.1)

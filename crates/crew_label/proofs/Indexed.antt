@@ -1,8 +1,7 @@
 -- What an index finds.
-use Rattle.std.proofs.Common.{◌≡◌, ℕ, suc, ◌+◌, ◌<◌, Bool, true, false, List, [], ◌∷◌, ◌++◌, Option, Some, None, ℤ, length, get_or, take, inl, inr, refl, sym, ◌∙◌, ap, subst, arith}
+use Rattle.std.proofs.Common.{◌≡◌, ℕ, suc, ◌+◌, ◌<◌, Bool, true, false, List, [], ◌∷◌, ◌++◌, Option, Some, None, ℤ, length, inl, inr, refl, sym, ◌∙◌, ap, subst, arith}
 use Rattle.std.specs.Prelude.{slice_get}
 use Rattle.std.specs.List.{list_any}
-use Rattle.std.proofs.lemmas.List.{length-take-le, take_more}
 use Rattle.crew_resource.specs.Members.{Member}
 use Rattle.crew_resource.proofs.Members.{Member-append_left, Member-append_right, Member-at, list_any_true}
 use Rattle.crew_label.specs.Machinery.Indexes.{IsGrouped, IsHeld, entries_from, finds_block, finds_entry, finds_group, passes}
@@ -36,22 +35,6 @@ module _ {X : Type 0} (marks : X → List ℤ) where
   abbrev pub entry : ℕ → X → Entry
   entry place l = record { marks = marks l; place = place }
 
-  entries-append : (n : ℕ) (ls : List X) (l : X)
-      → entries_from marks n (ls ++ l ∷ []) ≡ entries_from marks n ls ++ entry (n + length ls) l ∷ []
-  entries-append n [] l = let e : n ≡ n + 0 = omega arith in ap (λ k. entry k l ∷ []) e
-  entries-append n (x ∷ ls) l =
-      let e : n + 1 + length ls ≡ n + suc (length ls) = omega arith in
-      ap (λ es. entry n x ∷ es) (entries-append (n + 1) ls l ∙ ap (λ k. entries_from marks (n + 1) ls ++ entry k l ∷ []) e)
-
-  -- one label more
-  pub entries-more : (ls : List X) (i : ℕ) (l : X) → i < length ls → l ≡ get_or ls i l
-      → entries_from marks 0 (take i ls) ++ entry i l ∷ [] ≡ entries_from marks 0 (take (i + 1) ls)
-  entries-more ls i l h e =
-      let place : i ≡ 0 + length (take i ls) = let k = length-take-le i ls (omega arith) in omega (arith, k) in
-      ap (λ k. entries_from marks 0 (take i ls) ++ entry k l ∷ []) place
-      ∙ (sym (entries-append 0 (take i ls) l)
-      ∙ ap (entries_from marks 0) (ap (λ z. take i ls ++ z ∷ []) e ∙ sym (take_more ls i l h)))
-
   -- each label has an entry, where it stands
   Entered : ℕ → List X → X → Type 0
   Entered n ls l = (k : ℕ) × (slice_get ls k ≡ Some l) × Member (entries_from marks n ls) (entry (n + k) l)
@@ -74,6 +57,49 @@ module _ {X : Type 0} (marks : X → List ℤ) where
       let r = entered 0 ls l m in
       let e : 0 + r.0 ≡ r.0 = omega arith in
       (r.0, r.1, subst (λ k. Member (entries_from marks 0 ls) (entry k l)) e r.2)
+
+  -- each entry is of what stands at its place
+  abbrev EntryOf : ℕ → List X → Entry → Type 0
+  EntryOf n ls e = (k : ℕ) × (l : X) × (n + k ≡ e.place) × (k < length ls) × (slice_get ls k ≡ Some l) × (marks l ≡ e.marks)
+
+  entry_from : (n : ℕ) (ls : List X) (e : Entry) → Member (entries_from marks n ls) e → EntryOf n ls e
+  entry_from n [] e m = absurd m
+  entry_from n (x ∷ ls) e (inl q) =
+      let p = ap (λ z. z.place) q in
+      (0, x, omega (arith, p), omega arith, refl, ap (λ z. z.marks) q)
+  entry_from n (x ∷ ls) e (inr m) =
+      let r = entry_from (n + 1) ls e m in
+      let p = r.2 in
+      let h = r.3 in
+      (suc r.0, r.1, omega (arith, p), omega (arith, h), r.4, r.5)
+
+  pub entry_is : (ls : List X) (e : Entry) → Member (entries_from marks 0 ls) e
+      → (l : X) × (slice_get ls e.place ≡ Some l) × (marks l ≡ e.marks)
+  entry_is ls e m =
+      let r = entry_from 0 ls e m in
+      let p = r.2 in
+      let k : r.0 ≡ e.place = omega (arith, p) in
+      (r.1, subst (λ z. slice_get ls z ≡ Some r.1) k r.4, r.5)
+
+  pub entry_within : (ls : List X) (e : Entry) → Member (entries_from marks 0 ls) e → e.place < length ls
+  entry_within ls e m =
+      let r = entry_from 0 ls e m in
+      let p = r.2 in
+      let h = r.3 in
+      omega (arith, p, h)
+
+  pub entry_same : (ls : List X) (e : Entry) (k : ℕ) (l : X) → Member (entries_from marks 0 ls) e → e.place ≡ k → slice_get ls k ≡ Some l → entry k l ≡ e
+  entry_same ls e k l m p h =
+      let r = entry_is ls e m in
+      let o : Some r.0 ≡ Some l = sym r.1 ∙ (ap (slice_get ls) p ∙ h) in
+      let same : r.0 ≡ l = (cc) in
+      ap (λ (z : List ℤ). let f : Entry = record { marks = z; place = k } in f) (sym (ap marks same) ∙ r.2) ∙ ap (λ (z : ℕ). let f : Entry = record { marks = e.marks; place = z } in f) (sym p)
+
+  pub no_entry : (ls : List X) (e : Entry) (k : ℕ) → Member (entries_from marks 0 ls) e → e.place ≡ k → slice_get ls k ≡ None → ⊥
+  no_entry ls e k m p h =
+      let r = entry_is ls e m in
+      let o : None ≡ Some r.0 = sym h ∙ (ap (slice_get ls) (sym p) ∙ r.1) in
+      (cc)
 
 passed : {X : Type 0} (test : X → Bool) (o : Option X) → passes test o ≡ true
     → (x : X) × (o ≡ Some x) × (test x ≡ true)

@@ -16,3 +16,4 @@ pub mod Indexed
 pub mod Runs
 pub mod Parted
 pub mod SeenLabels
+pub mod Several

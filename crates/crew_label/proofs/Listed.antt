@@ -1,10 +1,12 @@
 -- What the first elements of a list pass, one more at a time.
-use Rattle.std.proofs.Common.{◌≡◌, ℕ, ◌+◌, ◌<◌, ◌≤◌, Bool, true, false, List, [], ◌∷◌, ◌++◌, ◌||◌, length, get_or, map, take, inl, inr, refl, sym, ◌∙◌, ap, subst, arith, append-nil}
+use Rattle.std.proofs.Common.{◌≡◌, ℕ, ◌+◌, ◌<◌, ◌≤◌, Bool, true, false, List, [], ◌∷◌, ◌++◌, ◌||◌, ◌⊎◌, length, get_or, map, take, inl, inr, refl, sym, ◌∙◌, ap, subst, arith, append-nil}
 use Rattle.std.specs.List.{filter, list_any}
 use Rattle.std.proofs.lemmas.List.{take_all, take_more}
 use Rattle.std.proofs.lemmas.List.Elements.{filter-append}
 use Rattle.std.proofs.lemmas.List.Folds.{list_any-append}
+use Rattle.std.proofs.lemmas.Bool.{cases_lt}
 use Rattle.crew_resource.specs.Members.{Member}
+use Rattle.crew_resource.proofs.Members.{Member-append, Member-append_left, Member-append_right}
 
 module _ {X : Type 0} (p : X → Bool) (xs : List X) (i : ℕ) (x : X) (within : i < length xs) (is : x ≡ get_or xs i x) where
   next : take (i + 1) xs ≡ take i xs ++ x ∷ []
@@ -41,8 +43,20 @@ pub mapped_all : {X Y : Type 0} (f : X → Y) (now xs : List X) (n : ℕ) → no
 mapped_all f now xs n e h = let k = ap length e in ap (map f) (take_all n xs (omega (arith, k, h)))
 
 -- the same of a list that is the same
-pub at_same : {X : Type 0} (now xs : List X) (i : ℕ) (x : X) → now ≡ xs → i < length now → x ≡ get_or now i x → (i < length xs) × (x ≡ get_or xs i x)
-at_same {X} now xs i x e h is = (subst (λ (ys : List X). i < length ys) e h, is ∙ ap (λ ys. get_or ys i x) e)
-
 pub taken_all : {X : Type 0} (now xs : List X) (n : ℕ) → now ≡ xs → length now ≤ n → take n xs ≡ xs
 taken_all now xs n e h = let k = ap length e in take_all n xs (omega (arith, k, h))
+
+-- of one more an element is one of those before, or the new one
+pub member_more : {X : Type 0} (xs : List X) (i : ℕ) (x y : X) → i < length xs → Member (take (i + 1) xs) y → Member (take i xs) y ⊎ (get_or xs i x ≡ y)
+member_more {X} xs i x y h m = of (Member-append (take i xs) (get_or xs i x ∷ []) y (subst (λ (ys : List X). Member ys y) (take_more xs i x h) m)) where
+  of : Member (take i xs) y ⊎ Member (get_or xs i x ∷ []) y → Member (take i xs) y ⊎ (get_or xs i x ≡ y)
+  of (inl k) = inl k
+  of (inr (inl q)) = inr q
+  of (inr (inr k)) = absurd k
+
+-- where the first so many numbers are in a list, they and the next are in one that has it too
+pub numbers_more : (ks new : List ℕ) (n : ℕ) → new ≡ ks ++ n ∷ [] → ((k : ℕ) → k < n → Member ks k) → (k : ℕ) → k < n + 1 → Member new k
+numbers_more ks new n e f k h = subst (λ (l : List ℕ). Member l k) (sym e) (of (cases_lt k n)) where
+  of : (k < n) ⊎ (n ≤ k) → Member (ks ++ n ∷ []) k
+  of (inl t) = Member-append_left ks (n ∷ []) k (f k t)
+  of (inr t) = Member-append_right ks (n ∷ []) k (inl (omega (arith, t, h)))

@@ -1,5 +1,5 @@
 -- Pools of labels: their order, what they leave of candidates, and what their labels have.
-use Rattle.std.specs.Prelude.{◌≡◌, ℕ, Bool, List, [], ◌∷◌, length, map, ℤ, pos}
+use Rattle.std.specs.Prelude.{◌≡◌, ℕ, Bool, List, [], ◌∷◌, ◌++◌, length, map, ℤ, pos}
 use Rattle.std.specs.declared.cmp.Ordering.{Ordering}
 use Rattle.std.specs.declared.cmp.Ordering.TheVariants.{Less}
 use Rattle.crew_resource.specs.Members.{Each, Member}
@@ -25,6 +25,14 @@ abbrev pub ArePoolOf : {V : Type 0} → (V → V → Bool) → (V → V → Bool
     → List (V × List ℕ) → List (Label V) → Type 0
 ArePoolOf below same trail candidates labels =
     IsPool below same ranks_at_most (λ v w. Member candidates (v, w)) (map (shown trail) labels)
+
+-- each list of labels is the pool of some candidates; all these, one list after another, are given
+abbrev pub ArePoolsOf : {V : Type 0} → (V → V → Bool) → (V → V → Bool) → (Link → List ℕ)
+    → List (V × List ℕ) → List (List (Label V)) → Type 0
+ArePoolsOf below same trail candidates [] = candidates ≡ []
+ArePoolsOf {V} below same trail candidates (ls ∷ lss) =
+    (firsts : List (V × List ℕ)) × (others : List (V × List ℕ)) × (candidates ≡ firsts ++ others)
+    × ArePoolOf below same trail firsts ls × ArePoolsOf below same trail others lss
 
 -- the label's link leads to a label, and its value counts the duties of its walk
 pub record IsCounted {V : Type 0} (count : V → ℤ) (leads : Link → Bool) (trail : Link → List ℕ)

@@ -12,15 +12,18 @@ ghost use Rattle.crew_label.specs.Walks.{ranks_at_most, shown};
 ghost use Rattle.crew_label.specs.declared.label.Label.{Label};
 ghost use Rattle.crew_label.specs.declared.label.Link.{Link};
 
-use crate::board::{MOST, board_label};
-use crate::gather::{gather, merged};
+use crate::gather::gather;
 use crate::label::{Label, Link};
+use crate::merge::merge_lists;
 use crate::pool::Pool;
 use crate::stand::{Rule, push_copy};
 use crate::trails::Trails;
 use crew_forgetful::{Forgets, Lapses};
-use crew_resource::{Placed, Resource};
+use crew_resource::{Placed, Resource, Staged};
 use std::alloc::{AllocError, Global};
+
+// The most labels of a pool that a link can tell apart.
+const MOST: usize = 0xffff_ffff;
 
 /// The front of the labels that board an item from a departure's pool: what dominance by values
 /// leaves of them, each value with its least walk. It is a pool of its own labels, and so may be
@@ -113,6 +116,26 @@ fn board_label_where<P: Placed, R: Lapses<P>>(
     board_label(resource, view, value, item, link)
 }
 
+// A value boards an item, if it can.
+fn board_label<P: Placed, R: Staged<P>>(
+    resource: &R,
+    view: &mut Vec<Label<R::Value>>,
+    value: &R::Value,
+    item: &P,
+    link: Link,
+) -> Result<(), AllocError>
+    requires { R.can_board resource.now value.now item.now }
+    ensures { OnOk result (view.new.items ≡ view.old.items
+        ++ linked (R.boards resource.now value.now item.now) link) }
+{
+    let Some(value) = resource.board(value, item) else {
+        return Ok(());
+    };
+    let before = Some(link);
+    view.push(Label { value, before })?;
+    Ok(())
+}
+
 // The front of two lists of labels: of the first those with the same sums stand together, and none
 // is at most one with other sums; of the second nothing is known.
 fn front_of_both<P: Placed, R: Lapses<P>, T: Trails>(
@@ -140,7 +163,7 @@ fn front_of_both<P: Placed, R: Lapses<P>, T: Trails>(
         return Ok(clean);
     }
     let cut = gather::<P, R, T>(alloc, resource, trails, Rule::Values, cut)?;
-    merged::<P, R, T>(alloc, resource, trails, Rule::Values, &clean, &cut)
+    merge_lists::<P, R, T>(alloc, resource, trails, Rule::Values, &clean, &cut)
 }
 
 // The front of labels of which those with the same sums stand together: that of each run of them,

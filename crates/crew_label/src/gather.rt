@@ -1,5 +1,5 @@
 //! What labels leave of themselves.
-ghost use Rattle.std.specs.Prelude.{◌≡◌, ◌<◌, ◌⊎◌, ◌++◌, true, ℕ, ℤ, List, map, IfOk};
+ghost use Rattle.std.specs.Prelude.{◌≡◌, true, ℤ, List, map, IfOk};
 ghost use Rattle.crew_resource.specs.Members.{Member};
 ghost use Rattle.crew_forgetful.specs.Sweeps.{TellCount};
 ghost use Rattle.crew_label.specs.Machinery.Rules.{same_by};
@@ -10,8 +10,7 @@ ghost use Rattle.crew_label.specs.Walks.{shown};
 ghost use Rattle.crew_label.specs.declared.label.Label.{Label};
 
 use crate::label::Label;
-use crate::merge::{merge_lists, merge_seen};
-use crate::room::Room;
+use crate::merge::merge_seen;
 use crate::seen::{Seen, copy_seen, marks_where, moment_of, push_seen, see};
 use crate::stand::{FEW, Rule};
 use crate::trails::Trails;
@@ -43,9 +42,8 @@ pub(crate) fn gather<P: Placed, R: Marked<P>, T: Trails>(
     let none = [0; 16];
     let seen = see::<R>(alloc, labels, &marks, &none)?;
     let pool = gather_seen::<P, R, T>(alloc, resource, trails, rule, marked, &seen)?;
-    let mut copied = Vec::new(alloc);
-    copy_seen(resource, &mut copied, &pool)?;
-    Ok(copied)
+    let labels = copy_seen(alloc, resource, &pool)?;
+    Ok(labels)
 }
 
 // The same of labels where they stand.
@@ -90,34 +88,4 @@ fn seen_again<'a, R: Resource>(
         push_seen::<R>(&mut again, each)?;
     }
     Ok(again)
-}
-
-// Two lists merged, as a list of its own.
-pub(crate) fn merged<P: Placed, R: Marked<P>, T: Trails>(
-    alloc: Global,
-    resource: &R,
-    trails: &T,
-    rule: Rule,
-    one: &[Label<R::Value>],
-    two: &[Label<R::Value>],
-) -> Result<Vec<Label<R::Value>>, AllocError>
-    requires tell { TellCount R.same_sums (R.count_of resource.now) }
-    requires one_rises { AreRising R.Value.cmp one.now }
-    requires two_rises { AreRising R.Value.cmp two.now }
-    requires one_counts { AreCounted (R.count_of resource.now) (T.leads trails.now)
-        (T.trail trails.now) one.now }
-    requires two_counts { AreCounted (R.count_of resource.now) (T.leads trails.now)
-        (T.trail trails.now) two.now }
-    ensures rises { IfOk result (λ pool. AreRising R.Value.cmp pool.items) }
-    ensures pool { IfOk result (λ pool. (firsts seconds : List (R.Value × List ℕ))
-        → ArePoolOf R.below (same_by R.below R.same_sums rule) (T.trail trails.now) firsts one.now
-        → ArePoolOf R.below (same_by R.below R.same_sums rule) (T.trail trails.now) seconds two.now
-        → ArePoolOf R.below (same_by R.below R.same_sums rule) (T.trail trails.now)
-        (firsts ++ seconds) pool.items) }
-    ensures from { IfOk result (λ pool. (l : Label R.Value) → Member pool.items l
-        → Member one.now l ⊎ Member two.now l) }
-{
-    let mut room = Room::new(alloc);
-    merge_lists::<P, R, T>(alloc, resource, trails, rule, &mut room, one, two)?;
-    Ok(room.whole)
 }

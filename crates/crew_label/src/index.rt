@@ -1,19 +1,21 @@
 //! An index of labels by their marks.
-ghost use Rattle.std.specs.Prelude.{◌≡◌, ◌∷◌, [], true, Some, None, MatchOption, IfOk, OnOk, slice_get};
+ghost use Rattle.std.specs.Prelude.{◌≡◌, ◌<◌, ◌∷◌, [], true, ℕ, length, IfOk, OnOk};
 ghost use Rattle.crew_label.specs.Machinery.Marks.{are_at_most};
 ghost use Rattle.std.specs.List.{list_any};
 ghost use Rattle.crew_resource.specs.Members.{Member};
 ghost use Rattle.crew_forgetful.specs.Sweeps.{TellCount};
-ghost use Rattle.crew_label.specs.Machinery.Indexes.{IsGrouped, IsHeld, entries_from, finds_block, finds_entry, finds_group, test_at};
+ghost use Rattle.crew_label.specs.Machinery.Indexes.{IsGrouped, IsHeld, IsPlaced, entries_from, finds_block, finds_entry, finds_group, test_at};
 ghost use Rattle.crew_label.specs.Machinery.Rules.{same_by};
 ghost use Rattle.crew_label.specs.Machinery.Seeing.{AreMarked, labels_of};
 ghost use Rattle.crew_label.specs.Pools.{AreCounted, IsCounted, stands_label};
+ghost use Rattle.crew_label.specs.declared.blocks.Block.{Block};
 ghost use Rattle.crew_label.specs.declared.blocks.Entry.{Entry};
 
-use crate::blocks::{Block, CUTS, Entry, divide, spread_of};
+use crate::blocks::{Block, Entry, blocks_of, least_of_blocks};
 use crate::label::Label;
 use crate::marks::are_at_most;
-use crate::seen::Seen;
+use crate::parts::{CUTS, divide, spread_of};
+use crate::seen::{Seen, seen_at};
 use crate::stand::{Rule, may_stand};
 use crate::trails::Trails;
 use crew_forgetful::{Forgets, Marked};
@@ -32,59 +34,70 @@ pub(crate) struct Group {
     pub(crate) blocks: Vec<Block>,
 }
 
-// The entries of what is seen, in order.
-fn entries_of<R: Resource>(
-    alloc: Global,
-    list: &[Seen<'_, R::Value>],
-) -> Result<Vec<Entry>, AllocError>
-    ensures { IfOk result (λ entries. entries.items ≡ entries_from (λ s. s.marks.now) 0 list.now) }
+// All places of a list.
+fn places_of<V>(alloc: Global, list: &[Seen<'_, V>]) -> Result<Vec<usize>, AllocError>
+    ensures { IfOk result (λ places. (k : ℕ) → k < length list.now → Member places.items k) }
 {
-    let mut entries = Vec::with_capacity(alloc, list.len())?;
-    for (place, seen) in list.iter().enumerate() {
-        let marks = *seen.marks;
-        entries.push(Entry { marks, place })?;
+    let mut places = Vec::with_capacity(alloc, list.len())?;
+    for place in 0..list.len() {
+        places.push(place)?;
     }
-    Ok(entries)
+    Ok(places)
 }
 
-// The blocks of a block.
-fn group_of(alloc: Global, block: Block) -> Result<Group, AllocError>
-    ensures least { IfOk result (λ group. group.least ≡ block.least) }
-    ensures held { IfOk result (λ group. (e : Entry) → Member block.entries.items e
+// The blocks of what is seen at some places.
+fn group_of<V>(alloc: Global, list: &[Seen<'_, V>], places: Vec<usize>) -> Result<Group, AllocError>
+    ensures least { IfOk result (λ group. (b : Block) → Member group.blocks.items b
+        → are_at_most group.least b.least ≡ true) }
+    ensures held { IfOk result (λ group. (e : Entry)
+        → Member (entries_from (λ s. s.marks.now) 0 list.now) e → Member places.items e.place
         → IsHeld group.blocks.items e) }
 {
-    let least = block.least;
-    let spread = spread_of(&block.entries);
-    let mut blocks = Vec::new(alloc);
-    divide(alloc, BLOCK, CUTS, &spread, block.entries, &mut blocks)?;
+    let spread = spread_of(list, &places);
+    let mut parts = Vec::new(alloc);
+    divide(alloc, BLOCK, CUTS, &spread, list, places, &mut parts)?;
+    let blocks = blocks_of(alloc, list, &parts)?;
+    let least = least_of_blocks(&blocks);
     Ok(Group { least, blocks })
 }
 
-// Puts a block's group at the end of some.
-fn push_group(alloc: Global, groups: &mut Vec<Group>, block: Block) -> Result<(), AllocError>
-    ensures held { OnOk result ((e : Entry) → are_at_most block.least e.marks ≡ true
-        → Member block.entries.items e → IsGrouped groups.new.items e) }
+// Puts the group of what is seen at some places at the end of some.
+fn push_group<V>(
+    alloc: Global,
+    groups: &mut Vec<Group>,
+    list: &[Seen<'_, V>],
+    places: Vec<usize>,
+) -> Result<(), AllocError>
+    ensures held { OnOk result ((e : Entry) → Member (entries_from (λ s. s.marks.now) 0 list.now) e
+        → Member places.items e.place → IsGrouped groups.new.items e) }
     ensures stays { OnOk result ((e : Entry) → IsGrouped groups.old.items e
         → IsGrouped groups.new.items e) }
 {
-    let group = group_of(alloc, block)?;
+    let group = group_of(alloc, list, places)?;
     groups.push(group)?;
     Ok(())
 }
 
-// The groups of some blocks.
-fn groups_of(alloc: Global, blocks: Vec<Block>) -> Result<Vec<Group>, AllocError>
-    ensures { IfOk result (λ groups. (e : Entry) → IsHeld blocks.items e
+// The groups of some parts.
+fn groups_of<V>(
+    alloc: Global,
+    list: &[Seen<'_, V>],
+    parts: Vec<Vec<usize>>,
+) -> Result<Vec<Group>, AllocError>
+    ensures { IfOk result (λ groups. (e : Entry)
+        → Member (entries_from (λ s. s.marks.now) 0 list.now) e → IsPlaced parts.items e.place
         → IsGrouped groups.items e) }
 {
-    let mut groups = Vec::with_capacity(alloc, blocks.len())?;
-    for block in blocks {
-        push_group(alloc, &mut groups, block)?;
+    let mut groups = Vec::with_capacity(alloc, parts.len())?;
+    for part in parts {
+        push_group(alloc, &mut groups, list, part)?;
     }
     Ok(groups)
 }
 
 // What is seen, in groups of blocks by marks.
+//
+// The list is cut by places, and the entries of a block are written once, when no cut is left.
 pub(crate) fn groups_by_marks<R: Resource>(
     alloc: Global,
     list: &[Seen<'_, R::Value>],
@@ -92,11 +105,11 @@ pub(crate) fn groups_by_marks<R: Resource>(
     ensures { IfOk result (λ groups. (e : Entry) → Member (entries_from (λ s. s.marks.now) 0 list.now) e
         → IsGrouped groups.items e) }
 {
-    let entries = entries_of::<R>(alloc, list)?;
-    let spread = spread_of(&entries);
-    let mut blocks = Vec::new(alloc);
-    divide(alloc, GROUP, CUTS, &spread, entries, &mut blocks)?;
-    let groups = groups_of(alloc, blocks)?;
+    let places = places_of(alloc, list)?;
+    let spread = spread_of(list, &places);
+    let mut parts = Vec::new(alloc);
+    divide(alloc, GROUP, CUTS, &spread, list, places, &mut parts)?;
+    let groups = groups_of(alloc, list, parts)?;
     Ok(groups)
 }
 
@@ -110,14 +123,6 @@ pub(crate) struct Asked<'a, 'r, R: Resource, T> {
     pub(crate) others: &'a [Seen<'a, R::Value>],
     pub(crate) label: &'a Label<R::Value>,
     pub(crate) most: &'a [i32; 16],
-}
-
-// What is seen at a place.
-fn seen_at<'s, 'a, V>(list: &'s [Seen<'a, V>], place: usize) -> Option<&'s Seen<'a, V>>
-    ensures { MatchOption result (slice_get list.now place ≡ None)
-        (λ seen. slice_get list.now place ≡ Some seen.now) }
-{
-    list.get(place)
 }
 
 // Whether the label at a place may stand.

@@ -1,5 +1,5 @@
 //! Two pools, as one.
-ghost use Rattle.std.specs.Prelude.{◌≡◌, ◌⊎◌, ◌++◌, true, ℕ, List, IfOk, OnOk};
+ghost use Rattle.std.specs.Prelude.{◌≡◌, ◌⊎◌, ◌++◌, true, ℕ, List, IfOk};
 ghost use Rattle.crew_resource.specs.Members.{Member};
 ghost use Rattle.crew_forgetful.specs.Sweeps.{TellCount};
 ghost use Rattle.crew_label.specs.Machinery.Rules.{same_by};
@@ -10,7 +10,6 @@ ghost use Rattle.crew_label.specs.declared.label.Label.{Label};
 
 use crate::interleave::interleave;
 use crate::label::Label;
-use crate::room::Room;
 use crate::seen::{Seen, copy_seen, marks_where, moment_of, see};
 use crate::stand::{Rule, are_many, free_of};
 use crate::trails::Trails;
@@ -18,17 +17,16 @@ use crew_forgetful::Marked;
 use crew_resource::{Placed, Resource};
 use std::alloc::{AllocError, Global};
 
-// Merges two lists of labels that rise into the room's whole list: of the second one those for
-// which none of the first may stand, and of the first those for which none of these may.
+// Two lists of labels that rise, merged: of the second one those for which none of the first may
+// stand, and of the first those for which none of these may.
 pub(crate) fn merge_lists<P: Placed, R: Marked<P>, T: Trails>(
     alloc: Global,
     resource: &R,
     trails: &T,
     rule: Rule,
-    room: &mut Room<R::Value>,
     one: &[Label<R::Value>],
     two: &[Label<R::Value>],
-) -> Result<(), AllocError>
+) -> Result<Vec<Label<R::Value>>, AllocError>
     requires tell { TellCount R.same_sums (R.count_of resource.now) }
     requires one_rises { AreRising R.Value.cmp one.now }
     requires two_rises { AreRising R.Value.cmp two.now }
@@ -36,13 +34,13 @@ pub(crate) fn merge_lists<P: Placed, R: Marked<P>, T: Trails>(
         (T.trail trails.now) one.now }
     requires two_counts { AreCounted (R.count_of resource.now) (T.leads trails.now)
         (T.trail trails.now) two.now }
-    ensures rises { OnOk result (AreRising R.Value.cmp room.new.whole.items) }
-    ensures pool { OnOk result ((firsts seconds : List (R.Value × List ℕ))
+    ensures rises { IfOk result (λ labels. AreRising R.Value.cmp labels.items) }
+    ensures pool { IfOk result (λ labels. (firsts seconds : List (R.Value × List ℕ))
         → ArePoolOf R.below (same_by R.below R.same_sums rule) (T.trail trails.now) firsts one.now
         → ArePoolOf R.below (same_by R.below R.same_sums rule) (T.trail trails.now) seconds two.now
-        → ArePoolOf R.below (same_by R.below R.same_sums rule) (T.trail trails.now) (firsts ++ seconds)
-        room.new.whole.items) }
-    ensures from { OnOk result ((l : Label R.Value) → Member room.new.whole.items l
+        → ArePoolOf R.below (same_by R.below R.same_sums rule) (T.trail trails.now)
+        (firsts ++ seconds) labels.items) }
+    ensures from { IfOk result (λ labels. (l : Label R.Value) → Member labels.items l
         → Member one.now l ⊎ Member two.now l) }
 {
     let marked = are_many(one.len(), two.len());
@@ -53,8 +51,8 @@ pub(crate) fn merge_lists<P: Placed, R: Marked<P>, T: Trails>(
     let one = see::<R>(alloc, one, &first, &none)?;
     let two = see::<R>(alloc, two, &second, &none)?;
     let whole = merge_seen::<P, R, T>(alloc, resource, trails, rule, marked, &one, &two)?;
-    copy_seen(resource, &mut room.whole, &whole)?;
-    Ok(())
+    let labels = copy_seen(alloc, resource, &whole)?;
+    Ok(labels)
 }
 
 // The same of labels where they stand: those of both lists that stay.

@@ -1,5 +1,5 @@
 //! Labels where they stand, with their marks.
-ghost use Rattle.std.specs.Prelude.{◌≡◌, [], ◌∷◌, ◌++◌, true, ℤ, List, Some, map, slice_get, IfOk, OnOk};
+ghost use Rattle.std.specs.Prelude.{◌≡◌, [], ◌∷◌, ◌++◌, true, ℤ, List, None, Some, MatchOption, map, slice_get, IfOk, OnOk};
 ghost use Rattle.crew_label.specs.Machinery.Seeing.{AreTold, labels_of};
 
 use crate::label::Label;
@@ -70,6 +70,15 @@ pub(crate) fn see<'a, R: Resource>(
     Ok(seen)
 }
 
+// What is seen at a place.
+#[inline]
+pub(crate) fn seen_at<'s, 'a, V>(list: &'s [Seen<'a, V>], place: usize) -> Option<&'s Seen<'a, V>>
+    ensures { MatchOption result (slice_get list.now place ≡ None)
+        (λ seen. slice_get list.now place ≡ Some seen.now) }
+{
+    list.get(place)
+}
+
 // Puts one that is seen at the end of some.
 pub(crate) fn push_seen<'a, R: Resource>(
     list: &mut Vec<Seen<'a, R::Value>>,
@@ -83,18 +92,17 @@ pub(crate) fn push_seen<'a, R: Resource>(
     Ok(())
 }
 
-// Equal labels, in place of what a list held.
+// Equal labels.
 pub(crate) fn copy_seen<R: Resource>(
+    alloc: Global,
     resource: &R,
-    labels: &mut Vec<Label<R::Value>>,
     seen: &[Seen<'_, R::Value>],
-) -> Result<(), AllocError>
-    ensures { OnOk result (labels.new.items ≡ labels_of seen.now) }
+) -> Result<Vec<Label<R::Value>>, AllocError>
+    ensures { IfOk result (λ labels. labels.items ≡ labels_of seen.now) }
 {
-    labels.clear();
-    labels.reserve(seen.len())?;
+    let mut labels = Vec::with_capacity(alloc, seen.len())?;
     for each in seen {
-        push_copy(resource, labels, each.label)?;
+        push_copy(resource, &mut labels, each.label)?;
     }
-    Ok(())
+    Ok(labels)
 }

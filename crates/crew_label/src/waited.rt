@@ -2,20 +2,20 @@
 ghost use Rattle.std.specs.Prelude.{◌≡◌, ◌⊎◌, false, true, ℕ, List, map, IfOk};
 ghost use Rattle.crew_forgetful.specs.Sweeps.{TellCount};
 ghost use Rattle.crew_label.specs.Boarding.{AreRested, waited_label};
-ghost use Rattle.crew_label.specs.Pools.{AreCounted, ArePoolOf};
+ghost use Rattle.crew_label.specs.Pools.{AreCounted, ArePoolOf, AreRising};
 ghost use Rattle.crew_label.specs.Walks.{shown};
 ghost use Rattle.crew_label.specs.declared.label.Label.{Label};
 ghost use Rattle.crew_label.specs.declared.label.Link.{Link};
 ghost use Rattle.crew_resource.specs.Members.{Member};
+ghost use Rattle.std.specs.declared.cmp.Ordering.TheVariants.{Less};
 
-use crate::board::wait_pool;
 use crate::gather::gather;
 use crate::label::Label;
 use crate::pool::Pool;
 use crate::stand::Rule;
 use crate::trails::Trails;
 use crew_forgetful::Lapses;
-use crew_resource::{Placed, Resource};
+use crew_resource::{Placed, Resource, Staged};
 use std::alloc::{AllocError, Global};
 
 impl<R: Resource> Pool<R> {
@@ -47,7 +47,7 @@ impl<R: Resource> Pool<R> {
             (map (λ e. (R.waited resource.now e.0 arrival.now departure.now, e.1)) candidates)
             waited) }
     {
-        let labels = wait_pool::<P, R>(alloc, resource, self, arrival, departure)?;
+        let labels = waited_labels::<P, R>(alloc, resource, self, arrival, departure)?;
         Ok(Pool::from_rising(labels))
     }
 
@@ -75,6 +75,33 @@ impl<R: Resource> Pool<R> {
         let pool = gather::<P, R, T>(alloc, resource, trails, Rule::Sums, &labels)?;
         Ok(Pool::from_rising(pool))
     }
+}
+
+// The labels with their values moved on. If the waits keep their values in order, they rise.
+fn waited_labels<P: Placed, R: Staged<P>>(
+    alloc: Global,
+    resource: &R,
+    pool: &Pool<R>,
+    arrival: &P::Arrival,
+    departure: &P::Departure,
+) -> Result<Vec<Label<R::Value>>, AllocError>
+    requires { (l : Label R.Value) → Member pool.now l
+        → R.can_wait resource.now l.value arrival.now departure.now }
+    ensures labels { IfOk result (λ waited. waited.items
+        ≡ map (waited_label (λ v. R.waited resource.now v arrival.now departure.now)) pool.now) }
+    ensures listed { IfOk result (λ waited. ((a b : Label R.Value) → Member pool.now a
+        → Member pool.now b → R.Value.cmp a.value b.value ≡ Less
+        → R.Value.cmp (R.waited resource.now a.value arrival.now departure.now)
+        (R.waited resource.now b.value arrival.now departure.now) ≡ Less)
+        → AreRising R.Value.cmp waited.items) }
+{
+    let mut waited = Vec::with_capacity(alloc, pool.len())?;
+    for label in pool.as_slice() {
+        let value = resource.wait(&label.value, arrival, departure);
+        let before = label.before;
+        waited.push(Label { value, before })?;
+    }
+    Ok(waited)
 }
 
 // The labels with their values rested.

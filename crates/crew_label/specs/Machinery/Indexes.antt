@@ -1,22 +1,19 @@
 -- Labels by their marks: blocks of entries, and groups of blocks.
-use Rattle.std.specs.Prelude.{◌≡◌, Bool, true, false, ◌&&◌, ℕ, ◌+◌, List, [], ◌∷◌, Option, Some, None, ℤ, int_le, slice_get}
+use Rattle.std.specs.Prelude.{◌≡◌, Bool, true, false, ◌&&◌, ℕ, ◌+◌, List, [], ◌∷◌, Option, Some, None, ℤ, Vec, int_le, slice_get}
+use Rattle.std.specs.Global.{Global}
 use Rattle.std.specs.List.{list_any}
 use Rattle.crew_resource.specs.Members.{Member}
 use Rattle.crew_label.specs.Machinery.Marks.{are_at_most, mark_at}
 use Rattle.crew_label.specs.Machinery.Rules.{same_by}
 use Rattle.crew_label.specs.Pools.{stands_label}
 use Rattle.crew_label.specs.declared.blocks.Block.{Block}
-use Rattle.crew_label.specs.declared.blocks.Cut.{Cut}
 use Rattle.crew_label.specs.declared.blocks.Entry.{Entry}
 use Rattle.crew_label.specs.declared.index.Group.{Group}
 use Rattle.crew_label.specs.declared.label.Label.{Label}
 use Rattle.crew_label.specs.declared.label.Link.{Link}
+use Rattle.crew_label.specs.declared.parts.Cut.{Cut}
 use Rattle.crew_label.specs.declared.seen.Seen.{Seen}
 use Rattle.crew_label.specs.declared.stand.Rule.{Rule}
-
--- the entry's mark at the cut is at most its middle
-abbrev pub is_low : Cut → Entry → Bool
-is_low c e = int_le (mark_at c.at e.marks) c.middle
 
 -- a block has the entry, and its least marks are at most the entry's
 pub record IsHeld (blocks : List Block) (e : Entry) : Type 0 where
@@ -42,6 +39,15 @@ entries_from marks k (x ∷ xs) =
 abbrev pub passes : {X : Type 0} → (X → Bool) → Option X → Bool
 passes test None = false
 passes test (Some x) = test x
+
+-- the mark at the cut of what stands at a place is at most the cut's middle
+abbrev pub is_low : {V : Type 0} → List (Seen V) → Cut → ℕ → Bool
+is_low list c place =
+    passes (λ s. int_le (mark_at c.at s.marks.now) c.middle) (slice_get list place)
+
+-- one of the parts has the place
+abbrev pub IsPlaced : List (Vec ℕ Global) → ℕ → Type 0
+IsPlaced parts place = (part : Vec ℕ Global) × Member parts part × Member part.items place
 
 -- whether the label at a place may stand for a label
 abbrev pub test_at : {V : Type 0} → (V → V → Bool) → (V → V → Bool) → (Link → List ℕ) → Rule

@@ -1,9 +1,8 @@
-use Rattle.std.proofs.Common.{List, sym, subst}
-use Rattle.crew_resource.specs.Members.{Member}
-use Rattle.crew_label.specs.declared.blocks.Entry.{Entry}
+use Rattle.crew_label.specs.declared.seen.Seen.{Seen}
+use Rattle.crew_label.proofs.Indexed.{entry_within}
 use Rattle.crew_label.proofs.index.groups_by_marks.Goals as goal
 
 pub returns : goal.returns
 returns g c e m =
-    c.in_ok-groups.ensures e (c.in_ok-divide.ensures.held e
-    (subst (λ (es : List Entry). Member es e) (sym c.in_ok-entries.ensures) m))
+    c.in_ok-groups.ensures e m (c.in_ok-divide.ensures.placed e.place
+    (c.in_ok-places.ensures e.place (entry_within (λ (s : Seen g.row.R-Value.Denot). s.marks.now) c.args.list.now e m)))

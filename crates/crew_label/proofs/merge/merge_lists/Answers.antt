@@ -35,14 +35,14 @@ merge_seen-requires-clause-told g c t =
 
 pub returns-clause-rises : goal.returns-clause-rises
 returns-clause-rises g c =
-    subst (AreRising g.R.Value.Ord.cmp) (sym (c.in_ok-copy_seen.ensures ∙ ap (λ (ss : List (Seen g.row.R-Value.Denot)). labels_of ss) c.deref-5.ensures.value)) c.in_ok-whole.ensures.rises
+    subst (AreRising g.R.Value.Ord.cmp) (sym (c.in_ok-labels.ensures ∙ ap (λ (ss : List (Seen g.row.R-Value.Denot)). labels_of ss) c.deref-5.ensures.value)) c.in_ok-whole.ensures.rises
 
 pub returns-clause-pool : goal.returns-clause-pool
 returns-clause-pool g c firsts seconds i j =
     let trail = g.T.Trails.trail c.args.trails.now in
     let same = same_by g.R.Resource.below g.R.Forgets.same_sums c.args.rule in
     let labels = λ (ss : List (Seen g.row.R-Value.Denot)). labels_of ss in
-    subst (λ (ls : List (Label g.row.R-Value.Denot)). ArePoolOf g.R.Resource.below same trail (firsts ++ seconds) ls) (sym (c.in_ok-copy_seen.ensures ∙ ap labels c.deref-5.ensures.value))
+    subst (λ (ls : List (Label g.row.R-Value.Denot)). ArePoolOf g.R.Resource.below same trail (firsts ++ seconds) ls) (sym (c.in_ok-labels.ensures ∙ ap labels c.deref-5.ensures.value))
     (c.in_ok-whole.ensures.pool firsts seconds
     (subst (λ (ls : List (Label g.row.R-Value.Denot)). ArePoolOf g.R.Resource.below same trail firsts ls) (sym (ap labels c.deref-3.ensures.value ∙ c.in_ok-one.ensures.labels)) i)
     (subst (λ (ls : List (Label g.row.R-Value.Denot)). ArePoolOf g.R.Resource.below same trail seconds ls) (sym (ap labels c.deref-4.ensures.value ∙ c.in_ok-two.ensures.labels)) j))
@@ -54,4 +54,4 @@ returns-clause-from g c l m =
     (λ k. inl (subst (λ (ls : List (Label g.row.R-Value.Denot)). Member ls l) (ap labels c.deref-3.ensures.value ∙ c.in_ok-one.ensures.labels) k))
     (λ k. inr (subst (λ (ls : List (Label g.row.R-Value.Denot)). Member ls l) (ap labels c.deref-4.ensures.value ∙ c.in_ok-two.ensures.labels) k))
     (labels_from c.in_ok-whole.whole.items c.deref-3.result.now c.deref-4.result.now c.in_ok-whole.ensures.from l
-    (subst (λ (ls : List (Label g.row.R-Value.Denot)). Member ls l) (c.in_ok-copy_seen.ensures ∙ ap labels c.deref-5.ensures.value) m))
+    (subst (λ (ls : List (Label g.row.R-Value.Denot)). Member ls l) (c.in_ok-labels.ensures ∙ ap labels c.deref-5.ensures.value) m))
