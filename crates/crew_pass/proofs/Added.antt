@@ -1,27 +1,18 @@
 -- A departure more: its pool may be boarded from, and those before it still.
-use Rattle.std.proofs.Common.{◌≡◌, ◌∙◌, ◌+◌, ◌++◌, ℕ, ℤ, List, [], ◌∷◌, Option, Some, true, length, get_or, sym, ap, subst, arith}
+use Rattle.std.proofs.Common.{◌≡◌, ◌∙◌, ◌++◌, ℕ, ℤ, List, [], ◌∷◌, Option, Some, true, length, get_or, sym, ap, subst, arith}
 use Rattle.std.specs.Prelude.{slice_get}
 use Rattle.crew_label.specs.Boarding.{LeadInto}
 use Rattle.crew_label.specs.Tables.{Tabled}
 use Rattle.crew_label.specs.declared.label.Label.{Label}
 use Rattle.crew_label.specs.declared.label.Link.{Link}
-use Rattle.crew_net.specs.Events.{AreEvents, departure_cmp}
-use Rattle.crew_net.specs.Nets.{AreByReport, Net}
-use Rattle.crew_pairing.specs.Events.{IsSound, departure_of}
-use Rattle.crew_pairing.specs.declared.duty.Duty.{Duty}
 use Rattle.crew_resource.specs.Members.{Member}
 use Rattle.crew_resource.proofs.Members.{Member-get_or}
 use Rattle.crew_pass.specs.Machinery.Held.{AreHeld, leads_of, trail_of}
-use Rattle.crew_pass.specs.Machinery.Passing.{AreApart, IsClean, IsLinked, Ways}
+use Rattle.crew_pass.specs.Machinery.Passing.{IsClean, IsLinked, Ways}
 use Rattle.crew_pass.proofs.Departures.{appended, walk-stays}
-use Rattle.crew_pass.proofs.Orders.{no-waiting}
 use Rattle.crew_pass.proofs.Rested.{clean-stays}
 use Rattle.crew_pass.proofs.Slices.{member-got, same-within}
 use Rattle.std.proofs.lemmas.List.{get_or_append_left}
-
--- none of the departures up to one waits on a duty that leaves there
-pub apart-last : (net : Net) → AreEvents departure_of departure_cmp net.duties net.departures → AreByReport net.departures net.by_report → ((d : Duty) → Member net.duties d → IsSound d) → (n : ℕ) → AreApart net (n + 1) n
-apart-last net departs ordered sound n i g d h at there m waits = no-waiting net departs ordered i n g d (omega (arith, h)) at there (sound d m) waits
 
 module _ {V : Type 0} (w : Ways V) (rest : V → V) (count : V → ℤ) (ready arrived : ℕ → V → Type 0) (most : Option ℕ) (duties : ℕ) (t t' : Tabled V)
     (stays : (link : Link) → leads_of t link ≡ true → (leads_of t' link ≡ true) × (trail_of t' link ≡ trail_of t link))

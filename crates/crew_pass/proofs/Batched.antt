@@ -1,17 +1,16 @@
--- Departures that report within the least rest after a first one: none waits on another's duties.
+-- Departures that report within the least rest after a first one.
 use Rattle.std.proofs.Common.{◌≡◌, ◌<◌, ◌≤◌, ◌+◌, ℕ, ℤ, pos, true, length, Some, sym, arith, subst, w64, to_z, of_z}
-use Rattle.std.specs.Prelude.{slice_get, int_le, ◌≤ℤ◌, ◌-ℤ◌}
+use Rattle.std.specs.Prelude.{slice_get, int_le, ◌≤ℤ◌, ◌<ℤ◌, ◌-ℤ◌}
 use Rattle.std.proofs.lemmas.Bool.{and_parts}
 use Rattle.std.proofs.lemmas.Int.{ints}
 use Rattle.crew_net.specs.Events.{AreEvents, departure_cmp}
 use Rattle.crew_net.specs.Machinery.Moments.{IsReal}
 use Rattle.crew_net.specs.Nets.{AreByReport, Net}
-use Rattle.crew_pairing.specs.Events.{IsSound, departure_of}
-use Rattle.crew_pairing.specs.declared.duty.Duty.{Duty}
+use Rattle.crew_pairing.specs.Events.{departure_of, may_wait}
+use Rattle.crew_pairing.specs.declared.events.Arrival.{Arrival}
 use Rattle.crew_pairing.specs.declared.events.Departure.{Departure}
-use Rattle.crew_resource.specs.Members.{Member}
 use Rattle.crew_pass.specs.Machinery.Numbered.{in_order}
-use Rattle.crew_pass.specs.Machinery.Passing.{AreApart}
+use Rattle.crew_pass.specs.Machinery.Passing.{IsClose}
 use Rattle.crew_pass.proofs.Orders.{in-order-at, in-order-long}
 use Rattle.crew_pass.proofs.Slices.{stands}
 
@@ -30,9 +29,15 @@ whole minute real =
 soon : (report first : ℤ) → report ≤ℤ first → (report -ℤ first) ≤ℤ pos 599
 soon report first h = grind (arith, ints)
 
--- a report within the least rest after the first has no rest after a release that is no earlier
-unrested : (first to report release : ℤ) → (to -ℤ first) ≤ℤ pos 599 → first ≤ℤ report → pos 0 ≤ℤ (release -ℤ report) → int_le (pos 600) (to -ℤ release) ≡ true → ⊥
-unrested first to report release p q r s = grind (arith, ints)
+-- what a departure waits on within it is released before it
+pub rested-before : (upto report release : ℤ) → (report -ℤ upto) ≤ℤ pos 599 → int_le (pos 600) (report -ℤ release) ≡ true → release <ℤ upto
+rested-before upto report release p q = grind (arith, ints)
+
+-- so of a departure that is close
+pub close-early : (net : Net) (upto : ℤ) (turn : ℕ) (g : Departure) → IsClose net upto turn → slice_get (in_order net) turn ≡ Some g → (x : Arrival) → may_wait net.settings x g ≡ true → x.release <ℤ upto
+close-early net upto turn g close at x waits =
+    let rest = and_parts _ _ (and_parts _ _ waits).1 in
+    rested-before upto g.report x.release (close g at).1 rest.0
 
 module _ (net : Net) (departs : AreEvents departure_of departure_cmp net.duties net.departures) (ordered : AreByReport net.departures net.by_report) where
   -- no report before a lesser one
@@ -56,12 +61,14 @@ module _ (net : Net) (departs : AreEvents departure_of departure_cmp net.duties 
       let r = rising i from g f.0 (omega (arith, h)) here f.1 in
       soon g.report first (subst (λ m. g.report ≤ℤ m) (sym e) r)
 
-  -- none of them waits on a duty that leaves at the first's turn or later
-  pub close-apart : ((d : Duty) → Member net.duties d → IsSound d) → (from many : ℕ) (first : ℤ) → from < length net.by_report
-      → ((g : Departure) → slice_get (in_order net) from ≡ Some g → first ≡ g.report) → AreClose net first many → (turn : ℕ) → from ≤ turn → AreApart net many turn
-  close-apart sound from many first within exact close turn after i g d h here there m waits =
-      let rest = and_parts _ _ (and_parts _ _ waits).1 in
+  -- each of them is close to the first
+  pub close-turn : (from many : ℕ) (first : ℤ) → from < length net.by_report → ((g : Departure) → slice_get (in_order net) from ≡ Some g → first ≡ g.report) → AreClose net first many
+      → (turn : ℕ) → from ≤ turn → turn < many → IsClose net first turn
+  close-turn from many first within exact close turn after before g here =
       let f = stands-at from within in
-      let e = exact f.0 f.1 in
-      let r = rising from turn f.0 (departure_of d) after f.1 there in
-      unrested first g.report d.report d.release (close i g h here) (subst (λ m. m ≤ℤ d.report) (sym e) r) (sound d m).elapsed rest.0
+      let r = rising from turn f.0 g after f.1 here in
+      (subst (λ m. m ≤ℤ g.report) (sym (exact f.0 f.1)) r, close turn g before here)
+
+  -- no later departure reports before one
+  pub later : (from : ℕ) (g : Departure) → slice_get (in_order net) from ≡ Some g → (i : ℕ) (h : Departure) → from ≤ i → slice_get (in_order net) i ≡ Some h → g.report ≤ℤ h.report
+  later from g at i h after here = rising from i g h after at here

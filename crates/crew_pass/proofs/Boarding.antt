@@ -1,6 +1,6 @@
 -- The duties of one departure get their fronts, one after another.
 use Rattle.std.proofs.Common.{◌≡◌, ◌∙◌, ◌<◌, ◌≤◌, ◌+◌, ◌++◌, ◌⊎◌, ℕ, zero, suc, Bool, true, false, cond, List, [], ◌∷◌, Option, Some, ℤ, pos, length, map, set, take, get_or, inl, inr, refl, sym, ap, subst, ⊎_elim, arith, length-append}
-use Rattle.std.specs.Prelude.{slice_get}
+use Rattle.std.specs.Prelude.{slice_get, ◌≤ℤ◌}
 use Rattle.std.proofs.lemmas.Bool.Decides.{eqb_tells}
 use Rattle.std.proofs.lemmas.List.{get_or_append_left, length-map, map-append, take_all, take_more}
 use Rattle.std.proofs.Math.Seq.{get_or-append_seam}
@@ -15,15 +15,15 @@ use Rattle.crew_pairing.specs.Events.{departure_of}
 use Rattle.crew_pairing.specs.declared.duty.Duty.{Duty}
 use Rattle.crew_pairing.specs.declared.events.Departure.{Departure}
 use Rattle.crew_resource.specs.Members.{Each, Member}
-use Rattle.crew_resource.proofs.Members.{Member-append, Member-append_left, Member-append_right, Member-get}
+use Rattle.crew_resource.proofs.Members.{Member-append, Member-get}
 use Rattle.crew_label.proofs.RisingLists.{each-member}
 use Rattle.crew_pass.specs.Machinery.Held.{AreHeld, trail_of}
 use Rattle.crew_pass.specs.Machinery.Numbered.{departure_at, in_order}
-use Rattle.crew_pass.specs.Machinery.Passing.{AreApart, AreFront, AreMade, IsMade, IsPassable, IsTakenIn, IsUnderWay, Ways, ranks_at}
+use Rattle.crew_pass.specs.Machinery.Passing.{AreFront, AreMade, IsMade, IsPassable, IsUnderWay, Ways, ranks_at}
 use Rattle.crew_pass.proofs.Fronts.{done-same, front-more}
 use Rattle.crew_pass.proofs.Numbers.{departure-itself, same-departure}
 use Rattle.crew_pass.proofs.Orders.{in-order-distinct, in-order-of}
-use Rattle.crew_pass.proofs.Slices.{get-at, map-get, places-out, ranks-in, ranks-out, some-same}
+use Rattle.crew_pass.proofs.Slices.{get-at, map-get, member-got, places-out, ranks-in, ranks-out, some-same}
 
 Rises : List ℕ → Type 0
 Rises [] = Unit {0}
@@ -51,75 +51,67 @@ rising-apart (x ∷ xs) h (suc i) l (inl e) =
     omega (arith, less, e)
 rising-apart (x ∷ xs) h (suc i) l (inr m) = rising-apart xs h.1 i (omega (arith, l)) m
 
-module _ {V : Type 0} (w : Ways V) (count : V → ℤ) (ready arrived : ℕ → V → Type 0) (most : Option ℕ) (net : Net) (base turns places : List ℕ) (passable : IsPassable net turns places)
-    (t : Tabled V) (turn place : ℕ) (g : Departure) (apart : AreApart net (length t.pools) turn) (at : slice_get net.by_report turn ≡ Some place) (there : slice_get net.departures place ≡ Some g)
+module _ (net : Net) (turns : List ℕ) (passable : IsPassable net turns) (turn place : ℕ) (g : Departure) (at : slice_get net.by_report turn ≡ Some place) (there : slice_get net.departures place ≡ Some g)
     (ranks : List ℕ) (is : ranks ≡ ranks_where (leaves_at g) net.duties) where
-  abbrev pub So : ℕ → ℕ → Type 0
-  So i q = (get_or turns q 0 < turn) ⊎ Member (take i ranks) q
-
-  abbrev pub Passed : List (List (Label V)) → List (List (Label V)) → (ℕ → Type 0) → Type 0
-  Passed fronts held Done = IsUnderWay w count ready arrived most net base turns t fronts held Done
-
   here : slice_get (in_order net) turn ≡ Some g
   here = in-order-of net passable.departs passable.ordered turn place g at there
 
-  leaves : (q : ℕ) → Member ranks q → (d : Duty) × (slice_get net.duties q ≡ Some d) × (get_or turns q 0 ≡ turn)
+  leaves : (q : ℕ) → Member ranks q → (d : Duty) × (slice_get net.duties q ≡ Some d) × (get_or turns q 0 ≡ turn) × (g ≡ departure_of d)
   leaves q m =
       let d = ranks-out (leaves_at g) net.duties q (subst (λ (rs : List ℕ). Member rs q) is m) in
       let same : g ≡ departure_of d.0 = same-departure g (departure_of d.0) d.2 in
-      (d.0, d.1, in-order-distinct net passable.departs passable.ordered (get_or turns q 0) turn (departure_of d.0) (passable.are_turns.exact q d.0 d.1) (here ∙ ap Some same))
+      (d.0, d.1, in-order-distinct net passable.departs passable.ordered (get_or turns q 0) turn (departure_of d.0) (passable.are_turns.exact q d.0 d.1) (here ∙ ap Some same), same)
 
-  pub rank-known : (i : ℕ) → i < length ranks → (d : Duty) × (slice_get net.duties (get_or ranks i 0) ≡ Some d) × (get_or turns (get_or ranks i 0) 0 ≡ turn)
+  pub rank-known : (i : ℕ) → i < length ranks → (d : Duty) × (slice_get net.duties (get_or ranks i 0) ≡ Some d) × (get_or turns (get_or ranks i 0) 0 ≡ turn) × (g ≡ departure_of d)
   rank-known i h = leaves (get_or ranks i 0) (Member-get ranks i 0 h)
 
-  pub none-boarded : (fronts held : List (List (Label V))) → Passed fronts held (λ q. get_or turns q 0 < turn) → Passed fronts held (So 0)
-  none-boarded fronts held way = done-same w count ready arrived most net base turns places t fronts held (λ q. get_or turns q 0 < turn) (So 0)
-      (λ q d known h. inl h) (λ q d known. ⊎_elim (λ h. h) (λ m. absurd m)) way
+  module _ {V : Type 0} (w : Ways V) (count : V → ℤ) (ready arrived : ℕ → V → Type 0) (most : Option ℕ) (base : List ℕ) (t : Tabled V) (held : List (List (Label V))) (upto : ℤ) where
+    abbrev pub So : ℕ → ℕ → Type 0
+    So i q = (get_or turns q 0 < turn) ⊎ Member (take i ranks) q
 
-  new : (i : ℕ) → i < length ranks → So i (get_or ranks i 0) → ⊥
-  new i h = ⊎_elim
-      (λ l. let k = (rank-known i h).2 in omega (arith, l, k))
-      (λ m. rising-apart ranks (subst (λ (rs : List ℕ). Rises rs) (sym is) (places-rise 0 (leaves_at g) net.duties)) i h m)
+    abbrev pub Passed : List (List (Label V)) → (ℕ → Type 0) → Type 0
+    Passed fronts Done = IsUnderWay w count ready arrived most net base turns t fronts held upto Done
 
-  pub one-boarded : (i : ℕ) → i < length ranks → (fronts held now after : List (List (Label V))) (front pool : List (Label V)) → get_or t.pools turn [] ≡ pool → Passed fronts held (So i)
-      → now ≡ set fronts (get_or ranks i 0) front
-      → IsTakenIn w.below w.same count arrived most (length net.duties) t front (get_or places (get_or ranks i 0) 0) held after
-      → ((d : Duty) → slice_get net.duties (get_or ranks i 0) ≡ Some d → AreFront w (trail_of t) d (get_or ranks i 0) pool front)
-      → ArePoolOf w.below w.same (trail_of t) (map (shown (trail_of t)) front) front → AreHeld count arrived most (length net.duties) t front
-      → Passed now after (So (i + 1))
-  one-boarded i h fronts held now after front pool pooled way is-now taken local itself held-front =
-      let rank = get_or ranks i 0 in
-      let d = rank-known i h in
-      let own : get_or t.pools (get_or turns rank 0) [] ≡ pool = ap (λ n. get_or t.pools n []) d.2 ∙ pooled in
-      let alone : AreApart net (length t.pools) (get_or turns rank 0) = subst (λ n. AreApart net (length t.pools) n) (sym d.2) apart in
-      let more = take_more ranks i 0 h in
-      subst (λ (fs : List (List (Label V))). Passed fs after (So (i + 1))) (sym is-now)
-      (done-same w count ready arrived most net base turns places t (set fronts rank front) after (λ q. So i q ⊎ (q ≡ rank)) (So (i + 1))
-      (λ q e known. ⊎_elim {C = So (i + 1) q}
-      (⊎_elim {C = So (i + 1) q} inl (λ m. inr (subst (λ (rs : List ℕ). Member rs q) (sym more) (Member-append_left (take i ranks) (rank ∷ []) q m))))
-      (λ s. inr (subst (λ (rs : List ℕ). Member rs q) (sym more) (Member-append_right (take i ranks) (rank ∷ []) q (inl (sym s))))))
-      (λ q e known. ⊎_elim {C = So i q ⊎ (q ≡ rank)} (λ l. inl (inl l))
-      (λ m. ⊎_elim {C = So i q ⊎ (q ≡ rank)} (λ k. inl (inr k)) (λ k. ⊎_elim {C = So i q ⊎ (q ≡ rank)} (λ s. inr (sym s)) (λ z. absurd z) k)
-      (Member-append (take i ranks) (rank ∷ []) q (subst (λ (rs : List ℕ). Member rs q) more m))))
-      (front-more w count ready arrived most net base turns places passable t fronts held (So i) way rank d.0 d.1 (new i h) alone front after taken
-      (subst (λ (ls : List (Label V)). AreFront w (trail_of t) d.0 rank ls front) (sym own) (local d.0 d.1)) itself held-front))
+    pub none-boarded : (fronts : List (List (Label V))) → Passed fronts (λ q. get_or turns q 0 < turn) → Passed fronts (So 0)
+    none-boarded fronts way = done-same w count ready arrived most net base turns t fronts held upto (λ q. get_or turns q 0 < turn) (So 0) (λ q d known. ⊎_elim (λ h. h) (λ m. absurd m)) way
 
-  pub all-boarded : (i : ℕ) (fronts held : List (List (Label V))) → length ranks ≤ i → Passed fronts held (So i) → Passed fronts held (λ q. get_or turns q 0 < turn + 1)
-  all-boarded i fronts held all way =
-      let whole = take_all i ranks all in
-      done-same w count ready arrived most net base turns places t fronts held (So i) (λ q. get_or turns q 0 < turn + 1)
-      (λ q d known. ⊎_elim {C = get_or turns q 0 < turn + 1}
-      (λ l. omega (arith, l))
-      (λ m. let k = (leaves q (subst (λ (rs : List ℕ). Member rs q) whole m)).2 in omega (arith, k)))
-      (λ q d known l. ⊎_elim {C = So i q}
-      (λ same.
-      let is-at : get_or turns q 0 ≡ turn = same.1 in
-      let equal : g ≡ departure_of d = some-same (slice_get (in_order net) turn) g (departure_of d) here (ap (slice_get (in_order net)) (sym is-at) ∙ passable.are_turns.exact q d known) in
-      let passes = subst (λ (z : Departure). leaves_at z d ≡ true) (sym equal) (departure-itself (departure_of d)) in
-      inr (subst (λ (rs : List ℕ). Member rs q) (sym whole) (subst (λ (rs : List ℕ). Member rs q) (sym is) (ranks-in (leaves_at g) net.duties q d known passes))))
-      (λ ne. let k = ne.1 in inl (omega (arith, k, l)))
-      (eqb_tells (get_or turns q 0) turn))
-      way
+    new : (i : ℕ) → i < length ranks → So i (get_or ranks i 0) → ⊥
+    new i h = ⊎_elim
+        (λ l. let k = (rank-known i h).2 in omega (arith, l, k))
+        (λ m. rising-apart ranks (subst (λ (rs : List ℕ). Rises rs) (sym is) (places-rise 0 (leaves_at g) net.duties)) i h m)
+
+    pub one-boarded : (i : ℕ) → i < length ranks → upto ≤ℤ g.report → (fronts now : List (List (Label V))) (front pool : List (Label V)) → get_or t.pools turn [] ≡ pool → Passed fronts (So i)
+        → now ≡ set fronts (get_or ranks i 0) front
+        → IsMade w count arrived most net t pool (get_or ranks i 0) front
+        → Passed now (So (i + 1))
+    one-boarded i h late fronts now front pool pooled way is-now made =
+        let rank = get_or ranks i 0 in
+        let d = rank-known i h in
+        let turn-is : get_or turns rank 0 ≡ turn = d.2 in
+        let own : get_or t.pools (get_or turns rank 0) [] ≡ pool = ap (λ n. get_or t.pools n []) turn-is ∙ pooled in
+        let reports : upto ≤ℤ d.0.report = subst (λ (z : Departure). upto ≤ℤ z.report) d.3 late in
+        let more = take_more ranks i 0 h in
+        subst (λ (fs : List (List (Label V))). Passed fs (So (i + 1))) (sym is-now)
+        (done-same w count ready arrived most net base turns t (set fronts rank front) held upto (λ q. So i q ⊎ (q ≡ rank)) (So (i + 1))
+        (λ q e known. ⊎_elim {C = So i q ⊎ (q ≡ rank)} (λ l. inl (inl l))
+        (λ m. ⊎_elim {C = So i q ⊎ (q ≡ rank)} (λ k. inl (inr k)) (λ k. ⊎_elim {C = So i q ⊎ (q ≡ rank)} (λ s. inr (sym s)) (λ z. absurd z) k)
+        (Member-append (take i ranks) (rank ∷ []) q (subst (λ (rs : List ℕ). Member rs q) more m))))
+        (front-more w count ready arrived most net base turns t fronts held upto (So i) way rank d.0 d.1 (passable.sound d.0 (member-got net.duties rank d.0 d.1)) reports (new i h) front
+        (subst (λ (ls : List (Label V)). AreFront w (trail_of t) d.0 rank ls front) (sym own) (made.local d.0 d.1)) made.itself made.held))
+
+    pub all-boarded : (i : ℕ) (fronts : List (List (Label V))) → length ranks ≤ i → Passed fronts (So i) → Passed fronts (λ q. get_or turns q 0 < turn + 1)
+    all-boarded i fronts all way =
+        let whole = take_all i ranks all in
+        done-same w count ready arrived most net base turns t fronts held upto (So i) (λ q. get_or turns q 0 < turn + 1)
+        (λ q d known l. ⊎_elim {C = So i q}
+        (λ same.
+        let is-at : get_or turns q 0 ≡ turn = same.1 in
+        let equal : g ≡ departure_of d = some-same (slice_get (in_order net) turn) g (departure_of d) here (ap (slice_get (in_order net)) (sym is-at) ∙ passable.are_turns.exact q d known) in
+        let passes = subst (λ (z : Departure). leaves_at z d ≡ true) (sym equal) (departure-itself (departure_of d)) in
+        inr (subst (λ (rs : List ℕ). Member rs q) (sym whole) (subst (λ (rs : List ℕ). Member rs q) (sym is) (ranks-in (leaves_at g) net.duties q d known passes))))
+        (λ ne. let k = ne.1 in inl (omega (arith, k, l)))
+        (eqb_tells (get_or turns q 0) turn))
+        way
 
 -- the ranks of the duties that leave at a turn are those of its departure
 pub ranks-at : (net : Net) (turn place : ℕ) (g : Departure) → slice_get net.by_report turn ≡ Some place → slice_get net.departures place ≡ Some g → ranks_where (leaves_at g) net.duties ≡ ranks_at net turn

@@ -1,6 +1,6 @@
 -- A pass that is over is a covered one, by key.
-use Rattle.std.proofs.Common.{◌≡◌, ◌∙◌, ◌<◌, ◌≤◌, ◌++◌, ℕ, zero, suc, cond, List, [], ◌∷◌, Option, Some, None, ℤ, length, map, get_or, inl, inr, refl, sym, ap, subst, ⊎_elim, arith}
-use Rattle.std.specs.Prelude.{slice_get}
+use Rattle.std.proofs.Common.{◌≡◌, ◌∙◌, ◌<◌, ◌≤◌, ◌++◌, ℕ, zero, suc, true, cond, List, [], ◌∷◌, Option, Some, None, ℤ, length, map, get_or, inl, inr, refl, sym, ap, subst, ⊎_elim, arith}
+use Rattle.std.specs.Prelude.{slice_get, ◌<ℤ◌}
 use Rattle.std.specs.Ordering.{eq_by_cmp}
 use Rattle.std.proofs.lemmas.Option.{cond_some}
 use Rattle.crew_answers.specs.Schedules.{schedule_of}
@@ -13,7 +13,7 @@ use Rattle.crew_label.specs.declared.label.Label.{Label}
 use Rattle.crew_label.specs.declared.label.Link.{Link}
 use Rattle.crew_label.proofs.RisingLists.{each-append}
 use Rattle.crew_net.specs.Nets.{Net}
-use Rattle.crew_pairing.specs.Events.{arrival_of, departure_of}
+use Rattle.crew_pairing.specs.Events.{arrival_of, departure_of, may_wait}
 use Rattle.crew_pairing.specs.Keys.{walk_at_most}
 use Rattle.crew_pairing.specs.Legs.{Leg}
 use Rattle.crew_pairing.specs.declared.duty.Duty.{Duty}
@@ -37,8 +37,8 @@ use Rattle.crew_pass.proofs.Orders.{arrivals-distinct, in-order-distinct, in-ord
 use Rattle.crew_pass.proofs.Slices.{member-got, member-place, past-none}
 use Rattle.crew_pass.proofs.Waiting.{covering}
 
-module _ {V : Type 0} (w : Ways V) (count : V → ℤ) (ready arrived : ℕ → V → Type 0) (most : Option ℕ) (net : Net) (base turns places : List ℕ) (passable : IsPassable net turns places)
-    (t : Tabled V) (fronts held : List (List (Label V))) (passed : HasPassed w count ready arrived most net base turns t fronts held) where
+module _ {V : Type 0} (w : Ways V) (count : V → ℤ) (ready arrived : ℕ → V → Type 0) (most : Option ℕ) (net : Net) (base turns : List ℕ) (passable : IsPassable net turns)
+    (t : Tabled V) (fronts held : List (List (Label V))) (upto : ℤ) (passed : HasPassed w count ready arrived most net base turns t fronts held upto) where
   abbrev trail : Link → List ℕ
   trail = trail_of t
 
@@ -125,30 +125,30 @@ module _ {V : Type 0} (w : Ways V) (count : V → ℤ) (ready arrived : ℕ → 
 
   module _ (x : Arrival) where
     abbrev Cand : V → List ℕ → Type 0
-    Cand = Arrives net trail fronts (λ rank. get_or turns rank 0 < length t.pools) x
+    Cand = Arrives net trail fronts x
 
     arrives-ranked : (v : V) (k : List ℕ) → Cand v k → Each (λ rank. rank < n) k
-    arrives-ranked v k c = ranked-in fronts arrived passed.way.fronts_arrived c.0 v k c.5
+    arrives-ranked v k c = ranked-in fronts arrived passed.way.kept.held c.0 v k c.4
 
     arrives-to : (v : V) (k : List ℕ) → Cand v k → Arriving over front-of x v (keys net.duties k)
     arrives-to v k c =
-        let p = rank-place net.duties passable.rise c.0 c.1 c.3 in
-        (c.1, member-got net.duties c.0 c.1 c.3, c.4, subst (λ m. Member (by (shows fronts m)) (v, keys net.duties k)) (sym p) (Member-map_in (keyed net.duties) (shows fronts c.0) (v, k) c.5))
+        let p = rank-place net.duties passable.rise c.0 c.1 c.2 in
+        (c.1, member-got net.duties c.0 c.1 c.2, c.3, subst (λ m. Member (by (shows fronts m)) (v, keys net.duties k)) (sym p) (Member-map_in (keyed net.duties) (shows fronts c.0) (v, k) c.4))
 
     arrives-from : (v : V) (k : List (List Leg)) → Arriving over front-of x v k → (l : List ℕ) × Cand v l × (keys net.duties l ≡ k)
     arrives-from v k c =
         let r = member-place net.duties c.0 c.1 in
         let p = rank-place net.duties passable.rise r.0 c.0 r.1 in
         let e = unkeyed (shows fronts r.0) v k (subst (λ m. Member (by (shows fronts m)) (v, k)) p c.3) in
-        (e.0, (r.0, c.0, turn-within r.0 c.0 r.1, r.1, c.2, e.1), e.2)
+        (e.0, (r.0, c.0, r.1, c.2, e.1), e.2)
 
     abbrev Goal : Type 0
     Goal = Covers w.below w.same ranks_at_most (λ v k. Member (shows held (arrival_place net.arrivals x)) (v, k)) Cand
 
     nothing-there : slice_get net.arrivals (arrival_place net.arrivals x) ≡ None → (v : V) (k : List ℕ) → Cand v k → ⊥
     nothing-there none v k c =
-        let there = passable.arrives.every c.1 (member-got net.duties c.0 c.1 c.3) in
-        let at = at-arrival net.arrivals x (subst (λ (z : Arrival). Member net.arrivals z) c.4 there) in
+        let there = passable.arrives.every c.1 (member-got net.duties c.0 c.1 c.2) in
+        let at = at-arrival net.arrivals x (subst (λ (z : Arrival). Member net.arrivals z) c.3 there) in
         (let bad : None ≡ Some x = sym none ∙ at in let q : ⊥ = (cc) in q)
 
     none-held : slice_get net.arrivals (arrival_place net.arrivals x) ≡ None → shows held (arrival_place net.arrivals x) ≡ []
@@ -162,17 +162,18 @@ module _ {V : Type 0} (w : Ways V) (count : V → ℤ) (ready arrived : ℕ → 
             past (y ∷ ys) zero h = absurd (let q : ⊥ = (cc) in q)
             past (y ∷ ys) (suc p) h = let k = past ys p h in omega (arith, k)
 
-    by-place : (o : Option Arrival) → slice_get net.arrivals (arrival_place net.arrivals x) ≡ o → Goal
-    by-place None none = record {
+    by-place : x.release <ℤ upto → (o : Option Arrival) → slice_get net.arrivals (arrival_place net.arrivals x) ≡ o → Goal
+    by-place before None none = record {
       part = λ v k m. absurd (subst (λ (es : List (V × List ℕ)). Member es (v, k)) (none-held none) m);
       under = λ v k c. absurd (nothing-there none v k c);
     }
-    by-place (Some y) at =
+    by-place before (Some y) at =
         let same = arrival-at net.arrivals x y at in
-        covering w trail Cand (get_or held (arrival_place net.arrivals x) []) (passed.way.gathered (arrival_place net.arrivals x) x (at ∙ ap (λ (z : Arrival). Some z) same))
+        covering w trail Cand (get_or held (arrival_place net.arrivals x) []) (passed.way.gathered (arrival_place net.arrivals x) x (at ∙ ap (λ (z : Arrival). Some z) same) before)
 
-    arrived-covers : Goal
-    arrived-covers = by-place (slice_get net.arrivals (arrival_place net.arrivals x)) refl
+    arrived-covers : (d : Duty) → Member net.duties d → may_wait net.settings x (departure_of d) ≡ true → Goal
+    arrived-covers d known waits =
+        by-place (passed.way.early (departure_place (in_order net) (departure_of d)) (departure_of d) x (place-within d known) (leaves-at d known) waits) (slice_get net.arrivals (arrival_place net.arrivals x)) refl
 
   boarded-ranked : (rank : ℕ) (d : Duty) → slice_get net.duties rank ≡ Some d → (e : V × List ℕ) → Member (boarding w d rank (shows t.pools (get_or turns rank 0))) e → Each (λ r. r < n) e.1
   boarded-ranked rank d known e m =
@@ -207,7 +208,7 @@ module _ {V : Type 0} (w : Ways V) (count : V → ℤ) (ready arrived : ℕ → 
           (waits-ranked g) (waits-to g) (waits-from g) (passed.way.pooled i g (place-within d known) (leaves-at d known));
       arrived = λ d x known opens.
           covers-keyed net.duties passable.rise w.below w.same (Cand x) (Arriving over front-of x) (shows held (arrival_place net.arrivals x))
-          (arrives-ranked x) (arrives-to x) (arrives-from x) (arrived-covers x);
+          (arrives-ranked x) (arrives-to x) (arrives-from x) (arrived-covers x d known opens);
       filtered = λ d known. let r = member-place net.duties d known in filtered-by r.0 d r.1;
     };
   }

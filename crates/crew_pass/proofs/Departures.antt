@@ -1,6 +1,6 @@
 -- A departure more in the table of a pass: what led to a label leads there still, and walks stay.
 use Rattle.std.proofs.Common.{◌≡◌, ◌∙◌, ◌<◌, ◌+◌, ◌++◌, ℕ, zero, suc, true, List, [], ◌∷◌, Option, Some, None, ℤ, length, map, get_or, inl, inr, refl, sym, ap, subst, ⊎_elim, arith, length-append}
-use Rattle.std.specs.Prelude.{slice_get}
+use Rattle.std.specs.Prelude.{slice_get, ◌≤ℤ◌, ◌<ℤ◌}
 use Rattle.std.proofs.lemmas.Bool.Decides.{eqb_tells}
 use Rattle.std.proofs.lemmas.List.{get_or_append_left}
 use Rattle.std.proofs.Math.Seq.{get_or-append_seam}
@@ -10,6 +10,8 @@ use Rattle.crew_label.specs.Walks.{Leads, ranks_at_most, shown, walk_of}
 use Rattle.crew_label.specs.declared.label.Label.{Label}
 use Rattle.crew_label.specs.declared.label.Link.{Link}
 use Rattle.crew_net.specs.Nets.{Net}
+use Rattle.crew_pairing.specs.Events.{may_wait}
+use Rattle.crew_pairing.specs.declared.events.Arrival.{Arrival}
 use Rattle.crew_pairing.specs.declared.events.Departure.{Departure}
 use Rattle.crew_resource.specs.Labels.{IsLocal}
 use Rattle.crew_resource.specs.Members.{Member}
@@ -54,8 +56,8 @@ module _ {V : Type 0} (t t' : Tabled V) (stays : (link : Link) → leads_of t li
         let k = h l m in
         record { leading = leads-still l.before k.leading; entry = subst (IsEntry count Bound most duties) (sym (shown-stays l k.leading)) k.entry }
 
-  module _ (w : Ways V) (count : V → ℤ) (ready arrived : ℕ → V → Type 0) (most : Option ℕ) (net : Net) (base turns : List ℕ) (fronts held : List (List (Label V))) (Done : ℕ → Type 0)
-      (way : IsUnderWay w count ready arrived most net base turns t fronts held Done) where
+  module _ (w : Ways V) (count : V → ℤ) (ready arrived : ℕ → V → Type 0) (most : Option ℕ) (net : Net) (base turns : List ℕ) (fronts held : List (List (Label V))) (upto : ℤ) (Done : ℕ → Type 0)
+      (way : IsUnderWay w count ready arrived most net base turns t fronts held upto Done) where
     abbrev n : ℕ
     n = length net.duties
 
@@ -63,7 +65,7 @@ module _ {V : Type 0} (t t' : Tabled V) (stays : (link : Link) → leads_of t li
     held-at q = all-stay count most n arrived (get_or held q []) (at-held count arrived most n t held way.held_arrived q)
 
     front-at : (q : ℕ) → map (shown (trail_of t')) (get_or fronts q []) ≡ map (shown (trail_of t)) (get_or fronts q [])
-    front-at q = all-stay count most n arrived (get_or fronts q []) (at-held count arrived most n t fronts way.fronts_arrived q)
+    front-at q = all-stay count most n arrived (get_or fronts q []) (at-held count arrived most n t fronts way.kept.held q)
 
     waits-to : (g : Departure) (v : V) (k : List ℕ) → Waits w net base (trail_of t) held g v k → Waits w net base (trail_of t') held g v k
     waits-to g v k = ⊎_elim {C = Waits w net base (trail_of t') held g v k} inl (λ c.
@@ -97,11 +99,11 @@ module _ {V : Type 0} (t t' : Tabled V) (stays : (link : Link) → leads_of t li
 
       -- a departure more, with what covers the labels that may stand there
       pub departure-more : (g : Departure) → slice_get (in_order net) (length t.pools) ≡ Some g
+          → ((x : Arrival) → may_wait net.settings x g ≡ true → x.release <ℤ upto)
           → AreCovering w (trail_of t) (Waits w net base (trail_of t) held g) pool → AreHeld count ready most n t pool
-          → IsUnderWay w count ready arrived most net base turns t' fronts held Done
-      departure-more g at covers pool-held = record {
+          → IsUnderWay w count ready arrived most net base turns t' fronts held upto Done
+      departure-more g at soon covers pool-held = record {
         turned = leaves-is ∙ way.turned;
-        fronts_long = way.fronts_long;
         held_long = way.held_long;
         pooled = λ i h l at-i. ⊎_elim {C = AreCovering w (trail_of t') (Waits w net base (trail_of t') held h) (get_or t'.pools i [])}
             (λ s.
@@ -114,16 +116,24 @@ module _ {V : Type 0} (t t' : Tabled V) (stays : (link : Link) → leads_of t li
             let less : i < length t.pools = omega (arith, l, k, longer) in
             covering-still h (get_or t'.pools i []) (get_or t.pools i []) (pool-at i less) (way.pooled i h less at-i))
             (eqb_tells i (length t.pools));
-        gathered = λ q x at-q.
-            let c = way.gathered q x at-q in
+        early = λ i h x l at-i. ⊎_elim {C = may_wait net.settings x h ≡ true → x.release <ℤ upto}
+            (λ s.
+            let is-last : i ≡ length t.pools = s.1 in
+            let same = some-same (slice_get (in_order net) (length t.pools)) g h at (ap (slice_get (in_order net)) (sym is-last) ∙ at-i) in
+            subst (λ (z : Departure). may_wait net.settings x z ≡ true → x.release <ℤ upto) same (soon x))
+            (λ ne. let k = ne.1 in way.early i h x (omega (arith, l, k, longer)) at-i)
+            (eqb_tells i (length t.pools));
+        late = λ i h l at-i. way.late i h (omega (arith, l, longer)) at-i;
+        gathered = λ q x at-q before.
+            let c = way.gathered q x at-q before in
             record {
               listed = c.listed;
               pool = subst (λ (es : List (V × List ℕ)). IsPool w.below w.same ranks_at_most (λ v k. Member c.listed (v, k)) es) (sym (held-at q)) c.pool;
               among = λ v k m.
                   let a = c.among v k m in
-                  (a.0, a.1, a.2, a.3, a.4, subst (λ (es : List (V × List ℕ)). Member es (v, k)) (sym (front-at a.0)) a.5);
+                  (a.0, a.1, a.2, a.3, subst (λ (es : List (V × List ℕ)). Member es (v, k)) (sym (front-at a.0)) a.4);
               every = λ v k a.
-                  c.every v k (a.0, a.1, a.2, a.3, a.4, subst (λ (es : List (V × List ℕ)). Member es (v, k)) (front-at a.0) a.5);
+                  c.every v k (a.0, a.1, a.2, a.3, subst (λ (es : List (V × List ℕ)). Member es (v, k)) (front-at a.0) a.4);
             };
         filtered = λ q d known done.
             let was = reached q done in
@@ -135,13 +145,22 @@ module _ {V : Type 0} (t t' : Tabled V) (stays : (link : Link) → leads_of t li
             (⊎_elim {C = AreHeld count ready most n t' labels} (λ e. held-still count most n ready labels (subst (λ (ls : List (Label V)). AreHeld count ready most n t ls) e pool-held)) (λ z. absurd z))
             (Member-append t.pools (pool ∷ []) labels (subst (λ (ps : List (List (Label V))). Member ps labels) pools-is m));
         held_arrived = λ labels m. held-still count most n arrived labels (way.held_arrived labels m);
-        fronts_arrived = λ labels m. held-still count most n arrived labels (way.fronts_arrived labels m);
+        held_clean = λ labels m.
+            let c = way.held_clean labels m in
+            (c.0, subst (λ (es : List (V × List ℕ)). IsPool w.below w.same ranks_at_most (λ v k. Member c.0 (v, k)) es) (sym (all-stay count most n arrived labels (way.held_arrived labels m))) c.1);
+        kept = record {
+          long = way.kept.long;
+          held = λ labels m. held-still count most n arrived labels (way.kept.held labels m);
+          itself = λ labels m.
+              subst (λ (es : List (V × List ℕ)). IsPool w.below w.same ranks_at_most (λ v k. Member es (v, k)) es) (sym (all-stay count most n arrived labels (way.kept.held labels m))) (way.kept.itself labels m);
+        };
       }
 
 -- before the first departure
-module _ {V : Type 0} (w : Ways V) (count : V → ℤ) (ready arrived : ℕ → V → Type 0) (most : Option ℕ) (net : Net) (base turns : List ℕ) (t : Tabled V) (fronts held : List (List (Label V)))
+module _ {V : Type 0} (w : Ways V) (count : V → ℤ) (ready arrived : ℕ → V → Type 0) (most : Option ℕ) (net : Net) (base turns : List ℕ) (t : Tabled V) (fronts held : List (List (Label V))) (upto : ℤ)
     (leaves-is : t.leaves ≡ turns) (pools-is : t.pools ≡ []) (fronts-long : length fronts ≡ length net.duties) (held-long : length held ≡ length net.arrivals)
-    (fronts-empty : (labels : List (Label V)) → Member fronts labels → labels ≡ []) (held-empty : (labels : List (Label V)) → Member held labels → labels ≡ []) where
+    (fronts-empty : (labels : List (Label V)) → Member fronts labels → labels ≡ []) (held-empty : (labels : List (Label V)) → Member held labels → labels ≡ [])
+    (after : (i : ℕ) (g : Departure) → slice_get (in_order net) i ≡ Some g → upto ≤ℤ g.report) where
   nothing : (Bound : ℕ → V → Type 0) (labels : List (Label V)) → labels ≡ [] → AreHeld count Bound most (length net.duties) t labels
   nothing Bound labels e = subst (λ (ls : List (Label V)). AreHeld count Bound most (length net.duties) t ls) (sym e) (λ l m. absurd m)
 
@@ -153,21 +172,31 @@ module _ {V : Type 0} (w : Ways V) (count : V → ℤ) (ready arrived : ℕ → 
   no-pools : length t.pools ≡ 0
   no-pools = ap length pools-is
 
-  pub none-passed : IsUnderWay w count ready arrived most net base turns t fronts held (λ q. get_or turns q 0 < length t.pools)
+  no-entries : IsPool w.below w.same ranks_at_most (λ v k. Member {X = V × List ℕ} [] (v, k)) []
+  no-entries = record { among = λ v k m. absurd m; covers = λ v k m. absurd m; alone = λ v k x y m. absurd m }
+
+  pub none-passed : IsUnderWay w count ready arrived most net base turns t fronts held upto (λ q. get_or turns q 0 < length t.pools)
   none-passed = record {
     turned = leaves-is;
-    fronts_long = fronts-long;
     held_long = held-long;
     pooled = λ i g h at. absurd (omega (arith, h, no-pools));
-    gathered = λ q x at. record {
+    early = λ i g x h at. absurd (omega (arith, h, no-pools));
+    late = λ i g h at. after i g at;
+    gathered = λ q x at before. record {
       listed = [];
-      pool = subst (λ (ls : List (Label V)). IsPool w.below w.same ranks_at_most (λ v k. Member {X = V × List ℕ} [] (v, k)) (map (shown (trail_of t)) ls)) (sym (none-at held held-empty q))
-          (record { among = λ v k m. absurd m; covers = λ v k m. absurd m; alone = λ v k x y m. absurd m });
+      pool = subst (λ (ls : List (Label V)). IsPool w.below w.same ranks_at_most (λ v k. Member {X = V × List ℕ} [] (v, k)) (map (shown (trail_of t)) ls)) (sym (none-at held held-empty q)) no-entries;
       among = λ v k m. absurd m;
-      every = λ v k a. let done = a.2 in absurd (omega (arith, done, no-pools));
+      every = λ v k a. subst (λ (ls : List (Label V)). Member (map (shown (trail_of t)) ls) (v, k)) (none-at fronts fronts-empty a.0) a.4;
     };
     filtered = λ q d known done. absurd (omega (arith, done, no-pools));
     pools_ready = λ labels m. absurd (subst (λ (ps : List (List (Label V))). Member ps labels) pools-is m);
     held_arrived = λ labels m. nothing arrived labels (held-empty labels m);
-    fronts_arrived = λ labels m. nothing arrived labels (fronts-empty labels m);
+    held_clean = λ labels m.
+        ([], subst (λ (ls : List (Label V)). IsPool w.below w.same ranks_at_most (λ v k. Member {X = V × List ℕ} [] (v, k)) (map (shown (trail_of t)) ls)) (sym (held-empty labels m)) no-entries);
+    kept = record {
+      long = fronts-long;
+      held = λ labels m. nothing arrived labels (fronts-empty labels m);
+      itself = λ labels m.
+          subst (λ (ls : List (Label V)). IsPool w.below w.same ranks_at_most (λ v k. Member (map (shown (trail_of t)) ls) (v, k)) (map (shown (trail_of t)) ls)) (sym (fronts-empty labels m)) no-entries;
+    };
   }

@@ -4,6 +4,8 @@ pub mod Orders
 pub mod DutyTurns
 pub mod Labels
 pub mod Waiting
+pub mod Collected
+pub mod Resting
 pub mod Fronts
 pub mod Boarding
 pub mod Departures
@@ -14,3 +16,4 @@ pub mod Alike
 pub mod Rested
 pub mod Claimed
 pub mod Batched
+pub mod Arriving

@@ -1,31 +1,24 @@
 -- What stands at a departure, arrival by arrival.
-use Rattle.std.proofs.Common.{◌≡◌, ◌∙◌, ◌<◌, ◌≤◌, ◌+◌, ◌++◌, ℕ, Bool, true, false, List, [], Option, Some, ℤ, pos, length, map, get_or, inl, inr, refl, sym, ap, subst, ⊎_elim, arith}
-use Rattle.std.specs.Prelude.{slice_get, int_le, ◌≤ℤ◌, ◌-ℤ◌}
+use Rattle.std.proofs.Common.{◌≡◌, ◌∙◌, ◌<◌, ◌≤◌, ℕ, Bool, true, false, List, [], Option, ℤ, pos, length, map, inl, inr, refl, sym, ap, subst, arith}
+use Rattle.std.specs.Prelude.{int_le, ◌≤ℤ◌, ◌-ℤ◌}
 use Rattle.std.specs.Ordering.{eq_by_cmp}
 use Rattle.std.proofs.lemmas.Bool.{and_parts, false≢true}
-use Rattle.std.proofs.lemmas.Bool.Decides.{eqb_tells}
 use Rattle.std.proofs.lemmas.Int.{ints}
 use Rattle.crew_flights.specs.Codes.{code_cmp}
-use Rattle.crew_label.specs.Pools.{ArePoolOf}
 use Rattle.crew_label.specs.Tables.{Tabled}
 use Rattle.crew_label.specs.Walks.{shown}
 use Rattle.crew_label.specs.declared.label.Label.{Label}
 use Rattle.crew_label.specs.declared.label.Link.{Link}
 use Rattle.crew_label.proofs.Halves.{few_pool}
-use Rattle.crew_net.specs.Events.{IsWindow}
-use Rattle.crew_net.specs.Nets.{Net}
-use Rattle.crew_net.specs.declared.window.Window.{Window}
 use Rattle.crew_pairing.specs.Events.{MayFollow, may_wait}
 use Rattle.crew_pairing.specs.declared.events.Arrival.{Arrival}
 use Rattle.crew_pairing.specs.declared.events.Departure.{Departure}
 use Rattle.crew_rules.specs.declared.settings.Settings.{Settings}
 use Rattle.crew_resource.specs.Members.{Member}
-use Rattle.crew_resource.proofs.Members.{Member-append, Member-append_left, Member-append_right, Member-map_in, Member-map_out}
 use Rattle.crew_resource.proofs.Order.{IsOrder}
 use Rattle.crew_vector.proofs.Orders.{same-code}
 use Rattle.crew_pass.specs.Machinery.Held.{AreHeld, IsHeld}
-use Rattle.crew_pass.specs.Machinery.Passing.{AreCovering, AreGathered, Idles, WaitsUpTo, Ways, idle_labels, waited_entries}
-use Rattle.crew_pass.proofs.Slices.{some-same}
+use Rattle.crew_pass.specs.Machinery.Passing.{AreCovering, AreGathered, Idles, Ways, idle_labels}
 
 rest-most : (most : ℕ) (r : ℤ) → most ≤ 8_280 → int_le r (pos most) ≡ true → r ≤ℤ pos 8_280
 rest-most most r h e = grind (arith, ints)
@@ -50,40 +43,6 @@ module _ {V : Type 0} (w : Ways V) (trail : Link → List ℕ) where
     part = λ v k m. h.among v k (h.pool.among v k m);
     under = λ v k c. h.pool.covers v k (h.every v k c);
   }
-
-  module _ (net : Net) (base : List ℕ) (held : List (List (Label V))) (g : Departure) (window : Window) (is : IsWindow (λ x. may_wait net.settings x g) net.arrivals window) where
-    abbrev pub UpTo : ℕ → V → List ℕ → Type 0
-    UpTo to = WaitsUpTo w net base trail held g window.from to
-
-    -- an arrival more
-    pub one-waits : (at : ℕ) (x : Arrival) (before after : List (Label V)) → window.from ≤ at → at < window.end → slice_get net.arrivals at ≡ Some x
-        → AreGathered w trail (UpTo at) before
-        → ((firsts : List (V × List ℕ)) → ArePoolOf w.below w.same trail firsts before
-        → ArePoolOf w.below w.same trail (firsts ++ waited_entries (λ v. w.wait v x g) (map (shown trail) (get_or held at []))) after)
-        → AreGathered w trail (UpTo (at + 1)) after
-    one-waits at x before after from end here h merged =
-        let more = waited_entries (λ (v : V). w.wait v x g) (map (shown trail) (get_or held at [])) in
-        let waits = (is.exact at x here).1 (from, end) in
-        record {
-          listed = h.listed ++ more;
-          pool = merged h.listed h.pool;
-          among = λ v k m. ⊎_elim {C = UpTo (at + 1) v k}
-              (λ a. ⊎_elim {C = UpTo (at + 1) v k} inl (λ c. let b = c.2 in inr (c.0, c.1, omega (arith, b), c.3)) (h.among v k a))
-              (λ a.
-              let e = Member-map_out (λ (e : V × List ℕ). (w.wait e.0 x g, e.1)) (map (shown trail) (get_or held at [])) (v, k) a in
-              inr (at, from, omega arith, (x, e.0.0, here, waits, subst (λ (z : List ℕ). Member (map (shown trail) (get_or held at [])) (e.0.0, z)) (ap (λ (p : V × List ℕ). p.1) e.2) e.1, sym (ap (λ (p : V × List ℕ). p.0) e.2))))
-              (Member-append h.listed more (v, k) m);
-          every = λ v k. ⊎_elim {C = Member (h.listed ++ more) (v, k)}
-              (λ c. Member-append_left h.listed more (v, k) (h.every v k (inl c)))
-              (λ c. ⊎_elim {C = Member (h.listed ++ more) (v, k)}
-              (λ t.
-              let same : x ≡ c.3.0 = some-same (slice_get net.arrivals at) x c.3.0 here (ap (slice_get net.arrivals) (sym t.1) ∙ c.3.2) in
-              let m = Member-map_in (λ (e : V × List ℕ). (w.wait e.0 x g, e.1)) (map (shown trail) (get_or held at [])) (c.3.1, k) (subst (λ n. Member (map (shown trail) (get_or held n [])) (c.3.1, k)) t.1 c.3.4) in
-              let value : w.wait c.3.1 x g ≡ v = ap (λ (y : Arrival). w.wait c.3.1 y g) same ∙ sym c.3.5 in
-              Member-append_right h.listed more (v, k) (subst (λ (z : V). Member more (z, k)) value m))
-              (λ f. let ne = f.1 in let b = c.2 in Member-append_left h.listed more (v, k) (h.every v k (inr (c.0, c.1, omega (arith, ne, b), c.3))))
-              (eqb_tells c.0 at));
-        }
 
   -- the empty label
   module _ (order : IsOrder w.below) (same_itself : (a : V) → w.same a a ≡ true)

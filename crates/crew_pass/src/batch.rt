@@ -6,7 +6,7 @@ ghost use Rattle.crew_net.specs.Nets.{AreByReport};
 ghost use Rattle.crew_pairing.specs.Events.{departure_of};
 ghost use Rattle.crew_pairing.specs.declared.events.Departure.{Departure};
 ghost use Rattle.crew_pass.specs.Machinery.Numbered.{in_order};
-ghost use Rattle.crew_pass.specs.Machinery.Passing.{AreApart, IsPassable};
+ghost use Rattle.crew_pass.specs.Machinery.Passing.{IsClose, IsPassable};
 
 use crate::ground::Ground;
 use crew_resource::Resource;
@@ -14,8 +14,8 @@ use crew_resource::Resource;
 // The least minutes of rest between a release and the next report.
 const LEAST_REST: i64 = 600;
 
-// The report of the departure at a turn.
-fn report_at<R: Resource>(ground: &Ground<R>, turn: usize) -> i64
+/// The report of the departure at a turn.
+pub(crate) fn report_at<R: Resource>(ground: &Ground<R>, turn: usize) -> i64
     requires departs { AreEvents departure_of departure_cmp ground.now.net.now.duties
         ground.now.net.now.departures }
     requires ordered { AreByReport ground.now.net.now.departures ground.now.net.now.by_report }
@@ -28,15 +28,16 @@ fn report_at<R: Resource>(ground: &Ground<R>, turn: usize) -> i64
     ground.net.departures()[place].report
 }
 
-/// Where the batch that begins at a turn ends: none of the departures before it waits on a duty that
-/// leaves at a turn of the batch.
+/// Where the batch that begins at a turn ends: all departures of it report less than the least rest
+/// after the first, so none of them waits on a duty that leaves with another.
 pub(crate) fn batch_end<R: Resource>(ground: &Ground<R>, from: usize) -> usize
-    requires passable { IsPassable ground.now.net.now ground.now.turns.now ground.now.places.now }
+    requires passable { IsPassable ground.now.net.now ground.now.turns.now }
     requires from { from < length ground.now.net.now.by_report }
     ensures more { from < result }
     ensures most { result ≤ length ground.now.net.now.by_report }
-    ensures apart { (turn : ℕ) → from ≤ turn → turn < result
-        → AreApart ground.now.net.now result turn }
+    ensures close { (turn : ℕ) (g : Departure) → from ≤ turn → turn < result
+        → slice_get (in_order ground.now.net.now) from ≡ Some g
+        → IsClose ground.now.net.now g.report turn }
 {
     let first = report_at(ground, from);
     let count = ground.net.by_report().len();

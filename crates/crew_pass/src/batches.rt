@@ -4,16 +4,17 @@ ghost use Rattle.std.specs.Arc.{arc_value};
 ghost use Rattle.crew_label.specs.declared.label.Label.{Label};
 ghost use Rattle.crew_resource.specs.Members.{Member};
 ghost use Rattle.crew_pass.specs.Machinery.Held.{AreHeld};
-ghost use Rattle.crew_pass.specs.Machinery.Passing.{AreApart, AreMade, AreRestedOf, AreSources, IsBoardable, IsLinked, IsPassable, IsPoolAt, IsUnderWay, ranks_at, ways};
+ghost use Rattle.crew_pass.specs.Machinery.Passing.{AreMade, AreRestedOf, AreSources, IsBoardable, IsClose, IsLinked, IsPassable, IsPoolAt, IsUnderWay, ranks_at, ways};
 ghost use Rattle.crew_pass.specs.Passes.{CountsDuties};
 
+use crate::arrivals::arrive_by_threads;
 use crate::batch::batch_end;
 use crate::boards::{duty_fronts, keep_fronts};
 use crate::claims::map_claimed;
 use crate::ground::{Found, Ground};
-use crate::waits::{pool_at, rest_window};
+use crate::waits::pool_at;
 use crew_forgetful::Lapses;
-use crew_label::{Pool, Room, Table};
+use crew_label::{Pool, Table};
 use crew_pairing::Duty;
 use crew_resource::Resource;
 use std::alloc::{AllocError, Global};
@@ -40,7 +41,7 @@ fn pools_at_once<T: Threads + Sync, R: Lapses<Duty> + Sync>(
 ) -> Result<Pools<R>, AllocError>
 where
     R::Value: Send + Sync,
-    requires passable { IsPassable ground.now.net.now ground.now.turns.now ground.now.places.now }
+    requires passable { IsPassable ground.now.net.now ground.now.turns.now }
     requires counts { CountsDuties R.same_sums (R.count_of ground.now.resource.now)
         (R.most ground.now.resource.now) (R.fits ground.now.resource.now) }
     requires turns { (from ≤ end) × (end ≤ length ground.now.net.now.by_report) }
@@ -60,7 +61,7 @@ where
     let part = |at: usize| -> Result<Arc<Pool<R>, Global>, AllocError>
         requires { (from + at < length ground.now.net.now.by_report)
             × (from + at < 2 ^ 64)
-            × IsPassable ground.now.net.now ground.now.turns.now ground.now.places.now
+            × IsPassable ground.now.net.now ground.now.turns.now
             × CountsDuties R.same_sums (R.count_of ground.now.resource.now)
             (R.most ground.now.resource.now) (R.fits ground.now.resource.now)
             × AreSources (ways R.below R.same_sums (R.idle_of ground.now.resource.now)
@@ -89,7 +90,7 @@ fn fronts_at_once<T: Threads + Sync, R: Lapses<Duty> + Sync>(
 ) -> Result<Fronts<R>, AllocError>
 where
     R::Value: Send + Sync,
-    requires passable { IsPassable ground.now.net.now ground.now.turns.now ground.now.places.now }
+    requires passable { IsPassable ground.now.net.now ground.now.turns.now }
     requires counts { CountsDuties R.same_sums (R.count_of ground.now.resource.now)
         (R.most ground.now.resource.now) (R.fits ground.now.resource.now) }
     requires turns { from ≤ end }
@@ -111,7 +112,7 @@ where
 {
     let part = |at: usize| -> Result<Vec<Arc<Pool<R>, Global>>, AllocError>
         requires { (from + at < 2 ^ 64)
-            × IsPassable ground.now.net.now ground.now.turns.now ground.now.places.now
+            × IsPassable ground.now.net.now ground.now.turns.now
             × CountsDuties R.same_sums (R.count_of ground.now.resource.now)
             (R.most ground.now.resource.now) (R.fits ground.now.resource.now)
             × (table.now.leaves ≡ ground.now.turns.now)
@@ -139,17 +140,19 @@ fn add_pools<R: Lapses<Duty>>(
     from: usize,
     pools: &[Result<Arc<Pool<R>, Global>, AllocError>],
 ) -> Result<(), AllocError>
-    requires passable { IsPassable ground.now.net.now ground.now.turns.now ground.now.places.now }
+    requires passable { IsPassable ground.now.net.now ground.now.turns.now }
     requires counts { CountsDuties R.same_sums (R.count_of ground.now.resource.now)
         (R.most ground.now.resource.now) (R.fits ground.now.resource.now) }
     requires from { length table.old.pools ≡ from }
     requires turns { from + length pools.now ≤ length ground.now.net.now.by_report }
+    requires close { (turn : ℕ) → from ≤ turn → turn < from + length pools.now
+        → IsClose ground.now.net.now found.now.upto turn }
     requires way { IsUnderWay (ways R.below R.same_sums (R.idle_of ground.now.resource.now)
         (R.waited ground.now.resource.now) (R.boards ground.now.resource.now))
         (R.count_of ground.now.resource.now) (R.ready ground.now.resource.now)
         (R.arrived ground.now.resource.now) (R.most ground.now.resource.now) ground.now.net.now
         ground.now.base ground.now.turns.now table.old (map arc_value found.now.fronts.items)
-        found.now.arrivals.items (λ rank. get_or ground.now.turns.now rank 0 < from) }
+        found.now.arrivals.items found.now.upto (λ rank. get_or ground.now.turns.now rank 0 < from) }
     requires rested { AreRestedOf (ways R.below R.same_sums (R.idle_of ground.now.resource.now)
         (R.waited ground.now.resource.now) (R.boards ground.now.resource.now))
         (R.rested_of ground.now.resource.now) (R.count_of ground.now.resource.now)
@@ -167,7 +170,7 @@ fn add_pools<R: Lapses<Duty>>(
         (R.count_of ground.now.resource.now) (R.ready ground.now.resource.now)
         (R.arrived ground.now.resource.now) (R.most ground.now.resource.now) ground.now.net.now
         ground.now.base ground.now.turns.now table.new (map arc_value found.now.fronts.items)
-        found.now.arrivals.items (λ rank. get_or ground.now.turns.now rank 0 < from)) }
+        found.now.arrivals.items found.now.upto (λ rank. get_or ground.now.turns.now rank 0 < from)) }
     ensures rested { OnOk result (AreRestedOf (ways R.below R.same_sums (R.idle_of ground.now.resource.now)
         (R.waited ground.now.resource.now) (R.boards ground.now.resource.now))
         (R.rested_of ground.now.resource.now) (R.count_of ground.now.resource.now)
@@ -190,22 +193,17 @@ fn add_pools<R: Lapses<Duty>>(
 
 // Keeps the fronts of the departures from a turn on, one after another.
 fn keep_all<R: Lapses<Duty>>(
-    alloc: Global,
     ground: &Ground<R>,
     table: &Table<R>,
-    room: &mut Room<R::Value>,
     found: &mut Found<R>,
     from: usize,
     fronts: &[Result<Vec<Arc<Pool<R>, Global>>, AllocError>],
 ) -> Result<(), AllocError>
-    requires passable { IsPassable ground.now.net.now ground.now.turns.now ground.now.places.now }
-    requires counts { CountsDuties R.same_sums (R.count_of ground.now.resource.now)
-        (R.most ground.now.resource.now) (R.fits ground.now.resource.now) }
-    requires turns { from + length fronts.now < 2 ^ 64 }
-    requires boardable { (turn : ℕ) → from ≤ turn → turn < from + length fronts.now
-        → IsBoardable (ways R.below R.same_sums (R.idle_of ground.now.resource.now)
-        (R.waited ground.now.resource.now) (R.boards ground.now.resource.now))
-        ground.now.net.now table.now (turn) }
+    requires passable { IsPassable ground.now.net.now ground.now.turns.now }
+    requires turns { from + length fronts.now ≤ length ground.now.net.now.by_report }
+    requires few { from + length fronts.now < 2 ^ 64 }
+    requires close { (turn : ℕ) → from ≤ turn → turn < from + length fronts.now
+        → IsClose ground.now.net.now found.old.upto turn }
     requires made { (i : ℕ) (d : _) → i < length fronts.now
         → IfOk (slice_index_or fronts.now i d) (λ made. AreMade (ways R.below R.same_sums (R.idle_of ground.now.resource.now)
         (R.waited ground.now.resource.now) (R.boards ground.now.resource.now))
@@ -213,106 +211,58 @@ fn keep_all<R: Lapses<Duty>>(
         (R.most ground.now.resource.now) ground.now.net.now table.now
         (get_or table.now.pools (from + i) []) (ranks_at ground.now.net.now (from + i))
         (map arc_value made.items)) }
-    requires rested { AreRestedOf (ways R.below R.same_sums (R.idle_of ground.now.resource.now)
-        (R.waited ground.now.resource.now) (R.boards ground.now.resource.now))
-        (R.rested_of ground.now.resource.now) (R.count_of ground.now.resource.now)
-        (R.arrived ground.now.resource.now) (R.most ground.now.resource.now)
-        (length ground.now.net.now.duties) table.now found.old.arrivals.items found.old.rested.items }
     requires way { IsUnderWay (ways R.below R.same_sums (R.idle_of ground.now.resource.now)
         (R.waited ground.now.resource.now) (R.boards ground.now.resource.now))
         (R.count_of ground.now.resource.now) (R.ready ground.now.resource.now)
         (R.arrived ground.now.resource.now) (R.most ground.now.resource.now) ground.now.net.now
         ground.now.base ground.now.turns.now table.now (map arc_value found.old.fronts.items)
-        found.old.arrivals.items (λ rank. get_or ground.now.turns.now rank 0 < from) }
+        found.old.arrivals.items found.old.upto (λ rank. get_or ground.now.turns.now rank 0 < from) }
     ensures way { OnOk result (IsUnderWay (ways R.below R.same_sums (R.idle_of ground.now.resource.now)
         (R.waited ground.now.resource.now) (R.boards ground.now.resource.now))
         (R.count_of ground.now.resource.now) (R.ready ground.now.resource.now)
         (R.arrived ground.now.resource.now) (R.most ground.now.resource.now) ground.now.net.now
         ground.now.base ground.now.turns.now table.now (map arc_value found.new.fronts.items)
-        found.new.arrivals.items (λ rank. get_or ground.now.turns.now rank 0 < from + length fronts.now)) }
-    ensures rested { OnOk result (AreRestedOf (ways R.below R.same_sums (R.idle_of ground.now.resource.now)
-        (R.waited ground.now.resource.now) (R.boards ground.now.resource.now))
-        (R.rested_of ground.now.resource.now) (R.count_of ground.now.resource.now)
-        (R.arrived ground.now.resource.now) (R.most ground.now.resource.now)
-        (length ground.now.net.now.duties) table.now found.new.arrivals.items found.new.rested.items) }
+        found.old.arrivals.items found.old.upto
+        (λ rank. get_or ground.now.turns.now rank 0 < from + length fronts.now)) }
+    ensures arrivals { OnOk result (found.new.arrivals ≡ found.old.arrivals) }
+    ensures rested { OnOk result (found.new.rested ≡ found.old.rested) }
+    ensures upto { OnOk result (found.new.upto ≡ found.old.upto) }
 {
     for (at, made) in fronts.iter().enumerate() {
         let Ok(made) = made else {
             return Err(AllocError);
         };
-        keep_fronts(alloc, ground, table, room, found, from + at, made)?;
-    }
-    Ok(())
-}
-
-// Makes what rests go by in the windows of the departures from a turn on, up to another, where it
-// isn't made already.
-fn rest_batch<R: Lapses<Duty>>(
-    alloc: Global,
-    ground: &Ground<R>,
-    table: &Table<R>,
-    found: &mut Found<R>,
-    from: usize,
-    end: usize,
-) -> Result<(), AllocError>
-    requires passable { IsPassable ground.now.net.now ground.now.turns.now ground.now.places.now }
-    requires counts { CountsDuties R.same_sums (R.count_of ground.now.resource.now)
-        (R.most ground.now.resource.now) (R.fits ground.now.resource.now) }
-    requires turns { end ≤ length ground.now.net.now.by_report }
-    requires way { IsUnderWay (ways R.below R.same_sums (R.idle_of ground.now.resource.now)
-        (R.waited ground.now.resource.now) (R.boards ground.now.resource.now))
-        (R.count_of ground.now.resource.now) (R.ready ground.now.resource.now)
-        (R.arrived ground.now.resource.now) (R.most ground.now.resource.now) ground.now.net.now
-        ground.now.base ground.now.turns.now table.now (map arc_value found.old.fronts.items)
-        found.old.arrivals.items (λ rank. get_or ground.now.turns.now rank 0 < from) }
-    requires rested { AreRestedOf (ways R.below R.same_sums (R.idle_of ground.now.resource.now)
-        (R.waited ground.now.resource.now) (R.boards ground.now.resource.now))
-        (R.rested_of ground.now.resource.now) (R.count_of ground.now.resource.now)
-        (R.arrived ground.now.resource.now) (R.most ground.now.resource.now)
-        (length ground.now.net.now.duties) table.now found.old.arrivals.items found.old.rested.items }
-    ensures arrivals { OnOk result (found.new.arrivals ≡ found.old.arrivals) }
-    ensures fronts { OnOk result (found.new.fronts ≡ found.old.fronts) }
-    ensures rested { OnOk result (AreRestedOf (ways R.below R.same_sums (R.idle_of ground.now.resource.now)
-        (R.waited ground.now.resource.now) (R.boards ground.now.resource.now))
-        (R.rested_of ground.now.resource.now) (R.count_of ground.now.resource.now)
-        (R.arrived ground.now.resource.now) (R.most ground.now.resource.now)
-        (length ground.now.net.now.duties) table.now found.old.arrivals.items found.new.rested.items) }
-{
-    for turn in from..end {
-        let place = ground.net.by_report()[turn] as usize;
-        let arrivals = found.arrivals.as_slice();
-        rest_window(alloc, ground, table, arrivals, &mut found.rested, place)?;
+        keep_fronts(ground, table, found, from + at, made)?;
     }
     Ok(())
 }
 
 // The pass goes on by the departures up to a turn, none of which waits on another's duties: their
-// pools, and the fronts of their duties.
+// pools, of arrivals that have theirs, and the fronts of their duties.
 fn pass_batch<T: Threads + Sync, R: Lapses<Duty> + Sync>(
     rt: &T,
     alloc: Global,
     threads: usize,
     ground: &Ground<R>,
     table: &mut Table<R>,
-    room: &mut Room<R::Value>,
     found: &mut Found<R>,
     end: usize,
 ) -> Result<(), AllocError>
 where
     R::Value: Send + Sync,
-    requires passable { IsPassable ground.now.net.now ground.now.turns.now ground.now.places.now }
+    requires passable { IsPassable ground.now.net.now ground.now.turns.now }
     requires counts { CountsDuties R.same_sums (R.count_of ground.now.resource.now)
         (R.most ground.now.resource.now) (R.fits ground.now.resource.now) }
     requires more { length table.old.pools < end }
     requires turns { end ≤ length ground.now.net.now.by_report }
-    requires apart { (turn : ℕ) → length table.old.pools ≤ turn → turn < end
-        → AreApart ground.now.net.now end turn }
+    requires close { (turn : ℕ) → length table.old.pools ≤ turn → turn < end
+        → IsClose ground.now.net.now found.old.upto turn }
     requires way { IsUnderWay (ways R.below R.same_sums (R.idle_of ground.now.resource.now)
         (R.waited ground.now.resource.now) (R.boards ground.now.resource.now))
         (R.count_of ground.now.resource.now) (R.ready ground.now.resource.now)
         (R.arrived ground.now.resource.now) (R.most ground.now.resource.now) ground.now.net.now
         ground.now.base ground.now.turns.now table.old (map arc_value found.old.fronts.items)
-        found.old.arrivals.items (λ rank. get_or ground.now.turns.now rank 0 < length table.old.pools) }
+        found.old.arrivals.items found.old.upto (λ rank. get_or ground.now.turns.now rank 0 < length table.old.pools) }
     requires rested { AreRestedOf (ways R.below R.same_sums (R.idle_of ground.now.resource.now)
         (R.waited ground.now.resource.now) (R.boards ground.now.resource.now))
         (R.rested_of ground.now.resource.now) (R.count_of ground.now.resource.now)
@@ -324,7 +274,7 @@ where
         (R.count_of ground.now.resource.now) (R.ready ground.now.resource.now)
         (R.arrived ground.now.resource.now) (R.most ground.now.resource.now) ground.now.net.now
         ground.now.base ground.now.turns.now table.new (map arc_value found.new.fronts.items)
-        found.new.arrivals.items (λ rank. get_or ground.now.turns.now rank 0 < length table.new.pools)) }
+        found.new.arrivals.items found.new.upto (λ rank. get_or ground.now.turns.now rank 0 < length table.new.pools)) }
     ensures rested { OnOk result (AreRestedOf (ways R.below R.same_sums (R.idle_of ground.now.resource.now)
         (R.waited ground.now.resource.now) (R.boards ground.now.resource.now))
         (R.rested_of ground.now.resource.now) (R.count_of ground.now.resource.now)
@@ -332,7 +282,6 @@ where
         (length ground.now.net.now.duties) table.new found.new.arrivals.items found.new.rested.items) }
 {
     let from = table.len();
-    rest_batch(alloc, ground, table, found, from, end)?;
     let arrivals = found.arrivals.as_slice();
     let rested = found.rested.as_slice();
     let pools = pools_at_once(
@@ -340,7 +289,7 @@ where
     )?;
     add_pools(ground, table, found, from, pools.as_slice())?;
     let fronts = fronts_at_once(rt, alloc, threads, ground, table, from, end)?;
-    keep_all(alloc, ground, table, room, found, from, fronts.as_slice())?;
+    keep_all(ground, table, found, from, fronts.as_slice())?;
     Ok(())
 }
 
@@ -351,12 +300,11 @@ pub(crate) fn pass_next<T: Threads + Sync, R: Lapses<Duty> + Sync>(
     threads: usize,
     ground: &Ground<R>,
     table: &mut Table<R>,
-    room: &mut Room<R::Value>,
     found: &mut Found<R>,
 ) -> Result<(), AllocError>
 where
     R::Value: Send + Sync,
-    requires passable { IsPassable ground.now.net.now ground.now.turns.now ground.now.places.now }
+    requires passable { IsPassable ground.now.net.now ground.now.turns.now }
     requires counts { CountsDuties R.same_sums (R.count_of ground.now.resource.now)
         (R.most ground.now.resource.now) (R.fits ground.now.resource.now) }
     requires most { length table.old.pools ≤ length ground.now.net.now.by_report }
@@ -365,7 +313,7 @@ where
         (R.count_of ground.now.resource.now) (R.ready ground.now.resource.now)
         (R.arrived ground.now.resource.now) (R.most ground.now.resource.now) ground.now.net.now
         ground.now.base ground.now.turns.now table.old (map arc_value found.old.fronts.items)
-        found.old.arrivals.items (λ rank. get_or ground.now.turns.now rank 0 < length table.old.pools) }
+        found.old.arrivals.items found.old.upto (λ rank. get_or ground.now.turns.now rank 0 < length table.old.pools) }
     requires rested { AreRestedOf (ways R.below R.same_sums (R.idle_of ground.now.resource.now)
         (R.waited ground.now.resource.now) (R.boards ground.now.resource.now))
         (R.rested_of ground.now.resource.now) (R.count_of ground.now.resource.now)
@@ -379,7 +327,7 @@ where
         (R.count_of ground.now.resource.now) (R.ready ground.now.resource.now)
         (R.arrived ground.now.resource.now) (R.most ground.now.resource.now) ground.now.net.now
         ground.now.base ground.now.turns.now table.new (map arc_value found.new.fronts.items)
-        found.new.arrivals.items (λ rank. get_or ground.now.turns.now rank 0 < length table.new.pools)) }
+        found.new.arrivals.items found.new.upto (λ rank. get_or ground.now.turns.now rank 0 < length table.new.pools)) }
     ensures rested { OnOk result (AreRestedOf (ways R.below R.same_sums (R.idle_of ground.now.resource.now)
         (R.waited ground.now.resource.now) (R.boards ground.now.resource.now))
         (R.rested_of ground.now.resource.now) (R.count_of ground.now.resource.now)
@@ -390,7 +338,7 @@ where
     if from >= ground.net.by_report().len() {
         return Ok(());
     }
+    arrive_by_threads(rt, alloc, threads, ground, table, found, from)?;
     let end = batch_end(ground, from);
-    pass_batch(rt, alloc, threads, ground, table, room, found, end)?;
-    Ok(())
+    pass_batch(rt, alloc, threads, ground, table, found, end)
 }

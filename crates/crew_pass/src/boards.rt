@@ -5,17 +5,16 @@ ghost use Rattle.crew_label.specs.Boarding.{LeadInto};
 ghost use Rattle.crew_label.specs.Pools.{ArePoolOf};
 ghost use Rattle.crew_label.specs.Walks.{shown};
 ghost use Rattle.crew_label.specs.declared.label.Label.{Label};
-ghost use Rattle.crew_net.specs.Nets.{AreArrivalPlaces};
 ghost use Rattle.crew_pairing.specs.Events.{IsSound};
 ghost use Rattle.crew_pairing.specs.declared.duty.Duty.{Duty};
 ghost use Rattle.crew_resource.specs.Members.{Member};
 ghost use Rattle.crew_pass.specs.Machinery.Held.{AreHeld, leads_of, trail_of};
-ghost use Rattle.crew_pass.specs.Machinery.Passing.{AreFront, AreMade, AreRestedOf, IsBoardable, IsClean, IsPassable, IsTakenIn, IsUnderWay, ranks_at, ways};
+ghost use Rattle.crew_pass.specs.Machinery.Passing.{AreFront, AreMade, IsBoardable, IsClean, IsClose, IsPassable, IsUnderWay, ranks_at, ways};
 ghost use Rattle.crew_pass.specs.Passes.{CountsDuties};
 
 use crate::ground::{Found, Ground};
 use crew_forgetful::Lapses;
-use crew_label::{Pool, Room, Table, front_aboard};
+use crew_label::{Pool, Table, front_aboard};
 use crew_pairing::Duty;
 use std::alloc::{AllocError, Global};
 use std::sync::Arc;
@@ -53,55 +52,6 @@ fn duty_front<R: Lapses<Duty>>(
     front_aboard::<Duty, R, Table<R>>(alloc, ground.resource, table, pool, duty, rank)
 }
 
-// Keeps the front of the duty of a rank, and merges it into the pool of the duty's arrival.
-fn keep_front<R: Lapses<Duty>>(
-    alloc: Global,
-    ground: &Ground<R>,
-    table: &Table<R>,
-    room: &mut Room<R::Value>,
-    found: &mut Found<R>,
-    rank: u32,
-    front: Arc<Pool<R>, Global>,
-) -> Result<(), AllocError>
-    requires places { AreArrivalPlaces ground.now.net.now ground.now.places.now }
-    requires counts { CountsDuties R.same_sums (R.count_of ground.now.resource.now)
-        (R.most ground.now.resource.now) (R.fits ground.now.resource.now) }
-    requires rank { rank < length ground.now.net.now.duties }
-    requires fronts { length found.old.fronts.items ≡ length ground.now.net.now.duties }
-    requires arrivals { length found.old.arrivals.items ≡ length ground.now.net.now.arrivals }
-    requires held { (labels : List (Label R.Value)) → Member found.old.arrivals.items labels
-        → AreHeld (R.count_of ground.now.resource.now) (R.arrived ground.now.resource.now)
-        (R.most ground.now.resource.now) (length ground.now.net.now.duties) table.now labels }
-    requires rested { AreRestedOf (ways R.below R.same_sums
-        (R.idle_of ground.now.resource.now) (R.waited ground.now.resource.now)
-        (R.boards ground.now.resource.now)) (R.rested_of ground.now.resource.now)
-        (R.count_of ground.now.resource.now) (R.arrived ground.now.resource.now)
-        (R.most ground.now.resource.now) (length ground.now.net.now.duties) table.now
-        found.old.arrivals.items found.old.rested.items }
-    requires front { AreHeld (R.count_of ground.now.resource.now)
-        (R.arrived ground.now.resource.now) (R.most ground.now.resource.now)
-        (length ground.now.net.now.duties) table.now (arc_value front) }
-    ensures fronts { OnOk result (map arc_value found.new.fronts.items
-        ≡ set (map arc_value found.old.fronts.items) rank (arc_value front)) }
-    ensures arrivals { OnOk result (IsTakenIn R.below R.same_sums
-        (R.count_of ground.now.resource.now) (R.arrived ground.now.resource.now)
-        (R.most ground.now.resource.now) (length ground.now.net.now.duties) table.now
-        (arc_value front) (get_or ground.now.places.now rank 0) found.old.arrivals.items found.new.arrivals.items) }
-    ensures rested { OnOk result (AreRestedOf (ways R.below R.same_sums
-        (R.idle_of ground.now.resource.now) (R.waited ground.now.resource.now)
-        (R.boards ground.now.resource.now)) (R.rested_of ground.now.resource.now)
-        (R.count_of ground.now.resource.now) (R.arrived ground.now.resource.now)
-        (R.most ground.now.resource.now) (length ground.now.net.now.duties) table.now
-        found.new.arrivals.items found.new.rested.items) }
-{
-    let place = ground.places[rank as usize] as usize;
-    let arrival = &mut found.arrivals[place];
-    arrival.merge::<Duty, Table<R>>(alloc, ground.resource, table, room, &front)?;
-    found.rested[place] = Pool::new(alloc);
-    found.fronts[rank as usize] = front;
-    Ok(())
-}
-
 /// The fronts of the duties that leave at a turn, whose pool the table has.
 pub(crate) fn duty_fronts<R: Lapses<Duty>>(
     alloc: Global,
@@ -109,7 +59,7 @@ pub(crate) fn duty_fronts<R: Lapses<Duty>>(
     table: &Table<R>,
     turn: usize,
 ) -> Result<Vec<Arc<Pool<R>, Global>>, AllocError>
-    requires passable { IsPassable ground.now.net.now ground.now.turns.now ground.now.places.now }
+    requires passable { IsPassable ground.now.net.now ground.now.turns.now }
     requires counts { CountsDuties R.same_sums (R.count_of ground.now.resource.now)
         (R.most ground.now.resource.now) (R.fits ground.now.resource.now) }
     requires turned { table.now.leaves ≡ ground.now.turns.now }
@@ -140,60 +90,45 @@ pub(crate) fn duty_fronts<R: Lapses<Duty>>(
     Ok(fronts)
 }
 
-/// Keeps the fronts of the duties that leave at a turn, and merges each into the pool of its duty's
-/// arrival.
+/// Keeps the fronts of the duties that leave at a turn.
 pub(crate) fn keep_fronts<R: Lapses<Duty>>(
-    alloc: Global,
     ground: &Ground<R>,
     table: &Table<R>,
-    room: &mut Room<R::Value>,
     found: &mut Found<R>,
     turn: usize,
     fronts: &[Arc<Pool<R>, Global>],
 ) -> Result<(), AllocError>
-    requires passable { IsPassable ground.now.net.now ground.now.turns.now ground.now.places.now }
-    requires counts { CountsDuties R.same_sums (R.count_of ground.now.resource.now)
-        (R.most ground.now.resource.now) (R.fits ground.now.resource.now) }
-    requires boardable { IsBoardable (ways R.below R.same_sums (R.idle_of ground.now.resource.now)
-        (R.waited ground.now.resource.now) (R.boards ground.now.resource.now))
-        ground.now.net.now table.now turn }
+    requires passable { IsPassable ground.now.net.now ground.now.turns.now }
+    requires turn { turn < length ground.now.net.now.by_report }
+    requires close { IsClose ground.now.net.now found.old.upto turn }
     requires made { AreMade (ways R.below R.same_sums (R.idle_of ground.now.resource.now)
         (R.waited ground.now.resource.now) (R.boards ground.now.resource.now))
         (R.count_of ground.now.resource.now) (R.arrived ground.now.resource.now)
         (R.most ground.now.resource.now) ground.now.net.now table.now
         (get_or table.now.pools turn []) (ranks_at ground.now.net.now turn)
         (map arc_value fronts.now) }
-    requires rested { AreRestedOf (ways R.below R.same_sums
-        (R.idle_of ground.now.resource.now) (R.waited ground.now.resource.now)
-        (R.boards ground.now.resource.now)) (R.rested_of ground.now.resource.now)
-        (R.count_of ground.now.resource.now) (R.arrived ground.now.resource.now)
-        (R.most ground.now.resource.now) (length ground.now.net.now.duties) table.now
-        found.old.arrivals.items found.old.rested.items }
     requires way { IsUnderWay (ways R.below R.same_sums (R.idle_of ground.now.resource.now)
         (R.waited ground.now.resource.now) (R.boards ground.now.resource.now))
         (R.count_of ground.now.resource.now) (R.ready ground.now.resource.now)
         (R.arrived ground.now.resource.now) (R.most ground.now.resource.now) ground.now.net.now
         ground.now.base ground.now.turns.now table.now (map arc_value found.old.fronts.items)
-        found.old.arrivals.items (λ rank. get_or ground.now.turns.now rank 0 < turn) }
-    ensures way { OnOk result (IsUnderWay (ways R.below R.same_sums
-        (R.idle_of ground.now.resource.now) (R.waited ground.now.resource.now)
-        (R.boards ground.now.resource.now)) (R.count_of ground.now.resource.now)
+        found.old.arrivals.items found.old.upto (λ rank. get_or ground.now.turns.now rank 0 < turn) }
+    ensures way { OnOk result (IsUnderWay (ways R.below R.same_sums (R.idle_of ground.now.resource.now)
+        (R.waited ground.now.resource.now) (R.boards ground.now.resource.now))
+        (R.count_of ground.now.resource.now)
         (R.ready ground.now.resource.now) (R.arrived ground.now.resource.now)
         (R.most ground.now.resource.now) ground.now.net.now ground.now.base ground.now.turns.now
-        table.now (map arc_value found.new.fronts.items) found.new.arrivals.items
+        table.now (map arc_value found.new.fronts.items) found.old.arrivals.items found.old.upto
         (λ rank. get_or ground.now.turns.now rank 0 < turn + 1)) }
-    ensures rested { OnOk result (AreRestedOf (ways R.below R.same_sums
-        (R.idle_of ground.now.resource.now) (R.waited ground.now.resource.now)
-        (R.boards ground.now.resource.now)) (R.rested_of ground.now.resource.now)
-        (R.count_of ground.now.resource.now) (R.arrived ground.now.resource.now)
-        (R.most ground.now.resource.now) (length ground.now.net.now.duties) table.now
-        found.new.arrivals.items found.new.rested.items) }
+    ensures arrivals { OnOk result (found.new.arrivals ≡ found.old.arrivals) }
+    ensures rested { OnOk result (found.new.rested ≡ found.old.rested) }
+    ensures upto { OnOk result (found.new.upto ≡ found.old.upto) }
 {
     let place = ground.net.by_report()[turn] as usize;
     let ranks = ground.net.leaving(place);
     for (at, rank) in ranks.iter().enumerate() {
         let front = Arc::try_clone(&fronts[at])?;
-        keep_front(alloc, ground, table, room, found, *rank, front)?;
+        found.fronts[*rank as usize] = front;
     }
     Ok(())
 }

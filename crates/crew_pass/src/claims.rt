@@ -13,8 +13,8 @@ use std::alloc::{AllocError, Global};
 use std::sync::atomic::{AtomicUsize, Ordering};
 use std::thread::{Threads, map_indices};
 
-// All calls, made in order by the calling thread.
-fn map_in_turn<X: Drop, F: Fn(usize) -> X>(
+/// All calls, made in order by the calling thread.
+pub(crate) fn map_in_turn<X: Drop, F: Fn(usize) -> X>(
     alloc: Global,
     count: usize,
     f: &F,

@@ -1,31 +1,27 @@
 //! What the passes of all bases go by.
 ghost use Rattle.std.specs.Prelude.{◌≡◌, IfOk};
 ghost use Rattle.std.specs.Arc.{arc_value};
-ghost use Rattle.crew_net.specs.Nets.{AreArrivalPlaces};
 ghost use Rattle.crew_pass.specs.Machinery.Numbered.{AreTurns};
 ghost use Rattle.crew_pass.specs.Machinery.Passing.{IsCharted};
 
 use crate::turns::departure_turns;
-use crew_net::{Net, arrival_places};
+use crew_net::Net;
 use std::alloc::{AllocError, Global};
 use std::marker::Model;
 use std::sync::Arc;
 
 /// What the passes of all bases go by: a network, and by rank the turn of each duty's departure, in
-/// order of report, and the place of its arrival. It owns what it goes by, so it can be kept, and be
-/// shared by threads.
+/// order of report. It owns what it goes by, so it can be kept, and be shared by threads.
 ///
 /// A contract sees the network.
 #[derive(Drop)]
 pub struct Course {
     net: Arc<Net, Global>,
     turns: Arc<Vec<u32>, Global>,
-    places: Vec<u32>,
 }
 
 impl Model for Course {
     ghost use Rattle.crew_net.specs.Nets as Spec;
-    ghost use Rattle.crew_net.specs.Nets.{AreArrivalPlaces};
     ghost use Rattle.crew_pass.specs.Machinery.Numbered.{AreTurns};
     ghost use Rattle.crew_pass.specs.Machinery.Passing.{IsCharted};
 
@@ -33,8 +29,7 @@ impl Model for Course {
 
     ghost view = { λ c. c.net.value };
 
-    ghost invariant = { λ c. IsCharted c.net.value × AreTurns c.net.value c.turns.value.items
-        × AreArrivalPlaces c.net.value c.places.items };
+    ghost invariant = { λ c. IsCharted c.net.value × AreTurns c.net.value c.turns.value.items };
 }
 
 // What a network has of its events, its duties and its settings.
@@ -56,8 +51,7 @@ impl Course {
         chart(&net);
         let turns = departure_turns(alloc, &net)?;
         let turns = Arc::new(alloc, turns)?;
-        let places = arrival_places(alloc, &net)?;
-        Ok(Course { net, turns, places })
+        Ok(Course { net, turns })
     }
 
     /// The network.
@@ -73,12 +67,5 @@ impl Course {
         ensures { AreTurns self.now (arc_value result.now).items }
     {
         &self.turns
-    }
-
-    /// The place of each duty's arrival, by rank.
-    pub(crate) fn places(&self) -> &[u32]
-        ensures { AreArrivalPlaces self.now result.now }
-    {
-        self.places.as_slice()
     }
 }

@@ -1,24 +1,29 @@
 //! One pass over the departures of a base's network.
-ghost use Rattle.std.specs.Prelude.{◌≡◌, ◌<◌, ◌+◌, ℕ, List, Some, [], IfOk, OnOk, get_or, length, map, slice_get};
+ghost use Rattle.std.specs.Prelude.{◌≤ℤ◌, ◌≡◌, ◌<◌, ◌+◌, ℕ, List, Some, [], IfOk, OnOk, get_or, length, map, slice_get};
 ghost use Rattle.std.specs.Arc.{arc_value};
 ghost use Rattle.crew_answers.specs.Schedules.{schedule_of};
 ghost use Rattle.crew_forgetful.specs.Sweeps.{network_of};
 ghost use Rattle.crew_label.specs.declared.label.Label.{Label};
+ghost use Rattle.crew_net.specs.Machinery.Moments.{IsReal};
 ghost use Rattle.crew_pairing.specs.Events.{IsSound, arrival_of, departure_of};
 ghost use Rattle.crew_pairing.specs.declared.duty.Duty.{Duty};
+ghost use Rattle.crew_pairing.specs.declared.events.Departure.{Departure};
 ghost use Rattle.crew_resource.specs.Members.{Member};
-ghost use Rattle.crew_pass.specs.Machinery.Passing.{AreRestedOf, HasPassed, IsPassable, IsUnderWay, ways};
+ghost use Rattle.crew_pass.specs.Machinery.Numbered.{in_order};
+ghost use Rattle.crew_pass.specs.Machinery.Passing.{AreRestedOf, HasPassed, IsClose, IsPassable, IsUnderWay, ways};
 ghost use Rattle.crew_pass.specs.Passes.{CountsDuties, IsCoveredBy};
 
+use crate::arrivals::arrive;
 use crate::base_fronts::BaseFronts;
+use crate::batch::report_at;
 use crate::batches::pass_next;
 use crate::boards::{duty_fronts, keep_fronts};
 use crate::course::Course;
 use crate::ground::{Found, Ground};
-use crate::waits::{pool_at, rest_window};
+use crate::waits::pool_at;
 use crew_flights::Code;
 use crew_forgetful::Lapses;
-use crew_label::{Pool, Room, Table};
+use crew_label::{Pool, Table};
 use crew_pairing::Duty;
 use crew_resource::Resource;
 use std::alloc::{AllocError, Global};
@@ -26,8 +31,8 @@ use std::sync::Arc;
 use std::thread::Threads;
 
 impl<R: Resource> Found<R> {
-    // No front yet of so many duties, and no label yet at so many arrivals.
-    fn new(alloc: Global, duties: usize, arrivals: usize) -> Result<Found<R>, AllocError>
+    // No front yet of so many duties, and no label yet at so many arrivals, up to a minute.
+    fn new(alloc: Global, duties: usize, arrivals: usize, upto: i64) -> Result<Found<R>, AllocError>
         ensures fronts { IfOk result (λ found. length (map arc_value found.fronts.items) ≡ duties) }
         ensures arrivals { IfOk result (λ found. length found.arrivals.items ≡ arrivals) }
         ensures no_fronts { IfOk result (λ found. (labels : List (Label R.Value))
@@ -37,6 +42,7 @@ impl<R: Resource> Found<R> {
         ensures rested { IfOk result (λ found. length found.rested.items ≡ arrivals) }
         ensures no_rested { IfOk result (λ found. (labels : List (Label R.Value))
             → Member found.rested.items labels → labels ≡ []) }
+        ensures upto { IfOk result (λ found. found.upto ≡ upto) }
     {
         let fronts = no_fronts(alloc, duties)?;
         let rested = no_labels(alloc, arrivals)?;
@@ -45,6 +51,7 @@ impl<R: Resource> Found<R> {
             fronts,
             arrivals,
             rested,
+            upto,
         })
     }
 }
@@ -79,61 +86,134 @@ fn no_labels<R: Resource>(alloc: Global, count: usize) -> Result<Vec<Pool<R>>, A
     Ok(pools)
 }
 
-// The pass goes on by one departure: its pool, and the fronts of its duties.
+// The pass goes on by the next departure: its pool, of arrivals that have theirs, and the fronts of
+// its duties.
 fn pass_one<R: Lapses<Duty>>(
     alloc: Global,
     ground: &Ground<R>,
     table: &mut Table<R>,
-    room: &mut Room<R::Value>,
     found: &mut Found<R>,
-    place: usize,
 ) -> Result<(), AllocError>
-    requires passable { IsPassable ground.now.net.now ground.now.turns.now ground.now.places.now }
+    requires passable { IsPassable ground.now.net.now ground.now.turns.now }
     requires counts { CountsDuties R.same_sums (R.count_of ground.now.resource.now)
         (R.most ground.now.resource.now) (R.fits ground.now.resource.now) }
-    requires place { slice_get ground.now.net.now.by_report (length table.old.pools) ≡ Some place }
+    requires next { length table.old.pools < length ground.now.net.now.by_report }
+    requires close { IsClose ground.now.net.now found.old.upto (length table.old.pools) }
     requires way { IsUnderWay (ways R.below R.same_sums (R.idle_of ground.now.resource.now)
         (R.waited ground.now.resource.now) (R.boards ground.now.resource.now))
         (R.count_of ground.now.resource.now) (R.ready ground.now.resource.now)
         (R.arrived ground.now.resource.now) (R.most ground.now.resource.now) ground.now.net.now
         ground.now.base ground.now.turns.now table.old (map arc_value found.old.fronts.items)
-        found.old.arrivals.items
+        found.old.arrivals.items found.old.upto
         (λ rank. get_or ground.now.turns.now rank 0 < length table.old.pools) }
-    requires rested { AreRestedOf (ways R.below R.same_sums
-        (R.idle_of ground.now.resource.now) (R.waited ground.now.resource.now)
-        (R.boards ground.now.resource.now)) (R.rested_of ground.now.resource.now)
-        (R.count_of ground.now.resource.now) (R.arrived ground.now.resource.now)
-        (R.most ground.now.resource.now) (length ground.now.net.now.duties) table.old
-        found.old.arrivals.items found.old.rested.items }
+    requires rested { AreRestedOf (ways R.below R.same_sums (R.idle_of ground.now.resource.now)
+        (R.waited ground.now.resource.now) (R.boards ground.now.resource.now))
+        (R.rested_of ground.now.resource.now) (R.count_of ground.now.resource.now)
+        (R.arrived ground.now.resource.now) (R.most ground.now.resource.now)
+        (length ground.now.net.now.duties) table.old found.old.arrivals.items found.old.rested.items }
     ensures more { OnOk result (length table.new.pools ≡ length table.old.pools + 1) }
-    ensures way { OnOk result (IsUnderWay (ways R.below R.same_sums
-        (R.idle_of ground.now.resource.now) (R.waited ground.now.resource.now)
-        (R.boards ground.now.resource.now)) (R.count_of ground.now.resource.now)
-        (R.ready ground.now.resource.now) (R.arrived ground.now.resource.now)
-        (R.most ground.now.resource.now) ground.now.net.now ground.now.base ground.now.turns.now
-        table.new (map arc_value found.new.fronts.items) found.new.arrivals.items
+    ensures way { OnOk result (IsUnderWay (ways R.below R.same_sums (R.idle_of ground.now.resource.now)
+        (R.waited ground.now.resource.now) (R.boards ground.now.resource.now))
+        (R.count_of ground.now.resource.now) (R.ready ground.now.resource.now)
+        (R.arrived ground.now.resource.now) (R.most ground.now.resource.now) ground.now.net.now
+        ground.now.base ground.now.turns.now table.new (map arc_value found.new.fronts.items)
+        found.new.arrivals.items found.new.upto
         (λ rank. get_or ground.now.turns.now rank 0 < length table.new.pools)) }
-    ensures rested { OnOk result (AreRestedOf (ways R.below R.same_sums
-        (R.idle_of ground.now.resource.now) (R.waited ground.now.resource.now)
-        (R.boards ground.now.resource.now)) (R.rested_of ground.now.resource.now)
-        (R.count_of ground.now.resource.now) (R.arrived ground.now.resource.now)
-        (R.most ground.now.resource.now) (length ground.now.net.now.duties) table.new
-        found.new.arrivals.items found.new.rested.items) }
+    ensures rested { OnOk result (AreRestedOf (ways R.below R.same_sums (R.idle_of ground.now.resource.now)
+        (R.waited ground.now.resource.now) (R.boards ground.now.resource.now))
+        (R.rested_of ground.now.resource.now) (R.count_of ground.now.resource.now)
+        (R.arrived ground.now.resource.now) (R.most ground.now.resource.now)
+        (length ground.now.net.now.duties) table.new found.new.arrivals.items found.new.rested.items) }
 {
     let turn = table.len();
-    rest_window(
-        alloc,
-        ground,
-        table,
-        &found.arrivals,
-        &mut found.rested,
-        place,
-    )?;
     let pool = pool_at(alloc, ground, table, &found.arrivals, &found.rested, turn)?;
     table.add(pool)?;
     let fronts = duty_fronts(alloc, ground, table, turn)?;
-    keep_fronts(alloc, ground, table, room, found, turn, &fronts)?;
+    keep_fronts(ground, table, found, turn, &fronts)?;
     Ok(())
+}
+
+// The same with the arrivals that it may wait on.
+fn pass_next_one<R: Lapses<Duty>>(
+    alloc: Global,
+    ground: &Ground<R>,
+    table: &mut Table<R>,
+    found: &mut Found<R>,
+) -> Result<(), AllocError>
+    requires passable { IsPassable ground.now.net.now ground.now.turns.now }
+    requires counts { CountsDuties R.same_sums (R.count_of ground.now.resource.now)
+        (R.most ground.now.resource.now) (R.fits ground.now.resource.now) }
+    requires next { length table.old.pools < length ground.now.net.now.by_report }
+    requires way { IsUnderWay (ways R.below R.same_sums (R.idle_of ground.now.resource.now)
+        (R.waited ground.now.resource.now) (R.boards ground.now.resource.now))
+        (R.count_of ground.now.resource.now) (R.ready ground.now.resource.now)
+        (R.arrived ground.now.resource.now) (R.most ground.now.resource.now) ground.now.net.now
+        ground.now.base ground.now.turns.now table.old (map arc_value found.old.fronts.items)
+        found.old.arrivals.items found.old.upto
+        (λ rank. get_or ground.now.turns.now rank 0 < length table.old.pools) }
+    requires rested { AreRestedOf (ways R.below R.same_sums (R.idle_of ground.now.resource.now)
+        (R.waited ground.now.resource.now) (R.boards ground.now.resource.now))
+        (R.rested_of ground.now.resource.now) (R.count_of ground.now.resource.now)
+        (R.arrived ground.now.resource.now) (R.most ground.now.resource.now)
+        (length ground.now.net.now.duties) table.old found.old.arrivals.items found.old.rested.items }
+    ensures more { OnOk result (length table.new.pools ≡ length table.old.pools + 1) }
+    ensures way { OnOk result (IsUnderWay (ways R.below R.same_sums (R.idle_of ground.now.resource.now)
+        (R.waited ground.now.resource.now) (R.boards ground.now.resource.now))
+        (R.count_of ground.now.resource.now) (R.ready ground.now.resource.now)
+        (R.arrived ground.now.resource.now) (R.most ground.now.resource.now) ground.now.net.now
+        ground.now.base ground.now.turns.now table.new (map arc_value found.new.fronts.items)
+        found.new.arrivals.items found.new.upto
+        (λ rank. get_or ground.now.turns.now rank 0 < length table.new.pools)) }
+    ensures rested { OnOk result (AreRestedOf (ways R.below R.same_sums (R.idle_of ground.now.resource.now)
+        (R.waited ground.now.resource.now) (R.boards ground.now.resource.now))
+        (R.rested_of ground.now.resource.now) (R.count_of ground.now.resource.now)
+        (R.arrived ground.now.resource.now) (R.most ground.now.resource.now)
+        (length ground.now.net.now.duties) table.new found.new.arrivals.items found.new.rested.items) }
+{
+    let turn = table.len();
+    arrive(alloc, ground, table, found, turn)?;
+    pass_one(alloc, ground, table, found)
+}
+
+// A minute at which no departure has reported yet.
+fn first_minute<R: Resource>(ground: &Ground<R>) -> i64
+    requires passable { IsPassable ground.now.net.now ground.now.turns.now }
+    ensures least { (i : ℕ) (g : Departure) → slice_get (in_order ground.now.net.now) i ≡ Some g
+        → result ≤ℤ g.report }
+    ensures real { IsReal result }
+{
+    let count = ground.net.by_report().len();
+    if count < 1 {
+        return 0;
+    }
+    report_at(ground, 0)
+}
+
+// What is found before the first departure.
+fn found_none<R: Lapses<Duty>>(
+    alloc: Global,
+    ground: &Ground<R>,
+    table: &Table<R>,
+) -> Result<Found<R>, AllocError>
+    requires none { table.now ≡ record { leaves = ground.now.turns.now; pools = [] } }
+    requires passable { IsPassable ground.now.net.now ground.now.turns.now }
+    ensures way { IfOk result (λ found. IsUnderWay (ways R.below R.same_sums (R.idle_of ground.now.resource.now)
+        (R.waited ground.now.resource.now) (R.boards ground.now.resource.now))
+        (R.count_of ground.now.resource.now) (R.ready ground.now.resource.now)
+        (R.arrived ground.now.resource.now) (R.most ground.now.resource.now) ground.now.net.now
+        ground.now.base ground.now.turns.now table.now (map arc_value found.fronts.items)
+        found.arrivals.items found.upto
+        (λ rank. get_or ground.now.turns.now rank 0 < length table.now.pools)) }
+    ensures rested { IfOk result (λ found. AreRestedOf (ways R.below R.same_sums (R.idle_of ground.now.resource.now)
+        (R.waited ground.now.resource.now) (R.boards ground.now.resource.now))
+        (R.rested_of ground.now.resource.now) (R.count_of ground.now.resource.now)
+        (R.arrived ground.now.resource.now) (R.most ground.now.resource.now)
+        (length ground.now.net.now.duties) table.now found.arrivals.items found.rested.items) }
+{
+    let net = ground.net;
+    let first = first_minute(ground);
+    let found = Found::new(alloc, net.duty_count(), net.arrivals().len(), first)?;
+    Ok(found)
 }
 
 /// The pass over all departures, in order of report, whose pools come into a table that has none yet.
@@ -143,22 +223,20 @@ pub(crate) fn pass_all<R: Lapses<Duty>>(
     mut table: Table<R>,
 ) -> Result<(Table<R>, Found<R>), AllocError>
     requires none { table ≡ record { leaves = ground.now.turns.now; pools = [] } }
-    requires passable { IsPassable ground.now.net.now ground.now.turns.now ground.now.places.now }
+    requires passable { IsPassable ground.now.net.now ground.now.turns.now }
     requires counts { CountsDuties R.same_sums (R.count_of ground.now.resource.now)
         (R.most ground.now.resource.now) (R.fits ground.now.resource.now) }
-    ensures { IfOk result (λ passed. HasPassed (ways R.below R.same_sums
-        (R.idle_of ground.now.resource.now) (R.waited ground.now.resource.now)
-        (R.boards ground.now.resource.now)) (R.count_of ground.now.resource.now)
-        (R.ready ground.now.resource.now) (R.arrived ground.now.resource.now)
-        (R.most ground.now.resource.now) ground.now.net.now ground.now.base ground.now.turns.now
-        passed.0 (map arc_value passed.1.fronts.items) passed.1.arrivals.items) }
+    ensures { IfOk result (λ passed. HasPassed (ways R.below R.same_sums (R.idle_of ground.now.resource.now)
+        (R.waited ground.now.resource.now) (R.boards ground.now.resource.now))
+        (R.count_of ground.now.resource.now) (R.ready ground.now.resource.now)
+        (R.arrived ground.now.resource.now) (R.most ground.now.resource.now) ground.now.net.now
+        ground.now.base ground.now.turns.now passed.0 (map arc_value passed.1.fronts.items)
+        passed.1.arrivals.items passed.1.upto) }
 {
-    let net = ground.net;
-    let mut room = Room::new(alloc);
-    let mut found = Found::new(alloc, net.duty_count(), net.arrivals().len())?;
-    for place in net.by_report() {
-        let place = *place as usize;
-        pass_one(alloc, ground, &mut table, &mut room, &mut found, place)?;
+    let mut found = found_none(alloc, ground, &table)?;
+    let count = ground.net.by_report().len();
+    for _ in 0..count {
+        pass_next_one(alloc, ground, &mut table, &mut found)?;
     }
     Ok((table, found))
 }
@@ -175,24 +253,20 @@ pub(crate) fn pass_all_by_threads<T: Threads + Sync, R: Lapses<Duty> + Sync>(
 where
     R::Value: Send + Sync,
     requires none { table ≡ record { leaves = ground.now.turns.now; pools = [] } }
-    requires passable { IsPassable ground.now.net.now ground.now.turns.now ground.now.places.now }
+    requires passable { IsPassable ground.now.net.now ground.now.turns.now }
     requires counts { CountsDuties R.same_sums (R.count_of ground.now.resource.now)
         (R.most ground.now.resource.now) (R.fits ground.now.resource.now) }
-    ensures { IfOk result (λ passed. HasPassed (ways R.below R.same_sums
-        (R.idle_of ground.now.resource.now) (R.waited ground.now.resource.now)
-        (R.boards ground.now.resource.now)) (R.count_of ground.now.resource.now)
-        (R.ready ground.now.resource.now) (R.arrived ground.now.resource.now)
-        (R.most ground.now.resource.now) ground.now.net.now ground.now.base ground.now.turns.now
-        passed.0 (map arc_value passed.1.fronts.items) passed.1.arrivals.items) }
+    ensures { IfOk result (λ passed. HasPassed (ways R.below R.same_sums (R.idle_of ground.now.resource.now)
+        (R.waited ground.now.resource.now) (R.boards ground.now.resource.now))
+        (R.count_of ground.now.resource.now) (R.ready ground.now.resource.now)
+        (R.arrived ground.now.resource.now) (R.most ground.now.resource.now) ground.now.net.now
+        ground.now.base ground.now.turns.now passed.0 (map arc_value passed.1.fronts.items)
+        passed.1.arrivals.items passed.1.upto) }
 {
-    let net = ground.net;
-    let mut room = Room::new(alloc);
-    let mut found = Found::new(alloc, net.duty_count(), net.arrivals().len())?;
-    let count = net.by_report().len();
+    let mut found = found_none(alloc, ground, &table)?;
+    let count = ground.net.by_report().len();
     for _ in 0..count {
-        pass_next(
-            rt, alloc, threads, ground, &mut table, &mut room, &mut found,
-        )?;
+        pass_next(rt, alloc, threads, ground, &mut table, &mut found)?;
     }
     Ok((table, found))
 }
@@ -223,7 +297,6 @@ pub fn pass<R: Lapses<Duty>>(
     let ground = Ground {
         net,
         turns: turns.as_slice(),
-        places: course.places(),
         resource,
         base,
     };
@@ -258,7 +331,6 @@ where
     let ground = Ground {
         net,
         turns: turns.as_slice(),
-        places: course.places(),
         resource,
         base,
     };

@@ -1,17 +1,17 @@
 -- What a pass over the departures of a base has made so far, with duties by rank and events by place.
-use Rattle.std.specs.Prelude.{◌≡◌, ◌<◌, ◌≤◌, ◌⊎◌, ℕ, ℤ, Bool, true, cond, List, [], ◌∷◌, ◌++◌, Option, Some, None, get_or, length, map, set, slice_get}
+use Rattle.std.specs.Prelude.{◌≡◌, ◌<◌, ◌≤◌, ◌⊎◌, ◌≤ℤ◌, ◌<ℤ◌, ◌-ℤ◌, ℕ, ℤ, pos, Bool, true, cond, List, [], ◌∷◌, ◌++◌, Option, Some, None, get_or, length, map, slice_get}
 use Rattle.std.specs.List.{flat_map}
 use Rattle.std.specs.Ordering.{eq_by_cmp}
 use Rattle.crew_flights.specs.Codes.{code_cmp}
 use Rattle.crew_forgetful.specs.Forgetful.{Covers}
 use Rattle.crew_label.specs.Boarding.{AreRested, LeadInto}
-use Rattle.crew_label.specs.Pools.{ArePoolOf}
+use Rattle.crew_label.specs.Pools.{ArePoolOf, ArePoolsOf}
 use Rattle.crew_label.specs.Tables.{Tabled}
 use Rattle.crew_label.specs.Walks.{ranks_at_most, shown}
 use Rattle.crew_label.specs.declared.label.Label.{Label}
 use Rattle.crew_label.specs.declared.label.Link.{Link}
 use Rattle.crew_net.specs.Events.{AreEvents, arrival_cmp, departure_cmp, leaves_at}
-use Rattle.crew_net.specs.Nets.{AreArrivalPlaces, AreByReport, Net}
+use Rattle.crew_net.specs.Nets.{AreByReport, Net}
 use Rattle.crew_net.specs.Ranks.{ranks_where}
 use Rattle.crew_pairing.specs.Duties.{RiseByKey}
 use Rattle.crew_pairing.specs.Events.{IsSound, arrival_of, departure_of, may_wait}
@@ -33,8 +33,8 @@ pub record IsCharted (net : Net) : Type 0 where
   pub few : length net.duties ≤ 200_000
   pub rests : net.settings.max_rest ≤ 8_280
 
--- a network over which a pass may go, the turns of its duties, and where they arrive
-pub record IsPassable (net : Net) (turns places : List ℕ) : Type 0 where
+-- a network over which a pass may go, and the turns of its duties
+pub record IsPassable (net : Net) (turns : List ℕ) : Type 0 where
   pub departs : AreEvents departure_of departure_cmp net.duties net.departures
   pub arrives : AreEvents arrival_of arrival_cmp net.duties net.arrivals
   pub ordered : AreByReport net.departures net.by_report
@@ -43,7 +43,6 @@ pub record IsPassable (net : Net) (turns places : List ℕ) : Type 0 where
   pub sound : (d : Duty) → Member net.duties d → IsSound d
   pub rests : net.settings.max_rest ≤ 8_280
   pub are_turns : AreTurns net turns
-  pub are_places : AreArrivalPlaces net places
 
 -- how labels are compared, and what becomes of their values
 pub record Ways (V : Type 0) : Type 0 where
@@ -108,10 +107,10 @@ abbrev pub Waits : {V : Type 0} → Ways V → Net → List ℕ → (Link → Li
 Waits w net base trail held g v k = Idles w base g v k
     ⊎ ((place : ℕ) × WaitsAt w net trail held g place v k)
 
--- an entry of the front of a duty so far that arrives there
-abbrev pub Arrives : {V : Type 0} → Net → (Link → List ℕ) → List (List (Label V))
-    → (ℕ → Type 0) → Arrival → V → List ℕ → Type 0
-Arrives net trail fronts Done x v k = (rank : ℕ) × (d : Duty) × Done rank
+-- an entry of the front of a duty that arrives there
+abbrev pub Arrives : {V : Type 0} → Net → (Link → List ℕ) → List (List (Label V)) → Arrival → V
+    → List ℕ → Type 0
+Arrives net trail fronts x v k = (rank : ℕ) × (d : Duty)
     × (slice_get net.duties rank ≡ Some d) × (arrival_of d ≡ x)
     × Member (map (shown trail) (get_or fronts rank [])) (v, k)
 
@@ -126,18 +125,36 @@ abbrev pub AreFront : {V : Type 0} → Ways V → (Link → List ℕ) → Duty �
 AreFront w trail d rank pool front = IsLocal w.below ranks_at_most
     (λ v k. Member (boarding w d rank (map (shown trail) pool)) (v, k)) (map (shown trail) front)
 
--- after so many departures as the table has: their pools, the pools of arrivals, and the fronts of
--- the duties so far
+-- the labels are a pool
+abbrev pub IsClean : {V : Type 0} → Ways V → (Link → List ℕ) → List (Label V) → Type 0
+IsClean {V} w trail labels =
+    (listed : List (V × List ℕ)) × ArePoolOf w.below w.same trail listed labels
+
+-- the fronts of duties by rank, none where one is still to come: each is a pool of its own labels
+pub record AreKept {V : Type 0} (w : Ways V) (count : V → ℤ) (arrived : ℕ → V → Type 0)
+    (most : Option ℕ) (net : Net) (t : Tabled V) (fronts : List (List (Label V))) : Type 0 where
+  pub long : length fronts ≡ length net.duties
+  pub held : (labels : List (Label V)) → Member fronts labels
+      → AreHeld count arrived most (length net.duties) t labels
+  pub itself : (labels : List (Label V)) → Member fronts labels
+      → ArePoolOf w.below w.same (trail_of t) (map (shown (trail_of t)) labels) labels
+
+-- after so many departures as the table has: their pools, the fronts of the duties so far, and the
+-- pools of the arrivals that are released before a minute, which all these departures wait on
 pub record IsUnderWay {V : Type 0} (w : Ways V) (count : V → ℤ) (ready arrived : ℕ → V → Type 0)
     (most : Option ℕ) (net : Net) (base turns : List ℕ) (t : Tabled V)
-    (fronts held : List (List (Label V))) (Done : ℕ → Type 0) : Type 0 where
+    (fronts held : List (List (Label V))) (upto : ℤ) (Done : ℕ → Type 0) : Type 0 where
   pub turned : t.leaves ≡ turns
-  pub fronts_long : length fronts ≡ length net.duties
   pub held_long : length held ≡ length net.arrivals
   pub pooled : (i : ℕ) (g : Departure) → i < length t.pools → slice_get (in_order net) i ≡ Some g
       → AreCovering w (trail_of t) (Waits w net base (trail_of t) held g) (get_or t.pools i [])
+  pub early : (i : ℕ) (g : Departure) (x : Arrival) → i < length t.pools
+      → slice_get (in_order net) i ≡ Some g → may_wait net.settings x g ≡ true → x.release <ℤ upto
+  pub late : (i : ℕ) (g : Departure) → length t.pools ≤ i → slice_get (in_order net) i ≡ Some g
+      → upto ≤ℤ g.report
   pub gathered : (place : ℕ) (x : Arrival) → slice_get net.arrivals place ≡ Some x
-      → AreGathered w (trail_of t) (Arrives net (trail_of t) fronts Done x) (get_or held place [])
+      → x.release <ℤ upto
+      → AreGathered w (trail_of t) (Arrives net (trail_of t) fronts x) (get_or held place [])
   pub filtered : (rank : ℕ) (d : Duty) → slice_get net.duties rank ≡ Some d → Done rank
       → AreFront w (trail_of t) d rank (get_or t.pools (get_or turns rank 0) [])
       (get_or fronts rank [])
@@ -145,26 +162,13 @@ pub record IsUnderWay {V : Type 0} (w : Ways V) (count : V → ℤ) (ready arriv
       → AreHeld count ready most (length net.duties) t labels
   pub held_arrived : (labels : List (Label V)) → Member held labels
       → AreHeld count arrived most (length net.duties) t labels
-  pub fronts_arrived : (labels : List (Label V)) → Member fronts labels
-      → AreHeld count arrived most (length net.duties) t labels
+  pub held_clean : (labels : List (Label V)) → Member held labels → IsClean w (trail_of t) labels
+  pub kept : AreKept w count arrived most net t fronts
 
--- a front has been merged into the pool of the arrival at a place
-pub record IsTakenIn {V : Type 0} (below same : V → V → Bool) (count : V → ℤ)
-    (arrived : ℕ → V → Type 0) (most : Option ℕ) (duties : ℕ) (t : Tabled V)
-    (front : List (Label V)) (place : ℕ) (before after : List (List (Label V))) : Type 0 where
-  pub merged : List (Label V)
-  pub now : after ≡ set before place merged
-  pub pool : (firsts seconds : List (V × List ℕ))
-      → ArePoolOf below same (trail_of t) firsts (get_or before place [])
-      → ArePoolOf below same (trail_of t) seconds front
-      → ArePoolOf below same (trail_of t) (firsts ++ seconds) merged
-  pub held : AreHeld count arrived most duties t merged
-
--- none of the first so many departures waits on a duty that leaves at a turn
-abbrev pub AreApart : Net → ℕ → ℕ → Type 0
-AreApart net many turn = (i : ℕ) (g : Departure) (d : Duty) → i < many
-    → slice_get (in_order net) i ≡ Some g → slice_get (in_order net) turn ≡ Some (departure_of d)
-    → Member net.duties d → may_wait net.settings (arrival_of d) g ≡ true → ⊥
+-- the departure at a turn reports at a minute or later, and less than the least rest after it
+abbrev pub IsClose : Net → ℤ → ℕ → Type 0
+IsClose net upto turn = (g : Departure) → slice_get (in_order net) turn ≡ Some g
+    → (upto ≤ℤ g.report) × ((g.report -ℤ upto) ≤ℤ pos 599)
 
 -- the pool of the departure at a turn is in the table, and links of its duties lead to it
 pub record IsLinked {V : Type 0} (w : Ways V) (t : Tabled V) (turn : ℕ) : Type 0 where
@@ -174,11 +178,10 @@ pub record IsLinked {V : Type 0} (w : Ways V) (t : Tabled V) (turn : ℕ) : Type
   pub into : (rank : ℕ) → slice_get t.leaves rank ≡ Some turn
       → LeadInto (leads_of t) (trail_of t) rank (get_or t.pools turn [])
 
--- and none of the table's departures waits on the duties that leave there
+-- and it is one of the network
 pub record IsBoardable {V : Type 0} (w : Ways V) (net : Net) (t : Tabled V) (turn : ℕ) : Type 0 where
   pub ordered : turn < length net.by_report
   pub linked : IsLinked w t turn
-  pub apart : AreApart net (length t.pools) turn
 
 -- the front of a duty that boards from a pool, which may be kept
 pub record IsMade {V : Type 0} (w : Ways V) (count : V → ℤ) (arrived : ℕ → V → Type 0)
@@ -205,15 +208,10 @@ ranks_at net turn = ranks_where
 -- all departures are passed
 pub record HasPassed {V : Type 0} (w : Ways V) (count : V → ℤ) (ready arrived : ℕ → V → Type 0)
     (most : Option ℕ) (net : Net) (base turns : List ℕ) (t : Tabled V)
-    (fronts held : List (List (Label V))) : Type 0 where
+    (fronts held : List (List (Label V))) (upto : ℤ) : Type 0 where
   pub all : length t.pools ≡ length net.by_report
-  pub way : IsUnderWay w count ready arrived most net base turns t fronts held
+  pub way : IsUnderWay w count ready arrived most net base turns t fronts held upto
       (λ rank. get_or turns rank 0 < length t.pools)
-
--- the labels are a pool
-abbrev pub IsClean : {V : Type 0} → Ways V → (Link → List ℕ) → List (Label V) → Type 0
-IsClean {V} w trail labels =
-    (listed : List (V × List ℕ)) × ArePoolOf w.below w.same trail listed labels
 
 -- what a rest of these labels goes by: their pool with rested values
 pub record IsRested {V : Type 0} (w : Ways V) (rested : V → V) (count : V → ℤ)
@@ -224,19 +222,41 @@ pub record IsRested {V : Type 0} (w : Ways V) (rested : V → V) (count : V → 
   pub held : AreHeld count arrived most duties t pool
   pub are : AreRested rested pool
 
--- it is that, or none is made yet
-abbrev pub MayBeRested : {V : Type 0} → Ways V → (V → V) → (V → ℤ) → (ℕ → V → Type 0) → Option ℕ
-    → ℕ → Tabled V → List (Label V) → List (Label V) → Type 0
-MayBeRested w rested count arrived most duties t labels pool = (pool ≡ [])
-    ⊎ IsRested w rested count arrived most duties t labels pool
-
 -- so for each arrival by place
 pub record AreRestedOf {V : Type 0} (w : Ways V) (rested : V → V) (count : V → ℤ)
     (arrived : ℕ → V → Type 0) (most : Option ℕ) (duties : ℕ) (t : Tabled V)
     (held pools : List (List (Label V))) : Type 0 where
   pub long : length pools ≡ length held
-  pub each : (place : ℕ) → MayBeRested w rested count arrived most duties t (get_or held place [])
+  pub each : (place : ℕ) → IsRested w rested count arrived most duties t (get_or held place [])
       (get_or pools place [])
+
+-- pools that are those of candidates, which all together can be listed
+pub record AreCollected {V : Type 0} (w : Ways V) (trail : Link → List ℕ)
+    (Candidate : V → List ℕ → Type 0) (pools : List (List (Label V))) : Type 0 where
+  pub listed : List (V × List ℕ)
+  pub pools_of : ArePoolsOf w.below w.same trail listed pools
+  pub among : (v : V) (k : List ℕ) → Member listed (v, k) → Candidate v k
+  pub every : (v : V) (k : List ℕ) → Candidate v k → Member listed (v, k)
+
+-- a pool of the arrival at a place, of the fronts of the duties that arrive there, and what rests
+-- there go by
+pub record IsArrivedAt {V : Type 0} (w : Ways V) (rest : V → V) (count : V → ℤ)
+    (arrived : ℕ → V → Type 0) (most : Option ℕ) (net : Net) (t : Tabled V)
+    (fronts : List (List (Label V))) (place : ℕ) (pool rested : List (Label V)) : Type 0 where
+  pub gathered : (x : Arrival) → slice_get net.arrivals place ≡ Some x
+      → AreGathered w (trail_of t) (Arrives net (trail_of t) fronts x) pool
+  pub held : AreHeld count arrived most (length net.duties) t pool
+  pub rests : IsRested w rest count arrived most (length net.duties) t pool rested
+
+-- the arrival at a place is released before a second minute, and not before a first
+abbrev pub IsDue : Net → ℤ → ℤ → ℕ → Type 0
+IsDue net before first place = (x : Arrival) → slice_get net.arrivals place ≡ Some x
+    → (before ≤ℤ x.release) × (x.release <ℤ first)
+
+-- or else not
+abbrev pub IsNotDue : Net → ℤ → ℤ → ℕ → Type 0
+IsNotDue net before first place = (x : Arrival) → slice_get net.arrivals place ≡ Some x
+    → x.release <ℤ first → x.release <ℤ before
 
 -- what the pools of departures are made of: those of arrivals, and those that rests there go by
 pub record AreSources {V : Type 0} (w : Ways V) (rest : V → V) (count : V → ℤ)

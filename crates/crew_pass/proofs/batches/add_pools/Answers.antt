@@ -9,6 +9,7 @@ use Rattle.crew_pairing.specs.declared.duty.Duty.{Duty}
 use Rattle.crew_pass.specs.Machinery.Numbered.{in_order}
 use Rattle.crew_pass.specs.Machinery.Passing.{IsLinked, IsPoolAt, ways}
 use Rattle.crew_pass.proofs.Added.{linked-last, linked-still}
+use Rattle.crew_pass.proofs.Batched.{close-early}
 use Rattle.crew_pass.proofs.Departures.{all-stay, appended, covering-still, departure-more, held-still}
 use Rattle.crew_pass.proofs.Orders.{in-order-long}
 use Rattle.crew_pass.proofs.Rested.{clean-stays, rested-stays}
@@ -50,7 +51,7 @@ loop-pool-preserved g c =
     let d = stands (in_order net) (from + k) within in
     let at : slice_get (in_order net) (length t.pools) ≡ Some d.0 = ap (λ (n : ℕ). slice_get (in_order net) n) long ∙ d.1 in
     let same = all-stay first t i.1 count most duties ready pool made.held in
-    let covers = covering-still first t i.1 w count ready arrived most net base turns fronts held (λ q. get_or turns q 0 < from) c.requires.way d.0 pool pool same (made.covers d.0 d.1) in
+    let covers = covering-still first t i.1 w count ready arrived most net base turns fronts held c.args.found.now.upto (λ q. get_or turns q 0 < from) c.requires.way d.0 pool pool same (made.covers d.0 d.1) in
     let stands-held = held-still first t i.1 count most duties ready pool made.held in
     let stands-clean = clean-stays w rest count arrived most duties first t i.1 ready pool made.held made.clean in
     let longer = (appended t.pools now.pools pool pools-is).0 in
@@ -60,7 +61,8 @@ loop-pool-preserved g c =
           let a = i.1 link h in
           let b = c.in_ok-add.ensures.stays link a.0 in
           (b.0, b.1 ∙ a.1)),
-      departure-more t now c.in_ok-add.ensures.stays w count ready arrived most net base turns fronts held (λ q. get_or turns q 0 < from) i.2 (λ q h. omega (arith, h, long)) pool leaves-is pools-is d.0 at covers stands-held,
+      departure-more t now c.in_ok-add.ensures.stays w count ready arrived most net base turns fronts held c.args.found.now.upto (λ q. get_or turns q 0 < from) i.2 (λ q h. omega (arith, h, long)) pool leaves-is pools-is d.0 at
+          (close-early net c.args.found.now.upto (from + k) d.0 (c.requires.close (from + k) (omega (arith)) (omega (arith, test))) d.1) covers stands-held,
       rested-stays w rest count arrived most duties t now c.in_ok-add.ensures.stays held c.args.found.now.rested.items i.2.held_arrived i.3,
       (λ turn low high. ⊎_elim {C = IsLinked w now turn}
           (λ s.

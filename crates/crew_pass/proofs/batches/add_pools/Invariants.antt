@@ -12,7 +12,7 @@ invariant-loop-pool g l =
     × ((link : Link) → leads_of l.initial.table link ≡ true → (leads_of l.table link ≡ true) × (trail_of l.table link ≡ trail_of l.initial.table link))
     × IsUnderWay (ways g.R.Resource.below g.R.Forgets.same_sums (g.R.Staged.idle_of l.ground.resource.now) (g.R.Staged.waited l.ground.resource.now) (g.R.Staged.boards l.ground.resource.now))
     (g.R.Staged.count_of l.ground.resource.now) (g.R.Staged.ready l.ground.resource.now) (g.R.Staged.arrived l.ground.resource.now) (g.R.Staged.most l.ground.resource.now)
-    l.ground.net.now l.ground.base l.ground.turns.now l.table (map arc_value l.found.fronts.items) l.found.arrivals.items
+    l.ground.net.now l.ground.base l.ground.turns.now l.table (map arc_value l.found.fronts.items) l.found.arrivals.items l.found.upto
     (λ rank. get_or l.ground.turns.now rank 0 < l.from)
     × AreRestedOf (ways g.R.Resource.below g.R.Forgets.same_sums (g.R.Staged.idle_of l.ground.resource.now) (g.R.Staged.waited l.ground.resource.now) (g.R.Staged.boards l.ground.resource.now)) (g.R.Lapses.rested_of l.ground.resource.now)
     (g.R.Staged.count_of l.ground.resource.now) (g.R.Staged.arrived l.ground.resource.now) (g.R.Staged.most l.ground.resource.now) (length l.ground.net.now.duties) l.table l.found.arrivals.items l.found.rested.items

@@ -38,8 +38,7 @@ duty_front-requires-clause-rank g c =
     let d = stands net.departures place (place-within net c.requires.passable.departs c.requires.passable.ordered c.args.turn place at) in
     let ranks = c.leaving-ranks.result.now in
     let is = c.leaving-ranks.ensures d.0 d.1 in
-    let k = rank-known w (g.R.Staged.count_of r) (g.R.Staged.ready r) (g.R.Staged.arrived r) (g.R.Staged.most r) net c.args.ground.now.base c.args.ground.now.turns.now c.args.ground.now.places.now c.requires.passable
-    c.args.table.now c.args.turn place d.0 b.apart at d.1 ranks is c.loop-rank.rank-index c.loop-rank-test.true in
+    let k = rank-known net c.args.ground.now.turns.now c.requires.passable c.args.turn place d.0 at d.1 ranks is c.loop-rank.rank-index c.loop-rank-test.true in
     let rank = get_or ranks c.loop-rank.rank-index 0 in
     get-within net.duties rank k.0 k.1
 
@@ -54,8 +53,7 @@ duty_front-requires-clause-into g c =
     let d = stands net.departures place (place-within net c.requires.passable.departs c.requires.passable.ordered c.args.turn place at) in
     let ranks = c.leaving-ranks.result.now in
     let is = c.leaving-ranks.ensures d.0 d.1 in
-    let k = rank-known w (g.R.Staged.count_of r) (g.R.Staged.ready r) (g.R.Staged.arrived r) (g.R.Staged.most r) net c.args.ground.now.base c.args.ground.now.turns.now c.args.ground.now.places.now c.requires.passable
-    c.args.table.now c.args.turn place d.0 b.apart at d.1 ranks is c.loop-rank.rank-index c.loop-rank-test.true in
+    let k = rank-known net c.args.ground.now.turns.now c.requires.passable c.args.turn place d.0 at d.1 ranks is c.loop-rank.rank-index c.loop-rank-test.true in
     let rank = get_or ranks c.loop-rank.rank-index 0 in
     let pools = c.args.table.now.pools in
     let own : get_or pools c.args.turn [] ≡ c.deref.result.now = get-at pools c.args.turn (arc_value c.in-Some.pool.now) [] c.in-Some.ensures ∙ sym c.deref.ensures in

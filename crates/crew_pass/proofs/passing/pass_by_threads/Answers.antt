@@ -16,7 +16,7 @@ pub pass_all_by_threads-requires-clause-passable : goal.pass_all_by_threads-requ
 pass_all_by_threads-requires-clause-passable g c κs out =
     let charted = c.net-net.ensures.charted in
     let turns = subst (λ (ns : List ℕ). AreTurns c.args.course.now ns) (sym (c.as_slice.ensures.value ∙ ap (λ v. v.items) c.deref-2.ensures)) c.turns-turns.ensures in
-    let own : IsPassable c.args.course.now c.as_slice.result.now c.places.result.now = record {
+    let own : IsPassable c.args.course.now c.as_slice.result.now = record {
       departs = charted.departs;
       arrives = charted.arrives;
       ordered = charted.ordered;
@@ -25,9 +25,8 @@ pass_all_by_threads-requires-clause-passable g c κs out =
       sound = c.requires.sound;
       rests = charted.rests;
       are_turns = turns;
-      are_places = c.places.ensures;
     } in
-    subst (λ (n : Net). IsPassable n c.as_slice.result.now c.places.result.now) (sym (c.deref.ensures ∙ c.net-net.ensures.net)) own
+    subst (λ (n : Net). IsPassable n c.as_slice.result.now) (sym (c.deref.ensures ∙ c.net-net.ensures.net)) own
 
 pub new-requires : goal.new-requires
 new-requires g c =
@@ -36,9 +35,9 @@ new-requires g c =
     let value = arc_value {X = Pool g.row.R.Denot g.row.R-Value.Denot Duty} {Z = Global} in
     let fronts = map value c.in_ok-table.found.fronts.items in
     let own : AreTold (let b : BasePass g.row.R-Value.Denot = record { net = c.deref.result.now; turns = t.leaves; pools = t.pools; fronts = fronts } in b) = record {
-      long = way.fronts_long;
-      leading = λ labels l m k. (way.fronts_arrived labels m l k).leading;
-      ranked = λ labels l m k. (way.fronts_arrived labels m l k).entry.ranked;
+      long = way.kept.long;
+      leading = λ labels l m k. (way.kept.held labels m l k).leading;
+      ranked = λ labels l m k. (way.kept.held labels m l k).entry.ranked;
     } in
     subst (λ (n : Net). AreTold (let b : BasePass g.row.R-Value.Denot = record { net = n; turns = t.leaves; pools = t.pools; fronts = fronts } in b)) (c.deref.ensures ∙ sym c.in_ok-shared.ensures) own
 
@@ -52,9 +51,10 @@ returns-clause-covered g c =
     let t = c.in_ok-table.table in
     let fronts = map value c.in_ok-table.found.fronts.items in
     let held = c.in_ok-table.found.arrivals.items in
+    let upto = c.in_ok-table.found.upto in
     let charted = c.net-net.ensures.charted in
     let are = subst (λ (ns : List ℕ). AreTurns net ns) (sym (c.as_slice.ensures.value ∙ ap (λ v. v.items) c.deref-2.ensures)) c.turns-turns.ensures in
-    let passable : IsPassable net turns c.places.result.now = record {
+    let passable : IsPassable net turns = record {
       departs = charted.departs;
       arrives = charted.arrives;
       ordered = charted.ordered;
@@ -63,10 +63,9 @@ returns-clause-covered g c =
       sound = c.requires.sound;
       rests = charted.rests;
       are_turns = are;
-      are_places = c.places.ensures;
     } in
-    let passed = subst (λ (n : Net). HasPassed w (g.R.Staged.count_of r) (g.R.Staged.ready r) (g.R.Staged.arrived r) (g.R.Staged.most r) n c.args.base turns t fronts held) (c.deref.ensures ∙ c.net-net.ensures.net) c.in_ok-table.ensures in
-    let covered = covered-by w (g.R.Staged.count_of r) (g.R.Staged.ready r) (g.R.Staged.arrived r) (g.R.Staged.most r) net c.args.base turns c.places.result.now passable t fronts held passed in
+    let passed = subst (λ (n : Net). HasPassed w (g.R.Staged.count_of r) (g.R.Staged.ready r) (g.R.Staged.arrived r) (g.R.Staged.most r) n c.args.base turns t fronts held upto) (c.deref.ensures ∙ c.net-net.ensures.net) c.in_ok-table.ensures in
+    let covered = covered-by w (g.R.Staged.count_of r) (g.R.Staged.ready r) (g.R.Staged.arrived r) (g.R.Staged.most r) net c.args.base turns passable t fronts held upto passed in
     let same : c.new.result ≡ record { net = net; turns = t.leaves; pools = t.pools; fronts = fronts }
     = c.new.ensures ∙ ap (λ (n : Net). (let b : BasePass g.row.R-Value.Denot = record { net = n; turns = t.leaves; pools = t.pools; fronts = fronts } in b)) (c.in_ok-shared.ensures ∙ c.net-net.ensures.net) in
     subst (λ (b : BasePass g.row.R-Value.Denot). IsCoveredBy g.R.Resource.below g.R.Forgets.same_sums (network_of (schedule_of net.settings c.args.base net.duties) departure_of arrival_of (g.R.Staged.idle_of r) (g.R.Staged.waited r) (g.R.Staged.boards r)) b) (sym same) covered

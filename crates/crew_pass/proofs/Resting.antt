@@ -1,0 +1,30 @@
+-- What a rest goes by.
+use Rattle.std.proofs.Common.{◌≡◌, ◌∙◌, ℕ, List, [], ◌∷◌, Option, ℤ, length, map, refl, ap, subst}
+use Rattle.crew_label.specs.Boarding.{waited_label}
+use Rattle.crew_label.specs.Tables.{Tabled}
+use Rattle.crew_label.specs.Walks.{walk_of}
+use Rattle.crew_label.specs.declared.label.Label.{Label}
+use Rattle.crew_resource.specs.Members.{Member}
+use Rattle.crew_resource.proofs.Members.{Member-map_out}
+use Rattle.crew_pass.specs.Machinery.Held.{AreHeld, IsHeld, trail_of}
+use Rattle.crew_pass.specs.Machinery.Passing.{waited_entries}
+
+-- rested values are within the bounds of the others
+pub rest-held : {V : Type 0} (rested : V → V) (count : V → ℤ) (arrived : ℕ → V → Type 0) (most : Option ℕ) (duties : ℕ) (t : Tabled V)
+    → ((v : V) → count (rested v) ≡ count v) → ((n : ℕ) (v : V) → arrived n v → arrived n (rested v))
+    → (labels pool : List (Label V)) → AreHeld count arrived most duties t labels → ((l : Label V) → Member pool l → Member (map (waited_label rested) labels) l)
+    → AreHeld count arrived most duties t pool
+rest-held rested count arrived most duties t same keeps labels pool h from l m =
+    let s = Member-map_out (waited_label rested) labels l (from l m) in
+    let k = h s.0 s.1 in
+    subst (IsHeld count arrived most duties t) s.2
+    (record {
+      leading = k.leading;
+      entry = record { counts = same s.0.value ∙ k.entry.counts; ranked = k.entry.ranked; few = k.entry.few; bound = keeps (length (walk_of (trail_of t) s.0.before)) s.0.value k.entry.bound };
+    })
+
+-- after a rest values are what rested ones are
+pub after-rest : {V : Type 0} (rested wait : V → V) → ((v : V) → wait (rested v) ≡ wait v) → (es : List (V × List ℕ)) → waited_entries wait (waited_entries rested es) ≡ waited_entries wait es
+after-rest rested wait same [] = refl
+after-rest {V} rested wait same (e ∷ es) =
+    ap (λ (v : V). (v, e.1) ∷ waited_entries wait (waited_entries rested es)) (same e.0) ∙ ap (λ (r : List (V × List ℕ)). (wait e.0, e.1) ∷ r) (after-rest rested wait same es)

@@ -1,0 +1,73 @@
+use Rattle.std.proofs.Common.{◌≡◌, ◌∙◌, ◌≤◌, ℕ, suc, true, List, length, map, arith, sym, subst}
+use Rattle.std.proofs.lemmas.Result.{IfOk-weaker}
+use Rattle.crew_label.specs.Pools.{ArePoolOf}
+use Rattle.crew_label.specs.Walks.{shown}
+use Rattle.crew_label.specs.declared.label.Label.{Label}
+use Rattle.crew_label.proofs.Waiting.{pool-itself}
+use Rattle.crew_pass.specs.Machinery.Held.{AreHeld, trail_of}
+use Rattle.crew_pass.specs.Machinery.Passing.{waited_entries}
+use Rattle.crew_pass.proofs.Labels.{waited-held}
+use Rattle.crew_pass.proofs.Resting.{after-rest}
+use Rattle.crew_pass.proofs.waits.waited_at.Goals as goal
+
+pub waited-requires-clause-wait : goal.waited-requires-clause-wait
+waited-requires-clause-wait g c l m =
+    let r = c.args.ground.now.resource.now in
+    let k = (c.requires.rested.held l m).entry in
+    let n = length (shown (trail_of c.args.table.now) l).1 in
+    let few : n ≤ c.requires.counts.limit = k.few c.requires.counts.limit c.requires.counts.has_most in
+    (g.met.R.Staged.bounds r).waits n l.value c.args.arrival.now c.args.departure.now c.requires.follows (c.requires.counts.fit (suc n) (omega (arith, few))) k.bound
+
+pub waited-requires-else-is_rest-clause-wait : goal.waited-requires-else-is_rest-clause-wait
+waited-requires-else-is_rest-clause-wait g c l m =
+    let r = c.args.ground.now.resource.now in
+    let k = (c.requires.held l m).entry in
+    let n = length (shown (trail_of c.args.table.now) l).1 in
+    let few : n ≤ c.requires.counts.limit = k.few c.requires.counts.limit c.requires.counts.has_most in
+    (g.met.R.Staged.bounds r).waits n l.value c.args.arrival.now c.args.departure.now c.requires.follows (c.requires.counts.fit (suc n) (omega (arith, few))) k.bound
+
+pub returns-then-is_rest-clause-pool : goal.returns-then-is_rest-clause-pool
+returns-then-is_rest-clause-pool g c =
+    let r = c.args.ground.now.resource.now in
+    let trail = trail_of c.args.table.now in
+    let x = c.args.arrival.now in
+    let d = c.args.departure.now in
+    let wait = λ (v : g.row.R-Value.Denot). g.R.Staged.waited r v x d in
+    let rested = g.R.Lapses.rested_of r in
+    let es = map (shown trail) c.args.held.now in
+    let rests : g.R.Lapses.rests r x d ≡ true = sym c.is_rest.ensures ∙ c.if-is_rest.true in
+    IfOk-weaker c.waited.result _ _
+    (λ waited h. subst (λ (fs : List (g.row.R-Value.Denot × List ℕ)). ArePoolOf g.R.Resource.below g.R.Forgets.same_sums trail fs waited)
+    (after-rest rested wait (λ v. (g.met.R.Lapses.resting r).rest_is v x d rests) es)
+    (h trail (waited_entries rested es) c.requires.rested.those))
+    c.waited.ensures.pool
+
+pub returns-then-is_rest-clause-held : goal.returns-then-is_rest-clause-held
+returns-then-is_rest-clause-held g c =
+    let r = c.args.ground.now.resource.now in
+    let Held = AreHeld (g.R.Staged.count_of r) (g.R.Staged.ready r) (g.R.Staged.most r) (length c.args.ground.now.net.now.duties) c.args.table.now in
+    let wait = λ (v : g.row.R-Value.Denot). g.R.Staged.waited r v c.args.arrival.now c.args.departure.now in
+    let all = waited-held (g.R.Staged.count_of r) (g.R.Staged.most r) (length c.args.ground.now.net.now.duties) c.args.table.now (g.R.Staged.arrived r) (g.R.Staged.ready r) wait
+    (λ v. (g.met.R.Staged.counting r c.requires.counts.limit c.requires.counts.has_most).none_more v c.args.arrival.now c.args.departure.now)
+    (λ n v. (g.met.R.Staged.bounds r).wait_ready n v c.args.arrival.now c.args.departure.now c.requires.follows) c.args.rested.now c.requires.rested.held in
+    IfOk-weaker c.waited.result _ _ (λ waited h. subst (λ (ls : List (Label g.row.R-Value.Denot)). Held ls) (sym h) all) c.waited.ensures.labels
+
+pub returns-else-is_rest-clause-pool : goal.returns-else-is_rest-clause-pool
+returns-else-is_rest-clause-pool g c =
+    let r = c.args.ground.now.resource.now in
+    let trail = trail_of c.args.table.now in
+    let f = g.met.R.Forgets.forgets r in
+    IfOk-weaker c.waited-else-is_rest.result _ _
+    (λ waited h. h trail (map (shown trail) c.args.held.now)
+    (pool-itself g.R.Resource.below g.R.Forgets.same_sums trail g.R.Value.Ord.cmp g.met.R.Resource.order f.same_itself f.same_between c.requires.clean.0 c.args.held.now c.requires.clean.1))
+    c.waited-else-is_rest.ensures.pool
+
+pub returns-else-is_rest-clause-held : goal.returns-else-is_rest-clause-held
+returns-else-is_rest-clause-held g c =
+    let r = c.args.ground.now.resource.now in
+    let Held = AreHeld (g.R.Staged.count_of r) (g.R.Staged.ready r) (g.R.Staged.most r) (length c.args.ground.now.net.now.duties) c.args.table.now in
+    let wait = λ (v : g.row.R-Value.Denot). g.R.Staged.waited r v c.args.arrival.now c.args.departure.now in
+    let all = waited-held (g.R.Staged.count_of r) (g.R.Staged.most r) (length c.args.ground.now.net.now.duties) c.args.table.now (g.R.Staged.arrived r) (g.R.Staged.ready r) wait
+    (λ v. (g.met.R.Staged.counting r c.requires.counts.limit c.requires.counts.has_most).none_more v c.args.arrival.now c.args.departure.now)
+    (λ n v. (g.met.R.Staged.bounds r).wait_ready n v c.args.arrival.now c.args.departure.now c.requires.follows) c.args.held.now c.requires.held in
+    IfOk-weaker c.waited-else-is_rest.result _ _ (λ waited h. subst (λ (ls : List (Label g.row.R-Value.Denot)). Held ls) (sym h) all) c.waited-else-is_rest.ensures.labels

@@ -1,0 +1,389 @@
+//! The pools of arrivals, which are made once: before the first departures that may wait on them.
+ghost use Rattle.std.specs.Prelude.{◌≡◌, ◌<◌, ◌≤◌, ◌≤ℤ◌, ◌<ℤ◌, ℕ, FitsSigned, List, Some, MatchOption, IfOk, OnOk, get_or, length, map, set, slice_get, slice_index_or, vec_len};
+ghost use Rattle.std.specs.Arc.{arc_value};
+ghost use Rattle.std.specs.Int.{w64};
+ghost use Rattle.crew_pairing.specs.declared.events.Arrival.{Arrival};
+ghost use Rattle.crew_pairing.specs.declared.events.Departure.{Departure};
+ghost use Rattle.crew_pass.specs.Machinery.Held.{AreHeld, trail_of};
+ghost use Rattle.crew_pass.specs.Machinery.Numbered.{in_order};
+ghost use Rattle.crew_pass.specs.Machinery.Passing.{AreGathered, AreKept, AreRestedOf, Arrives, IsArrivedAt, IsDue, IsNotDue, IsPassable, IsUnderWay, ways};
+ghost use Rattle.crew_pass.specs.Passes.{CountsDuties};
+
+use crate::batch::report_at;
+use crate::claims::{map_claimed, map_in_turn};
+use crate::ground::{Found, Ground};
+use crate::waits::rested_pool;
+use crew_forgetful::Lapses;
+use crew_label::{Pool, Table};
+use crew_pairing::Duty;
+use crew_resource::Resource;
+use std::alloc::{AllocError, Global};
+use std::sync::Arc;
+use std::thread::Threads;
+
+/// The labels of an arrival, and those that a rest of them goes by.
+#[derive(Drop)]
+pub(crate) struct Arrived<R: Resource> {
+    pub(crate) pool: Pool<R>,
+    pub(crate) rested: Pool<R>,
+}
+
+// The arrivals of a network, in order, or want of memory: those that are due.
+type Arrivals<R> = Vec<Result<Option<Arrived<R>>, AllocError>>;
+
+// The pool of the arrival at a place, of the fronts of the duties that arrive there.
+fn arrival_pool<R: Lapses<Duty>>(
+    alloc: Global,
+    ground: &Ground<R>,
+    table: &Table<R>,
+    fronts: &[Arc<Pool<R>, Global>],
+    place: usize,
+) -> Result<Pool<R>, AllocError>
+    requires passable { IsPassable ground.now.net.now ground.now.turns.now }
+    requires counts { CountsDuties R.same_sums (R.count_of ground.now.resource.now)
+        (R.most ground.now.resource.now) (R.fits ground.now.resource.now) }
+    requires place { place < length ground.now.net.now.arrivals }
+    requires kept { AreKept (ways R.below R.same_sums (R.idle_of ground.now.resource.now)
+        (R.waited ground.now.resource.now) (R.boards ground.now.resource.now))
+        (R.count_of ground.now.resource.now) (R.arrived ground.now.resource.now)
+        (R.most ground.now.resource.now) ground.now.net.now table.now (map arc_value fronts.now) }
+    ensures gathered { IfOk result (λ pool. (x : Arrival)
+        → slice_get ground.now.net.now.arrivals place ≡ Some x
+        → AreGathered (ways R.below R.same_sums (R.idle_of ground.now.resource.now)
+        (R.waited ground.now.resource.now) (R.boards ground.now.resource.now))
+        (trail_of table.now) (Arrives ground.now.net.now (trail_of table.now)
+        (map arc_value fronts.now) x) pool) }
+    ensures held { IfOk result (AreHeld (R.count_of ground.now.resource.now)
+        (R.arrived ground.now.resource.now) (R.most ground.now.resource.now)
+        (length ground.now.net.now.duties) table.now) }
+{
+    let mut pools = Vec::new(alloc);
+    for rank in ground.net.arriving(place) {
+        pools.push(&*fronts[*rank as usize])?;
+    }
+    Pool::of_pools::<Duty, Table<R>>(alloc, ground.resource, table, &pools)
+}
+
+// The labels of the arrival at a place, and those that a rest of them goes by.
+fn arrived_at<R: Lapses<Duty>>(
+    alloc: Global,
+    ground: &Ground<R>,
+    table: &Table<R>,
+    fronts: &[Arc<Pool<R>, Global>],
+    place: usize,
+) -> Result<Arrived<R>, AllocError>
+    requires passable { IsPassable ground.now.net.now ground.now.turns.now }
+    requires counts { CountsDuties R.same_sums (R.count_of ground.now.resource.now)
+        (R.most ground.now.resource.now) (R.fits ground.now.resource.now) }
+    requires place { place < length ground.now.net.now.arrivals }
+    requires kept { AreKept (ways R.below R.same_sums (R.idle_of ground.now.resource.now)
+        (R.waited ground.now.resource.now) (R.boards ground.now.resource.now))
+        (R.count_of ground.now.resource.now) (R.arrived ground.now.resource.now)
+        (R.most ground.now.resource.now) ground.now.net.now table.now (map arc_value fronts.now) }
+    ensures { IfOk result (λ arrived. IsArrivedAt (ways R.below R.same_sums (R.idle_of ground.now.resource.now)
+        (R.waited ground.now.resource.now) (R.boards ground.now.resource.now))
+        (R.rested_of ground.now.resource.now) (R.count_of ground.now.resource.now)
+        (R.arrived ground.now.resource.now) (R.most ground.now.resource.now) ground.now.net.now
+        table.now (map arc_value fronts.now) place arrived.pool arrived.rested) }
+{
+    let pool = arrival_pool(alloc, ground, table, fronts, place)?;
+    let rested = rested_pool(alloc, ground, table, &pool)?;
+    Ok(Arrived { pool, rested })
+}
+
+// Those of the arrival at a place, if it is released before a second minute, and not before a first.
+fn due_at<R: Lapses<Duty>>(
+    alloc: Global,
+    ground: &Ground<R>,
+    table: &Table<R>,
+    fronts: &[Arc<Pool<R>, Global>],
+    before: i64,
+    first: i64,
+    place: usize,
+) -> Result<Option<Arrived<R>>, AllocError>
+    requires passable { IsPassable ground.now.net.now ground.now.turns.now }
+    requires counts { CountsDuties R.same_sums (R.count_of ground.now.resource.now)
+        (R.most ground.now.resource.now) (R.fits ground.now.resource.now) }
+    requires place { place < length ground.now.net.now.arrivals }
+    requires kept { AreKept (ways R.below R.same_sums (R.idle_of ground.now.resource.now)
+        (R.waited ground.now.resource.now) (R.boards ground.now.resource.now))
+        (R.count_of ground.now.resource.now) (R.arrived ground.now.resource.now)
+        (R.most ground.now.resource.now) ground.now.net.now table.now (map arc_value fronts.now) }
+    ensures { IfOk result (λ made. MatchOption made (IsNotDue ground.now.net.now before first place)
+        (λ arrived. IsDue ground.now.net.now before first place × IsArrivedAt (ways R.below R.same_sums (R.idle_of ground.now.resource.now)
+        (R.waited ground.now.resource.now) (R.boards ground.now.resource.now))
+        (R.rested_of ground.now.resource.now) (R.count_of ground.now.resource.now)
+        (R.arrived ground.now.resource.now) (R.most ground.now.resource.now) ground.now.net.now
+        table.now (map arc_value fronts.now) place arrived.pool arrived.rested)) }
+{
+    let release = ground.net.arrivals()[place].release;
+    if release < before || release >= first {
+        return Ok(None);
+    }
+    let arrived = arrived_at(alloc, ground, table, fronts, place)?;
+    Ok(Some(arrived))
+}
+
+// Those of each arrival that is released before a second minute, and not before a first.
+fn arrivals_in_turn<R: Lapses<Duty>>(
+    alloc: Global,
+    ground: &Ground<R>,
+    table: &Table<R>,
+    fronts: &[Arc<Pool<R>, Global>],
+    before: i64,
+    first: i64,
+) -> Result<Arrivals<R>, AllocError>
+    requires passable { IsPassable ground.now.net.now ground.now.turns.now }
+    requires counts { CountsDuties R.same_sums (R.count_of ground.now.resource.now)
+        (R.most ground.now.resource.now) (R.fits ground.now.resource.now) }
+    requires kept { AreKept (ways R.below R.same_sums (R.idle_of ground.now.resource.now)
+        (R.waited ground.now.resource.now) (R.boards ground.now.resource.now))
+        (R.count_of ground.now.resource.now) (R.arrived ground.now.resource.now)
+        (R.most ground.now.resource.now) ground.now.net.now table.now (map arc_value fronts.now) }
+    ensures long { IfOk result (λ arrivals. vec_len arrivals
+        ≡ length ground.now.net.now.arrivals) }
+    ensures each { IfOk result (λ arrivals. (i : ℕ) (d : _)
+        → i < length ground.now.net.now.arrivals → IfOk (slice_index_or arrivals.items i d)
+        (λ made. MatchOption made (IsNotDue ground.now.net.now before first i)
+        (λ arrived. IsDue ground.now.net.now before first i × IsArrivedAt (ways R.below R.same_sums (R.idle_of ground.now.resource.now)
+        (R.waited ground.now.resource.now) (R.boards ground.now.resource.now))
+        (R.rested_of ground.now.resource.now) (R.count_of ground.now.resource.now)
+        (R.arrived ground.now.resource.now) (R.most ground.now.resource.now) ground.now.net.now
+        table.now (map arc_value fronts.now) i arrived.pool arrived.rested))) }
+{
+    let part = |place: usize| -> Result<Option<Arrived<R>>, AllocError>
+        requires { FitsSigned w64 before × FitsSigned w64 first
+            × (place < length ground.now.net.now.arrivals)
+            × IsPassable ground.now.net.now ground.now.turns.now
+            × CountsDuties R.same_sums (R.count_of ground.now.resource.now)
+            (R.most ground.now.resource.now) (R.fits ground.now.resource.now)
+            × AreKept (ways R.below R.same_sums (R.idle_of ground.now.resource.now)
+            (R.waited ground.now.resource.now) (R.boards ground.now.resource.now))
+            (R.count_of ground.now.resource.now) (R.arrived ground.now.resource.now)
+            (R.most ground.now.resource.now) ground.now.net.now table.now
+            (map arc_value fronts.now) }
+        ensures { IfOk result (λ made. MatchOption made (IsNotDue ground.entry.now.net.now before first place)
+            (λ arrived. IsDue ground.entry.now.net.now before first place × IsArrivedAt (ways R.below R.same_sums (R.idle_of ground.entry.now.resource.now)
+            (R.waited ground.entry.now.resource.now) (R.boards ground.entry.now.resource.now))
+            (R.rested_of ground.entry.now.resource.now) (R.count_of ground.entry.now.resource.now)
+            (R.arrived ground.entry.now.resource.now) (R.most ground.entry.now.resource.now) ground.entry.now.net.now
+            table.entry.now (map arc_value fronts.entry.now) place arrived.pool arrived.rested)) }
+    { due_at(alloc, ground, table, fronts, before, first, place) };
+    map_in_turn(alloc, ground.net.arrivals().len(), &part)
+}
+
+// The same by threads, at most so many.
+fn arrivals_at_once<T: Threads + Sync, R: Lapses<Duty> + Sync>(
+    rt: &T,
+    alloc: Global,
+    threads: usize,
+    ground: &Ground<R>,
+    table: &Table<R>,
+    fronts: &[Arc<Pool<R>, Global>],
+    before: i64,
+    first: i64,
+) -> Result<Arrivals<R>, AllocError>
+where
+    R::Value: Send + Sync,
+    requires passable { IsPassable ground.now.net.now ground.now.turns.now }
+    requires counts { CountsDuties R.same_sums (R.count_of ground.now.resource.now)
+        (R.most ground.now.resource.now) (R.fits ground.now.resource.now) }
+    requires kept { AreKept (ways R.below R.same_sums (R.idle_of ground.now.resource.now)
+        (R.waited ground.now.resource.now) (R.boards ground.now.resource.now))
+        (R.count_of ground.now.resource.now) (R.arrived ground.now.resource.now)
+        (R.most ground.now.resource.now) ground.now.net.now table.now (map arc_value fronts.now) }
+    ensures long { IfOk result (λ arrivals. vec_len arrivals
+        ≡ length ground.now.net.now.arrivals) }
+    ensures each { IfOk result (λ arrivals. (i : ℕ) (d : _)
+        → i < length ground.now.net.now.arrivals → IfOk (slice_index_or arrivals.items i d)
+        (λ made. MatchOption made (IsNotDue ground.now.net.now before first i)
+        (λ arrived. IsDue ground.now.net.now before first i × IsArrivedAt (ways R.below R.same_sums (R.idle_of ground.now.resource.now)
+        (R.waited ground.now.resource.now) (R.boards ground.now.resource.now))
+        (R.rested_of ground.now.resource.now) (R.count_of ground.now.resource.now)
+        (R.arrived ground.now.resource.now) (R.most ground.now.resource.now) ground.now.net.now
+        table.now (map arc_value fronts.now) i arrived.pool arrived.rested))) }
+{
+    let part = |place: usize| -> Result<Option<Arrived<R>>, AllocError>
+        requires { FitsSigned w64 before × FitsSigned w64 first
+            × (place < length ground.now.net.now.arrivals)
+            × IsPassable ground.now.net.now ground.now.turns.now
+            × CountsDuties R.same_sums (R.count_of ground.now.resource.now)
+            (R.most ground.now.resource.now) (R.fits ground.now.resource.now)
+            × AreKept (ways R.below R.same_sums (R.idle_of ground.now.resource.now)
+            (R.waited ground.now.resource.now) (R.boards ground.now.resource.now))
+            (R.count_of ground.now.resource.now) (R.arrived ground.now.resource.now)
+            (R.most ground.now.resource.now) ground.now.net.now table.now
+            (map arc_value fronts.now) }
+        ensures { IfOk result (λ made. MatchOption made (IsNotDue ground.entry.now.net.now before first place)
+            (λ arrived. IsDue ground.entry.now.net.now before first place × IsArrivedAt (ways R.below R.same_sums (R.idle_of ground.entry.now.resource.now)
+            (R.waited ground.entry.now.resource.now) (R.boards ground.entry.now.resource.now))
+            (R.rested_of ground.entry.now.resource.now) (R.count_of ground.entry.now.resource.now)
+            (R.arrived ground.entry.now.resource.now) (R.most ground.entry.now.resource.now) ground.entry.now.net.now
+            table.entry.now (map arc_value fronts.entry.now) place arrived.pool arrived.rested)) }
+    { due_at(alloc, ground, table, fronts, before, first, place) };
+    map_claimed(rt, alloc, threads, ground.net.arrivals().len(), &part)
+}
+
+// Puts what was made of the arrival at a place there.
+fn put_arrived<R: Lapses<Duty>>(found: &mut Found<R>, place: usize, made: Option<Arrived<R>>)
+    requires arrivals { place < length found.old.arrivals.items }
+    requires rested { place < length found.old.rested.items }
+    ensures fronts { found.new.fronts ≡ found.old.fronts }
+    ensures upto { found.new.upto ≡ found.old.upto }
+    ensures arrivals { MatchOption made (found.new.arrivals ≡ found.old.arrivals)
+        (λ arrived. found.new.arrivals.items ≡ set found.old.arrivals.items place arrived.pool) }
+    ensures rested { MatchOption made (found.new.rested ≡ found.old.rested)
+        (λ arrived. found.new.rested.items ≡ set found.old.rested.items place arrived.rested) }
+{
+    let Some(arrived) = made else {
+        return;
+    };
+    found.arrivals[place] = arrived.pool;
+    found.rested[place] = arrived.rested;
+}
+
+// Puts what was made of the arrivals in its place.
+fn put_arrivals<R: Lapses<Duty>>(
+    ground: &Ground<R>,
+    table: &Table<R>,
+    found: &mut Found<R>,
+    first: i64,
+    arrivals: Arrivals<R>,
+) -> Result<(), AllocError>
+    requires long { vec_len arrivals ≡ length ground.now.net.now.arrivals }
+    requires made { (i : ℕ) (d : _) → i < length ground.now.net.now.arrivals
+        → IfOk (slice_index_or arrivals.items i d)
+        (λ made. MatchOption made (IsNotDue ground.now.net.now found.old.upto first i)
+        (λ arrived. IsDue ground.now.net.now found.old.upto first i × IsArrivedAt (ways R.below R.same_sums (R.idle_of ground.now.resource.now)
+        (R.waited ground.now.resource.now) (R.boards ground.now.resource.now))
+        (R.rested_of ground.now.resource.now) (R.count_of ground.now.resource.now)
+        (R.arrived ground.now.resource.now) (R.most ground.now.resource.now) ground.now.net.now
+        table.now (map arc_value found.old.fronts.items) i arrived.pool arrived.rested)) }
+    requires rises { found.old.upto ≤ℤ first }
+    requires late { (i : ℕ) (g : Departure) → length table.now.pools ≤ i
+        → slice_get (in_order ground.now.net.now) i ≡ Some g → first ≤ℤ g.report }
+    requires way { IsUnderWay (ways R.below R.same_sums (R.idle_of ground.now.resource.now)
+        (R.waited ground.now.resource.now) (R.boards ground.now.resource.now))
+        (R.count_of ground.now.resource.now) (R.ready ground.now.resource.now)
+        (R.arrived ground.now.resource.now) (R.most ground.now.resource.now) ground.now.net.now
+        ground.now.base ground.now.turns.now table.now (map arc_value found.old.fronts.items)
+        found.old.arrivals.items found.old.upto (λ rank. get_or ground.now.turns.now rank 0 < length table.now.pools) }
+    requires rested { AreRestedOf (ways R.below R.same_sums (R.idle_of ground.now.resource.now)
+        (R.waited ground.now.resource.now) (R.boards ground.now.resource.now))
+        (R.rested_of ground.now.resource.now) (R.count_of ground.now.resource.now)
+        (R.arrived ground.now.resource.now) (R.most ground.now.resource.now)
+        (length ground.now.net.now.duties) table.now found.old.arrivals.items found.old.rested.items }
+    ensures upto { OnOk result (found.new.upto ≡ first) }
+    ensures way { OnOk result (IsUnderWay (ways R.below R.same_sums (R.idle_of ground.now.resource.now)
+        (R.waited ground.now.resource.now) (R.boards ground.now.resource.now))
+        (R.count_of ground.now.resource.now) (R.ready ground.now.resource.now)
+        (R.arrived ground.now.resource.now) (R.most ground.now.resource.now) ground.now.net.now
+        ground.now.base ground.now.turns.now table.now (map arc_value found.new.fronts.items)
+        found.new.arrivals.items first (λ rank. get_or ground.now.turns.now rank 0 < length table.now.pools)) }
+    ensures rested { OnOk result (AreRestedOf (ways R.below R.same_sums (R.idle_of ground.now.resource.now)
+        (R.waited ground.now.resource.now) (R.boards ground.now.resource.now))
+        (R.rested_of ground.now.resource.now) (R.count_of ground.now.resource.now)
+        (R.arrived ground.now.resource.now) (R.most ground.now.resource.now)
+        (length ground.now.net.now.duties) table.now found.new.arrivals.items found.new.rested.items) }
+{
+    let mut place = 0;
+    for made in arrivals {
+        put_arrived(found, place, made?);
+        place += 1;
+    }
+    found.upto = first;
+    Ok(())
+}
+
+/// Makes the pools of the arrivals that are released before the departure at the next turn reports, and
+/// what rests there go by, where they aren't made already.
+pub(crate) fn arrive<R: Lapses<Duty>>(
+    alloc: Global,
+    ground: &Ground<R>,
+    table: &Table<R>,
+    found: &mut Found<R>,
+    turn: usize,
+) -> Result<(), AllocError>
+    requires passable { IsPassable ground.now.net.now ground.now.turns.now }
+    requires counts { CountsDuties R.same_sums (R.count_of ground.now.resource.now)
+        (R.most ground.now.resource.now) (R.fits ground.now.resource.now) }
+    requires turn { turn < length ground.now.net.now.by_report }
+    requires next { turn ≡ length table.now.pools }
+    requires way { IsUnderWay (ways R.below R.same_sums (R.idle_of ground.now.resource.now)
+        (R.waited ground.now.resource.now) (R.boards ground.now.resource.now))
+        (R.count_of ground.now.resource.now) (R.ready ground.now.resource.now)
+        (R.arrived ground.now.resource.now) (R.most ground.now.resource.now) ground.now.net.now
+        ground.now.base ground.now.turns.now table.now (map arc_value found.old.fronts.items)
+        found.old.arrivals.items found.old.upto (λ rank. get_or ground.now.turns.now rank 0 < length table.now.pools) }
+    requires rested { AreRestedOf (ways R.below R.same_sums (R.idle_of ground.now.resource.now)
+        (R.waited ground.now.resource.now) (R.boards ground.now.resource.now))
+        (R.rested_of ground.now.resource.now) (R.count_of ground.now.resource.now)
+        (R.arrived ground.now.resource.now) (R.most ground.now.resource.now)
+        (length ground.now.net.now.duties) table.now found.old.arrivals.items found.old.rested.items }
+    ensures upto { OnOk result ((g : Departure) → slice_get (in_order ground.now.net.now) turn ≡ Some g
+        → found.new.upto ≡ g.report) }
+    ensures way { OnOk result (IsUnderWay (ways R.below R.same_sums (R.idle_of ground.now.resource.now)
+        (R.waited ground.now.resource.now) (R.boards ground.now.resource.now))
+        (R.count_of ground.now.resource.now) (R.ready ground.now.resource.now)
+        (R.arrived ground.now.resource.now) (R.most ground.now.resource.now) ground.now.net.now
+        ground.now.base ground.now.turns.now table.now (map arc_value found.new.fronts.items)
+        found.new.arrivals.items found.new.upto (λ rank. get_or ground.now.turns.now rank 0 < length table.now.pools)) }
+    ensures rested { OnOk result (AreRestedOf (ways R.below R.same_sums (R.idle_of ground.now.resource.now)
+        (R.waited ground.now.resource.now) (R.boards ground.now.resource.now))
+        (R.rested_of ground.now.resource.now) (R.count_of ground.now.resource.now)
+        (R.arrived ground.now.resource.now) (R.most ground.now.resource.now)
+        (length ground.now.net.now.duties) table.now found.new.arrivals.items found.new.rested.items) }
+{
+    let first = report_at(ground, turn);
+    let fronts = found.fronts.as_slice();
+    let made = arrivals_in_turn(alloc, ground, table, fronts, found.upto, first)?;
+    put_arrivals(ground, table, found, first, made)
+}
+
+/// The same by threads, at most so many.
+pub(crate) fn arrive_by_threads<T: Threads + Sync, R: Lapses<Duty> + Sync>(
+    rt: &T,
+    alloc: Global,
+    threads: usize,
+    ground: &Ground<R>,
+    table: &Table<R>,
+    found: &mut Found<R>,
+    turn: usize,
+) -> Result<(), AllocError>
+where
+    R::Value: Send + Sync,
+    requires passable { IsPassable ground.now.net.now ground.now.turns.now }
+    requires counts { CountsDuties R.same_sums (R.count_of ground.now.resource.now)
+        (R.most ground.now.resource.now) (R.fits ground.now.resource.now) }
+    requires turn { turn < length ground.now.net.now.by_report }
+    requires next { turn ≡ length table.now.pools }
+    requires way { IsUnderWay (ways R.below R.same_sums (R.idle_of ground.now.resource.now)
+        (R.waited ground.now.resource.now) (R.boards ground.now.resource.now))
+        (R.count_of ground.now.resource.now) (R.ready ground.now.resource.now)
+        (R.arrived ground.now.resource.now) (R.most ground.now.resource.now) ground.now.net.now
+        ground.now.base ground.now.turns.now table.now (map arc_value found.old.fronts.items)
+        found.old.arrivals.items found.old.upto (λ rank. get_or ground.now.turns.now rank 0 < length table.now.pools) }
+    requires rested { AreRestedOf (ways R.below R.same_sums (R.idle_of ground.now.resource.now)
+        (R.waited ground.now.resource.now) (R.boards ground.now.resource.now))
+        (R.rested_of ground.now.resource.now) (R.count_of ground.now.resource.now)
+        (R.arrived ground.now.resource.now) (R.most ground.now.resource.now)
+        (length ground.now.net.now.duties) table.now found.old.arrivals.items found.old.rested.items }
+    ensures upto { OnOk result ((g : Departure) → slice_get (in_order ground.now.net.now) turn ≡ Some g
+        → found.new.upto ≡ g.report) }
+    ensures way { OnOk result (IsUnderWay (ways R.below R.same_sums (R.idle_of ground.now.resource.now)
+        (R.waited ground.now.resource.now) (R.boards ground.now.resource.now))
+        (R.count_of ground.now.resource.now) (R.ready ground.now.resource.now)
+        (R.arrived ground.now.resource.now) (R.most ground.now.resource.now) ground.now.net.now
+        ground.now.base ground.now.turns.now table.now (map arc_value found.new.fronts.items)
+        found.new.arrivals.items found.new.upto (λ rank. get_or ground.now.turns.now rank 0 < length table.now.pools)) }
+    ensures rested { OnOk result (AreRestedOf (ways R.below R.same_sums (R.idle_of ground.now.resource.now)
+        (R.waited ground.now.resource.now) (R.boards ground.now.resource.now))
+        (R.rested_of ground.now.resource.now) (R.count_of ground.now.resource.now)
+        (R.arrived ground.now.resource.now) (R.most ground.now.resource.now)
+        (length ground.now.net.now.duties) table.now found.new.arrivals.items found.new.rested.items) }
+{
+    let first = report_at(ground, turn);
+    let fronts = found.fronts.as_slice();
+    let made = arrivals_at_once(rt, alloc, threads, ground, table, fronts, found.upto, first)?;
+    put_arrivals(ground, table, found, first, made)
+}
