@@ -21,6 +21,7 @@ use crate::trails::Trails;
 use crew_forgetful::{Forgets, Marked};
 use crew_resource::{Placed, Resource};
 use std::alloc::{AllocError, Global};
+use std::sync::atomic::{AtomicUsize, Ordering};
 
 // How many entries a group and a block have at most, but where marks are alike.
 const GROUP: usize = 256;
@@ -114,7 +115,7 @@ pub(crate) fn groups_by_marks<R: Resource>(
 }
 
 // What is asked of an index: whether one of its labels, at marks of at most so much, may stand for
-// a label.
+// a label. The hint is the place of one that stood for an earlier label; any place serves.
 #[derive(Drop)]
 pub(crate) struct Asked<'a, 'r, R: Resource, T> {
     pub(crate) resource: &'r R,
@@ -123,6 +124,7 @@ pub(crate) struct Asked<'a, 'r, R: Resource, T> {
     pub(crate) others: &'a [Seen<'a, R::Value>],
     pub(crate) label: &'a Label<R::Value>,
     pub(crate) most: &'a [i32; 16],
+    pub(crate) hint: &'a AtomicUsize,
 }
 
 // Whether the label at a place may stand.
@@ -165,7 +167,12 @@ fn finds_entry<P: Placed, R: Forgets<P>, T: Trails>(
     ensures { result ≡ finds_entry (test_at R.below R.same_sums
         (T.trail asked.now.trails.now) asked.now.rule asked.now.others.now asked.now.label.now) asked.now.most.now entry.now }
 {
-    are_at_most(&entry.marks, asked.most) && may_stand_at::<P, R, T>(asked, entry.place)
+    let found = are_at_most(&entry.marks, asked.most)
+        && may_stand_at::<P, R, T>(asked, entry.place);
+    if found {
+        asked.hint.store(entry.place, Ordering::Relaxed);
+    }
+    found
 }
 
 // Whether one of some entries' labels may.
@@ -263,7 +270,26 @@ fn in_groups<P: Placed, R: Forgets<P>, T: Trails>(
     false
 }
 
-// Whether a label of those that an index has may stand for another label.
+// Whether the label that the hint tells may stand.
+fn stands_by_hint<P: Placed, R: Forgets<P>, T: Trails>(asked: &Asked<'_, '_, R, T>) -> bool
+    requires tell { TellCount R.same_sums (R.count_of asked.now.resource.now) }
+    requires counted { AreCounted (R.count_of asked.now.resource.now) (T.leads asked.now.trails.now)
+        (T.trail asked.now.trails.now) (labels_of asked.now.others.now) }
+    requires label { IsCounted (R.count_of asked.now.resource.now) (T.leads asked.now.trails.now)
+        (T.trail asked.now.trails.now) asked.now.label.now }
+    ensures { result ≡ true → list_any
+        (λ s. stands_label R.below (same_by R.below R.same_sums asked.now.rule)
+        (T.trail asked.now.trails.now) s.label.now asked.now.label.now) asked.now.others.now ≡ true }
+{
+    let place = asked.hint.load(Ordering::Relaxed);
+    let Some(held) = seen_at(asked.others, place) else {
+        return false;
+    };
+    are_at_most(held.marks, asked.most) && may_stand_at::<P, R, T>(asked, place)
+}
+
+// Whether a label of those that an index has may stand for another label. The one that stood for the
+// label before is asked first: labels come in order, and neighbours mostly fall to the same one.
 pub(crate) fn is_reached_by<P: Placed, R: Marked<P>, T: Trails>(
     resource: &R,
     trails: &T,
@@ -271,6 +297,7 @@ pub(crate) fn is_reached_by<P: Placed, R: Marked<P>, T: Trails>(
     groups: &[Group],
     others: &[Seen<'_, R::Value>],
     seen: &Seen<'_, R::Value>,
+    hint: &AtomicUsize,
 ) -> bool
     requires tell { TellCount R.same_sums (R.count_of resource.now) }
     requires groups { (e : Entry) → Member (entries_from (λ s. s.marks.now) 0 others.now) e
@@ -291,6 +318,10 @@ pub(crate) fn is_reached_by<P: Placed, R: Marked<P>, T: Trails>(
         others,
         label: seen.label,
         most: seen.marks,
+        hint,
     };
+    if stands_by_hint::<P, R, T>(&asked) {
+        return true;
+    }
     in_groups::<P, R, T>(&asked, groups)
 }

@@ -13,6 +13,7 @@ use crate::trails::{Trails, walk_at_most};
 use crew_forgetful::{Forgets, Marked};
 use crew_resource::{Placed, Resource};
 use std::alloc::{AllocError, Global};
+use std::sync::atomic::AtomicUsize;
 
 // Where a label that stands for another must have the lesser walk: at values with the same sums, as
 // at an event, or only at the same value, as in a front.
@@ -163,8 +164,9 @@ fn free_of_many<'a, P: Placed, R: Marked<P>, T: Trails>(
 {
     let mut free = Vec::with_capacity(alloc, list.len())?;
     let groups = groups_by_marks::<R>(alloc, others)?;
+    let hint = AtomicUsize::new(0);
     for seen in list {
-        if !is_reached_by::<P, R, T>(resource, trails, rule, &groups, others, seen) {
+        if !is_reached_by::<P, R, T>(resource, trails, rule, &groups, others, seen, &hint) {
             push_seen::<R>(&mut free, seen)?;
         }
     }
