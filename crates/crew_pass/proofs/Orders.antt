@@ -1,20 +1,18 @@
 -- Departures in order of report, and where events stand.
-use Rattle.std.proofs.Common.{◌≡◌, ◌∙◌, ◌<◌, ◌≤◌, ℕ, ℤ, pos, true, List, [], length, get_or, Some, sym, ap, ⊎_elim, arith, ◌⊎◌}
-use Rattle.std.specs.Prelude.{slice_get, int_le, ◌≤ℤ◌, ◌-ℤ◌}
+use Rattle.std.proofs.Common.{◌≡◌, ◌∙◌, ◌<◌, ◌≤◌, ℕ, pos, List, [], length, get_or, Some, sym, ap, ⊎_elim, arith, ◌⊎◌}
+use Rattle.std.specs.Prelude.{slice_get}
 use Rattle.std.specs.Cmp.{IsTotalOrder, int_cmp_total, on_total, then_total}
 use Rattle.std.specs.List.{range_with_len}
 use Rattle.std.specs.declared.cmp.Ordering.{Ordering}
 use Rattle.std.specs.declared.cmp.Ordering.TheVariants.{Less, Equal}
-use Rattle.std.proofs.lemmas.Bool.{and_parts}
 use Rattle.std.proofs.lemmas.Cmp.{tied_itself}
-use Rattle.std.proofs.lemmas.Int.{ints}
 use Rattle.std.proofs.lemmas.List.{length-map}
 use Rattle.std.proofs.lemmas.List.FromFn.{get_or-range_with_len, length-range_with_len}
 use Rattle.std.proofs.lemmas.List.Sorted.{IsPermutation-sym, length_permutation}
 use Rattle.crew_flights.specs.Codes.{code_cmp_total}
 use Rattle.crew_net.specs.Events.{AreEvents, arrival_cmp, departure_cmp}
 use Rattle.crew_net.specs.Nets.{AreByReport, Net}
-use Rattle.crew_pairing.specs.Events.{IsSound, arrival_of, departure_of, may_wait}
+use Rattle.crew_pairing.specs.Events.{arrival_of, departure_of}
 use Rattle.crew_pairing.specs.declared.duty.Duty.{Duty}
 use Rattle.crew_pairing.specs.declared.events.Arrival.{Arrival}
 use Rattle.crew_pairing.specs.declared.events.Departure.{Departure}
@@ -46,12 +44,6 @@ departure-total = then_total (on_total (λ (g : Departure). g.airport) code_cmp_
 
 arrival-total : IsTotalOrder arrival_cmp
 arrival-total = then_total (on_total (λ (x : Arrival). x.airport) code_cmp_total) (on_total (λ (x : Arrival). x.release) int_cmp_total)
-
-rested : (from to : ℤ) (report : ℤ) (release most : ℤ) → from ≤ℤ release → int_le (pos 600) (to -ℤ release) ≡ true → to ≤ℤ from → ⊥
-rested from to report release most p q r = grind (arith, ints)
-
-elapsed : (report release : ℤ) → pos 0 ≤ℤ (release -ℤ report) → report ≤ℤ release
-elapsed report release h = grind (arith, ints)
 
 later : (i j : ℕ) → (j ≤ i → ⊥) → i < j
 later i j h = ⊎_elim (λ l. absurd (h l)) (λ l. l) (either i j)
@@ -112,13 +104,3 @@ module _ (net : Net) (departs : AreEvents departure_of departure_cmp net.duties 
 
   pub by-report-long : length net.by_report ≡ length net.departures
   by-report-long = length_permutation (range_with_len 0 (length net.departures)) net.by_report ordered.all ∙ length-range_with_len 0 (length net.departures)
-
-  -- no departure so far waits on a duty that leaves no earlier
-  pub no-waiting : (i j : ℕ) (g : Departure) (d : Duty) → i ≤ j → slice_get (in_order net) i ≡ Some g → slice_get (in_order net) j ≡ Some (departure_of d) → IsSound d
-      → may_wait net.settings (arrival_of d) g ≡ true → ⊥
-  no-waiting i j g d before here there sound waits =
-      let rest = and_parts _ _ (and_parts _ _ waits).1 in
-      let a = in-order-at i g here in
-      let b = in-order-at j (departure_of d) there in
-      rested d.report g.report d.report d.release (pos net.settings.max_rest) (elapsed d.report d.release sound.elapsed) rest.0
-      (ordered.rising i j a.0 b.0 g (departure_of d) before a.1 b.1 a.2 b.2)

@@ -7,11 +7,11 @@
 //! kept, and the pool of an arrival is made of the fronts of its duties, once, before the first
 //! departure that may wait on it. Departures that report less than the least rest after one another
 //! don't wait on each other's duties, so `pass_by_threads` goes through these at once, in several
-//! threads, of which no result depends. The crate promises that this
-//! is a covered pass (`crew_forgetful`), whatever the resource is, so that the fronts are those of
-//! all legal lists of duties; and that with the resource of pairings of up to 240 hours
-//! (`crew_answers`) they show the front of each legal duty (`long_fronts`, `laws`). What the passes
-//! of several bases share is a `Course`. Want of memory is all that ends a pass early.
+//! threads, on whose number no result depends. The crate promises that this is a covered pass
+//! (`crew_forgetful`), whatever the resource is, so that the fronts are those of all legal lists of
+//! duties; and that with the resource of pairings of up to 240 hours (`crew_answers`) they show the
+//! front of each legal duty (`long_fronts`, `laws`). What the passes of several bases share is a
+//! `Course`. Want of memory is all that ends a pass early.
 #![tactic(auto)]
 
 mod arrivals;

@@ -6,3 +6,5 @@ pub mod BoardLemmas
 pub mod RankLemmas
 pub mod Permuted
 pub mod Listed
+pub mod MarkLemmas
+pub mod LabelLemmas

@@ -1,23 +1,25 @@
 -- Labels that meet a pool, and those that join it.
-use Rattle.std.proofs.Common.{◌≡◌, ℕ, zero, suc, ◌+◌, ◌<◌, Bool, true, false, cond, not, List, [], ◌∷◌, ◌++◌, length, set, map, take, get_or, Option, Some, None, ◌⊎◌, inl, inr, refl, sym, ◌∙◌, ap, subst, ⊎_elim, append_assoc}
-use Rattle.std.specs.Prelude.{slice_get, ◌||◌, Result, Ok, Err, OnErr}
+use Rattle.std.proofs.Common.{◌≡◌, ℕ, zero, suc, ◌<◌, Bool, true, false, cond, not, List, [], ◌∷◌, ◌++◌, length, set, map, get_or, Option, Some, None, ◌⊎◌, inl, inr, refl, sym, ◌∙◌, ap, subst, ⊎_elim, append_assoc, append-nil}
+use Rattle.std.specs.Prelude.{slice_get, slice_set, ◌||◌, Result, Ok, Err, OnErr}
 use Rattle.std.specs.List.{filter, list_any, position}
+use Rattle.std.specs.Iterator.{Yields, YieldsFirst}
 use Rattle.std.specs.List.Sorted.{IsPermutation}
 use Rattle.std.proofs.lemmas.Bool.{cases_Bool, false≢true, not-true, not_from_false}
-use Rattle.std.proofs.lemmas.List.{take_more}
+use Rattle.std.proofs.lemmas.Iterator.Consumers.{YieldsList-end, YieldsList-from_first, YieldsList-turn}
 use Rattle.std.proofs.lemmas.List.Folds.{list_any_none}
 use Rattle.std.proofs.lemmas.List.Quantifiers.{position-Some}
-use Rattle.std.proofs.lemmas.List.Sorted.{IsPermutation-sym, list_any-IsPermutation}
+use Rattle.std.proofs.lemmas.List.Sorted.{IsPermutation-refl, IsPermutation-sym, IsPermutation-trans, list_any-IsPermutation}
 use Rattle.std.proofs.lemmas.Option.{slice_get-get_or}
 use Rattle.crew_resource.specs.Members.{Member}
 use Rattle.crew_resource.proofs.Order.{IsOrder}
-use Rattle.crew_resource.proofs.Members.{Member-append, Member-append_left, Member-append_right, Member-filter_in, Member-filter_out, list_any_true, list_any_false, Member-at, Member-map_in, Member-map_out}
+use Rattle.crew_resource.proofs.Members.{Member-append, Member-append_left, Member-append_right, Member-filter_in, Member-filter_out, list_any_true, list_any_false, Member-at, Member-get_or, Member-map_in, Member-map_out}
 use Rattle.crew_pool.specs.Apart.{ApartFromAll, AreApart}
 use Rattle.crew_pool.specs.Machinery.Meets.{is_free, vectors_of}
 use Rattle.crew_pool.specs.LabelWalks.{IsPoolOf, lesser_label_walk, ranks_at_most, shown, walk_of_label}
 use Rattle.crew_pool.specs.declared.label_walk.LabelWalk.{LabelWalk}
-use Rattle.crew_resource.proofs.Lists.{none_passes}
-use Rattle.crew_pool.proofs.Permuted.{Member-permuted}
+use Rattle.crew_resource.proofs.Lists.{map-slice_set, none_passes}
+use Rattle.crew_pool.proofs.Listed.{map-itself}
+use Rattle.crew_pool.proofs.Permuted.{AreApart-permuted, Member-permuted}
 use Rattle.crew_pool.proofs.PoolLocal.{beaten_list, joined_list, tied_list}
 use Rattle.crew_pool.proofs.LabelWalkLemmas.{lesser_label_walk_facts, ranks_order}
 
@@ -71,15 +73,10 @@ map-append f [] ys = refl
 map-append f (x ∷ xs) ys = ap (λ r. f x ∷ r) (map-append f xs ys)
 
 -- the passing ones of one more element
-pub filter-take_more : {X : Type 0} (q : X → Bool) (xs : List X) (i : ℕ) (x : X) → i < length xs → x ≡ get_or xs i x → filter q (take i xs) ++ filter q (x ∷ []) ≡ filter q (take (i + 1) xs)
-filter-take_more q xs i x h e =
-    sym (filter-append q (take i xs) (x ∷ [])) ∙ ap (filter q) (ap (λ z. take i xs ++ z ∷ []) e ∙ sym (take_more xs i x h))
-
-pub map_filter-take_more : {X Y : Type 0} (f : X → Y) (q : X → Bool) (cs : List Y) (xs : List X) (i : ℕ) (x : X) → i < length xs → x ≡ get_or xs i x
-    → (cs ++ map f (filter q (take i xs))) ++ map f (filter q (x ∷ [])) ≡ cs ++ map f (filter q (take (i + 1) xs))
-map_filter-take_more f q cs xs i x h e =
-    append_assoc cs (map f (filter q (take i xs))) (map f (filter q (x ∷ [])))
-    ∙ ap (λ r. cs ++ r) (sym (map-append f (filter q (take i xs)) (filter q (x ∷ []))) ∙ ap (map f) (filter-take_more q xs i x h e))
+map_filter-more : {X Y : Type 0} (f : X → Y) (q : X → Bool) (cs : List Y) (xs : List X) (x : X) → (cs ++ map f (filter q xs)) ++ map f (filter q (x ∷ [])) ≡ cs ++ map f (filter q (xs ++ x ∷ []))
+map_filter-more f q cs xs x =
+    append_assoc cs (map f (filter q xs)) (map f (filter q (x ∷ [])))
+    ∙ ap (λ r. cs ++ r) (sym (map-append f (filter q xs) (filter q (x ∷ []))) ∙ ap (map f) (sym (filter-append q xs (x ∷ []))))
 
 module _ {V : Type 0} (below : V → V → Bool) where
   ApartFromAll-filter : (q : V × LabelWalk → Bool) (a : V) (xs : List (V × LabelWalk)) → ApartFromAll below a (vectors_of xs) → ApartFromAll below a (vectors_of (filter q xs))
@@ -225,10 +222,86 @@ module _ {V : Type 0} (below : V → V → Bool) where
         subst (Member (map (shown ws) (filter stays xs ++ joins))) p.2 (Member-map_in (shown ws) (filter stays xs ++ joins) p.0 (Member-append_right (filter stays xs) joins p.0 p.1)))
 
 -- of two vectors of which each is at most the other the held label has the newcomer's
-pub tied_at : {V : Type 0} (below : V → V → Bool) → IsOrder below → (xs : List (V × LabelWalk)) (i : ℕ) (v : V) (e : V × LabelWalk) → slice_get xs i ≡ Some e → below e.0 v ≡ true → below v e.0 ≡ true → slice_get xs i ≡ Some (v, e.1)
-tied_at below order xs i v e g p q = g ∙ ap (λ z. Some (z, e.1)) (order.antisymmetric e.0 v p q)
+pub tied_at : {V : Type 0} (below : V → V → Bool) → IsOrder below → (xs : List (V × LabelWalk)) (i : ℕ) (l : V × LabelWalk) → i < length xs → ((held : V × LabelWalk) → slice_get xs i ≡ Some held → below held.0 l.0 ≡ true)
+    → (b : Bool) → ((held : V × LabelWalk) → slice_get xs i ≡ Some held → b ≡ below l.0 held.0) → b ≡ true → (was : LabelWalk) × (slice_get xs i ≡ Some (l.0, was))
+tied_at below order xs i l within lower b reached t =
+    let e = get_or xs i l in
+    let here = slice_get-get_or xs i l within in
+    (e.1, here ∙ ap (λ z. Some (z, e.1)) (order.antisymmetric e.0 l.0 (lower e here) (sym (reached e here) ∙ t)))
+
+-- lowering a walk leaves the vectors
+pub lowered_vectors : {V : Type 0} (xs ys : List (V × LabelWalk)) (i : ℕ) (v : V) (was now : LabelWalk) → slice_get xs i ≡ Some (v, was) → ys ≡ slice_set xs i (v, now) → vectors_of ys ≡ vectors_of xs
+lowered_vectors xs ys i v was now g e = ap vectors_of e ∙ map-slice_set (λ l. l.0) xs i (v, was) (v, now) g refl
 
 -- what holds anyway holds where there is an error
 pub on_err : {T E P : Type 0} (r : Result T E) → P → OnErr r P
 on_err (Ok x) p = tt
 on_err (Err e) p = p
+
+-- of the labels so far the free ones wait, and the others met the pool
+pub record HasMet {V : Type 0} (below : V → V → Bool) (ws : List (List ℕ)) (before all sofar now waits : List (V × LabelWalk)) : Type 0 where
+  pub vectors : IsPermutation (vectors_of before) (vectors_of now)
+  pub from : (a : V × LabelWalk) → Member now a → Member before a ⊎ Member all a
+  pub free : waits ≡ filter (is_free below (vectors_of before)) sofar
+  pub local : (cs : List (V × List ℕ)) → IsPoolOf below cs (map (shown ws) before) → IsPoolOf below (cs ++ map (shown ws) (filter (λ x. not (is_free below (vectors_of before) x)) sofar)) (map (shown ws) now)
+
+module _ {V : Type 0} (below : V → V → Bool) (ws : List (List ℕ)) (before all : List (V × LabelWalk)) where
+  -- none has met it yet
+  pub met_none : (waits : List (V × LabelWalk)) → waits ≡ [] → HasMet below ws before all [] before waits
+  met_none waits none =
+      record {
+        vectors = IsPermutation-refl (vectors_of before);
+        from = λ a m. inl m;
+        free = none;
+        local = λ cs h. subst (λ es. IsPoolOf below es (map (shown ws) before)) (sym (append-nil cs)) h;
+      }
+
+  -- one more meets it
+  pub met_more : (sofar now waits : List (V × LabelWalk)) → HasMet below ws before all sofar now waits → (l : V × LabelWalk) → Member all l → (next wait : List (V × LabelWalk)) → IsPermutation (vectors_of now) (vectors_of next)
+      → ((a : V × LabelWalk) → Member next a → Member now a ⊎ (a ≡ l)) → wait ≡ waits ++ filter (is_free below (vectors_of now)) (l ∷ [])
+      → ((cs : List (V × List ℕ)) → IsPoolOf below cs (map (shown ws) now) → IsPoolOf below (cs ++ map (shown ws) (filter (λ x. not (is_free below (vectors_of now) x)) (l ∷ []))) (map (shown ws) next))
+      → HasMet below ws before all (sofar ++ l ∷ []) next wait
+  met_more sofar now waits h l there next wait same come joins meets =
+      let vs = vectors_of before in
+      let us = vectors_of now in
+      let free = is_free below vs in
+      let stays : is_free below us l ≡ free l = sym (is_free-permuted below vs us l h.vectors) in
+      record {
+        vectors = IsPermutation-trans vs us (vectors_of next) h.vectors same;
+        from = λ a m. ⊎_elim (h.from a) (λ q. inr (subst (Member all) (sym q) there)) (come a m);
+        free = joins ∙ (ap (λ b. waits ++ cond b (l ∷ []) []) stays ∙ (ap (λ r. r ++ filter free (l ∷ [])) h.free ∙ sym (filter-append free sofar (l ∷ []))));
+        local = λ cs k.
+            subst (λ es. IsPoolOf below es (map (shown ws) next))
+            (ap (λ b. (cs ++ map (shown ws) (filter (λ x. not (free x)) sofar)) ++ map (shown ws) (cond (not b) (l ∷ []) [])) stays ∙ map_filter-more (shown ws) (λ x. not (free x)) cs sofar l)
+            (meets (cs ++ map (shown ws) (filter (λ x. not (free x)) sofar)) (h.local cs k));
+      }
+
+  -- all have met it, and those that wait join
+  pub met_all : (order : IsOrder below) (sofar now waits : List (V × LabelWalk)) → HasMet below ws before all sofar now waits → sofar ≡ all → AreApart below (vectors_of before) → AreApart below (vectors_of all)
+      → (after : List (V × LabelWalk)) → after ≡ filter (λ e. not (list_any (λ l. below l.0 e.0) waits)) now ++ waits
+      → ((cs : List (V × List ℕ)) → IsPoolOf below cs (map (shown ws) before) → IsPoolOf below (cs ++ map (shown ws) all) (map (shown ws) after))
+      × AreApart below (vectors_of after)
+      × ((a : V × LabelWalk) → Member after a → Member before a ⊎ Member all a)
+  met_all order sofar now waits h whole apart k after is =
+      let free = is_free below (vectors_of before) in
+      let joins = filter free all in
+      let stays = λ (e : V × LabelWalk). not (list_any (λ l. below l.0 e.0) joins) in
+      let merged : after ≡ filter stays now ++ joins = is ∙ ap (λ (w : List (V × LabelWalk)). filter (λ e. not (list_any (λ l. below l.0 e.0) w)) now ++ w) (h.free ∙ ap (filter free) whole) in (
+        λ cs i.
+            subst (λ (es : List (V × LabelWalk)). IsPoolOf below (cs ++ map (shown ws) all) (map (shown ws) es)) (sym merged)
+            (merged_local below order ws before now all cs h.vectors k
+            (subst (λ (es : List (V × LabelWalk)). IsPoolOf below (cs ++ map (shown ws) (filter (λ x. not (free x)) es)) (map (shown ws) now)) whole (h.local cs i))),
+        subst (λ (es : List (V × LabelWalk)). AreApart below (vectors_of es)) (sym merged)
+            (merged_apart below before now all h.vectors (AreApart-permuted below order.reflexive (vectors_of before) (vectors_of now) h.vectors apart) k),
+        λ a m. ⊎_elim (λ p. h.from a (Member-filter_out stays now a p).0) (λ q. inr (Member-filter_out free all a q).0) (Member-append (filter stays now) joins a (subst (λ (es : List (V × LabelWalk)). Member es a) merged m)),
+      )
+
+-- what an iterator over a list yields: each is in the list, and at its end they are the list
+module _ {X : Type 0} (all s : List X) (starts : s ≡ all) (yielded t : List X) (by : Yields (YieldsFirst (λ l. l)) s yielded t) (r : Option X) (u : List X) (steps : YieldsFirst (λ l. l) t r u) where
+  pub yielded_there : (x : X) → r ≡ Some x → Member all x
+  yielded_there x is =
+      let turn = YieldsList-turn (YieldsList-from_first (λ x. x) (λ l. l) all starts) yielded t by r u x is steps in
+      Member-get_or all (length yielded) x turn.0 (sym turn.1)
+
+  pub yielded_all : r ≡ None → yielded ≡ all
+  yielded_all is = sym (map-itself yielded) ∙ (YieldsList-end (YieldsList-from_first (λ x. x) (λ l. l) all starts) yielded t by r u is steps).0

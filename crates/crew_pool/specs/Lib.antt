@@ -3,4 +3,5 @@ pub mod Apart
 pub mod LabelWalks
 pub mod Ranks
 pub mod Counted
+pub mod Marks
 pub mod Machinery

@@ -4,15 +4,19 @@ ghost use Rattle.std.specs.List.{flat_map};
 ghost use Rattle.std.specs.List.Sorted.{IsPermutation};
 ghost use Rattle.crew_resource.specs.Events.{labelled};
 ghost use Rattle.crew_resource.specs.Members.{Member};
-ghost use Rattle.crew_pool.specs.Counted.{AreCounted, boarded_label, boarded_labels};
+ghost use Rattle.crew_pool.specs.Counted.{AreCounted};
 ghost use Rattle.crew_pool.specs.Machinery.Meets.{vectors_of};
 ghost use Rattle.crew_pool.specs.LabelWalks.{IsPoolOf, shown};
+ghost use Rattle.crew_pool.specs.declared.label_walk.LabelWalk.{LabelWalk};
 
 use crate::arena::Walks;
-use crate::label_walk::LabelWalk;
+use crate::growing::GrowingPool;
+use crate::marks::Marked;
+use crate::merge::merge_entries;
 use crate::pool::Pool;
+use crate::view::View;
 use crate::workspace::Workspace;
-use crew_resource::{Placed, Resource, Staged};
+use crew_resource::{Placed, Staged};
 use std::alloc::AllocError;
 
 /// Boards a duty with each label of a list that can, and merges them into a pool.
@@ -23,10 +27,10 @@ use std::alloc::AllocError;
 /// duties are ranked by key. Vectors count their duties, so walks of one vector are as long: what a
 /// longer walk's order rests on. On want of memory no label has gone or joined, but lesser walks
 /// may already stand at ties.
-pub fn absorb_boarding<P: Placed, R: Staged<P>>(
+pub fn absorb_boarding<P: Placed, R: Staged<P> + Marked>(
     resource: &R,
-    pool: &mut Pool<R>,
-    room: &mut Workspace<R::Value>,
+    pool: &mut GrowingPool<R>,
+    room: &mut Workspace<R>,
     list: &Pool<R>,
     item: &P,
     duty: u32,
@@ -47,47 +51,7 @@ pub fn absorb_boarding<P: Placed, R: Staged<P>>(
     ensures counts { OnOk result (AreCounted (R.count_of resource.now) walks.now false pool.new) }
     ensures err { OnErr result (IsPermutation (vectors_of pool.old) (vectors_of pool.new)) }
 {
-    board_all(resource, &mut room.boarded, list.as_slice(), item, duty)?;
-    pool.merge_list(resource, &mut room.free, &room.boarded, walks)?;
-    Ok(())
-}
-
-// The labels of a list that board an item.
-fn board_all<P: Placed, R: Staged<P>>(
-    resource: &R,
-    boarded: &mut Vec<(R::Value, LabelWalk)>,
-    list: &[(R::Value, LabelWalk)],
-    item: &P,
-    duty: u32,
-) -> Result<(), AllocError>
-    requires { (l : R.Value × LabelWalk) → Member list.now l
-        → R.can_board resource.now l.0 item.now }
-    ensures { OnOk result (boarded.new.items
-        ≡ boarded_labels (λ v. R.boards resource.now v item.now) duty list.now) }
-{
-    boarded.clear();
-    for label in list {
-        board_one(resource, boarded, label, item, duty)?;
-    }
-    Ok(())
-}
-
-// A label boards an item, if it can.
-fn board_one<P: Placed, R: Staged<P>>(
-    resource: &R,
-    boarded: &mut Vec<(R::Value, LabelWalk)>,
-    label: &(R::Value, LabelWalk),
-    item: &P,
-    duty: u32,
-) -> Result<(), AllocError>
-    requires { R.can_board resource.now label.now.0 item.now }
-    ensures { OnOk result (boarded.new.items ≡ boarded.old.items
-        ++ boarded_label (λ v. R.boards resource.now v item.now) duty label.now) }
-{
-    let Some(value) = resource.board(&label.0, item) else {
-        return Ok(());
-    };
-    let walk = label.1.walk;
-    boarded.push((value, LabelWalk { walk, duty }))?;
+    let entries = View::new(resource, list, item, duty).iter();
+    merge_entries(resource, &mut pool.labels, &mut room.free, entries, walks)?;
     Ok(())
 }

@@ -1,14 +1,18 @@
-//! Pools: the labels of one event, of which none is at most another. `Pool::merge` and
-//! `absorb_boarding` take a whole pool at once, and leave what all candidates so far leave. A
-//! `View` shows what of a departure's pool boards a duty, with no memory. The walks of labels share
-//! their beginnings in `Walks`, and are compared only at equal vectors.
+//! Pools: the labels of one event, of which none is at most another. `GrowingPool::merge` and
+//! `absorb_boarding` take a whole pool at once, and leave what all candidates so far leave; a glance
+//! at marks (`Marked`) tells of most labels that they aren't at most another. A `View` shows what of
+//! a departure's pool boards a duty, with no memory. The walks of labels share their beginnings in
+//! `Walks`, and are compared only at equal vectors.
 #![tactic(auto)]
 
 mod absorb;
 mod arena;
 mod entries;
+mod growing;
 mod label_walk;
+mod labels;
 pub mod laws;
+mod marks;
 mod merge;
 mod pool;
 mod view;
@@ -17,7 +21,9 @@ mod workspace;
 pub use absorb::absorb_boarding;
 pub use arena::Walks;
 pub use entries::Entries;
+pub use growing::GrowingPool;
 pub use label_walk::{LabelWalk, NO_DUTY};
+pub use marks::Marked;
 pub use pool::Pool;
 pub use view::View;
 pub use workspace::Workspace;

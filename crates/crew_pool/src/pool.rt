@@ -1,17 +1,11 @@
 //! Pools.
-ghost use Rattle.std.specs.Prelude.{◌≡◌, ◌↔◌, ℕ, List, [], ◌∷◌, ◌++◌, ◌⊎◌, length, map, IsTrue, IfOk, OnOk, OnErr};
-ghost use Rattle.std.specs.List.Sorted.{IsPermutation};
+ghost use Rattle.std.specs.Prelude.{◌≡◌, ◌↔◌, List, [], length, IsTrue, IfOk};
 ghost use Rattle.std.specs.Slice.Iter.{iter_rest};
-ghost use Rattle.crew_resource.specs.Members.{Member};
 ghost use Rattle.crew_pool.specs.Apart.{AreApart};
 ghost use Rattle.crew_pool.specs.Machinery.Meets.{vectors_of};
-ghost use Rattle.crew_pool.specs.LabelWalks.{AreAlikeWhereSame, IsPoolOf, shown};
 ghost use Rattle.crew_pool.specs.declared.label_walk.LabelWalk.{LabelWalk};
 
-use crate::arena::Walks;
 use crate::label_walk::LabelWalk;
-use crate::merge::merge_labels;
-use crate::workspace::Workspace;
 use crew_resource::Resource;
 use std::alloc::{AllocError, Global};
 use std::marker::Model;
@@ -101,52 +95,11 @@ impl<R: Resource> Pool<R> {
         Ok(Pool { labels })
     }
 
-    /// Merges another pool into this one.
-    ///
-    /// If the labels were what a list of candidates leaves, they are then what that list leaves
-    /// with the other's labels after it. On want of memory no label has gone or joined, but lesser
-    /// walks may already stand at ties.
-    pub fn merge(
-        &mut self,
-        resource: &R,
-        room: &mut Workspace<R::Value>,
-        list: &Pool<R>,
-        walks: &Walks,
-    ) -> Result<(), AllocError>
-        requires between { AreAlikeWhereSame walks.now self.old list.now }
-        requires within { AreAlikeWhereSame walks.now list.now list.now }
-        ensures local { OnOk result ((candidates : List (R.Value × List ℕ))
-            → IsPoolOf R.below candidates (map (shown walks.now) self.old)
-            → IsPoolOf R.below (candidates ++ map (shown walks.now) list.now)
-            (map (shown walks.now) self.new)) }
-        ensures from { (a : R.Value × LabelWalk) → Member self.new a
-            → Member self.old a ⊎ Member list.now a }
-        ensures err { OnErr result (IsPermutation (vectors_of self.old) (vectors_of self.new)) }
+    // The list of the labels alone.
+    pub(crate) fn into_vec(self) -> Vec<(R::Value, LabelWalk)>
+        ensures all { result.items ≡ self }
+        ensures apart { AreApart R.below (vectors_of self) }
     {
-        self.merge_list(resource, &mut room.free, list.as_slice(), walks)?;
-        Ok(())
-    }
-
-    // Merges a list of labels, of which none is at most another.
-    pub(crate) fn merge_list(
-        &mut self,
-        resource: &R,
-        room: &mut Vec<(R::Value, LabelWalk)>,
-        list: &[(R::Value, LabelWalk)],
-        walks: &Walks,
-    ) -> Result<(), AllocError>
-        requires list { AreApart R.below (vectors_of list.now) }
-        requires between { AreAlikeWhereSame walks.now self.old list.now }
-        requires within { AreAlikeWhereSame walks.now list.now list.now }
-        ensures local { OnOk result ((candidates : List (R.Value × List ℕ))
-            → IsPoolOf R.below candidates (map (shown walks.now) self.old)
-            → IsPoolOf R.below (candidates ++ map (shown walks.now) list.now)
-            (map (shown walks.now) self.new)) }
-        ensures from { (a : R.Value × LabelWalk) → Member self.new a
-            → Member self.old a ⊎ Member list.now a }
-        ensures err { OnErr result (IsPermutation (vectors_of self.old) (vectors_of self.new)) }
-    {
-        merge_labels(resource, &mut self.labels, room, list, walks)?;
-        Ok(())
+        self.labels
     }
 }

@@ -1,22 +1,21 @@
 //! Working space.
-use crate::label_walk::LabelWalk;
+use crate::labels::Labels;
+use crate::marks::Marked;
 use std::alloc::Global;
 
 /// Working space that is used again.
 ///
 /// What it holds is cleared before it is used, so any space serves and no clause speaks of it.
 #[derive(Drop)]
-pub struct Workspace<V> {
-    pub(crate) boarded: Vec<(V, LabelWalk)>,
-    pub(crate) free: Vec<(V, LabelWalk)>,
+pub struct Workspace<R: Marked> {
+    pub(crate) free: Labels<R>,
 }
 
-impl<V> Workspace<V> {
+impl<R: Marked> Workspace<R> {
     /// No space yet.
     pub fn new(alloc: Global) -> Self {
         Workspace {
-            boarded: Vec::new(alloc),
-            free: Vec::new(alloc),
+            free: Labels::new(alloc),
         }
     }
 }

@@ -1,7 +1,6 @@
 //! Answers calls of the crates below the network: instants, rules, timetables, vectors, fronts,
 //! resources and the work on single nodes. Its stored run (`stdin` and `stdout` beside `src/`) holds
-//! what no clause of theirs says: printed texts, values from outside, and one happy path of each
-//! public function that no settle calls.
+//! what no clause of theirs says: printed texts, and values from outside.
 //!
 //! Each line of the input is a call in words (`clock EST5EDT,M3.2.0,M11.1.0 2025-03-09T07:00`). It
 //! is written with its answer below it (`= 180, by a copy 180`); a line that begins with `#` says
