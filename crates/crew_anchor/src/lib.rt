@@ -7,6 +7,7 @@
 #![tactic(auto)]
 
 pub mod laws;
+mod marks;
 mod resource;
 
 pub use resource::AnchoredResource;

@@ -6,18 +6,18 @@ ghost use Rattle.crew_pool.specs.declared.label_walk.LabelWalk.{LabelWalk};
 ghost use Rattle.crew_resource.specs.Members.{Member};
 ghost use Rattle.crew_step.specs.Pools.{boarded};
 
-use crew_pool::{Pool, Walks, Workspace, absorb_boarding};
-use crew_resource::{Placed, Resource, Staged};
+use crew_pool::{GrowingPool, Marked, Pool, Walks, Workspace, absorb_boarding};
+use crew_resource::{Placed, Staged};
 use std::alloc::{AllocError, Global};
 
 /// The pool of an arrival, from the labels that board the items of some ranks, each from the pool
 /// of its departure: `turns` has the place of that pool, by rank. It has exactly the undominated
 /// of these labels, each vector with its least walk, whatever the order of the ranks; it takes the
 /// least time where ranks come first whose labels are at most those of the others.
-pub fn arrival_pool<P: Placed, R: Staged<P>>(
+pub fn arrival_pool<P: Placed, R: Staged<P> + Marked>(
     alloc: Global,
     resource: &R,
-    room: &mut Workspace<R::Value>,
+    room: &mut Workspace<R>,
     pools: &[Pool<R>],
     items: &[P],
     turns: &[u32],
@@ -40,11 +40,11 @@ pub fn arrival_pool<P: Placed, R: Staged<P>>(
         (map (shown walks.now) pool)) }
     ensures counts { IfOk result (AreCounted (R.count_of resource.now) walks.now false) }
 {
-    let mut pool = Pool::new(alloc);
+    let mut pool = GrowingPool::new(alloc);
     for rank in ranks {
         let item = &items[*rank as usize];
         let from = &pools[turns[*rank as usize] as usize];
         absorb_boarding(resource, &mut pool, room, from, item, *rank, walks)?;
     }
-    Ok(pool)
+    Ok(pool.into_pool())
 }

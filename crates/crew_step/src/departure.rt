@@ -6,8 +6,8 @@ ghost use Rattle.crew_resource.specs.Events.{labelled};
 ghost use Rattle.crew_step.specs.Walks.{HasGrown};
 
 use crate::waiting::waiting_labels;
-use crew_pool::{LabelWalk, NO_DUTY, Pool, Walks, Workspace};
-use crew_resource::{Placed, Resource, Staged};
+use crew_pool::{GrowingPool, LabelWalk, Marked, NO_DUTY, Pool, Walks, Workspace};
+use crew_resource::{Placed, Staged};
 use std::alloc::{AllocError, Global};
 
 /// The pool of a departure, from the labels of all arrivals that it may wait on, gathered in one
@@ -16,10 +16,10 @@ use std::alloc::{AllocError, Global};
 ///
 /// Their walks are added to the walks, and stand whole there. Walks that were there stay where they
 /// are; on want of memory some may have been added.
-pub fn departure_pool<P: Placed, R: Staged<P>>(
+pub fn departure_pool<P: Placed, R: Staged<P> + Marked>(
     alloc: Global,
     resource: &R,
-    room: &mut Workspace<R::Value>,
+    room: &mut Workspace<R>,
     gathered: &Pool<R>,
     idle: Option<R::Value>,
     walks: &mut Walks,
@@ -33,33 +33,34 @@ pub fn departure_pool<P: Placed, R: Staged<P>>(
     ensures counts { IfOk result (AreCounted (R.count_of resource.now) walks.new true) }
     ensures grown { HasGrown walks.old walks.new }
 {
-    let mut pool = waiting_labels::<P, R>(alloc, resource, gathered, walks)?;
-    if let Some(value) = idle {
-        join_idle::<P, R>(alloc, resource, room, &mut pool, value, walks)?;
+    let pool = waiting_labels::<P, R>(alloc, resource, gathered, walks)?;
+    match idle {
+        Some(value) => with_idle::<P, R>(alloc, resource, room, pool, value, walks),
+        None => Ok(pool),
     }
-    Ok(pool)
 }
 
-// Merges the empty label into a departure's pool.
-fn join_idle<P: Placed, R: Staged<P>>(
+// A departure's pool with the empty label.
+fn with_idle<P: Placed, R: Staged<P> + Marked>(
     alloc: Global,
     resource: &R,
-    room: &mut Workspace<R::Value>,
-    pool: &mut Pool<R>,
+    room: &mut Workspace<R>,
+    pool: Pool<R>,
     value: R::Value,
     walks: &Walks,
-) -> Result<(), AllocError>
+) -> Result<Pool<R>, AllocError>
     requires idle { R.count_of resource.now value ≡ pos 0 }
-    requires pool { AreCounted (R.count_of resource.now) walks.now true pool.old }
-    ensures local { OnOk result ((candidates : List (R.Value × List ℕ))
-        → IsPoolOf R.below candidates (map (shown walks.now) pool.old)
-        → IsPoolOf R.below (candidates ++ (value, []) ∷ []) (map (shown walks.now) pool.new)) }
-    ensures counts { OnOk result (AreCounted (R.count_of resource.now) walks.now true pool.new) }
+    requires pool { AreCounted (R.count_of resource.now) walks.now true pool }
+    ensures local { IfOk result (λ with. (candidates : List (R.Value × List ℕ))
+        → IsPoolOf R.below candidates (map (shown walks.now) pool)
+        → IsPoolOf R.below (candidates ++ (value, []) ∷ []) (map (shown walks.now) with)) }
+    ensures counts { IfOk result (AreCounted (R.count_of resource.now) walks.now true) }
 {
     let walk = walks.empty_walk();
     let duty = NO_DUTY;
     let mut labels = Vec::new(alloc);
     labels.push((value, LabelWalk { walk, duty }))?;
-    pool.merge(resource, room, &Pool::from_apart(labels), walks)?;
-    Ok(())
+    let mut growing = GrowingPool::of(alloc, resource, pool)?;
+    growing.merge(resource, room, &labels, walks)?;
+    Ok(growing.into_pool())
 }

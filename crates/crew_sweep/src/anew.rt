@@ -25,7 +25,6 @@ use crew_anchor::AnchoredResource;
 use crew_carry::{Carrier, Twins};
 use crew_flights::Code;
 use crew_net::{Net, arrival_places};
-use crew_pairing::PairingVector;
 use crew_pool::{Pool, Walks, Workspace};
 use std::alloc::{AllocError, Global};
 use std::sync::Arc;
@@ -40,7 +39,7 @@ fn redo_one(
     resource: &AnchoredResource,
     base: Code,
     place: usize,
-    room: &mut Workspace<PairingVector>,
+    room: &mut Workspace<AnchoredResource>,
     slides: &mut Slides,
     walks: &mut Walks,
     arrivals: &mut Arrivals,
@@ -99,7 +98,7 @@ fn renew_one(
     resource: &AnchoredResource,
     base: Code,
     place: usize,
-    room: &mut Workspace<PairingVector>,
+    room: &mut Workspace<AnchoredResource>,
     slides: &mut Slides,
     walks: &mut Walks,
     arrivals: &mut Arrivals,

@@ -8,7 +8,6 @@ ghost use Rattle.crew_sweep.specs.Machinery.Passing.{AreMade, HaveStayed, IsMade
 
 use crew_anchor::AnchoredResource;
 use crew_net::{Net, Window};
-use crew_pairing::PairingVector;
 use crew_pool::{Pool, Walks, Workspace};
 use crew_step::arrival_pool;
 use std::alloc::{AllocError, Global};
@@ -56,7 +55,7 @@ impl Arrivals {
         turns: &[u32],
         resource: &AnchoredResource,
         window: Window,
-        room: &mut Workspace<PairingVector>,
+        room: &mut Workspace<AnchoredResource>,
         pools: &[Pool<AnchoredResource>],
         walks: &Walks,
     ) -> Result<(), AllocError>
@@ -90,7 +89,7 @@ impl Arrivals {
         turns: &[u32],
         resource: &AnchoredResource,
         place: usize,
-        room: &mut Workspace<PairingVector>,
+        room: &mut Workspace<AnchoredResource>,
         pools: &[Pool<AnchoredResource>],
         walks: &Walks,
     ) -> Result<(), AllocError>

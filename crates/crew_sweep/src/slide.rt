@@ -1,8 +1,10 @@
 //! The pool of a window that slides over pools in a row.
 ghost use Rattle.std.specs.Prelude.{◌≡◌, ◌≤◌, ◌<◌, ◌+◌, ◌-◌, ◌++◌, ◌⊎◌, ℕ, IfOk, List, OnOk, [], false, length, map, true};
 ghost use Rattle.crew_pairing.specs.declared.vector.PairingVector.{PairingVector};
+ghost use Rattle.crew_pool.specs.Apart.{AreApart};
 ghost use Rattle.crew_pool.specs.Counted.{AreCounted};
 ghost use Rattle.crew_pool.specs.LabelWalks.{IsPoolOf, shown};
+ghost use Rattle.crew_pool.specs.Machinery.Meets.{vectors_of};
 ghost use Rattle.crew_pool.specs.declared.label_walk.LabelWalk.{LabelWalk};
 ghost use Rattle.crew_resource.specs.Members.{Member};
 ghost use Rattle.crew_sweep.specs.Machinery.Parts.{AreHeld, AreEnds, IsPart};
@@ -12,7 +14,7 @@ ghost use Rattle.crew_vector.specs.Dominance.{is_at_most};
 use crew_anchor::AnchoredResource;
 use crew_net::Window;
 use crew_pairing::PairingVector;
-use crew_pool::{Pool, Walks, Workspace};
+use crew_pool::{GrowingPool, LabelWalk, Pool, Walks, Workspace};
 use std::alloc::{AllocError, Global};
 
 /// The pool of a window that slides over pools in a row, kept as two stacks: the pools from each
@@ -23,21 +25,22 @@ pub(crate) struct Slide {
     middle: usize,
     end: usize,
     before: Vec<Pool<AnchoredResource>>,
-    after: Pool<AnchoredResource>,
+    after: GrowingPool<AnchoredResource>,
     window: Window,
     pool: Pool<AnchoredResource>,
 }
 
-// Two pools as one.
+// Two pools as one, of which the second is told by its labels.
 fn joined(
     alloc: Global,
     resource: &AnchoredResource,
-    room: &mut Workspace<PairingVector>,
+    room: &mut Workspace<AnchoredResource>,
     first: &Pool<AnchoredResource>,
-    second: &Pool<AnchoredResource>,
+    second: &[(PairingVector, LabelWalk)],
     walks: &Walks,
 ) -> Result<Pool<AnchoredResource>, AllocError>
     requires first { AreCounted (λ (v : PairingVector). v.duties) walks.now false first.now }
+    requires apart { AreApart is_at_most (vectors_of second.now) }
     requires second { AreCounted (λ (v : PairingVector). v.duties) walks.now false second.now }
     ensures local { IfOk result (λ pool. (candidates : List (PairingVector × List ℕ))
         → IsPoolOf is_at_most candidates (map (shown walks.now) first.now)
@@ -45,16 +48,17 @@ fn joined(
         (map (shown walks.now) pool)) }
     ensures counts { IfOk result (AreCounted (λ (v : PairingVector). v.duties) walks.now false) }
 {
-    let mut pool = first.copy(alloc, resource)?;
+    let first = first.copy(alloc, resource)?;
+    let mut pool = GrowingPool::of(alloc, resource, first)?;
     pool.merge(resource, room, second, walks)?;
-    Ok(pool)
+    Ok(pool.into_pool())
 }
 
 // The pools from each place of a window up to its end, and that of no place, the nearest first.
 fn ends_of(
     alloc: Global,
     resource: &AnchoredResource,
-    room: &mut Workspace<PairingVector>,
+    room: &mut Workspace<AnchoredResource>,
     held: &[Pool<AnchoredResource>],
     window: Window,
     walks: &Walks,
@@ -69,7 +73,14 @@ fn ends_of(
     ends.push(Pool::new(alloc))?;
     for nearer in 0..window.end - window.from {
         let place = window.end - 1 - nearer;
-        let longer = joined(alloc, resource, room, &ends[nearer], &held[place], walks)?;
+        let longer = joined(
+            alloc,
+            resource,
+            room,
+            &ends[nearer],
+            held[place].as_slice(),
+            walks,
+        )?;
         ends.push(longer)?;
     }
     Ok(ends)
@@ -86,7 +97,7 @@ impl Slide {
             middle: 0,
             end: 0,
             before: Vec::new(alloc),
-            after: Pool::new(alloc),
+            after: GrowingPool::new(alloc),
             window: Window { from: 0, end: 0 },
             pool: Pool::new(alloc),
         }
@@ -110,7 +121,7 @@ impl Slide {
         &mut self,
         alloc: Global,
         resource: &AnchoredResource,
-        room: &mut Workspace<PairingVector>,
+        room: &mut Workspace<AnchoredResource>,
         held: &[Pool<AnchoredResource>],
         window: Window,
         walks: &Walks,
@@ -137,7 +148,7 @@ impl Slide {
         &mut self,
         alloc: Global,
         resource: &AnchoredResource,
-        room: &mut Workspace<PairingVector>,
+        room: &mut Workspace<AnchoredResource>,
         held: &[Pool<AnchoredResource>],
         window: Window,
         walks: &Walks,
@@ -164,7 +175,7 @@ impl Slide {
     fn go_on(
         &mut self,
         resource: &AnchoredResource,
-        room: &mut Workspace<PairingVector>,
+        room: &mut Workspace<AnchoredResource>,
         held: &[Pool<AnchoredResource>],
         end: usize,
         walks: &Walks,
@@ -181,7 +192,8 @@ impl Slide {
         ensures middle { self.new.middle ≡ self.old.middle }
     {
         for place in self.end..end {
-            self.after.merge(resource, room, &held[place], walks)?;
+            self.after
+                .merge(resource, room, held[place].as_slice(), walks)?;
         }
         self.end = end;
         Ok(())
@@ -192,7 +204,7 @@ impl Slide {
         &mut self,
         alloc: Global,
         resource: &AnchoredResource,
-        room: &mut Workspace<PairingVector>,
+        room: &mut Workspace<AnchoredResource>,
         held: &[Pool<AnchoredResource>],
         window: Window,
         walks: &Walks,
@@ -212,7 +224,7 @@ impl Slide {
         self.begin_at(alloc, resource, room, held, window, walks)?;
         self.go_on(resource, room, held, window.end, walks)?;
         let first = &self.before[self.middle - window.from];
-        self.pool = joined(alloc, resource, room, first, &self.after, walks)?;
+        self.pool = joined(alloc, resource, room, first, self.after.as_slice(), walks)?;
         self.window = window;
         Ok(())
     }

@@ -9,7 +9,7 @@ ghost use Rattle.crew_sweep.specs.declared.slide.Slide.{Slide as SlideSpec};
 use crate::slide::Slide;
 use crew_anchor::AnchoredResource;
 use crew_net::Window;
-use crew_pairing::{Departure, PairingVector};
+use crew_pairing::Departure;
 use crew_pool::{Pool, Walks, Workspace};
 use std::alloc::{AllocError, Global};
 
@@ -19,7 +19,7 @@ use std::alloc::{AllocError, Global};
 pub(crate) struct Slides {
     airports: Vec<usize>,
     slides: Vec<Slide>,
-    room: Workspace<PairingVector>,
+    room: Workspace<AnchoredResource>,
 }
 
 // Whether a departure is the first of its airport.

@@ -99,6 +99,12 @@ pub returns-clause-local : goal.returns-clause-local
 returns-clause-local g c =
     let V = g.row.R-Value.Denot in
     let ws = c.args.walks.now in
+    let brought = boarded {V = V} ws (g.R.Staged.boards c.args.resource.now) c.args.items.now c.args.turns.now c.args.pools.now in
     let all = take_all c.loop-rank.rank-index c.args.ranks.now (omega arith) in
-    subst (λ (ranks : List ℕ). IsPoolOf g.R.Resource.below (boarded {V = V} ws (g.R.Staged.boards c.args.resource.now) c.args.items.now c.args.turns.now c.args.pools.now ranks) (map (shown {V = V} ws) c.loop-rank.pool))
-    all c.loop-rank.invariant.0
+    subst (λ (es : List (V × LabelWalk)). IsPoolOf g.R.Resource.below (brought c.args.ranks.now) (map (shown {V = V} ws) es)) (sym c.into_pool.ensures)
+    (subst (λ (ranks : List ℕ). IsPoolOf g.R.Resource.below (brought ranks) (map (shown {V = V} ws) c.loop-rank.pool)) all c.loop-rank.invariant.0)
+
+pub returns-clause-counts : goal.returns-clause-counts
+returns-clause-counts g c =
+    let V = g.row.R-Value.Denot in
+    subst (λ (es : List (V × LabelWalk)). AreCounted {V = V} (g.R.Staged.count_of c.args.resource.now) c.args.walks.now false es) (sym c.into_pool.ensures) c.loop-rank.invariant.1

@@ -1,6 +1,10 @@
-use Rattle.std.proofs.Common.{◌≡◌, ◌<◌, ◌≤◌, ◌-◌, List, ap, length, sym, subst, arith}
+use Rattle.std.proofs.Common.{◌≡◌, ◌<◌, ◌≤◌, ◌-◌, List, false, ap, length, sym, subst, arith}
 use Rattle.crew_pairing.specs.declared.vector.PairingVector.{PairingVector}
+use Rattle.crew_pool.specs.Apart.{AreApart}
+use Rattle.crew_pool.specs.Counted.{AreCounted}
+use Rattle.crew_pool.specs.Machinery.Meets.{vectors_of}
 use Rattle.crew_pool.specs.declared.label_walk.LabelWalk.{LabelWalk}
+use Rattle.crew_vector.specs.Dominance.{is_at_most}
 use Rattle.crew_sweep.specs.Machinery.Parts.{AreEnds, IsPart}
 use Rattle.crew_sweep.proofs.Parts.{part-after}
 use Rattle.crew_sweep.proofs.Slidings.{covers-more, part-first}
@@ -19,6 +23,14 @@ joined-requires-clause-first c =
     let first : c.args.window.from ≤ now.middle = subst (λ m. c.args.window.from ≤ m) (sym c.go_on.ensures.middle) begins.first in
     (part-first c.args.walks.now c.args.held.now now.middle c.args.window.from now.before.items item ends first reach c.index-first.ensures).counts
 
+pub joined-requires-clause-apart : goal.joined-requires-clause-apart
+joined-requires-clause-apart c =
+    subst (λ (ls : List (PairingVector × LabelWalk)). AreApart is_at_most (vectors_of ls)) (sym c.as_slice.ensures.all) c.as_slice.ensures.apart
+
+pub joined-requires-clause-second : goal.joined-requires-clause-second
+joined-requires-clause-second c =
+    subst (λ (ls : List (PairingVector × LabelWalk)). AreCounted (λ (v : PairingVector). v.duties) c.args.walks.now false ls) (sym c.as_slice.ensures.all) c.in_ok-go_on.ensures.after.counts
+
 pub returns-clause-sliding : goal.returns-clause-sliding
 returns-clause-sliding c =
     let Labels = List (PairingVector × LabelWalk) in
@@ -36,6 +48,8 @@ returns-clause-sliding c =
     let first : from ≤ now.middle = subst (λ m. from ≤ m) (sym goes.middle) begins.first in
     let after : IsPart walks held now.middle c.args.window.end now.after = subst (λ m. IsPart walks held m c.args.window.end now.after) (sym goes.middle) goes.after in
     let ordered : now.middle ≤ c.args.window.end = omega (arith, goes.middle, begins.stacked.ordered, begins.end) in
+    let labels = c.as_slice.result.now in
+    let own = subst (λ (ls : Labels). IsPart walks held now.middle c.args.window.end ls) (sym c.as_slice.ensures.all) after in
     let one = part-first walks held now.middle from now.before.items item ends first reach c.index-first.ensures in
     record {
       stacked = record {
@@ -43,7 +57,7 @@ returns-clause-sliding c =
         before = ends;
         after = subst (λ e. IsPart walks held now.middle e now.after) (sym goes.end) after;
       };
-      shown = part-after walks held from now.middle c.args.window.end item now.after c.in_ok-self.field-0 first ordered one after c.in_ok-self.ensures.local c.in_ok-self.ensures.counts;
+      shown = part-after walks held from now.middle c.args.window.end item labels c.in_ok-self.field-0 first ordered one own c.in_ok-self.ensures.local c.in_ok-self.ensures.counts;
     }
 
 pub returns-clause-covers : goal.returns-clause-covers
