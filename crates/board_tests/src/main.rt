@@ -1,5 +1,4 @@
-//! Worked examples of the board of jobs, and rounds of it drawn by a dice, each beside the version
-//! from scratch: what no clause of its calls says.
+//! Worked examples of the board of jobs, beside versions from scratch.
 //!
 //! Each line of standard input is an edit or a call in words. It is written again, and behind `=`
 //! what it is answered; a line that begins with `#` says what follows is about. So the stored run is
@@ -12,8 +11,6 @@
 
 mod boards;
 mod call;
-mod dice;
-mod drawn;
 mod edits;
 mod jobs;
 mod likes;
@@ -60,7 +57,6 @@ fn answer_by<R: Threads + Sync + AllocGlobal>(
     match call.words[0] {
         "begin" => boards::begin(rt, board, &table.entries, call.counts[2], out),
         "like" => likes::like(rt, board, &table.entries, out),
-        "rounds" => drawn::rounds(rt, board, table, call.counts[2], out),
         _ => answer_of(rt.alloc(), board, table, call, out),
     }
 }
@@ -89,7 +85,6 @@ fn answer<R: Threads + Sync + AllocGlobal>(
         "board" => boards::make(rt.alloc(), &mut desk.boards, call.counts[1], out),
         "restore" => boards::restore(&mut desk.boards, call.counts[1], call.counts[2], out),
         "log" => desk.table.clear(out),
-        "choices" => desk.table.choose(out),
         "edit" => desk.table.take(edit_of(&call), out),
         _ => answer_at(rt, desk, call, out),
     }

@@ -12,15 +12,12 @@ pub struct Desk {
     pub table: Table,
 }
 
-/// The entries of a log of one seat, edits that may be drawn, and jobs and lots that were handed out,
-/// each numbered from 0; and whether an edit is the next that may be drawn, or the next entry.
+/// The entries of a log of one seat, and jobs and lots that were handed out, each numbered from 0.
 #[derive(Drop)]
 pub struct Table {
     pub entries: Vec<Entry>,
-    pub choices: Vec<Edit>,
     pub jobs: Vec<Job>,
     pub lots: Vec<Lot>,
-    is_choosing: bool,
 }
 
 /// Nothing made.
@@ -29,16 +26,14 @@ pub fn empty(alloc: Global) -> Desk {
         boards: Vec::new(alloc),
         table: Table {
             entries: Vec::new(alloc),
-            choices: Vec::new(alloc),
             jobs: Vec::new(alloc),
             lots: Vec::new(alloc),
-            is_choosing: false,
         },
     }
 }
 
 /// Puts the entry of an edit at the end of a log.
-pub fn push(entries: &mut Vec<Entry>, edit: Edit) -> Result<(), AllocError> {
+fn push(entries: &mut Vec<Entry>, edit: Edit) -> Result<(), AllocError> {
     let number = u32::try_from(entries.len()).unwrap_or(0);
     entries.push(Entry {
         seat: 0,
@@ -49,16 +44,9 @@ pub fn push(entries: &mut Vec<Entry>, edit: Edit) -> Result<(), AllocError> {
 }
 
 impl Table {
-    /// Edits are entries of a new log from now on.
+    /// The log begins anew.
     pub fn clear(&mut self, out: &mut String) -> Result<(), AllocError> {
-        self.is_choosing = false;
         self.entries.clear();
-        out.push_str("ok")
-    }
-
-    /// Edits are what may be drawn from now on.
-    pub fn choose(&mut self, out: &mut String) -> Result<(), AllocError> {
-        self.is_choosing = true;
         out.push_str("ok")
     }
 
@@ -67,11 +55,6 @@ impl Table {
         let Some(edit) = edit else {
             return out.push_str("no such edit");
         };
-        if self.is_choosing {
-            write!(out, "choice {}", self.choices.len())?;
-            self.choices.push(edit)?;
-            return Ok(());
-        }
         write!(out, "entry {}", self.entries.len())?;
         push(&mut self.entries, edit)
     }
