@@ -14,6 +14,5 @@ pub mod Covering
 pub mod Added
 pub mod Alike
 pub mod Rested
-pub mod Claimed
 pub mod Batched
 pub mod Arriving

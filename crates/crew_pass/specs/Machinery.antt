@@ -2,4 +2,3 @@
 pub mod Numbered
 pub mod Held
 pub mod Passing
-pub mod Claims

@@ -10,9 +10,9 @@ ghost use Rattle.crew_pass.specs.Machinery.Passing.{AreGathered, AreKept, AreRes
 ghost use Rattle.crew_pass.specs.Passes.{CountsDuties};
 
 use crate::batch::report_at;
-use crate::claims::{map_claimed, map_in_turn};
 use crate::ground::{Found, Ground};
 use crate::waits::rested_pool;
+use crew_claims::{map_claimed, map_in_turn};
 use crew_forgetful::Lapses;
 use crew_label::{Pool, Table};
 use crew_pairing::Duty;

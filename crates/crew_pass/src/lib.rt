@@ -19,7 +19,6 @@ mod base_fronts;
 mod batch;
 mod batches;
 mod boards;
-mod claims;
 mod course;
 mod ground;
 pub mod laws;

@@ -7,14 +7,14 @@
 ghost use Rattle.std.specs.Prelude.{◌≡◌, ◌<◌, ℕ, All, IfOk, IfSome, None, length, vec_len};
 ghost use Rattle.std.specs.Fn.{FnReturns};
 ghost use Rattle.std.specs.Fork.{GivesEach};
-ghost use Rattle.crew_pass.specs.Machinery.Claims.{ArePlaced, IsMade};
+ghost use Rattle.crew_claims.specs.Machinery.Claims.{ArePlaced, IsMade};
 
 use std::alloc::{AllocError, Global};
 use std::sync::atomic::{AtomicUsize, Ordering};
 use std::thread::{Threads, map_indices};
 
 /// All calls, made in order by the calling thread.
-pub(crate) fn map_in_turn<X: Drop, F: Fn(usize) -> X>(
+pub fn map_in_turn<X: Drop, F: Fn(usize) -> X>(
     alloc: Global,
     count: usize,
     f: &F,
@@ -123,7 +123,7 @@ fn in_order<X: Drop, F: Fn(usize) -> X>(
 ///
 /// On `Err`, which means that memory ran out, the results so far are dropped, and some calls may
 /// not have been made.
-pub(crate) fn map_claimed<T: Threads + Sync, X: Send + Drop, F: Fn(usize) -> X + Sync>(
+pub fn map_claimed<T: Threads + Sync, X: Send + Drop, F: Fn(usize) -> X + Sync>(
     rt: &T,
     alloc: Global,
     threads: usize,

@@ -5,7 +5,7 @@ use Rattle.std.specs.Fn.{FnReturns}
 use Rattle.std.proofs.lemmas.Bool.{cases_eq}
 use Rattle.std.proofs.lemmas.List.{get_or-set_same, get_or-set_other, length-set}
 use Rattle.std.proofs.lemmas.List.Elements.{All-head, All-tail, All-same}
-use Rattle.crew_pass.specs.Machinery.Claims.{ArePlaced, IsMade}
+use Rattle.crew_claims.specs.Machinery.Claims.{ArePlaced, IsMade}
 
 module _ {F X : Type 0} (g : Shared F (ℕ × Unit {0}) X) (f : F) where
   placed-more : (places : List (Option X)) (count index : ℕ) (x : X) → length places ≡ count → ArePlaced g f places → IsMade g f count (index, x)

@@ -1,6 +1,6 @@
 use Rattle.std.proofs.Common.{◌≡◌, All, IfOk, length}
-use Rattle.crew_pass.specs.Machinery.Claims.{ArePlaced, IsMade}
-use Rattle.crew_pass.proofs.claims.in_order.Given as goal
+use Rattle.crew_claims.specs.Machinery.Claims.{ArePlaced, IsMade}
+use Rattle.crew_claims.proofs.claims.in_order.Given as goal
 
 abbrev pub invariant-loop-made : goal.invariant-loop-made
 invariant-loop-made g l =

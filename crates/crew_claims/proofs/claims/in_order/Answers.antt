@@ -1,8 +1,8 @@
 use Rattle.std.proofs.Common.{All, IfOk}
 use Rattle.std.proofs.lemmas.List.Elements.{All-rest}
-use Rattle.crew_pass.specs.Machinery.Claims.{IsMade}
-use Rattle.crew_pass.proofs.Claimed.{placed-next}
-use Rattle.crew_pass.proofs.claims.in_order.Goals as goal
+use Rattle.crew_claims.specs.Machinery.Claims.{IsMade}
+use Rattle.crew_claims.proofs.Claimed.{placed-next}
+use Rattle.crew_claims.proofs.claims.in_order.Goals as goal
 
 pub loop-index-preserved-in-Some-2 : goal.loop-index-preserved-in-Some-2
 loop-index-preserved-in-Some-2 g c =

@@ -1,0 +1,9 @@
+//! Calls of a function at many indices, by threads that take the indices one by one, so that a call
+//! which takes long keeps no other thread waiting. `map_claimed` promises that each result is one
+//! that the call with its index may give, in order, whatever the threads do; `map_in_turn` makes the
+//! same calls on the calling thread. Want of memory is all that they refuse.
+#![tactic(auto)]
+
+mod claims;
+
+pub use claims::{map_claimed, map_in_turn};
