@@ -18,3 +18,4 @@ pub mod KeptSteps
 pub mod Marks
 pub mod Redone
 pub mod Befores
+pub mod MadeAhead

@@ -58,7 +58,7 @@ Ranked = PairingVector × List ℕ
 snoc-key : (ds : List Duty) (ranks : List ℕ) (rank : ℕ) (d : Duty) → slice_get ds rank ≡ Some d → map (key_at ds) (ranks ++ rank ∷ []) ≡ map (key_at ds) ranks ++ d.key ∷ []
 snoc-key ds ranks rank d h = map-append (key_at ds) ranks (rank ∷ []) ∙ ap (λ k. map (key_at ds) ranks ++ k ∷ []) (key-of ds rank d h)
 
-snoc-each : (P : ℕ → Type 0) (ns : List ℕ) (n : ℕ) → Each P ns → P n → Each P (ns ++ n ∷ [])
+pub snoc-each : (P : ℕ → Type 0) (ns : List ℕ) (n : ℕ) → Each P ns → P n → Each P (ns ++ n ∷ [])
 snoc-each P [] n h k = (k, tt)
 snoc-each P (m ∷ ns) n h k = (h.0, snoc-each P ns n h.1 k)
 

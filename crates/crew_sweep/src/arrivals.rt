@@ -1,10 +1,10 @@
 //! The pools of arrivals.
-ghost use Rattle.std.specs.Prelude.{◌≡◌, ◌<◌, ◌≤◌, ℕ, IfOk, IsPermutation, List, OnOk, [], false, get_or, length};
+ghost use Rattle.std.specs.Prelude.{◌≡◌, ◌<◌, ◌≤◌, ℕ, Bool, IfOk, IsPermutation, List, OnOk, [], false, get_or, length};
 ghost use Rattle.crew_anchor.specs.Machinery.Bounds.{fits_in};
 ghost use Rattle.crew_pairing.specs.declared.vector.PairingVector.{PairingVector};
 ghost use Rattle.crew_pool.specs.declared.label_walk.LabelWalk.{LabelWalk};
 ghost use Rattle.crew_resource.specs.Members.{Member};
-ghost use Rattle.crew_sweep.specs.Machinery.Passing.{AreMade, HaveStayed, IsMade, IsPassable, IsPassing, IsSealed};
+ghost use Rattle.crew_sweep.specs.Machinery.Passing.{AreMade, HaveStayed, IsArrivalPool, IsMade, IsPassable, IsPassing, IsSealed};
 
 use crew_anchor::AnchoredResource;
 use crew_net::{Net, Window};
@@ -27,6 +27,32 @@ fn last_first(alloc: Global, ranks: &[u32], turns: &[u32]) -> Result<Vec<u32>, A
     let mut sorted = Vec::from_slice(alloc, ranks)?;
     sorted.sort_unstable_by_key(|rank| Reverse(turns.get(*rank as usize)));
     Ok(sorted)
+}
+
+/// The pool of the arrival at a place, from those of the departures so far.
+pub(crate) fn arrival_at(
+    alloc: Global,
+    net: &Net,
+    turns: &[u32],
+    resource: &AnchoredResource,
+    place: usize,
+    room: &mut Workspace<AnchoredResource>,
+    pools: &[Pool<AnchoredResource>],
+    walks: &Walks,
+) -> Result<Pool<AnchoredResource>, AllocError>
+    requires passable { IsPassable net.now turns.now }
+    requires fits { (n : ℕ) → n ≤ 100_000 → fits_in resource.now n }
+    requires most { resource.now.max_duties ≤ 12 }
+    requires passing { (base : List ℕ) × (made : List Bool)
+        × (held : List (List (PairingVector × LabelWalk)))
+        × IsPassing net.now base resource.now walks.now pools.now made held }
+    requires place { place < length net.now.arrivals }
+    requires sealed { IsSealed net.now (length pools.now) place }
+    ensures { IfOk result (IsArrivalPool net.now turns.now resource.now walks.now pools.now place) }
+{
+    let ranks = last_first(alloc, net.arriving(place), turns)?;
+    let duties = net.duties().as_slice();
+    arrival_pool(alloc, resource, room, pools, duties, turns, &ranks, walks)
 }
 
 impl Arrivals {
@@ -111,9 +137,7 @@ impl Arrivals {
         if self.made[place] {
             return Ok(());
         }
-        let ranks = last_first(alloc, net.arriving(place), turns)?;
-        let duties = net.duties().as_slice();
-        let pool = arrival_pool(alloc, resource, room, pools, duties, turns, &ranks, walks)?;
+        let pool = arrival_at(alloc, net, turns, resource, place, room, pools, walks)?;
         self.pools[place] = pool;
         self.made[place] = true;
         Ok(())

@@ -2,10 +2,14 @@
 //! departure from the arrivals in its window, and the pool of an arrival, when it is first waited
 //! on, from all duties that arrive there, with a duty to spare; it promises that the pools show
 //! each legal duty's front. The windows of an airport slide, so an arrival's labels are merged a
-//! constant number of times.
+//! constant number of times. `sweep_by_threads` makes the pools of arrivals several at a time, since
+//! departures that report less than the least rest after one another don't wait on each other's
+//! duties; no result depends on the number of threads. `renew` and `renew_by_threads` are the same
+//! beside an earlier sweep, whose pools they keep where nothing changed.
 //! `laws` has what this rests on.
 #![tactic(auto)]
 
+mod ahead;
 mod anew;
 mod arrivals;
 mod earlier;
@@ -17,7 +21,7 @@ mod slides;
 mod swept;
 mod turns;
 
-pub use anew::renew;
-pub use pass::sweep;
+pub use anew::{renew, renew_by_threads};
+pub use pass::{sweep, sweep_by_threads};
 pub use swept::Sweep;
 pub use turns::departure_turns;

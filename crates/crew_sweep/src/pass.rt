@@ -32,6 +32,7 @@ use crew_resource::Staged;
 use crew_step::departure_pool;
 use std::alloc::{AllocError, Global};
 use std::sync::Arc;
+use std::thread::Threads;
 
 // The empty label of a departure: where the base is.
 fn idle_label(
@@ -168,6 +169,55 @@ fn pass_all(
     Ok((walks, pools))
 }
 
+// The same by threads, at most so many: what departures of the next hours wait on is made at once.
+fn pass_all_by_threads<T: Threads + Sync>(
+    rt: &T,
+    alloc: Global,
+    threads: usize,
+    net: &Net,
+    turns: &[u32],
+    resource: &AnchoredResource,
+    base: Code,
+) -> Result<(Walks, Vec<Pool<AnchoredResource>>), AllocError>
+    requires sound { (d : Duty) → Member net.now.duties d → IsSound d }
+    requires rise { RiseByKey net.now.duties }
+    requires few { length net.now.duties ≤ 200_000 }
+    requires turns { AreTurns net.now turns.now }
+    requires fits { (n : ℕ) → n ≤ 100_000 → fits_in resource.now n }
+    requires most { resource.now.max_duties ≤ 12 }
+    ensures passable { OnOk result (IsPassable net.now turns.now) }
+    ensures passed { IfOk result (λ passed. HasPassed net.now base resource.now passed.0
+        passed.1.items) }
+{
+    let mut room = Workspace::new(alloc);
+    let mut walks = Walks::new(alloc);
+    let mut slides = Slides::new(alloc, net.departures())?;
+    let mut arrivals = Arrivals::new(alloc, net.arrivals().len())?;
+    let mut pools = Vec::with_capacity(alloc, net.departures().len())?;
+    let mut ahead = 0;
+    let kept = |_: usize| -> bool { false };
+    for departure in net.by_report() {
+        let place = *departure as usize;
+        ahead = arrivals.make_ahead(
+            rt, alloc, threads, net, turns, resource, &pools, &walks, ahead, &kept,
+        )?;
+        pass_one(
+            alloc,
+            net,
+            turns,
+            resource,
+            base,
+            place,
+            &mut room,
+            &mut slides,
+            &mut walks,
+            &mut arrivals,
+            &mut pools,
+        )?;
+    }
+    Ok((walks, pools))
+}
+
 /// The pools of a base, one for each departure of its network: at each legal duty they show the
 /// duty's front. `turns` has the turn of each duty's departure, by rank.
 pub fn sweep(
@@ -189,5 +239,32 @@ pub fn sweep(
 {
     let full = AnchoredResource::new(net.settings(), price);
     let (walks, pools) = pass_all(alloc, &net, turns, &full.sparing(), base)?;
+    Ok(Sweep::new(net, base, price, full, walks, pools))
+}
+
+/// The same pass in at most so many threads, this one among them: the pools of arrivals on which
+/// departures wait that report less than the least rest after one another are made at once.
+pub fn sweep_by_threads<T: Threads + Sync>(
+    rt: &T,
+    alloc: Global,
+    threads: usize,
+    net: Arc<Net, Global>,
+    turns: &[u32],
+    base: Code,
+    price: i64,
+) -> Result<Sweep, AllocError>
+    requires sound { (d : Duty) → Member (arc_value net).duties d → IsSound d }
+    requires rise { RiseByKey (arc_value net).duties }
+    requires few { length (arc_value net).duties ≤ 200_000 }
+    requires turns { AreTurns (arc_value net) turns.now }
+    requires price { TimetableSpec.IsBasePrice price }
+    ensures net { IfOk result (λ sweep. sweep.net ≡ arc_value net) }
+    ensures base { IfOk result (λ sweep. (sweep.base ≡ base) × (sweep.price ≡ price)) }
+    ensures right { IfOk result (λ sweep. (t : TimetableSpec.Timetable) → TimetableSpec.IsSound t
+        → AreDuties sweep.net.settings t sweep.net.duties → ShowsFronts t sweep) }
+{
+    let full = AnchoredResource::new(net.settings(), price);
+    let spare = full.sparing();
+    let (walks, pools) = pass_all_by_threads(rt, alloc, threads, &net, turns, &spare, base)?;
     Ok(Sweep::new(net, base, price, full, walks, pools))
 }

@@ -1,16 +1,19 @@
 -- Where a pass over the departures stands.
-use Rattle.std.specs.Prelude.{◌≡◌, ◌≤◌, ◌<◌, ◌-◌, ℕ, Bool, true, false, List, [], Some, drop, get_or, length, map, slice_get, take}
+use Rattle.std.specs.Prelude.{◌≡◌, ◌≤◌, ◌<◌, ◌-◌, ℕ, Bool, true, false, IsPermutation, List, [], Some, drop, get_or, length, map, slice_get, take}
 use Rattle.crew_anchor.specs.Machinery.Bounds.{is_ready}
+use Rattle.crew_anchor.specs.Stages.{anchored_board}
 use Rattle.crew_anchor.specs.declared.resource.AnchoredResource.{AnchoredResource}
-use Rattle.crew_net.specs.Events.{AreEvents, arrival_cmp, departure_cmp}
+use Rattle.crew_net.specs.Events.{AreEvents, arrival_cmp, arrives_at, departure_cmp}
 use Rattle.crew_net.specs.Machinery.Moments.{IsReal}
 use Rattle.crew_net.specs.Nets.{AreByReport, Net}
+use Rattle.crew_net.specs.Ranks.{ranks_where}
 use Rattle.crew_net.specs.declared.window.Window.{Window}
 use Rattle.crew_pairing.specs.Duties.{RiseByKey}
 use Rattle.crew_pairing.specs.Events.{IsSound, arrival_of, departure_of}
 use Rattle.crew_pairing.specs.Keys.{walk_at_most}
 use Rattle.crew_pairing.specs.Legs.{Leg}
 use Rattle.crew_pairing.specs.declared.duty.Duty.{Duty}
+use Rattle.crew_pairing.specs.declared.events.Arrival.{Arrival}
 use Rattle.crew_pairing.specs.declared.events.Departure.{Departure}
 use Rattle.crew_pairing.specs.declared.vector.PairingVector.{PairingVector}
 use Rattle.crew_pool.specs.Counted.{AreCounted}
@@ -18,7 +21,7 @@ use Rattle.crew_pool.specs.LabelWalks.{IsPoolOf, shown}
 use Rattle.crew_pool.specs.declared.label_walk.LabelWalk.{LabelWalk}
 use Rattle.crew_resource.specs.Events.{Network, Swept}
 use Rattle.crew_resource.specs.Members.{Each, Member}
-use Rattle.crew_step.specs.Pools.{waiting}
+use Rattle.crew_step.specs.Pools.{boarded, waiting}
 use Rattle.crew_sweep.specs.Machinery.Numbered.{arrival_place, departure_place, idle_at, numbered}
 use Rattle.crew_sweep.specs.Sweeps.{AreTurns, in_order, keyed}
 use Rattle.crew_vector.specs.Dominance.{is_at_most}
@@ -76,6 +79,23 @@ abbrev pub IsSealed : Net → ℕ → ℕ → Type 0
 IsSealed net passed place = (d : Duty) → Member net.duties d
     → arrival_place net.arrivals (arrival_of d) ≡ place
     → departure_place (in_order net) (departure_of d) < passed
+
+-- after so many departures nothing more will arrive at any of these places
+abbrev pub AreSealed : Net → ℕ → List ℕ → Type 0
+AreSealed net passed places = Each (λ place. (place < length net.arrivals) × IsSealed net passed place)
+    places
+
+-- the pool is that of the arrival at a place: what is undominated of the labels that board the
+-- duties which arrive there
+pub record IsArrivalPool (net : Net) (turns : List ℕ) (r : AnchoredResource)
+    (walks : List (List ℕ)) (pools : List (List (PairingVector × LabelWalk))) (place : ℕ)
+    (pool : List (PairingVector × LabelWalk)) : Type 0 where
+  pub ranks : List ℕ
+  pub all : (x : Arrival) → slice_get net.arrivals place ≡ Some x
+      → IsPermutation (ranks_where (arrives_at x) net.duties) ranks
+  pub local : IsPoolOf is_at_most (boarded walks (anchored_board r) net.duties turns pools ranks)
+      (map (shown walks) pool)
+  pub counts : AreCounted (λ (v : PairingVector). v.duties) walks false pool
 
 -- what a window holds is made
 abbrev pub AreMade : List Bool → Window → Type 0
