@@ -13,9 +13,10 @@ use crate::solution::Solution;
 use crew_carry::Twins;
 use crew_flights::Code;
 use crew_net::{Net, arrival_places};
-use crew_sweep::{Sweep, departure_turns, renew};
+use crew_sweep::{Sweep, departure_turns, renew, renew_by_threads};
 use std::alloc::{AllocError, Global};
 use std::sync::Arc;
+use std::thread::Threads;
 
 /// The fronts of an earlier network's bases, the turns of its duties, what it has alike with the
 /// network now, where the duties of that one arrive, and whether the two are one.
@@ -94,6 +95,37 @@ impl Past {
         let net = Arc::try_clone(net)?;
         renew(
             alloc,
+            earlier.sweep(),
+            &self.turns,
+            &self.twins,
+            net,
+            turns,
+            &self.places,
+        )
+    }
+
+    /// The same in at most so many threads, this one among them.
+    pub(crate) fn renew_by_threads<R: Threads + Sync>(
+        &self,
+        rt: &R,
+        alloc: Global,
+        threads: usize,
+        net: &Arc<Net, Global>,
+        turns: &[u32],
+        earlier: &BaseFronts,
+    ) -> Result<Sweep, AllocError>
+        requires past { IsPast (arc_value net.now) self.now }
+        requires sweepable { IsSweepable (arc_value net.now) turns.now }
+        requires among { Member (map arc_value self.now.fronts.items) earlier.now }
+        requires price { IsBasePrice earlier.now.price }
+        ensures { IfOk result (IsSwept (arc_value net.now)
+            (earlier.now.base, earlier.now.price)) }
+    {
+        let net = Arc::try_clone(net)?;
+        renew_by_threads(
+            rt,
+            alloc,
+            threads,
             earlier.sweep(),
             &self.turns,
             &self.twins,

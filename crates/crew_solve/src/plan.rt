@@ -12,7 +12,7 @@ ghost use Rattle.crew_solve.specs.Plans.{IsPlanOf, IsSolutionIn, IsSweepIn};
 use crate::base_fronts::BaseFronts;
 use crate::past::Past;
 use crate::solution::Solution;
-use crate::sweeps::{sweep_all, sweep_base};
+use crate::sweeps::{sweep_all, sweep_base, sweep_base_by_threads};
 use crew_flights::{Code, Timetable};
 use crew_net::Net;
 use crew_pairing::Duties;
@@ -218,6 +218,33 @@ impl Plan {
         Ok(Arc::new(alloc, fronts)?)
     }
 
+    // The same in at most so many threads, this one among them.
+    fn made_by_threads<R: Threads + Sync>(
+        &self,
+        rt: &R,
+        alloc: Global,
+        threads: usize,
+        place: usize,
+    ) -> Result<Arc<BaseFronts, Global>, AllocError>
+        requires { place < length self.now.prices }
+        ensures { IfOk result (λ fronts. IsSweepIn self.now place (arc_value fronts)) }
+    {
+        let (base, price) = self.bases[place];
+        let past = self.past.as_ref();
+        let sweep = sweep_base_by_threads(
+            rt,
+            alloc,
+            threads,
+            &self.net,
+            &self.turns,
+            past,
+            base,
+            price,
+        )?;
+        let fronts = BaseFronts::new(alloc, sweep)?;
+        Ok(Arc::new(alloc, fronts)?)
+    }
+
     /// The fronts of the base at a place, in order of code. Where the earlier solution has some of
     /// the base at the same price, they are made beside these, and shared where the two networks are
     /// one; else they are made from scratch.
@@ -231,9 +258,27 @@ impl Plan {
         }
     }
 
-    /// All fronts and the best pairing. So many threads at most sweep the bases, whole bases to each,
-    /// and no more than there are bases; with 0 workers or 1, and for few duties, the calling thread
-    /// sweeps all of them, and also those for which no thread can be started.
+    /// The same in at most so many threads, this one among them.
+    pub fn sweep_by_threads<R: Threads + Sync>(
+        &self,
+        rt: &R,
+        alloc: Global,
+        threads: usize,
+        place: usize,
+    ) -> Result<Arc<BaseFronts, Global>, AllocError>
+        requires { place < length self.now.prices }
+        ensures { IfOk result (λ fronts. IsSweepIn self.now place (arc_value fronts)) }
+    {
+        match self.kept(place) {
+            Some(fronts) => Arc::try_clone(fronts),
+            None => self.made_by_threads(rt, alloc, threads, place),
+        }
+    }
+
+    /// All fronts and the best pairing. So many threads at most sweep the bases, which they share:
+    /// where there are twice as many as bases or more, several go over a base. With 0 workers or 1,
+    /// and for few duties, the calling thread sweeps all of them, and also what no thread can be
+    /// started for.
     pub fn solve<R: Threads + Sync>(
         &self,
         rt: &R,

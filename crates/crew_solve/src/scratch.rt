@@ -57,9 +57,10 @@ pub fn solve<R: Threads + Sync>(
 }
 
 /// As `solve`, by any number of workers: the passes over the bases are shared out among so many
-/// threads at most, whole bases to each, and to no more threads than bases. With 0 workers or 1,
-/// and for a timetable of few duties, the calling thread makes all of them; it also makes those for
-/// which no thread can be started. The answer is the same.
+/// threads at most, whole bases to each, and where there are twice as many threads as bases or
+/// more, several go over a base. With 0 workers or 1, and for a timetable of few duties, the calling
+/// thread makes all of them; it also makes what no thread can be started for. The answer is the
+/// same.
 pub fn solve_with<R: Threads + Sync>(
     rt: &R,
     alloc: Global,

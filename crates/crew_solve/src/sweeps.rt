@@ -10,7 +10,7 @@ use crate::past::Past;
 use crate::plan::Plan;
 use crew_flights::Code;
 use crew_net::Net;
-use crew_sweep::{Sweep, sweep};
+use crew_sweep::{Sweep, sweep, sweep_by_threads};
 use std::alloc::{AllocError, Global};
 use std::sync::Arc;
 use std::thread::{Threads, for_each_mut};
@@ -24,6 +24,12 @@ fn threads_for(workers: usize, duties: usize) -> usize
     ensures { 0 < result }
 {
     if duties < SHARED { 1 } else { workers.max(1) }
+}
+
+// How many of so many threads the sweep of each of so many bases goes by: all together are no more
+// than these.
+fn share_of(threads: usize, bases: usize) -> usize {
+    (threads / bases.max(1)).max(1)
 }
 
 // Places for so many sweeps, of which none is made yet.
@@ -52,6 +58,24 @@ fn sweep_anew(
     sweep(alloc, Arc::try_clone(net)?, turns, base, price)
 }
 
+// The same in at most so many threads, this one among them.
+fn sweep_anew_by_threads<R: Threads + Sync>(
+    rt: &R,
+    alloc: Global,
+    threads: usize,
+    net: &Arc<Net, Global>,
+    turns: &[u32],
+    base: Code,
+    price: i64,
+) -> Result<Sweep, AllocError>
+    requires sweepable { IsSweepable (arc_value net.now) turns.now }
+    requires price { IsBasePrice price }
+    ensures { IfOk result (IsSwept (arc_value net.now) (base, price)) }
+{
+    let net = Arc::try_clone(net)?;
+    sweep_by_threads(rt, alloc, threads, net, turns, base, price)
+}
+
 /// The sweep of a base at its price, beside earlier fronts of it, if there are any.
 pub(crate) fn sweep_base(
     alloc: Global,
@@ -75,7 +99,33 @@ pub(crate) fn sweep_base(
     }
 }
 
-// Sweeps each base into its place, in at most so many threads, this one among them.
+/// The same in at most so many threads, this one among them.
+pub(crate) fn sweep_base_by_threads<R: Threads + Sync>(
+    rt: &R,
+    alloc: Global,
+    threads: usize,
+    net: &Arc<Net, Global>,
+    turns: &[u32],
+    past: Option<&Past>,
+    base: Code,
+    price: i64,
+) -> Result<Sweep, AllocError>
+    requires sweepable { IsSweepable (arc_value net.now) turns.now }
+    requires past { IfSome past (λ p. IsPast (arc_value net.now) p.now) }
+    requires price { IsBasePrice price }
+    ensures { IfOk result (IsSwept (arc_value net.now) (base, price)) }
+{
+    let Some(past) = past else {
+        return sweep_anew_by_threads(rt, alloc, threads, net, turns, base, price);
+    };
+    match past.fronts_at(base, price) {
+        Some(earlier) => past.renew_by_threads(rt, alloc, threads, net, turns, earlier),
+        None => sweep_anew_by_threads(rt, alloc, threads, net, turns, base, price),
+    }
+}
+
+// Sweeps each base into its place, in at most so many threads, this one among them. Where there are
+// more of them than bases, the sweep of each base goes by its share of them.
 fn sweep_in<R: Threads + Sync>(
     rt: &R,
     alloc: Global,
@@ -90,6 +140,7 @@ fn sweep_in<R: Threads + Sync>(
         → IfSome (slice_index_or swept.new place d)
         (λ fronts. IsSweepIn plan.now place (arc_value fronts)) }
 {
+    let share = share_of(threads, swept.len());
     for_each_mut(
         rt,
         swept,
@@ -99,7 +150,7 @@ fn sweep_in<R: Threads + Sync>(
             ensures { IfSome swept.new
                 (λ fronts. IsSweepIn plan.entry.now place (arc_value fronts)) }
         {
-            *swept = plan.sweep(alloc, place).ok();
+            *swept = plan.sweep_by_threads(rt, alloc, share, place).ok();
         },
     );
 }
@@ -122,7 +173,8 @@ fn all_made(
 }
 
 /// The fronts of all bases of a plan, in order, whatever the number of workers. So many threads at
-/// most make them, each those of whole bases; with 0 or 1, and for few duties, it is the calling
+/// most make them, which are shared out among the bases: where there are twice as many as bases or
+/// more, the sweep of a base goes by several. With 0 or 1, and for few duties, it is the calling
 /// thread alone.
 pub(crate) fn sweep_all<R: Threads + Sync>(
     rt: &R,
