@@ -1,4 +1,3 @@
 pub mod Kept
 pub mod Stepped
 pub mod Wanting
-pub mod Played

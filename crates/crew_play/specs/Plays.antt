@@ -5,7 +5,7 @@ use Rattle.std.specs.List.{slice_get}
 use mathlib.Core.List.{IsPrefix}
 use Rattle.crew_board.specs.Boards.{shown_version}
 use Rattle.crew_core.specs.Replies.{AreRepliesOf}
-use Rattle.crew_core.specs.declared.trace.Trace.{Trace}
+use Rattle.crew_play.specs.declared.trace.Trace.{Trace}
 use Rattle.crew_machine.specs.Chains.{IsChain, NeverFalls, answers_to}
 use Rattle.crew_machine.specs.Choices.{ChosenRun}
 use Rattle.crew_machine.specs.Crew.{CrewAct, CrewReply, CrewState, CrewVersion, IsFromScratch, crew}

@@ -1,12 +1,10 @@
 //! Plays of steps.
 ghost use Rattle.std.specs.Prelude.{◌≡◌, IfOk};
-ghost use Rattle.crew_core.specs.Plays.{IsTraceOf};
 ghost use Rattle.crew_core.specs.Replies.{acts_of};
+ghost use Rattle.crew_play.specs.Plays.{IsTraceOf};
 ghost use Rattle.crew_rules.specs.Settings.{IsChecked};
 
-use crate::machine::Machine;
-use crate::reply::Reply;
-use crate::step::Step;
+use crew_core::{Machine, Reply, Step};
 use crew_rules::Settings;
 use crew_version::Version;
 use std::alloc::{AllocError, Global};
