@@ -1,50 +1,25 @@
 -- What a board's calls tell a planner.
-use Rattle.std.proofs.Common.{◌≡◌, ◌+◌, ◌<◌, ◌∙◌, List, Some, None, sym, ap, subst}
+use Rattle.std.proofs.Common.{◌≡◌, ◌<◌, ◌∙◌, List, Some, None, sym, ap, subst}
 use Rattle.std.specs.Option.{option_map}
 use mathlib.Core.List.{IsPrefix}
 use Rattle.crew_board.specs.Boards.{IsBoardOf, ShownBoard, ShownRound, shown_round}
-use Rattle.crew_board.specs.Calls.{HasSealed, IsBeginFault}
+use Rattle.crew_board.specs.Calls.{IsBeginFault}
 use Rattle.crew_board.specs.declared.fault.BeginFault.{BeginFault}
 use Rattle.crew_board.specs.declared.fault.BeginFault.TheVariants.{Busy, Ground}
 use Rattle.crew_flights.specs.declared.entries.Entry.{Entry}
 use Rattle.crew_job.specs.declared.fault.GroundFault.TheVariants as NoGround
 use Rattle.crew_machine.specs.Crew.{CrewBoard}
 use Rattle.crew_machine.specs.Rounds.{last_number}
-use Rattle.crew_service.specs.Machinery.Rounds.{IsOwn, IsRoundFault, IsSealedOf, fault_of}
-use Rattle.crew_service.specs.Plans.{IsNextOver}
+use Rattle.crew_service.specs.Machinery.Rounds.{IsRoundFault, fault_of}
 use Rattle.crew_service.specs.declared.fault.SettleFault.{SettleFault}
 use Rattle.crew_service.specs.declared.fault.SettleFault.TheVariants as Settle
-use Rattle.crew_version.specs.Versions.{IsRight, Snapshot}
+use Rattle.crew_version.specs.Versions.{Snapshot}
 
 some-same : {A : Type 0} (x y : A) → Some x ≡ Some y → x ≡ y
 some-same x y e = cc
 
 no-some : {A : Type 0} (x : A) → Some x ≡ None → ⊥
 no-some x e = absurd cc
-
--- what a seal gives
-pub sealed-of : (old new : ShownBoard) (b : CrewBoard) (v : Snapshot) → IsBoardOf old b → HasSealed old b v new → IsRight v → IsSealedOf old v
-sealed-of old new b v is h right =
-    let shows = h.version_shows in
-    record {
-      number = sym (ap (λ (z : Snapshot). z.number) shows) ∙ (h.seals.number ∙ ap (λ (z : ShownBoard). z.sealed.number + 1) is.shows);
-      settings = sym (ap (λ (z : Snapshot). z.settings) shows);
-      round = shown_round h.seals.round;
-      is_open = sym (ap (λ (z : ShownBoard). z.round) is.shows) ∙ ap (option_map shown_round) h.seals.is_open;
-      over = sym (ap (λ (z : Snapshot). z.entries) shows) ∙ h.seals.entries;
-      right = right;
-    }
-
--- .. where the round is the planner's own
-pub next-over : (board : ShownBoard) (version v : Snapshot) (entries : List Entry) → IsOwn board version entries → IsSealedOf board v → IsNextOver version entries v
-next-over board version v entries own h =
-    let one = some-same h.round own.round (sym h.is_open ∙ own.is_open) in
-    record {
-      number = h.number ∙ ap (λ n. n + 1) own.number;
-      settings = h.settings ∙ own.settings;
-      over = h.over ∙ (ap (λ (r : ShownRound). r.entries) one ∙ own.over);
-      right = h.right;
-    }
 
 -- a board without a round isn't busy
 pub not-busy : (old : ShownBoard) (b : CrewBoard) (entries : List Entry) → old.round ≡ None → IsBoardOf old b → IsBeginFault old b entries Busy → ⊥

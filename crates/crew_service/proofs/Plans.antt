@@ -1,5 +1,5 @@
 -- Laws of what a planner keeps.
-use Rattle.std.proofs.Common.{◌≡◌, ◌≤◌, ◌<◌, ℕ, zero, suc, ◌+◌, ◌∙◌, List, [], ◌∷◌, ◌++◌, Some, length, refl, sym, ap, subst, arith, append_assoc, length-append, append-nil, zero-add, Bool, true, false, true≢false, inl, inr, ◌≢◌}
+use Rattle.std.proofs.Common.{◌≡◌, ◌≤◌, ◌<◌, ℕ, zero, suc, ◌+◌, ◌∙◌, List, [], ◌∷◌, ◌++◌, Some, length, refl, sym, ap, subst, arith, append_assoc, length-append, zero-add, Bool, true, false, true≢false, inl, inr, ◌≢◌}
 use Rattle.std.proofs.Math.Dec.{ltb}
 use Rattle.std.proofs.lemmas.Bool.Decides.{Decides-ltb}
 use Rattle.std.proofs.lemmas.List.Elements.{All-append, All-cons}
@@ -13,10 +13,11 @@ use Rattle.crew_publish.specs.Chain.{IsNext}
 use Rattle.crew_resource.proofs.Lists.{Member-All}
 use Rattle.crew_resource.specs.Members.{Member}
 use Rattle.crew_rules.specs.Settings.{IsChecked}
+use Rattle.crew_seal.specs.Next.{IsNextOver}
 use Rattle.crew_service.specs.Faults.{IsMissing}
 use Rattle.crew_service.specs.Machinery.Kept.{HasRead, IsPlanning}
-use Rattle.crew_service.specs.Plans.{AreBelow, AreSeatsFrom, IsNextOver, Planning, entries_of}
-use Rattle.crew_version.proofs.Places.{prefix-at, prefix-from}
+use Rattle.crew_service.specs.Plans.{AreBelow, AreSeatsFrom, Planning, entries_of}
+use Rattle.crew_version.proofs.Places.{prefix-at}
 use Rattle.crew_version.specs.Versions.{Snapshot}
 
 -- ---- beginnings
@@ -165,15 +166,3 @@ planned-entry p k d h lt =
 pub seats-push : (n : ℕ) (seats : List Seat) (seat : Seat) → AreSeatsFrom n seats → seat ≡ unused_seat (n + length seats) → AreSeatsFrom n (seats ++ seat ∷ [])
 seats-push n [] seat h e = (e ∙ ap unused_seat (let z : n + 0 ≡ n = omega arith in z), tt)
 seats-push n (s ∷ seats) seat h e = (h.0, seats-push (suc n) seats seat h.1 (e ∙ ap unused_seat (let z : n + suc (length seats) ≡ suc n + length seats = omega arith in z)))
-
--- ---- lists
-
-pub same-list : {A : Type 0} (xs ys : List A) → length xs ≡ length ys → ((k : ℕ) → k < length xs → slice_get xs k ≡ slice_get ys k) → xs ≡ ys
-same-list xs ys e h =
-    let p = prefix-from xs ys h in
-    let none : length p.0 ≡ 0 = let a = sym (length-append xs p.0) ∙ ap length p.1 in omega (arith, a, e) in
-    sym (append-nil xs) ∙ (ap (λ zs. xs ++ zs) (sym (no-length p.0 none)) ∙ p.1)
-  where
-    no-length : {A : Type 0} (zs : List A) → length zs ≡ 0 → zs ≡ []
-    no-length [] e = refl
-    no-length (z ∷ zs) e = absurd (omega (arith, e))

@@ -5,11 +5,12 @@ use Rattle.boxcar.specs.Table.{Where}
 use Rattle.crew_flights.specs.declared.entries.Entry.{Entry}
 use Rattle.crew_machine.specs.Rounds.{last_number}
 use Rattle.crew_pairing.specs.Duties.{HasTooMany}
+use Rattle.crew_seal.specs.Next.{IsNextOver}
 use Rattle.crew_service.proofs.Plans.{length-entries}
 use Rattle.crew_service.specs.Faults.{IsSettleFault}
 use Rattle.crew_service.specs.Machinery.Kept.{HasRead, HasShown}
 use Rattle.crew_service.specs.Machinery.Rounds.{IsRoundFault}
-use Rattle.crew_service.specs.Plans.{AreBelow, HasPublishedNothing, HasSettled, IsNextOver, Planning, entries_of}
+use Rattle.crew_service.specs.Plans.{AreBelow, HasPublishedNothing, HasSettled, Planning, entries_of}
 use Rattle.crew_service.specs.declared.fault.SettleFault.{SettleFault}
 use Rattle.crew_service.specs.declared.fault.SettleFault.TheVariants as Settle
 use Rattle.crew_version.specs.Versions.{Snapshot, timetable_of}

@@ -1,11 +1,12 @@
 -- What a planner keeps, and what a settle does.
-use Rattle.std.specs.Prelude.{◌≡◌, ◌+◌, ◌<◌, ◌⊎◌, ℕ, suc, All, List, [], ◌∷◌, ◌++◌, length, map}
+use Rattle.std.specs.Prelude.{◌≡◌, ◌<◌, ◌⊎◌, ℕ, suc, All, List, [], ◌∷◌, ◌++◌, length, map}
 use mathlib.Core.List.{IsPrefix}
 use Rattle.boxcar.specs.Table.{Where}
 use Rattle.crew_flights.specs.declared.entries.Entry.{Entry}
 use Rattle.crew_log.specs.Logs.{Log, Seat, unused_seat}
 use Rattle.crew_rules.specs.declared.settings.Settings.{Settings}
-use Rattle.crew_version.specs.Versions.{IsRight, Snapshot, opening}
+use Rattle.crew_seal.specs.Next.{IsNextOver}
+use Rattle.crew_version.specs.Versions.{Snapshot, opening}
 
 -- a planner: the log that it reads, the version that it has made last, a receipt for each place of the
 -- log that it has read, and what it has published
@@ -36,13 +37,6 @@ AreSeatsFrom number (seat ∷ seats) = (seat ≡ unused_seat number) × AreSeats
 -- each of these receipts has a place below a count
 abbrev pub AreBelow : ℕ → List (Where Entry) → Type 0
 AreBelow count receipts = All (λ r. r.index < count) receipts
-
--- the next version, over these entries
-pub record IsNextOver (before : Snapshot) (entries : List Entry) (after : Snapshot) : Type 0 where
-  pub number : after.number ≡ before.number + 1
-  pub settings : after.settings ≡ before.settings
-  pub over : after.entries ≡ entries
-  pub right : IsRight after
 
 -- a settle: the next version, over all that is read now, has an entry at each of these receipts'
 -- places, and is published

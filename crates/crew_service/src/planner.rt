@@ -5,10 +5,11 @@ ghost use mathlib.Core.List.{IsPrefix};
 ghost use Rattle.crew_log.specs.Logs.{AreOf, HaveNone, IsOf};
 ghost use Rattle.crew_publish.specs.Chain.{IsNext};
 ghost use Rattle.crew_publish.specs.declared.fault.PairFault.TheVariants.{NoViewer};
+ghost use Rattle.crew_seal.specs.Next.{IsNextOver};
 ghost use Rattle.crew_service.specs.Faults.{IsSettleFault};
 ghost use Rattle.crew_service.specs.Machinery.Kept.{HasRead, HasShown};
 ghost use Rattle.crew_service.specs.Machinery.Rounds.{IsRoundFault};
-ghost use Rattle.crew_service.specs.Plans.{AreBelow, HasPublishedNothing, HasSettled, IsNextOver, entries_of};
+ghost use Rattle.crew_service.specs.Plans.{AreBelow, HasPublishedNothing, HasSettled, entries_of};
 ghost use Rattle.crew_service.specs.declared.fault.SettleFault.TheVariants.{Memory};
 
 use crate::attempt::next_over;

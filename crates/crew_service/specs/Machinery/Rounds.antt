@@ -1,6 +1,5 @@
 -- A planner's round on a board.
-use Rattle.std.specs.Prelude.{◌≡◌, ◌+◌, ◌<◌, List, Option, Some, None}
-use Rattle.crew_board.specs.Boards.{ShownBoard, ShownRound}
+use Rattle.std.specs.Prelude.{◌≡◌, ◌<◌, List, Option, Some, None}
 use Rattle.crew_board.specs.declared.fault.BeginFault.{BeginFault}
 use Rattle.crew_board.specs.declared.fault.BeginFault.TheVariants.{Busy, Ground}
 use Rattle.crew_flights.specs.declared.entries.Entry.{Entry}
@@ -9,7 +8,7 @@ use Rattle.crew_machine.specs.Rounds.{last_number}
 use Rattle.crew_pairing.specs.Duties.{HasTooMany}
 use Rattle.crew_service.specs.declared.fault.SettleFault.{SettleFault}
 use Rattle.crew_service.specs.declared.fault.SettleFault.TheVariants as Settle
-use Rattle.crew_version.specs.Versions.{IsRight, Snapshot, timetable_of}
+use Rattle.crew_version.specs.Versions.{Snapshot, timetable_of}
 
 -- a round isn't opened over entries that begin with a version's
 abbrev pub IsRoundFault : Snapshot → List Entry → SettleFault → Type 0
@@ -26,20 +25,3 @@ fault_of (Ground NoGround.ShorterLog) = None
 fault_of (Ground NoGround.LastVersion) = Some Settle.LastVersion
 fault_of (Ground NoGround.TooManyDuties) = Some Settle.TooManyDuties
 fault_of (Ground NoGround.Memory) = Some Settle.Memory
-
--- the open round is one over these entries, after a version with this one's number and settings
-pub record IsOwn (board : ShownBoard) (version : Snapshot) (entries : List Entry) : Type 0 where
-  pub number : board.sealed.number ≡ version.number
-  pub settings : board.sealed.settings ≡ version.settings
-  pub round : ShownRound
-  pub is_open : board.round ≡ Some round
-  pub over : round.entries ≡ entries
-
--- a version is what the open round of a board is sealed as
-pub record IsSealedOf (board : ShownBoard) (v : Snapshot) : Type 0 where
-  pub number : v.number ≡ board.sealed.number + 1
-  pub settings : v.settings ≡ board.sealed.settings
-  pub round : ShownRound
-  pub is_open : board.round ≡ Some round
-  pub over : v.entries ≡ round.entries
-  pub right : IsRight v

@@ -1,11 +1,12 @@
 use Rattle.std.proofs.Common.{◌≡◌, ◌∙◌, subst, sym}
 use Rattle.std.specs.Arc.{arc_value}
 use Rattle.crew_board.proofs.Answered.{refused-as}
+use Rattle.crew_seal.specs.Next.{IsNextOver}
 use Rattle.crew_service.proofs.Plans.{with-next}
 use Rattle.crew_service.proofs.Settles.{on-err, on-ok, refused, settled, unpublished, with_version}
 use Rattle.crew_service.specs.Faults.{IsSettleFault}
 use Rattle.crew_service.specs.Machinery.Kept.{HasShown}
-use Rattle.crew_service.specs.Plans.{IsNextOver, Planning, entries_of}
+use Rattle.crew_service.specs.Plans.{Planning, entries_of}
 use Rattle.crew_service.proofs.planner.Planner.settle.Goals as goal
 
 pub returns-in_err-version-clause-fault : goal.returns-in_err-version-clause-fault

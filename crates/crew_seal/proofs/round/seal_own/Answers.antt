@@ -1,8 +1,8 @@
 use Rattle.std.proofs.Common.{subst}
 use Rattle.std.specs.Arc.{arc_value}
-use Rattle.crew_service.proofs.Boards.{sealed-of}
+use Rattle.crew_seal.proofs.Seals.{sealed-of}
 use Rattle.crew_version.specs.Versions.{IsRight}
-use Rattle.crew_service.proofs.round.seal_own.Goals as goal
+use Rattle.crew_seal.proofs.round.seal_own.Goals as goal
 
 pub returns-in-Ok : goal.returns-in-Ok
 returns-in-Ok c =

@@ -1,6 +1,6 @@
 use Rattle.std.proofs.Common.{◌∙◌, sym, arith}
-use Rattle.crew_service.proofs.Plans.{same-list}
-use Rattle.crew_service.proofs.round.is_over.Goals as goal
+use Rattle.crew_seal.proofs.Seals.{same-list}
+use Rattle.crew_seal.proofs.round.is_over.Goals as goal
 
 pub returns : goal.returns
 returns c told =

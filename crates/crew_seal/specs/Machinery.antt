@@ -1,0 +1,2 @@
+-- What only the code and its proofs speak of.
+pub mod Rounds
