@@ -1,8 +1,8 @@
 //! Plays the cases that stand on standard input, and writes a transcript of what came of them:
 //! whole runs of the program, from their words to their status, over readers and writers in memory
-//! that may be slow or fail, what an engine without workers shows, and what a log and a published
-//! pair answer to commands (`log`, `pair`), each a line of the input that is written again with its
-//! answer. The stored run has the cases (`stdin`) and what has to come of them (`stdout`), both as
+//! that may be slow or fail, what an engine without workers shows, and what a log, a published pair
+//! and a running service answer to commands (`log`, `pair`, `service`), each a line of the input that
+//! is written again with its answer. The stored run has the cases (`stdin`) and what has to come of them (`stdout`), both as
 //! plain data, which costs no proof. It promises nothing to others, so its functions have no clause.
 //!
 //! A case begins with `#` and its name. Lines that begin with `%` say how its streams behave
@@ -10,18 +10,28 @@
 //! follows up to the next case is its input, byte for byte. Nothing else has a `#` or a `$`. The
 //! transcript has all of the case but its input, then what was written, the fault's text with `! `
 //! before each of its lines, and the status where it isn't 0.
+//!
+//! `service SEATS VIEWERS WORKERS` is a service with so many of each: threads that work, clients that
+//! submit, a planner that settles, and viewers. `meet WORKERS` is a service whose gates hold whoever
+//! comes first until another comes.
 #![tactic(auto)]
 
 mod beside;
 mod commands;
+mod desk;
+mod edits;
 mod engines;
 mod logs;
+mod meeting;
 mod pairs;
 mod runs;
+mod serving;
+mod sights;
 mod strange;
 mod streams;
 mod versions;
 mod ways;
+mod words;
 
 use runs::Case;
 use std::alloc::Global;
@@ -31,6 +41,7 @@ use std::sync::Wait;
 use std::thread::Threads;
 use std::time::Clock;
 use ways::Ways;
+use words::count_of;
 
 // A part of a case as text; nothing where it is none.
 fn text_of(part: &[u8]) -> &str {
@@ -63,6 +74,11 @@ fn play_words<R: Print + Eprint + Threads + Wait + Sync + Clock>(
             let words = [*more, *place, *viewers];
             pairs::play_pair(rt, alloc, words, text_of(case.input()))
         }
+        ["service", seats, viewers, workers] => {
+            let counts = (count_of(seats), count_of(viewers));
+            serving::play(rt, alloc, counts, count_of(workers), text_of(case.input()))
+        }
+        ["meet", workers] => meeting::play(rt, alloc, count_of(workers)),
         _ => runs::play_run(rt, alloc, words, case),
     }
 }
