@@ -26,10 +26,18 @@ use std::thread::Threads;
 ///
 /// A contract sees the version, and the entries and marks of the round. It tells of each board of
 /// the machine of which that is shown, which step a call is; `sealed` tells that there is one.
-#[derive(Drop)]
 pub struct Board {
     sealed: Arc<Version, Global>,
     round: Option<Round>,
+}
+
+impl Drop for Board {
+    fn drop(self) {
+        let Self {
+            sealed: _,
+            round: _,
+        } = self;
+    }
 }
 
 impl Model for Board {

@@ -20,9 +20,14 @@ use std::marker::Model;
 /// Where walks of one list stand in another, so far as they were carried there.
 ///
 /// A contract sees, by place of an old walk, its place among the new ones.
-#[derive(Drop)]
 pub struct Carrier {
     places: Vec<Option<u32>>,
+}
+
+impl Drop for Carrier {
+    fn drop(self) {
+        let Self { places: _ } = self;
+    }
 }
 
 impl Model for Carrier {

@@ -16,11 +16,20 @@ use std::marker::Model;
 /// What two networks have alike: departures, arrivals with their duties, and keys of duties.
 ///
 /// A contract sees, by place in the new network or by rank in the old one, where the other has it.
-#[derive(Drop)]
 pub struct Twins {
     departures: Vec<Option<u32>>,
     arrivals: Vec<Option<u32>>,
     ranks: Vec<Option<u32>>,
+}
+
+impl Drop for Twins {
+    fn drop(self) {
+        let Self {
+            departures: _,
+            arrivals: _,
+            ranks: _,
+        } = self;
+    }
 }
 
 impl Model for Twins {

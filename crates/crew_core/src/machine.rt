@@ -31,12 +31,22 @@ use std::thread::Threads;
 ///
 /// A contract sees these. A machine always stands for a state of `crew_machine`'s that can be
 /// reached; `published` tells so.
-#[derive(Drop)]
 pub struct Machine {
     log: Vec<Entry>,
     board: Board,
     jobs: Vec<Job>,
     published: Vec<Arc<Version, Global>>,
+}
+
+impl Drop for Machine {
+    fn drop(self) {
+        let Self {
+            log: _,
+            board: _,
+            jobs: _,
+            published: _,
+        } = self;
+    }
 }
 
 impl Model for Machine {
@@ -151,7 +161,13 @@ impl Machine {
     pub fn into_published(self) -> Vec<Arc<Version, Global>>
         ensures { map arc_value result.items ≡ self.published }
     {
-        self.published
+        let Self {
+            log: _,
+            board: _,
+            jobs: _,
+            published,
+        } = self;
+        published
     }
 
     // Puts an entry at the end of the log.

@@ -30,12 +30,22 @@ use std::marker::Model;
 ///
 /// A contract sees flags: of bases by place, and of duties by rank; and the place of each duty's
 /// departure, by rank.
-#[derive(Drop)]
 pub struct Carried {
     bases: Vec<bool>,
     same: Vec<bool>,
     unreached: Vec<bool>,
     departures: Vec<u32>,
+}
+
+impl Drop for Carried {
+    fn drop(self) {
+        let Self {
+            bases: _,
+            same: _,
+            unreached: _,
+            departures: _,
+        } = self;
+    }
 }
 
 impl Model for Carried {

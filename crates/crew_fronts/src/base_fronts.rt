@@ -27,9 +27,14 @@ use std::thread::Threads;
 /// The fronts of a base at its price, one for each duty of a network.
 ///
 /// A contract sees the network, the base and its price, and the front of each duty, by rank.
-#[derive(Drop)]
 pub struct BaseFronts {
     kind: BaseKind,
+}
+
+impl Drop for BaseFronts {
+    fn drop(self) {
+        let Self { kind: _ } = self;
+    }
 }
 
 // What has made them.

@@ -17,12 +17,21 @@ use std::sync::Arc;
 /// A job that is done, with the sweep of its base, which shows its front.
 ///
 /// A contract sees the job.
-#[derive(Drop)]
 pub struct Done {
     job: Job,
     sweep: Arc<BaseFronts, Global>,
     // Whether the version that was sealed last has the node with the same front.
     kept: bool,
+}
+
+impl Drop for Done {
+    fn drop(self) {
+        let Self {
+            job: _,
+            sweep: _,
+            kept: _,
+        } = self;
+    }
 }
 
 impl Model for Done {
@@ -105,6 +114,11 @@ impl Done {
         ensures shown { (n : DutyNode) → job_node self ≡ Some n
             → ShowsFrontOf self.ground.settings (data_of self.ground) n (arc_value result) }
     {
-        self.sweep
+        let Self {
+            job: _,
+            sweep,
+            kept: _,
+        } = self;
+        sweep
     }
 }

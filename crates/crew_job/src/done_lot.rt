@@ -16,9 +16,14 @@ use std::sync::Arc;
 /// The jobs of a lot, done, in order.
 ///
 /// A contract sees the list of the jobs.
-#[derive(Drop)]
 pub struct DoneLot {
     results: Vec<Done>,
+}
+
+impl Drop for DoneLot {
+    fn drop(self) {
+        let Self { results: _ } = self;
+    }
 }
 
 impl Model for DoneLot {
@@ -114,6 +119,7 @@ impl DoneLot {
         ensures results { result.items ≡ self }
         ensures lot { IsLot self }
     {
-        self.results
+        let Self { results } = self;
+        results
     }
 }

@@ -31,11 +31,20 @@ use std::thread::Threads;
 /// A contract sees the sealed version, the number, settings and entries of the next one, and the
 /// plan. The entries begin with the sealed version's, and come to at most 200,000 legal duties,
 /// whose plan it is.
-#[derive(Drop)]
 pub struct Ground {
     sealed: Arc<Version, Global>,
     draft: Draft,
     plan: Plan,
+}
+
+impl Drop for Ground {
+    fn drop(self) {
+        let Self {
+            sealed: _,
+            draft: _,
+            plan: _,
+        } = self;
+    }
 }
 
 impl Model for Ground {
@@ -223,7 +232,8 @@ impl Ground {
 
     /// How many bases there are.
     pub fn base_count(&self) -> usize
-        ensures { result ≡ length self.now.plan.prices }
+        ensures count { result ≡ length self.now.plan.prices }
+        ensures ground { IsGround self.now }
     {
         self.plan.base_count()
     }

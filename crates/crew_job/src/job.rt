@@ -22,12 +22,22 @@ use std::sync::Arc;
 /// A contract sees the ground, the place of the node's base, and the rank of its duty. The fronts
 /// before it can be read without memory: from its base's sweep, which the job has where one stands,
 /// or from the version that was sealed last.
-#[derive(Drop)]
 pub struct Job {
     ground: Arc<Ground, Global>,
     base: usize,
     rank: usize,
     sweep: Option<Arc<BaseFronts, Global>>,
+}
+
+impl Drop for Job {
+    fn drop(self) {
+        let Self {
+            ground: _,
+            base: _,
+            rank: _,
+            sweep: _,
+        } = self;
+    }
 }
 
 impl Model for Job {

@@ -10,9 +10,14 @@ use std::marker::Model;
 /// Jobs that stand on one ground, in the order in which they were handed out.
 ///
 /// A contract sees the list of the jobs.
-#[derive(Drop)]
 pub struct Lot {
     jobs: Vec<Job>,
+}
+
+impl Drop for Lot {
+    fn drop(self) {
+        let Self { jobs: _ } = self;
+    }
 }
 
 impl Model for Lot {

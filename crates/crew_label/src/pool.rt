@@ -16,9 +16,14 @@ use std::marker::Model;
 /// The labels of one event, in the listing order of their values; no value stands twice.
 ///
 /// A contract sees the list of the labels.
-#[derive(Drop)]
 pub struct Pool<R: Resource> {
     labels: Vec<Label<R::Value>>,
+}
+
+impl<R: Resource> Drop for Pool<R> {
+    fn drop(self) {
+        let Self { labels: _ } = self;
+    }
 }
 
 impl<R: Resource> Model for Pool<R> {

@@ -20,10 +20,18 @@ use std::sync::Arc;
 /// owns what it stands on, so it can be kept for as long as its labels are of use.
 ///
 /// A contract sees for each duty by rank the departure that it leaves from, and the pools.
-#[derive(Drop)]
 pub struct Table<R: Resource> {
     leaves: Arc<Vec<u32>, Global>,
     pools: Vec<Arc<Pool<R>, Global>>,
+}
+
+impl<R: Resource> Drop for Table<R> {
+    fn drop(self) {
+        let Self {
+            leaves: _,
+            pools: _,
+        } = self;
+    }
 }
 
 impl<R: Resource> Model for Table<R> {

@@ -21,13 +21,23 @@ use std::sync::atomic::{AtomicUsize, Ordering};
 ///
 /// A contract sees the row of places, which tells this log from others, and how many seats were
 /// given. What the row shows at a moment no contract sees: a receipt says it of its place.
-#[derive(Drop)]
 pub struct Log {
     pub(crate) row: Table<Stamped, InPlace, Global>,
     rights: Rights,
     turns: Turns,
     // The place that is drawn next.
     next: AtomicUsize,
+}
+
+impl Drop for Log {
+    fn drop(self) {
+        let Self {
+            row: _,
+            rights: _,
+            turns: _,
+            next: _,
+        } = self;
+    }
 }
 
 impl Model for Log {

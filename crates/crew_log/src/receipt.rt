@@ -14,9 +14,14 @@ use std::marker::Model;
 /// from.
 ///
 /// A contract sees the place as `index`, the entry as `value`, and what ties it to its log.
-#[derive(Drop)]
 pub struct Receipt {
     pub(crate) at: Placed<Stamped, InPlace, Global>,
+}
+
+impl Drop for Receipt {
+    fn drop(self) {
+        let Self { at: _ } = self;
+    }
 }
 
 impl Model for Receipt {

@@ -38,13 +38,23 @@ use std::sync::Arc;
 ///
 /// A contract sees the settings, the crew bases, the duties by key, and the events at which they
 /// leave and arrive.
-#[derive(Drop)]
 pub struct Net {
     settings: Settings,
     bases: Vec<Code>,
     duties: Arc<Duties, Global>,
     // Networks of duties that differ in their prices alone share them.
     events: Arc<Events, Global>,
+}
+
+impl Drop for Net {
+    fn drop(self) {
+        let Self {
+            settings: _,
+            bases: _,
+            duties: _,
+            events: _,
+        } = self;
+    }
 }
 
 impl Model for Net {

@@ -35,9 +35,14 @@ pub(crate) enum Kind {
 /// it what is as it was.
 ///
 /// A contract sees the network, and the bases with their prices by code.
-#[derive(Drop)]
 pub struct Plan {
     kind: Kind,
+}
+
+impl Drop for Plan {
+    fn drop(self) {
+        let Self { kind: _ } = self;
+    }
 }
 
 impl Model for Plan {

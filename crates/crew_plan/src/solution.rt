@@ -40,10 +40,15 @@ pub(crate) enum Made {
 /// The fronts of all bases and legal duties of a timetable, and its best pairing.
 ///
 /// A contract sees the network, the fronts of each base, and the best.
-#[derive(Drop)]
 pub struct Solution {
     bases: Vec<Arc<BaseFronts, Global>>,
     made: Made,
+}
+
+impl Drop for Solution {
+    fn drop(self) {
+        let Self { bases: _, made: _ } = self;
+    }
 }
 
 impl Model for Solution {
@@ -192,7 +197,7 @@ impl Solution {
     pub fn into_best(self) -> Option<PricedPairing>
         ensures { result ≡ self.best }
     {
-        let Solution { made, .. } = self;
+        let Self { bases: _, made } = self;
         match made {
             Made::Plain(solution) => solution.into_best(),
             Made::Long(_, best) => best,

@@ -21,9 +21,14 @@ use std::marker::Model;
 ///
 /// A contract sees the list of the labels. Their order is free, and statements on pools speak of
 /// membership.
-#[derive(Drop)]
 pub struct GrowingPool<R: Marked> {
     pub(crate) labels: Labels<R>,
+}
+
+impl<R: Marked> Drop for GrowingPool<R> {
+    fn drop(self) {
+        let Self { labels: _ } = self;
+    }
 }
 
 impl<R: Marked> Model for GrowingPool<R> {
@@ -56,7 +61,8 @@ impl<R: Marked> GrowingPool<R> {
     pub fn into_pool(self) -> Pool<R>
         ensures { result ≡ self }
     {
-        Pool::from_apart(self.labels.into_vec())
+        let Self { labels } = self;
+        Pool::from_apart(labels.into_vec())
     }
 
     /// The labels: none is at most another.

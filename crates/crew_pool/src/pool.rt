@@ -15,9 +15,14 @@ use std::slice;
 ///
 /// A contract sees the list of the labels. Their order is free, and statements on pools speak of
 /// membership.
-#[derive(Drop)]
 pub struct Pool<R: Resource> {
     labels: Vec<(R::Value, LabelWalk)>,
+}
+
+impl<R: Resource> Drop for Pool<R> {
+    fn drop(self) {
+        let Self { labels: _ } = self;
+    }
 }
 
 impl<R: Resource> Model for Pool<R> {
@@ -100,6 +105,7 @@ impl<R: Resource> Pool<R> {
         ensures all { result.items ≡ self }
         ensures apart { AreApart R.below (vectors_of self) }
     {
-        self.labels
+        let Self { labels } = self;
+        labels
     }
 }

@@ -6,9 +6,14 @@ use std::alloc::Global;
 /// Working space that is used again.
 ///
 /// What it holds is cleared before it is used, so any space serves and no clause speaks of it.
-#[derive(Drop)]
 pub struct Workspace<R: Marked> {
     pub(crate) free: Labels<R>,
+}
+
+impl<R: Marked> Drop for Workspace<R> {
+    fn drop(self) {
+        let Self { free: _ } = self;
+    }
 }
 
 impl<R: Marked> Workspace<R> {

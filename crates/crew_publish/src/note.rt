@@ -14,10 +14,18 @@ use std::sync::{Arc, Wait};
 ///
 /// A contract sees the version, its number, how many entries it has, and the list that it ended,
 /// which is a chain.
-#[derive(Drop)]
 pub struct Note<R: Wait + Drop> {
     version: Arc<Version>,
     publisher: Snapshot<Publisher<R>>,
+}
+
+impl<R: Wait + Drop> Drop for Note<R> {
+    fn drop(self) {
+        let Self {
+            version: _,
+            publisher: _,
+        } = self;
+    }
 }
 
 impl<R: Wait + Drop> Model for Note<R> {

@@ -48,10 +48,18 @@ fn look_at(seat: &mut Seat) -> Result<Arc<Version>, ViewFault>
 /// A version that was published. It stays as it is, and holds nobody up.
 ///
 /// A contract sees the version, and the published list that it ends, which is a chain.
-#[derive(Drop)]
 pub struct View {
     version: Arc<Version>,
     viewer: Snapshot<Viewer>,
+}
+
+impl Drop for View {
+    fn drop(self) {
+        let Self {
+            version: _,
+            viewer: _,
+        } = self;
+    }
 }
 
 impl Model for View {
@@ -93,11 +101,20 @@ impl View {
 ///
 /// A contract sees the published list that it saw last, and whether it is lost: then it was told
 /// of a version that what is shown doesn't extend, and gives no view any more.
-#[derive(Drop)]
 pub struct Viewer {
     seat: Seat,
     taken: Snapshot<Seat>,
     lost: bool,
+}
+
+impl Drop for Viewer {
+    fn drop(self) {
+        let Self {
+            seat: _,
+            taken: _,
+            lost: _,
+        } = self;
+    }
 }
 
 impl Model for Viewer {

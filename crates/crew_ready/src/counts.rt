@@ -16,10 +16,18 @@ use std::marker::Model;
 
 /// Of each arrival of a network how many duties arrive there whose nodes at one base aren't done,
 /// and of each departure how many arrivals of its window have such a duty.
-#[derive(Drop)]
 pub struct Counts {
     undone: Vec<usize>,
     blocked: Vec<usize>,
+}
+
+impl Drop for Counts {
+    fn drop(self) {
+        let Self {
+            undone: _,
+            blocked: _,
+        } = self;
+    }
 }
 
 impl Model for Counts {

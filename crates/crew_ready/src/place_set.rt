@@ -13,11 +13,20 @@ use std::marker::Model;
 /// above has a bit for each word, which is set where the word isn't nought; so has a row above that
 /// for its words. A change takes three steps. The least place is found by going over the words of
 /// the row at the top, one for each 262,144 places: 1 for 200,000 places, and 13 for 3,200,000.
-#[derive(Drop)]
 pub struct PlaceSet {
     count: usize,
     words: Vec<u64>,
     above: Level,
+}
+
+impl Drop for PlaceSet {
+    fn drop(self) {
+        let Self {
+            count: _,
+            words: _,
+            above: _,
+        } = self;
+    }
 }
 
 impl Model for PlaceSet {

@@ -20,9 +20,14 @@ use std::sync::Arc;
 /// A contract sees the network, what is carried over to it, a mark for each node, and a flag: of a
 /// done node whether its front is that of the version before. No waiting node's work is what it
 /// was in that version: such nodes are done at once.
-#[derive(Drop)]
 pub struct Marks {
     marking: Marking,
+}
+
+impl Drop for Marks {
+    fn drop(self) {
+        let Self { marking: _ } = self;
+    }
 }
 
 impl Model for Marks {

@@ -32,7 +32,6 @@ use std::thread::Threads;
 /// A contract sees its log, its version, its receipts, and the list of what it has published. The
 /// receipts are of its log, for the places from 0 on with no gap, and the version's entries are the
 /// first of theirs.
-#[derive(Drop)]
 pub struct Planner<'a, R: Wait, G: Gate> {
     rt: &'a R,
     of: Snapshot<Log>,
@@ -40,6 +39,19 @@ pub struct Planner<'a, R: Wait, G: Gate> {
     receipts: Vec<Receipt>,
     publisher: Publisher<&'a R>,
     gate: G,
+}
+
+impl<'a, R: Wait, G: Gate + Drop> Drop for Planner<'a, R, G> {
+    fn drop(self) {
+        let Self {
+            rt: _,
+            of: _,
+            version: _,
+            receipts: _,
+            publisher: _,
+            gate: _,
+        } = self;
+    }
 }
 
 impl<'a, R: Wait, G: Gate> Model for Planner<'a, R, G> {

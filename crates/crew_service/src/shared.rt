@@ -24,11 +24,20 @@ use std::thread::Threads;
 ///
 /// A contract sees the log, which tells this service from others. Of what lies under the lock it
 /// sees nothing.
-#[derive(Drop)]
 pub struct Shared {
     log: Log,
     held: Mutex<Held>,
     moved: Condvar,
+}
+
+impl Drop for Shared {
+    fn drop(self) {
+        let Self {
+            log: _,
+            held: _,
+            moved: _,
+        } = self;
+    }
 }
 
 impl Model for Shared {

@@ -17,11 +17,19 @@ use std::thread::Threads;
 /// The engine without workers: a settle works on the thread that calls it, and goes on from the
 /// fold of the version before. It is never strange. An entry waits in a list until a settle moves
 /// it to its version, so each is kept once.
-#[derive(Drop)]
 pub struct Plain {
     version: Version,
     pending: Vec<Entry>,
     ghost few: { length version.entries + vec_len pending ≤ 1_000_000 },
+}
+
+impl Drop for Plain {
+    fn drop(self) {
+        let Self {
+            version: _,
+            pending: _,
+        } = self;
+    }
 }
 
 impl Plain {

@@ -19,11 +19,20 @@ use std::sync::Arc;
 /// A duty has a place, and so has a base; a node's slot is sixteen times the place of its duty and
 /// the place of its base. A contract sees the network, the place of each duty by rank, and the
 /// place of each base.
-#[derive(Drop)]
 pub struct Slots {
     net: Arc<Net, Global>,
     duties: Places,
     bases: Places,
+}
+
+impl Drop for Slots {
+    fn drop(self) {
+        let Self {
+            net: _,
+            duties: _,
+            bases: _,
+        } = self;
+    }
 }
 
 impl Model for Slots {

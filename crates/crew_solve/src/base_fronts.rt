@@ -23,10 +23,18 @@ use std::marker::Model;
 /// The fronts of a base at its price, one for each duty of a network.
 ///
 /// A contract sees the sweep of the network that shows them.
-#[derive(Drop)]
 pub struct BaseFronts {
     sweep: Sweep,
     floors: Floors,
+}
+
+impl Drop for BaseFronts {
+    fn drop(self) {
+        let Self {
+            sweep: _,
+            floors: _,
+        } = self;
+    }
 }
 
 impl Model for BaseFronts {

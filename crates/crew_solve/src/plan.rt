@@ -28,12 +28,22 @@ use std::thread::Threads;
 /// what is as it was.
 ///
 /// A contract sees the network, and the bases with their prices by code.
-#[derive(Drop)]
 pub struct Plan {
     net: Arc<Net, Global>,
     bases: Vec<(Code, i64)>,
     turns: Vec<u32>,
     past: Option<Past>,
+}
+
+impl Drop for Plan {
+    fn drop(self) {
+        let Self {
+            net: _,
+            bases: _,
+            turns: _,
+            past: _,
+        } = self;
+    }
 }
 
 impl Model for Plan {

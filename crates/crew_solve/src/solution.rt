@@ -33,11 +33,20 @@ use std::sync::Arc;
 /// The fronts of all bases and legal duties of a timetable, and its best pairing.
 ///
 /// A contract sees the network, the sweep of each base, and the best.
-#[derive(Drop)]
 pub struct Solution {
     net: Arc<Net, Global>,
     fronts: Vec<Arc<BaseFronts, Global>>,
     best: Option<PricedPairing>,
+}
+
+impl Drop for Solution {
+    fn drop(self) {
+        let Self {
+            net: _,
+            fronts: _,
+            best: _,
+        } = self;
+    }
 }
 
 impl Model for Solution {
@@ -84,6 +93,7 @@ impl Solution {
     pub fn fronts(&self) -> &[Arc<BaseFronts, Global>]
         ensures all { map arc_value result.now ≡ self.now.sweeps }
         ensures nets { Each (λ b. b.net ≡ self.now.net) self.now.sweeps }
+        ensures bases { map (λ b. b.base) self.now.sweeps ≡ self.now.net.bases }
     {
         &self.fronts
     }
@@ -99,7 +109,11 @@ impl Solution {
     pub fn into_best(self) -> Option<PricedPairing>
         ensures { result ≡ self.best }
     {
-        let Solution { best, .. } = self;
+        let Self {
+            net: _,
+            fronts: _,
+            best,
+        } = self;
         best
     }
 

@@ -25,13 +25,24 @@ use std::thread::Threads;
 ///
 /// A contract sees its number, settings and entries. Its verdicts and timetable are those of its
 /// entries.
-#[derive(Drop)]
 pub struct Draft {
     number: u64,
     settings: Settings,
     entries: Chunks<Entry>,
     verdicts: Chunks<Verdict>,
     fold: Folding,
+}
+
+impl Drop for Draft {
+    fn drop(self) {
+        let Self {
+            number: _,
+            settings: _,
+            entries: _,
+            verdicts: _,
+            fold: _,
+        } = self;
+    }
 }
 
 impl Model for Draft {

@@ -38,10 +38,18 @@ use std::thread::Threads;
 /// A contract sees its number, settings, entries and best. Its verdicts and timetable are those of
 /// its entries, they come to at most 200,000 legal duties, and its best is the best pairing of
 /// that timetable.
-#[derive(Drop)]
 pub struct Version {
     draft: Draft,
     solution: Option<Arc<Solution, Global>>,
+}
+
+impl Drop for Version {
+    fn drop(self) {
+        let Self {
+            draft: _,
+            solution: _,
+        } = self;
+    }
 }
 
 impl Model for Version {

@@ -42,7 +42,6 @@ pub(crate) enum Last {
 /// may have entries of others: a settle believes only a version that is the next one of all edits
 /// that the engine took. It keeps a view, taken when it is made and at each settle, and waits by a
 /// handle of its own.
-#[derive(Drop)]
 pub struct Threaded<'s, 'a, R: Wait, G: Gate> {
     rt: &'a R,
     shared: &'s Shared,
@@ -52,6 +51,21 @@ pub struct Threaded<'s, 'a, R: Wait, G: Gate> {
     view: View,
     receipts: Vec<Receipt>,
     last: Last,
+}
+
+impl<'s, 'a, R: Wait, G: Gate + Drop> Drop for Threaded<'s, 'a, R, G> {
+    fn drop(self) {
+        let Self {
+            rt: _,
+            shared: _,
+            planner: _,
+            seat: _,
+            viewer: _,
+            view: _,
+            receipts: _,
+            last: _,
+        } = self;
+    }
 }
 
 impl<'s, 'a, R: Wait, G: Gate> Model for Threaded<'s, 'a, R, G> {

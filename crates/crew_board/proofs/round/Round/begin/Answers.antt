@@ -5,7 +5,7 @@ use Rattle.crew_board.proofs.Keeping.{held-begun}
 use Rattle.crew_board.proofs.Nothing.{none-mapped, none-noted}
 use Rattle.crew_board.specs.Machinery.Held.{IsBegun, Marked}
 use Rattle.crew_dirty.specs.Carried.{IsCarriedOver}
-use Rattle.crew_job.specs.Grounds.{Ground, IsGround, data_of, sealed_data_of}
+use Rattle.crew_job.specs.Grounds.{Ground, data_of, sealed_data_of}
 use Rattle.crew_net.specs.Nets.{Net}
 use Rattle.crew_board.proofs.round.Round.begin.Goals as goal
 
@@ -23,7 +23,7 @@ returns-clause-begun c =
     let net = c.in_ok-marks.ensures.net ∙ c.in_ok-net.ensures in
     let over = subst (λ (n : Net). IsCarriedOver (sealed_data_of g) (data_of g) e.0 n c.in_ok-carried.carried) (sym net) e.3 in
     let here : IsBegun (let z : Marked = record { ground = g; marks = m } in z) = record {
-      ground = subst IsGround c.ground.view_is c.ground.invariant;
+      ground = c.base_count.ensures.ground;
       net = net;
       old = e.0;
       old_settings = e.1;
@@ -42,7 +42,7 @@ invariant_of-result c =
     let net = c.in_ok-marks.ensures.net ∙ c.in_ok-net.ensures in
     let over = subst (λ (n : Net). IsCarriedOver (sealed_data_of g) (data_of g) e.0 n c.in_ok-carried.carried) (sym net) e.3 in
     let here : IsBegun (let z : Marked = record { ground = g; marks = m } in z) = record {
-      ground = subst IsGround c.ground.view_is c.ground.invariant;
+      ground = c.base_count.ensures.ground;
       net = net;
       old = e.0;
       old_settings = e.1;
@@ -55,7 +55,7 @@ invariant_of-result c =
     let items = c.in_ok-shown.shown.items in
     let count = c.in_ok-shown.ensures.long ∙ (c.len.ensures ∙ ap (λ (n : Net). length n.bases * length n.duties) (c.deref.ensures ∙ sym c.in_ok-marks.ensures.net)) in
     let long = length-map items (option_map (λ a. a.value)) ∙ (count ∙ sym c.in_ok-marks.ensures.marks.long) in
-    let bases = c.base_count.ensures ∙ ap (λ (x : Ground). length x.plan.prices) (sym c.in_ok-ground.ensures) in
+    let bases = c.base_count.ensures.count ∙ ap (λ (x : Ground). length x.plan.prices) (sym c.in_ok-ground.ensures) in
     held-begun r begun (map (option_map (λ a. a.value)) items) c.in_ok-swept.swept.items long (none-mapped (λ a. a.value) items c.in_ok-shown.ensures.none)
     (c.in_ok-swept.ensures.long ∙ bases)
     (none-noted c.in_ok-swept.swept.items c.in_ok-swept.ensures.none)

@@ -35,7 +35,7 @@ pub close-requires : goal.close-requires
 close-requires c =
     let items = c.loop-base.sweeps.items in
     let mine : c.deref-2.result.now ≡ c.args.self.now.ground = c.deref-2.ensures ∙ ap (λ (z : Marked). z.ground) c.self.view_is in
-    let count = c.base_count-count.ensures ∙ ap (λ (g : Ground). length g.plan.prices) (c.deref.ensures ∙ ap (λ (z : Marked). z.ground) c.self.view_is) in
+    let count = c.base_count-count.ensures.count ∙ ap (λ (g : Ground). length g.plan.prices) (c.deref.ensures ∙ ap (λ (z : Marked). z.ground) c.self.view_is) in
     let mapped = length-map items arc_value in
     let long = c.loop-base.invariant.0 in
     let end = c.loop-base.auto.base-end in

@@ -6,7 +6,6 @@ use Rattle.crew_plan.proofs.Shorter.{solved-too, still-plain}
 use Rattle.crew_plan.specs.Machinery.Kept.{AreOfSweeps}
 use Rattle.crew_resource.specs.Members.{Each}
 use Rattle.crew_solve.specs.Machinery.Solved.{IsSolved}
-use Rattle.crew_solve.specs.Solutions.{Solution}
 use Rattle.crew_sweep.specs.Sweeps.{BaseSweep}
 use Rattle.crew_plan.proofs.solution.Solution.swept.Goals as goal
 
@@ -21,7 +20,7 @@ invariant_of-result c =
     let solution = c.args.solution in
     let bases : List BaseFronts = map arc_value c.in_ok-bases.bases.items in
     let each = subst (λ (cs : List BaseSweep). AreOfSweeps cs bases) c.fronts.ensures.all c.in_ok-bases.ensures in
-    let kept = subst (λ (x : Solution). IsSolved x.net x.sweeps) c.solution.view_is c.solution.invariant in
+    let kept : IsSolved solution.net solution.sweeps = record { bases = c.fronts.ensures.bases; nets = c.fronts.ensures.nets } in
     let plain = still-plain c.args.plan.now solution c.requires.plain c.requires.solved in
     (still-solved solution.net solution.sweeps bases each kept, record { short = plain; each = each })
 
@@ -30,6 +29,6 @@ returns c =
     let solution = c.args.solution in
     let bases : List BaseFronts = map arc_value c.in_ok-bases.bases.items in
     let each = subst (λ (cs : List BaseSweep). AreOfSweeps cs bases) c.fronts.ensures.all c.in_ok-bases.ensures in
-    let kept = subst (λ (x : Solution). IsSolved x.net x.sweeps) c.solution.view_is c.solution.invariant in
+    let kept : IsSolved solution.net solution.sweeps = record { bases = c.fronts.ensures.bases; nets = c.fronts.ensures.nets } in
     let plain = still-plain c.args.plan.now solution c.requires.plain c.requires.solved in
     solved-too c.args.plan.now solution bases plain c.requires.solved each (still-solved solution.net solution.sweeps bases each kept).nets
