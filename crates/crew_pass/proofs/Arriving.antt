@@ -22,20 +22,21 @@ use Rattle.crew_resource.specs.Members.{Member}
 use Rattle.crew_resource.proofs.Members.{Member-append, Member-append_left, Member-append_right}
 use Rattle.crew_pass.specs.Machinery.Held.{AreHeld, trail_of}
 use Rattle.crew_pass.specs.Machinery.Numbered.{in_order}
-use Rattle.crew_pass.specs.Machinery.Passing.{AreCollected, AreGathered, AreKept, AreRestedOf, Arrives, IsArrivedAt, IsClean, IsDue, IsNotDue, IsRested, IsUnderWay, Waits, Ways}
+use Rattle.crew_pass.specs.Machinery.Passing.{AreCollected, AreGathered, AreKept, AreRestedOf, Arrives, IsArrivedAt, IsClean, IsDue, IsNotDue, IsRested, IsUnderWay, Waits}
+use Rattle.crew_pass.specs.Machinery.Terms.{Terms}
 use Rattle.crew_pass.proofs.Collected.{one-pool-more}
 use Rattle.crew_pass.proofs.Numbers.{arrival-itself, get-within, same-arrival}
 use Rattle.crew_pass.proofs.Orders.{in-order-at, in-order-long}
 use Rattle.crew_pass.proofs.Slices.{ranks-in, ranks-out, set-long, stands}
 
-module _ {V : Type 0} (w : Ways V) (count : V → ℤ) (arrived : ℕ → V → Type 0) (most : Option ℕ) (net : Net) (t : Tabled V) (fronts : List (List (Label V))) where
+module _ {V : Type 0} (w : Terms V) (t : Tabled V) (fronts : List (List (Label V))) where
   -- an entry of the front of one of the first so many of these duties
   abbrev pub So : List ℕ → ℕ → V → List ℕ → Type 0
   So ranks n v k = (rank : ℕ) × Member (take n ranks) rank × Member (map (shown (trail_of t)) (get_or fronts rank [])) (v, k)
 
   -- the fronts of the first so many
   abbrev pub CollectedSo : List ℕ → ℕ → List (List (Label V)) → Type 0
-  CollectedSo ranks n pools = ((labels : List (Label V)) → Member pools labels → AreHeld count arrived most (length net.duties) t labels) × AreCollected w (trail_of t) (So ranks n) pools
+  CollectedSo ranks n pools = ((labels : List (Label V)) → Member pools labels → AreHeld w w.arrived t labels) × AreCollected w (trail_of t) (So ranks n) pools
 
   pub none-collected : (ranks : List ℕ) (pools : List (List (Label V))) → pools ≡ [] → CollectedSo ranks 0 pools
   none-collected ranks pools is =
@@ -43,7 +44,7 @@ module _ {V : Type 0} (w : Ways V) (count : V → ℤ) (arrived : ℕ → V → 
       (λ labels m. absurd m, record { listed = []; pools_of = refl; among = λ v k m. absurd m; every = λ v k c. absurd c.1 })
 
   -- one more
-  pub one-collected : AreKept w count arrived most net t fronts → (ranks : List ℕ) (n : ℕ) → n < length ranks → (pools more : List (List (Label V))) (front : List (Label V)) → more ≡ pools ++ front ∷ []
+  pub one-collected : AreKept w t fronts → (ranks : List ℕ) (n : ℕ) → n < length ranks → (pools more : List (List (Label V))) (front : List (Label V)) → more ≡ pools ++ front ∷ []
       → get_or fronts (get_or ranks n 0) [] ≡ front → Member fronts front → CollectedSo ranks n pools → CollectedSo ranks (n + 1) more
   one-collected kept ranks n h pools more front is own m so =
       let rank = get_or ranks n 0 in
@@ -52,8 +53,8 @@ module _ {V : Type 0} (w : Ways V) (count : V → ℤ) (arrived : ℕ → V → 
       let shows = map (shown (trail_of t)) front in
       let Entry = λ (v : V) (k : List ℕ) (ls : List (Label V)). Member (map (shown (trail_of t)) ls) (v, k) in
       subst (λ (ps : List (List (Label V))). CollectedSo ranks (n + 1) ps) (sym is) (
-        λ labels a. ⊎_elim {C = AreHeld count arrived most (length net.duties) t labels} (so.0 labels)
-            (λ b. ⊎_elim {C = AreHeld count arrived most (length net.duties) t labels} (λ e. kept.held labels (subst (λ (ls : List (Label V)). Member fronts ls) e m)) (λ z. absurd z) b)
+        λ labels a. ⊎_elim {C = AreHeld w w.arrived t labels} (so.0 labels)
+            (λ b. ⊎_elim {C = AreHeld w w.arrived t labels} (λ e. kept.held labels (subst (λ (ls : List (Label V)). Member fronts ls) e m)) (λ z. absurd z) b)
             (Member-append pools (front ∷ []) labels a),
         record {
           listed = listed ++ shows;
@@ -72,9 +73,9 @@ module _ {V : Type 0} (w : Ways V) (count : V → ℤ) (arrived : ℕ → V → 
       )
 
   -- all of them: the pool of all is that of those that arrive there
-  pub all-gathered : (x : Arrival) (ranks : List ℕ) → ranks ≡ ranks_where (arrives_at x) net.duties → (n : ℕ) → length ranks ≤ n → (pools : List (List (Label V))) (whole : List (Label V))
+  pub all-gathered : (x : Arrival) (ranks : List ℕ) → ranks ≡ ranks_where (arrives_at x) w.net.duties → (n : ℕ) → length ranks ≤ n → (pools : List (List (Label V))) (whole : List (Label V))
       → ((candidates : List (V × List ℕ)) → ArePoolsOf w.below w.same (trail_of t) candidates pools → ArePoolOf w.below w.same (trail_of t) candidates whole)
-      → CollectedSo ranks n pools → AreGathered w (trail_of t) (Arrives net (trail_of t) fronts x) whole
+      → CollectedSo ranks n pools → AreGathered w (trail_of t) (Arrives w.net (trail_of t) fronts x) whole
   all-gathered x ranks is n all pools whole pool so =
       let every = take_all n ranks all in
       record {
@@ -83,11 +84,11 @@ module _ {V : Type 0} (w : Ways V) (count : V → ℤ) (arrived : ℕ → V → 
         among = λ v k m.
             let s = so.1.among v k m in
             let here = subst (λ (rs : List ℕ). Member rs s.0) is (subst (λ (rs : List ℕ). Member rs s.0) every s.1) in
-            let d = ranks-out (arrives_at x) net.duties s.0 here in
+            let d = ranks-out (arrives_at x) w.net.duties s.0 here in
             (s.0, d.0, d.1, sym (same-arrival x (arrival_of d.0) d.2), s.2);
         every = λ v k c.
             let passes = subst (λ (z : Arrival). arrives_at z c.1 ≡ true) c.3 (arrival-itself (arrival_of c.1)) in
-            let here = ranks-in (arrives_at x) net.duties c.0 c.1 c.2 passes in
+            let here = ranks-in (arrives_at x) w.net.duties c.0 c.1 c.2 passes in
             so.1.every v k (c.0, subst (λ (rs : List ℕ). Member rs c.0) (sym every) (subst (λ (rs : List ℕ). Member rs c.0) (sym is) here), c.4);
       }
 
@@ -97,41 +98,41 @@ not-both a b p q = grind (arith, ints)
 less-most : (a b c : ℤ) → a <ℤ b → b ≤ℤ c → a <ℤ c
 less-most a b c p q = grind (arith, ints)
 
-module _ {V : Type 0} (w : Ways V) (count : V → ℤ) (ready arrived : ℕ → V → Type 0) (most : Option ℕ) (net : Net) (base turns : List ℕ) (t : Tabled V) (fronts : List (List (Label V))) (upto first : ℤ)
-    (Done : ℕ → Type 0) (rest : V → V) where
+module _ {V : Type 0} (w : Terms V) (t : Tabled V) (fronts : List (List (Label V))) (upto first : ℤ)
+    (Done : ℕ → Type 0) where
   abbrev trail : Link → List ℕ
   trail = trail_of t
 
   abbrev pub Way : List (List (Label V)) → ℤ → Type 0
-  Way held minute = IsUnderWay w count ready arrived most net base turns t fronts held minute Done
+  Way held minute = IsUnderWay w t fronts held minute Done
 
   abbrev pub Rests : List (List (Label V)) → List (List (Label V)) → Type 0
-  Rests held pools = AreRestedOf w rest count arrived most (length net.duties) t held pools
+  Rests held pools = AreRestedOf w t held pools
 
   -- the first so many arrivals have their pools, as far as they are released before the first report
   abbrev pub PutSo : List (List (Label V)) → List (List (Label V)) → ℕ → Type 0
   PutSo held pools place = Way held upto × Rests held pools
-      × ((q : ℕ) (x : Arrival) → q < place → slice_get net.arrivals q ≡ Some x → x.release <ℤ first → AreGathered w trail (Arrives net trail fronts x) (get_or held q []))
+      × ((q : ℕ) (x : Arrival) → q < place → slice_get w.net.arrivals q ≡ Some x → x.release <ℤ first → AreGathered w trail (Arrives w.net trail fronts x) (get_or held q []))
 
   pub none-put : (held pools : List (List (Label V))) → Way held upto → Rests held pools → PutSo held pools 0
   none-put held pools way rests = (way, rests, λ q x h. absurd (omega (arith, h)))
 
-  module _ (held pools : List (List (Label V))) (place : ℕ) (within : place < length net.arrivals) (so : PutSo held pools place) where
+  module _ (held pools : List (List (Label V))) (place : ℕ) (within : place < length w.net.arrivals) (so : PutSo held pools place) where
     abbrev way : Way held upto
     way = so.0
 
     -- one that isn't due
-    pub none-more : IsNotDue net upto first place → PutSo held pools (place + 1)
+    pub none-more : IsNotDue w.net upto first place → PutSo held pools (place + 1)
     none-more old = (
       so.0,
       so.1,
-      λ q x h at l. ⊎_elim {C = AreGathered w trail (Arrives net trail fronts x) (get_or held q [])}
-          (λ s. way.gathered q x at (old x (ap (slice_get net.arrivals) (sym s.1) ∙ at) l))
+      λ q x h at l. ⊎_elim {C = AreGathered w trail (Arrives w.net trail fronts x) (get_or held q [])}
+          (λ s. way.gathered q x at (old x (ap (slice_get w.net.arrivals) (sym s.1) ∙ at) l))
           (λ ne. let k = ne.1 in so.2 q x (omega (arith, h, k)) at l)
           (eqb_tells q place),
     )
 
-    module _ (due : IsDue net upto first place) (pool rested : List (Label V)) (is : IsArrivedAt w rest count arrived most net t fronts place pool rested) where
+    module _ (due : IsDue w.net upto first place) (pool rested : List (Label V)) (is : IsArrivedAt w t fronts place pool rested) where
       abbrev after : List (List (Label V))
       after = set held place pool
 
@@ -147,22 +148,22 @@ module _ {V : Type 0} (w : Ways V) (count : V → ℤ) (ready arrived : ℕ → 
       other-held : (q : ℕ) → (q ≡ place → ⊥) → get_or after q [] ≡ get_or held q []
       other-held q ne = get_or-set_other held place q pool [] ne
 
-      not-early : (q : ℕ) (x : Arrival) → slice_get net.arrivals q ≡ Some x → x.release <ℤ upto → q ≡ place → ⊥
-      not-early q x at l e = not-both x.release upto l (due x (ap (slice_get net.arrivals) (sym e) ∙ at)).0
+      not-early : (q : ℕ) (x : Arrival) → slice_get w.net.arrivals q ≡ Some x → x.release <ℤ upto → q ≡ place → ⊥
+      not-early q x at l e = not-both x.release upto l (due x (ap (slice_get w.net.arrivals) (sym e) ∙ at)).0
 
-      waits-there : (i : ℕ) (g : Departure) → i < length t.pools → slice_get (in_order net) i ≡ Some g → (v : V) (k : List ℕ) → Waits w net base trail held g v k → Waits w net base trail after g v k
-      waits-there i g h at v k = ⊎_elim {C = Waits w net base trail after g v k} inl (λ c.
+      waits-there : (i : ℕ) (g : Departure) → i < length t.pools → slice_get (in_order w.net) i ≡ Some g → (v : V) (k : List ℕ) → Waits w trail held g v k → Waits w trail after g v k
+      waits-there i g h at v k = ⊎_elim {C = Waits w trail after g v k} inl (λ c.
           let same = other-held c.0 (not-early c.0 c.1.0 c.1.2 (way.early i g c.1.0 h at c.1.3)) in
           inr (c.0, (c.1.0, c.1.1, c.1.2, c.1.3, subst (λ (ls : List (Label V)). Member (map (shown trail) ls) (c.1.1, k)) (sym same) c.1.4, c.1.5)))
 
-      waits-back : (i : ℕ) (g : Departure) → i < length t.pools → slice_get (in_order net) i ≡ Some g → (v : V) (k : List ℕ) → Waits w net base trail after g v k → Waits w net base trail held g v k
-      waits-back i g h at v k = ⊎_elim {C = Waits w net base trail held g v k} inl (λ c.
+      waits-back : (i : ℕ) (g : Departure) → i < length t.pools → slice_get (in_order w.net) i ≡ Some g → (v : V) (k : List ℕ) → Waits w trail after g v k → Waits w trail held g v k
+      waits-back i g h at v k = ⊎_elim {C = Waits w trail held g v k} inl (λ c.
           let same = other-held c.0 (not-early c.0 c.1.0 c.1.2 (way.early i g c.1.0 h at c.1.3)) in
           inr (c.0, (c.1.0, c.1.1, c.1.2, c.1.3, subst (λ (ls : List (Label V)). Member (map (shown trail) ls) (c.1.1, k)) same c.1.4, c.1.5)))
 
       clean-here : IsClean w trail pool
       clean-here =
-          let x = stands net.arrivals place within in
+          let x = stands w.net.arrivals place within in
           let g = is.gathered x.0 x.1 in
           (g.listed, g.pool)
 
@@ -179,11 +180,11 @@ module _ {V : Type 0} (w : Ways V) (count : V → ℤ) (ready arrived : ℕ → 
         early = way.early;
         late = way.late;
         gathered = λ q x at l.
-            subst (λ (ls : List (Label V)). AreGathered w trail (Arrives net trail fronts x) ls) (sym (other-held q (not-early q x at l))) (way.gathered q x at l);
+            subst (λ (ls : List (Label V)). AreGathered w trail (Arrives w.net trail fronts x) ls) (sym (other-held q (not-early q x at l))) (way.gathered q x at l);
         filtered = way.filtered;
         pools_ready = way.pools_ready;
-        held_arrived = λ ls m. ⊎_elim {C = AreHeld count arrived most (length net.duties) t ls} (way.held_arrived ls)
-            (λ e. subst (λ (z : List (Label V)). AreHeld count arrived most (length net.duties) t z) (sym e) is.held)
+        held_arrived = λ ls m. ⊎_elim {C = AreHeld w w.arrived t ls} (way.held_arrived ls)
+            (λ e. subst (λ (z : List (Label V)). AreHeld w w.arrived t z) (sym e) is.held)
             (Member-set_out held place pool ls m);
         held_clean = λ ls m. ⊎_elim {C = IsClean w trail ls} (way.held_clean ls)
             (λ e. subst (λ (z : List (Label V)). IsClean w trail z) (sym e) clean-here)
@@ -194,13 +195,13 @@ module _ {V : Type 0} (w : Ways V) (count : V → ℤ) (ready arrived : ℕ → 
       rests-more : Rests after (set pools place rested)
       rests-more = record {
         long = set-long pools place rested ∙ (so.1.long ∙ sym (set-long held place pool));
-        each = λ q. ⊎_elim {C = IsRested w rest count arrived most (length net.duties) t (get_or after q []) (get_or (set pools place rested) q [])}
+        each = λ q. ⊎_elim {C = IsRested w t (get_or after q []) (get_or (set pools place rested) q [])}
             (λ s.
-            subst (λ (ls : List (Label V)). IsRested w rest count arrived most (length net.duties) t (get_or after q []) ls) (sym (get_or-set_at pools place q rested [] s.1 rests-inside))
-            (subst (λ (ls : List (Label V)). IsRested w rest count arrived most (length net.duties) t ls rested) (sym (here-held q s.1)) is.rests))
+            subst (λ (ls : List (Label V)). IsRested w t (get_or after q []) ls) (sym (get_or-set_at pools place q rested [] s.1 rests-inside))
+            (subst (λ (ls : List (Label V)). IsRested w t ls rested) (sym (here-held q s.1)) is.rests))
             (λ ne.
-            subst (λ (ls : List (Label V)). IsRested w rest count arrived most (length net.duties) t (get_or after q []) ls) (sym (get_or-set_other pools place q rested [] ne.1))
-            (subst (λ (ls : List (Label V)). IsRested w rest count arrived most (length net.duties) t ls (get_or pools q [])) (sym (other-held q ne.1)) (so.1.each q)))
+            subst (λ (ls : List (Label V)). IsRested w t (get_or after q []) ls) (sym (get_or-set_other pools place q rested [] ne.1))
+            (subst (λ (ls : List (Label V)). IsRested w t ls (get_or pools q [])) (sym (other-held q ne.1)) (so.1.each q)))
             (eqb_tells q place);
       }
 
@@ -209,19 +210,19 @@ module _ {V : Type 0} (w : Ways V) (count : V → ℤ) (ready arrived : ℕ → 
       one-more = (
         way-more,
         rests-more,
-        λ q x h at l. ⊎_elim {C = AreGathered w trail (Arrives net trail fronts x) (get_or after q [])}
+        λ q x h at l. ⊎_elim {C = AreGathered w trail (Arrives w.net trail fronts x) (get_or after q [])}
             (λ s.
-            subst (λ (ls : List (Label V)). AreGathered w trail (Arrives net trail fronts x) ls) (sym (here-held q s.1))
-            (is.gathered x (ap (slice_get net.arrivals) (sym s.1) ∙ at)))
+            subst (λ (ls : List (Label V)). AreGathered w trail (Arrives w.net trail fronts x) ls) (sym (here-held q s.1))
+            (is.gathered x (ap (slice_get w.net.arrivals) (sym s.1) ∙ at)))
             (λ ne.
             let k = ne.1 in
-            subst (λ (ls : List (Label V)). AreGathered w trail (Arrives net trail fronts x) ls) (sym (other-held q ne.1)) (so.2 q x (omega (arith, h, k)) at l))
+            subst (λ (ls : List (Label V)). AreGathered w trail (Arrives w.net trail fronts x) ls) (sym (other-held q ne.1)) (so.2 q x (omega (arith, h, k)) at l))
             (eqb_tells q place),
       )
 
     -- what was made of the arrival, if anything
     pub put-more : {A : Type 0} (made : Option A) (pool rested : A → List (Label V)) (E F : Type 0) (now pools-now : List (List (Label V)))
-        → MatchOption made (IsNotDue net upto first place) (λ a. IsDue net upto first place × IsArrivedAt w rest count arrived most net t fronts place (pool a) (rested a))
+        → MatchOption made (IsNotDue w.net upto first place) (λ a. IsDue w.net upto first place × IsArrivedAt w t fronts place (pool a) (rested a))
         → (E → now ≡ held) → (F → pools-now ≡ pools) → MatchOption made E (λ a. now ≡ set held place (pool a)) → MatchOption made F (λ a. pools-now ≡ set pools place (rested a))
         → PutSo now pools-now (place + 1)
     put-more None pool rested E F now pools-now is e f p q =
@@ -231,8 +232,8 @@ module _ {V : Type 0} (w : Ways V) (count : V → ℤ) (ready arrived : ℕ → 
         (subst (λ (ps : List (List (Label V))). PutSo (set held place (pool a)) ps (place + 1)) (sym q) (one-more is.0 (pool a) (rested a) is.1))
 
   -- all are put
-  pub all-put : (held pools : List (List (Label V))) (place : ℕ) → length net.arrivals ≤ place → upto ≤ℤ first
-      → ((i : ℕ) (g : Departure) → length t.pools ≤ i → slice_get (in_order net) i ≡ Some g → first ≤ℤ g.report) → PutSo held pools place → Way held first
+  pub all-put : (held pools : List (List (Label V))) (place : ℕ) → length w.net.arrivals ≤ place → upto ≤ℤ first
+      → ((i : ℕ) (g : Departure) → length t.pools ≤ i → slice_get (in_order w.net) i ≡ Some g → first ≤ℤ g.report) → PutSo held pools place → Way held first
   all-put held pools place all rises late so =
       let way = so.0 in
       record {
@@ -241,7 +242,7 @@ module _ {V : Type 0} (w : Ways V) (count : V → ℤ) (ready arrived : ℕ → 
         pooled = way.pooled;
         early = λ i g x h at waits. less-most x.release upto first (way.early i g x h at waits) rises;
         late = late;
-        gathered = λ q x at l. let k = get-within net.arrivals q x at in so.2 q x (omega (arith, k, all)) at l;
+        gathered = λ q x at l. let k = get-within w.net.arrivals q x at in so.2 q x (omega (arith, k, all)) at l;
         filtered = way.filtered;
         pools_ready = way.pools_ready;
         held_arrived = way.held_arrived;

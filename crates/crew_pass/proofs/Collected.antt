@@ -8,14 +8,14 @@ use Rattle.crew_label.specs.Walks.{shown}
 use Rattle.crew_label.specs.declared.label.Label.{Label}
 use Rattle.crew_label.specs.declared.label.Link.{Link}
 use Rattle.crew_net.specs.Events.{IsWindow}
-use Rattle.crew_net.specs.Nets.{Net}
 use Rattle.crew_net.specs.declared.window.Window.{Window}
 use Rattle.crew_pairing.specs.Events.{may_wait}
 use Rattle.crew_pairing.specs.declared.events.Arrival.{Arrival}
 use Rattle.crew_pairing.specs.declared.events.Departure.{Departure}
 use Rattle.crew_resource.specs.Members.{Member}
 use Rattle.crew_resource.proofs.Members.{Member-append, Member-append_left, Member-append_right, Member-map_in, Member-map_out}
-use Rattle.crew_pass.specs.Machinery.Passing.{AreCollected, AreGathered, Idles, Waits, WaitsUpTo, Ways, waited_entries}
+use Rattle.crew_pass.specs.Machinery.Passing.{AreCollected, AreGathered, Idles, Waits, WaitsUpTo, waited_entries}
+use Rattle.crew_pass.specs.Machinery.Terms.{Terms}
 use Rattle.crew_pass.proofs.Slices.{some-same}
 
 module _ {V : Type 0} (below same : V → V → Bool) (trail : Link → List ℕ) where
@@ -30,7 +30,7 @@ module _ {V : Type 0} (below same : V → V → Bool) (trail : Link → List ℕ
 pub one-list-more : {A : Type 0} (P : A → Type 0) (xs : List A) (x : A) → ((a : A) → Member xs a → P a) → P x → (a : A) → Member (xs ++ x ∷ []) a → P a
 one-list-more P xs x all here a m = ⊎_elim {C = P a} (λ k. all a k) (⊎_elim {C = P a} (λ e. subst P e here) (λ b. absurd b)) (Member-append xs (x ∷ []) a m)
 
-module _ {V : Type 0} (w : Ways V) (trail : Link → List ℕ) where
+module _ {V : Type 0} (w : Terms V) (trail : Link → List ℕ) where
   -- one pool by itself
   pub one-collected : (C : V → List ℕ → Type 0) (labels : List (Label V)) → AreGathered w trail C labels → AreCollected w trail C (labels ∷ [])
   one-collected C labels h = record {
@@ -56,17 +56,17 @@ module _ {V : Type 0} (w : Ways V) (trail : Link → List ℕ) where
     every = λ v k d. h.every v k (back v k d);
   }
 
-  module _ (net : Net) (base : List ℕ) (held : List (List (Label V))) (g : Departure) (window : Window) (is : IsWindow (λ x. may_wait net.settings x g) net.arrivals window) where
+  module _ (held : List (List (Label V))) (g : Departure) (window : Window) (is : IsWindow (λ x. may_wait w.net.settings x g) w.net.arrivals window) where
     abbrev pub UpTo : ℕ → V → List ℕ → Type 0
-    UpTo to = WaitsUpTo w net base trail held g window.from to
+    UpTo to = WaitsUpTo w trail held g window.from to
 
     -- no arrival yet
-    pub none-collected : (pools : List (List (Label V))) → AreCollected w trail (Idles w base g) pools → AreCollected w trail (UpTo window.from) pools
-    none-collected pools = same-collected (Idles w base g) (UpTo window.from) pools (λ v k c. inl c)
-        (λ v k. ⊎_elim {C = Idles w base g v k} (λ c. c) (λ c. let from = c.1 in let to = c.2 in absurd (omega (arith, from, to))))
+    pub none-collected : (pools : List (List (Label V))) → AreCollected w trail (Idles w g) pools → AreCollected w trail (UpTo window.from) pools
+    none-collected pools = same-collected (Idles w g) (UpTo window.from) pools (λ v k c. inl c)
+        (λ v k. ⊎_elim {C = Idles w g v k} (λ c. c) (λ c. let from = c.1 in let to = c.2 in absurd (omega (arith, from, to))))
 
     -- an arrival more
-    pub arrival-collected : (at : ℕ) (x : Arrival) (pools : List (List (Label V))) (labels : List (Label V)) → window.from ≤ at → at < window.end → slice_get net.arrivals at ≡ Some x
+    pub arrival-collected : (at : ℕ) (x : Arrival) (pools : List (List (Label V))) (labels : List (Label V)) → window.from ≤ at → at < window.end → slice_get w.net.arrivals at ≡ Some x
         → AreCollected w trail (UpTo at) pools
         → ArePoolOf w.below w.same trail (waited_entries (λ v. w.wait v x g) (map (shown trail) (get_or held at []))) labels
         → AreCollected w trail (UpTo (at + 1)) (pools ++ labels ∷ [])
@@ -86,7 +86,7 @@ module _ {V : Type 0} (w : Ways V) (trail : Link → List ℕ) where
               (λ c. Member-append_left h.listed more (v, k) (h.every v k (inl c)))
               (λ c. ⊎_elim {C = Member (h.listed ++ more) (v, k)}
               (λ t.
-              let same : x ≡ c.3.0 = some-same (slice_get net.arrivals at) x c.3.0 here (ap (slice_get net.arrivals) (sym t.1) ∙ c.3.2) in
+              let same : x ≡ c.3.0 = some-same (slice_get w.net.arrivals at) x c.3.0 here (ap (slice_get w.net.arrivals) (sym t.1) ∙ c.3.2) in
               let m = Member-map_in (λ (e : V × List ℕ). (w.wait e.0 x g, e.1)) (map (shown trail) (get_or held at [])) (c.3.1, k) (subst (λ n. Member (map (shown trail) (get_or held n [])) (c.3.1, k)) t.1 c.3.4) in
               let value : w.wait c.3.1 x g ≡ v = ap (λ (y : Arrival). w.wait c.3.1 y g) same ∙ sym c.3.5 in
               Member-append_right h.listed more (v, k) (subst (λ (z : V). Member more (z, k)) value m))
@@ -95,9 +95,9 @@ module _ {V : Type 0} (w : Ways V) (trail : Link → List ℕ) where
         }
 
     -- all arrivals of the window
-    pub window-collected : (at : ℕ) (pools : List (List (Label V))) → window.end ≤ at → AreCollected w trail (UpTo at) pools → AreCollected w trail (Waits w net base trail held g) pools
-    window-collected at pools over = same-collected (UpTo at) (Waits w net base trail held g) pools
-        (λ v k. ⊎_elim {C = Waits w net base trail held g v k} inl (λ c. inr (c.0, c.3)))
+    pub window-collected : (at : ℕ) (pools : List (List (Label V))) → window.end ≤ at → AreCollected w trail (UpTo at) pools → AreCollected w trail (Waits w trail held g) pools
+    window-collected at pools over = same-collected (UpTo at) (Waits w trail held g) pools
+        (λ v k. ⊎_elim {C = Waits w trail held g v k} inl (λ c. inr (c.0, c.3)))
         (λ v k. ⊎_elim {C = UpTo at v k} inl (λ c.
         let inside = (is.exact c.0 c.1.0 c.1.2).0 c.1.3 in
         let end = inside.1 in

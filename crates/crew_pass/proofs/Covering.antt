@@ -12,7 +12,6 @@ use Rattle.crew_label.specs.Walks.{ranks_at_most, shown}
 use Rattle.crew_label.specs.declared.label.Label.{Label}
 use Rattle.crew_label.specs.declared.label.Link.{Link}
 use Rattle.crew_label.proofs.RisingLists.{each-append}
-use Rattle.crew_net.specs.Nets.{Net}
 use Rattle.crew_pairing.specs.Events.{arrival_of, departure_of, may_wait}
 use Rattle.crew_pairing.specs.Keys.{walk_at_most}
 use Rattle.crew_pairing.specs.Legs.{Leg}
@@ -27,7 +26,8 @@ use Rattle.crew_resource.specs.Members.{Each, Member}
 use Rattle.crew_resource.proofs.Members.{Member-flat_map_out, Member-map_in, Member-map_out}
 use Rattle.crew_pass.specs.Machinery.Held.{AreHeld, trail_of}
 use Rattle.crew_pass.specs.Machinery.Numbered.{arrival_place, departure_place, in_order}
-use Rattle.crew_pass.specs.Machinery.Passing.{Arrives, HasPassed, IsPassable, Waits, Ways, boarding}
+use Rattle.crew_pass.specs.Machinery.Passing.{Arrives, HasPassed, IsPassable, Waits, boarding}
+use Rattle.crew_pass.specs.Machinery.Terms.{Terms}
 use Rattle.crew_pass.specs.Passes.{IsCoveredBy}
 use Rattle.crew_pass.proofs.Departures.{at-held}
 use Rattle.crew_pass.proofs.Keyed.{boards-keyed, covers-keyed, duty_place, keyed, keys, rank-place}
@@ -37,8 +37,8 @@ use Rattle.crew_pass.proofs.Orders.{arrivals-distinct, in-order-distinct, in-ord
 use Rattle.crew_pass.proofs.Slices.{member-got, member-place, past-none}
 use Rattle.crew_pass.proofs.Waiting.{covering}
 
-module _ {V : Type 0} (w : Ways V) (count : V → ℤ) (ready arrived : ℕ → V → Type 0) (most : Option ℕ) (net : Net) (base turns : List ℕ) (passable : IsPassable net turns)
-    (t : Tabled V) (fronts held : List (List (Label V))) (upto : ℤ) (passed : HasPassed w count ready arrived most net base turns t fronts held upto) where
+module _ {V : Type 0} (w : Terms V) (passable : IsPassable w.net w.turns)
+    (t : Tabled V) (fronts held : List (List (Label V))) (upto : ℤ) (passed : HasPassed w t fronts held upto) where
   abbrev trail : Link → List ℕ
   trail = trail_of t
 
@@ -46,113 +46,113 @@ module _ {V : Type 0} (w : Ways V) (count : V → ℤ) (ready arrived : ℕ → 
   Keys = List (List Leg)
 
   abbrev n : ℕ
-  n = length net.duties
+  n = length w.net.duties
 
   abbrev over : Network Duty V (List (List Leg)) Departure Arrival
-  over = network_of (schedule_of net.settings base net.duties) departure_of arrival_of w.idle w.wait w.board
+  over = network_of (schedule_of w.net.settings w.base w.net.duties) departure_of arrival_of w.idle w.wait w.board
 
   abbrev shows : List (List (Label V)) → ℕ → List (V × List ℕ)
   shows lists i = map (shown trail) (get_or lists i [])
 
   abbrev by : List (V × List ℕ) → List (V × List (List Leg))
-  by = by_key net.duties
+  by = by_key w.net.duties
 
   -- the pools, by their departures; of arrivals, by these; and fronts by their duties
   abbrev pool-of : Departure → List (V × List (List Leg))
-  pool-of g = by (shows t.pools (departure_place (in_order net) g))
+  pool-of g = by (shows t.pools (departure_place (in_order w.net) g))
 
   abbrev arrived-at : Departure → Arrival → List (V × List (List Leg))
-  arrived-at g x = by (shows held (arrival_place net.arrivals x))
+  arrived-at g x = by (shows held (arrival_place w.net.arrivals x))
 
   abbrev front-of : Duty → List (V × List (List Leg))
-  front-of d = by (shows fronts (duty_place net.duties d))
+  front-of d = by (shows fronts (duty_place w.net.duties d))
 
-  all-turns : length (in_order net) ≡ length t.pools
-  all-turns = in-order-long net passable.departs passable.ordered ∙ sym passed.all
+  all-turns : length (in_order w.net) ≡ length t.pools
+  all-turns = in-order-long w.net passable.departs passable.ordered ∙ sym passed.all
 
-  turn-within : (rank : ℕ) (d : Duty) → slice_get net.duties rank ≡ Some d → get_or turns rank 0 < length t.pools
-  turn-within rank d known = subst (λ m. get_or turns rank 0 < m) all-turns (get-within (in_order net) (get_or turns rank 0) (departure_of d) (passable.are_turns.exact rank d known))
+  turn-within : (rank : ℕ) (d : Duty) → slice_get w.net.duties rank ≡ Some d → get_or w.turns rank 0 < length t.pools
+  turn-within rank d known = subst (λ m. get_or w.turns rank 0 < m) all-turns (get-within (in_order w.net) (get_or w.turns rank 0) (departure_of d) (passable.are_turns.exact rank d known))
 
-  leaves-at : (d : Duty) → Member net.duties d → slice_get (in_order net) (departure_place (in_order net) (departure_of d)) ≡ Some (departure_of d)
-  leaves-at d known = at-departure (in_order net) (departure_of d) (leaves-in net passable.departs passable.ordered d known)
+  leaves-at : (d : Duty) → Member w.net.duties d → slice_get (in_order w.net) (departure_place (in_order w.net) (departure_of d)) ≡ Some (departure_of d)
+  leaves-at d known = at-departure (in_order w.net) (departure_of d) (leaves-in w.net passable.departs passable.ordered d known)
 
-  place-within : (d : Duty) → Member net.duties d → departure_place (in_order net) (departure_of d) < length t.pools
-  place-within d known = subst (λ m. departure_place (in_order net) (departure_of d) < m) all-turns (get-within (in_order net) (departure_place (in_order net) (departure_of d)) (departure_of d) (leaves-at d known))
+  place-within : (d : Duty) → Member w.net.duties d → departure_place (in_order w.net) (departure_of d) < length t.pools
+  place-within d known = subst (λ m. departure_place (in_order w.net) (departure_of d) < m) all-turns (get-within (in_order w.net) (departure_place (in_order w.net) (departure_of d)) (departure_of d) (leaves-at d known))
 
-  turn-is : (rank : ℕ) (d : Duty) → slice_get net.duties rank ≡ Some d → departure_place (in_order net) (departure_of d) ≡ get_or turns rank 0
-  turn-is rank d known = in-order-distinct net passable.departs passable.ordered (departure_place (in_order net) (departure_of d)) (get_or turns rank 0) (departure_of d)
-      (leaves-at d (member-got net.duties rank d known)) (passable.are_turns.exact rank d known)
+  turn-is : (rank : ℕ) (d : Duty) → slice_get w.net.duties rank ≡ Some d → departure_place (in_order w.net) (departure_of d) ≡ get_or w.turns rank 0
+  turn-is rank d known = in-order-distinct w.net passable.departs passable.ordered (departure_place (in_order w.net) (departure_of d)) (get_or w.turns rank 0) (departure_of d)
+      (leaves-at d (member-got w.net.duties rank d known)) (passable.are_turns.exact rank d known)
 
-  place-is : (x : Arrival) (p : ℕ) → slice_get net.arrivals p ≡ Some x → arrival_place net.arrivals x ≡ p
-  place-is x p h = place-arrival net.arrivals x p (arrivals-distinct net passable.arrives) h
+  place-is : (x : Arrival) (p : ℕ) → slice_get w.net.arrivals p ≡ Some x → arrival_place w.net.arrivals x ≡ p
+  place-is x p h = place-arrival w.net.arrivals x p (arrivals-distinct w.net passable.arrives) h
 
-  ranked-in : (lists : List (List (Label V))) (Bound : ℕ → V → Type 0) → ((ls : List (Label V)) → Member lists ls → AreHeld count Bound most n t ls)
+  ranked-in : (lists : List (List (Label V))) (Bound : ℕ → V → Type 0) → ((ls : List (Label V)) → Member lists ls → AreHeld w Bound t ls)
       → (i : ℕ) (v : V) (k : List ℕ) → Member (shows lists i) (v, k) → Each (λ rank. rank < n) k
   ranked-in lists Bound h i v k m =
       let s = Member-map_out (shown trail) (get_or lists i []) (v, k) m in
-      subst (λ (e : V × List ℕ). Each (λ rank. rank < n) e.1) s.2 (at-held count Bound most n t lists h i s.0 s.1).entry.ranked
+      subst (λ (e : V × List ℕ). Each (λ rank. rank < n) e.1) s.2 (at-held w Bound t lists h i s.0 s.1).entry.ranked
 
   -- the entry of a list by key comes from one by rank
-  unkeyed : (es : List (V × List ℕ)) (v : V) (k : List (List Leg)) → Member (by es) (v, k) → (l : List ℕ) × Member es (v, l) × (keys net.duties l ≡ k)
+  unkeyed : (es : List (V × List ℕ)) (v : V) (k : List (List Leg)) → Member (by es) (v, k) → (l : List ℕ) × Member es (v, l) × (keys w.net.duties l ≡ k)
   unkeyed es v k m =
-      let e = Member-map_out (keyed net.duties) es (v, k) m in
+      let e = Member-map_out (keyed w.net.duties) es (v, k) m in
       (e.0.1, subst (λ (z : V). Member es (z, e.0.1)) (ap (λ (p : V × List (List Leg)). p.0) e.2) e.1, ap (λ (p : V × List (List Leg)). p.1) e.2)
 
   module _ (g : Departure) where
-    waits-ranked : (v : V) (k : List ℕ) → Waits w net base trail held g v k → Each (λ rank. rank < n) k
+    waits-ranked : (v : V) (k : List ℕ) → Waits w trail held g v k → Each (λ rank. rank < n) k
     waits-ranked v k = ⊎_elim
         (λ c. subst (λ (z : List ℕ). Each (λ rank. rank < n) z) (sym c.0) tt)
-        (λ c. ranked-in held arrived passed.way.held_arrived c.0 c.1.1 k c.1.4)
+        (λ c. ranked-in held w.arrived passed.way.held_arrived c.0 c.1.1 k c.1.4)
 
-    waits-to : (v : V) (k : List ℕ) → Waits w net base trail held g v k → FromPools over (arrived-at g) g v (keys net.duties k)
-    waits-to v k = ⊎_elim {C = FromPools over (arrived-at g) g v (keys net.duties k)}
-        (λ c. inl (ap (keys net.duties) c.0, ap (λ b. cond b (Some (w.idle g)) None) c.1 ∙ ap (λ (z : V). Some z) c.2))
+    waits-to : (v : V) (k : List ℕ) → Waits w trail held g v k → FromPools over (arrived-at g) g v (keys w.net.duties k)
+    waits-to v k = ⊎_elim {C = FromPools over (arrived-at g) g v (keys w.net.duties k)}
+        (λ c. inl (ap (keys w.net.duties) c.0, ap (λ b. cond b (Some (w.idle g)) None) c.1 ∙ ap (λ (z : V). Some z) c.2))
         (λ c.
         let p = place-is c.1.0 c.0 c.1.2 in
-        inr (c.1.0, c.1.1, c.1.3, subst (λ m. Member (by (shows held m)) (c.1.1, keys net.duties k)) (sym p) (Member-map_in (keyed net.duties) (shows held c.0) (c.1.1, k) c.1.4), c.1.5))
+        inr (c.1.0, c.1.1, c.1.3, subst (λ m. Member (by (shows held m)) (c.1.1, keys w.net.duties k)) (sym p) (Member-map_in (keyed w.net.duties) (shows held c.0) (c.1.1, k) c.1.4), c.1.5))
 
-    waits-from : (v : V) (k : List (List Leg)) → FromPools over (arrived-at g) g v k → (l : List ℕ) × Waits w net base trail held g v l × (keys net.duties l ≡ k)
-    waits-from v k = ⊎_elim {C = (l : List ℕ) × Waits w net base trail held g v l × (keys net.duties l ≡ k)}
-        (λ c. let b = cond_some (eq_by_cmp code_cmp g.airport base) (w.idle g) v c.1 in ([], inl (refl, b.0, b.1), sym c.0))
+    waits-from : (v : V) (k : List (List Leg)) → FromPools over (arrived-at g) g v k → (l : List ℕ) × Waits w trail held g v l × (keys w.net.duties l ≡ k)
+    waits-from v k = ⊎_elim {C = (l : List ℕ) × Waits w trail held g v l × (keys w.net.duties l ≡ k)}
+        (λ c. let b = cond_some (eq_by_cmp code_cmp g.airport w.base) (w.idle g) v c.1 in ([], inl (refl, b.0, b.1), sym c.0))
         (λ c.
-        let p = arrival_place net.arrivals c.0 in
+        let p = arrival_place w.net.arrivals c.0 in
         let e = unkeyed (shows held p) c.1 k c.3 in
         let s = Member-map_out (shown trail) (get_or held p []) (c.1, e.0) e.1 in
         let long = passed.way.held_long in
-        let y = held-within held net.arrivals p s.0 (omega (arith, long)) s.1 in
-        let here = y.1 ∙ ap (λ (z : Arrival). Some z) (arrival-at net.arrivals c.0 y.0 y.1) in
+        let y = held-within held w.net.arrivals p s.0 (omega (arith, long)) s.1 in
+        let here = y.1 ∙ ap (λ (z : Arrival). Some z) (arrival-at w.net.arrivals c.0 y.0 y.1) in
         (e.0, inr (p, (c.0, c.1, here, c.2, e.1, c.4)), e.2))
 
   module _ (x : Arrival) where
     abbrev Cand : V → List ℕ → Type 0
-    Cand = Arrives net trail fronts x
+    Cand = Arrives w.net trail fronts x
 
     arrives-ranked : (v : V) (k : List ℕ) → Cand v k → Each (λ rank. rank < n) k
-    arrives-ranked v k c = ranked-in fronts arrived passed.way.kept.held c.0 v k c.4
+    arrives-ranked v k c = ranked-in fronts w.arrived passed.way.kept.held c.0 v k c.4
 
-    arrives-to : (v : V) (k : List ℕ) → Cand v k → Arriving over front-of x v (keys net.duties k)
+    arrives-to : (v : V) (k : List ℕ) → Cand v k → Arriving over front-of x v (keys w.net.duties k)
     arrives-to v k c =
-        let p = rank-place net.duties passable.rise c.0 c.1 c.2 in
-        (c.1, member-got net.duties c.0 c.1 c.2, c.3, subst (λ m. Member (by (shows fronts m)) (v, keys net.duties k)) (sym p) (Member-map_in (keyed net.duties) (shows fronts c.0) (v, k) c.4))
+        let p = rank-place w.net.duties passable.rise c.0 c.1 c.2 in
+        (c.1, member-got w.net.duties c.0 c.1 c.2, c.3, subst (λ m. Member (by (shows fronts m)) (v, keys w.net.duties k)) (sym p) (Member-map_in (keyed w.net.duties) (shows fronts c.0) (v, k) c.4))
 
-    arrives-from : (v : V) (k : List (List Leg)) → Arriving over front-of x v k → (l : List ℕ) × Cand v l × (keys net.duties l ≡ k)
+    arrives-from : (v : V) (k : List (List Leg)) → Arriving over front-of x v k → (l : List ℕ) × Cand v l × (keys w.net.duties l ≡ k)
     arrives-from v k c =
-        let r = member-place net.duties c.0 c.1 in
-        let p = rank-place net.duties passable.rise r.0 c.0 r.1 in
+        let r = member-place w.net.duties c.0 c.1 in
+        let p = rank-place w.net.duties passable.rise r.0 c.0 r.1 in
         let e = unkeyed (shows fronts r.0) v k (subst (λ m. Member (by (shows fronts m)) (v, k)) p c.3) in
         (e.0, (r.0, c.0, r.1, c.2, e.1), e.2)
 
     abbrev Goal : Type 0
-    Goal = Covers w.below w.same ranks_at_most (λ v k. Member (shows held (arrival_place net.arrivals x)) (v, k)) Cand
+    Goal = Covers w.below w.same ranks_at_most (λ v k. Member (shows held (arrival_place w.net.arrivals x)) (v, k)) Cand
 
-    nothing-there : slice_get net.arrivals (arrival_place net.arrivals x) ≡ None → (v : V) (k : List ℕ) → Cand v k → ⊥
+    nothing-there : slice_get w.net.arrivals (arrival_place w.net.arrivals x) ≡ None → (v : V) (k : List ℕ) → Cand v k → ⊥
     nothing-there none v k c =
-        let there = passable.arrives.every c.1 (member-got net.duties c.0 c.1 c.2) in
-        let at = at-arrival net.arrivals x (subst (λ (z : Arrival). Member net.arrivals z) c.3 there) in
+        let there = passable.arrives.every c.1 (member-got w.net.duties c.0 c.1 c.2) in
+        let at = at-arrival w.net.arrivals x (subst (λ (z : Arrival). Member w.net.arrivals z) c.3 there) in
         (let bad : None ≡ Some x = sym none ∙ at in let q : ⊥ = (cc) in q)
 
-    none-held : slice_get net.arrivals (arrival_place net.arrivals x) ≡ None → shows held (arrival_place net.arrivals x) ≡ []
-    none-held none = ap (map (shown trail)) (past-none held (arrival_place net.arrivals x) (beyond net.arrivals (arrival_place net.arrivals x) held passed.way.held_long none))
+    none-held : slice_get w.net.arrivals (arrival_place w.net.arrivals x) ≡ None → shows held (arrival_place w.net.arrivals x) ≡ []
+    none-held none = ap (map (shown trail)) (past-none held (arrival_place w.net.arrivals x) (beyond w.net.arrivals (arrival_place w.net.arrivals x) held passed.way.held_long none))
       where
         beyond : (xs : List Arrival) (p : ℕ) (hs : List (List (Label V))) → length hs ≡ length xs → slice_get xs p ≡ None → length hs ≤ p
         beyond xs p hs long none = let k = past xs p none in omega (arith, long, k)
@@ -162,53 +162,53 @@ module _ {V : Type 0} (w : Ways V) (count : V → ℤ) (ready arrived : ℕ → 
             past (y ∷ ys) zero h = absurd (let q : ⊥ = (cc) in q)
             past (y ∷ ys) (suc p) h = let k = past ys p h in omega (arith, k)
 
-    by-place : x.release <ℤ upto → (o : Option Arrival) → slice_get net.arrivals (arrival_place net.arrivals x) ≡ o → Goal
+    by-place : x.release <ℤ upto → (o : Option Arrival) → slice_get w.net.arrivals (arrival_place w.net.arrivals x) ≡ o → Goal
     by-place before None none = record {
       part = λ v k m. absurd (subst (λ (es : List (V × List ℕ)). Member es (v, k)) (none-held none) m);
       under = λ v k c. absurd (nothing-there none v k c);
     }
     by-place before (Some y) at =
-        let same = arrival-at net.arrivals x y at in
-        covering w trail Cand (get_or held (arrival_place net.arrivals x) []) (passed.way.gathered (arrival_place net.arrivals x) x (at ∙ ap (λ (z : Arrival). Some z) same) before)
+        let same = arrival-at w.net.arrivals x y at in
+        covering w trail Cand (get_or held (arrival_place w.net.arrivals x) []) (passed.way.gathered (arrival_place w.net.arrivals x) x (at ∙ ap (λ (z : Arrival). Some z) same) before)
 
-    arrived-covers : (d : Duty) → Member net.duties d → may_wait net.settings x (departure_of d) ≡ true → Goal
+    arrived-covers : (d : Duty) → Member w.net.duties d → may_wait w.net.settings x (departure_of d) ≡ true → Goal
     arrived-covers d known waits =
-        by-place (passed.way.early (departure_place (in_order net) (departure_of d)) (departure_of d) x (place-within d known) (leaves-at d known) waits) (slice_get net.arrivals (arrival_place net.arrivals x)) refl
+        by-place (passed.way.early (departure_place (in_order w.net) (departure_of d)) (departure_of d) x (place-within d known) (leaves-at d known) waits) (slice_get w.net.arrivals (arrival_place w.net.arrivals x)) refl
 
-  boarded-ranked : (rank : ℕ) (d : Duty) → slice_get net.duties rank ≡ Some d → (e : V × List ℕ) → Member (boarding w d rank (shows t.pools (get_or turns rank 0))) e → Each (λ r. r < n) e.1
+  boarded-ranked : (rank : ℕ) (d : Duty) → slice_get w.net.duties rank ≡ Some d → (e : V × List ℕ) → Member (boarding w d rank (shows t.pools (get_or w.turns rank 0))) e → Each (λ r. r < n) e.1
   boarded-ranked rank d known e m =
       let boards = λ (z : V × List ℕ). labelled (w.board z.0 d) (z.1 ++ rank ∷ []) in
-      let s = Member-flat_map_out boards (shows t.pools (get_or turns rank 0)) e m in
+      let s = Member-flat_map_out boards (shows t.pools (get_or w.turns rank 0)) e m in
       let k = labelled-out (w.board s.0.0 d) (s.0.1 ++ rank ∷ []) e s.2 in
       subst (λ (z : List ℕ). Each (λ r. r < n) z) (sym k.1)
-      (each-append (λ r. r < n) s.0.1 rank (ranked-in t.pools ready passed.way.pools_ready (get_or turns rank 0) s.0.0 s.0.1 s.1) (get-within net.duties rank d known))
+      (each-append (λ r. r < n) s.0.1 rank (ranked-in t.pools w.ready passed.way.pools_ready (get_or w.turns rank 0) s.0.0 s.0.1 s.1) (get-within w.net.duties rank d known))
 
-  filtered-by : (rank : ℕ) (d : Duty) → slice_get net.duties rank ≡ Some d → IsLocal w.below walk_at_most (Shown over (pool-of (departure_of d)) d) (front-of d)
+  filtered-by : (rank : ℕ) (d : Duty) → slice_get w.net.duties rank ≡ Some d → IsLocal w.below walk_at_most (Shown over (pool-of (departure_of d)) d) (front-of d)
   filtered-by rank d known =
       let local = passed.way.filtered rank d known (turn-within rank d known) in
-      let turn = get_or turns rank 0 in
+      let turn = get_or w.turns rank 0 in
       let pool = shows t.pools turn in
-      let by-keys = pool_of_rising w.below net.duties (boarding w d rank pool) (shows fronts rank) passable.rise (boarded-ranked rank d known) local in
-      let view = boards-keyed net.duties passable.rise (λ v. w.board v d) rank d known pool in
+      let by-keys = pool_of_rising w.below w.net.duties (boarding w d rank pool) (shows fronts rank) passable.rise (boarded-ranked rank d known) local in
+      let view = boards-keyed w.net.duties passable.rise (λ v. w.board v d) rank d known pool in
       let own = subst (λ (es : List (V × List (List Leg))). IsLocal w.below walk_at_most (λ v k. Member es (v, k)) (by (shows fronts rank))) view by-keys in
       let there = subst (λ m. IsLocal w.below walk_at_most (Shown over (by (shows t.pools m)) d) (by (shows fronts rank))) (sym (turn-is rank d known)) own in
-      subst (λ m. IsLocal w.below walk_at_most (Shown over (pool-of (departure_of d)) d) (by (shows fronts m))) (sym (rank-place net.duties passable.rise rank d known)) there
+      subst (λ m. IsLocal w.below walk_at_most (Shown over (pool-of (departure_of d)) d) (by (shows fronts m))) (sym (rank-place w.net.duties passable.rise rank d known)) there
 
-  pub covered-by : IsCoveredBy w.below w.same over (record { net = net; turns = t.leaves; pools = t.pools; fronts = fronts })
+  pub covered-by : IsCoveredBy w.below w.same over (record { net = w.net; turns = t.leaves; pools = t.pools; fronts = fronts })
   covered-by = record {
     pools = pool-of;
     arrivals = arrived-at;
     fronts = front-of;
-    told = λ rank d known. ap (λ m. by (shows fronts m)) (rank-place net.duties passable.rise rank d known);
+    told = λ rank d known. ap (λ m. by (shows fronts m)) (rank-place w.net.duties passable.rise rank d known);
     covered = record {
       pooled = λ d known.
           let g = departure_of d in
-          let i = departure_place (in_order net) g in
-          covers-keyed net.duties passable.rise w.below w.same (Waits w net base trail held g) (FromPools over (arrived-at g) g) (shows t.pools i)
+          let i = departure_place (in_order w.net) g in
+          covers-keyed w.net.duties passable.rise w.below w.same (Waits w trail held g) (FromPools over (arrived-at g) g) (shows t.pools i)
           (waits-ranked g) (waits-to g) (waits-from g) (passed.way.pooled i g (place-within d known) (leaves-at d known));
       arrived = λ d x known opens.
-          covers-keyed net.duties passable.rise w.below w.same (Cand x) (Arriving over front-of x) (shows held (arrival_place net.arrivals x))
+          covers-keyed w.net.duties passable.rise w.below w.same (Cand x) (Arriving over front-of x) (shows held (arrival_place w.net.arrivals x))
           (arrives-ranked x) (arrives-to x) (arrives-from x) (arrived-covers x d known opens);
-      filtered = λ d known. let r = member-place net.duties d known in filtered-by r.0 d r.1;
+      filtered = λ d known. let r = member-place w.net.duties d known in filtered-by r.0 d r.1;
     };
   }

@@ -1,5 +1,5 @@
 -- What a rest goes by.
-use Rattle.std.proofs.Common.{◌≡◌, ◌∙◌, ℕ, List, [], ◌∷◌, Option, ℤ, length, map, refl, ap, subst}
+use Rattle.std.proofs.Common.{◌≡◌, ◌∙◌, ℕ, List, [], ◌∷◌, length, map, refl, ap, subst}
 use Rattle.crew_label.specs.Boarding.{waited_label}
 use Rattle.crew_label.specs.Tables.{Tabled}
 use Rattle.crew_label.specs.Walks.{walk_of}
@@ -8,16 +8,17 @@ use Rattle.crew_resource.specs.Members.{Member}
 use Rattle.crew_resource.proofs.Members.{Member-map_out}
 use Rattle.crew_pass.specs.Machinery.Held.{AreHeld, IsHeld, trail_of}
 use Rattle.crew_pass.specs.Machinery.Passing.{waited_entries}
+use Rattle.crew_pass.specs.Machinery.Terms.{Terms}
 
 -- rested values are within the bounds of the others
-pub rest-held : {V : Type 0} (rested : V → V) (count : V → ℤ) (arrived : ℕ → V → Type 0) (most : Option ℕ) (duties : ℕ) (t : Tabled V)
-    → ((v : V) → count (rested v) ≡ count v) → ((n : ℕ) (v : V) → arrived n v → arrived n (rested v))
-    → (labels pool : List (Label V)) → AreHeld count arrived most duties t labels → ((l : Label V) → Member pool l → Member (map (waited_label rested) labels) l)
-    → AreHeld count arrived most duties t pool
-rest-held rested count arrived most duties t same keeps labels pool h from l m =
-    let s = Member-map_out (waited_label rested) labels l (from l m) in
+pub rest-held : {V : Type 0} (w : Terms V) (t : Tabled V)
+    → ((v : V) → w.count (w.rest v) ≡ w.count v) → ((n : ℕ) (v : V) → w.arrived n v → w.arrived n (w.rest v))
+    → (labels pool : List (Label V)) → AreHeld w w.arrived t labels → ((l : Label V) → Member pool l → Member (map (waited_label w.rest) labels) l)
+    → AreHeld w w.arrived t pool
+rest-held w t same keeps labels pool h from l m =
+    let s = Member-map_out (waited_label w.rest) labels l (from l m) in
     let k = h s.0 s.1 in
-    subst (IsHeld count arrived most duties t) s.2
+    subst (IsHeld w w.arrived t) s.2
     (record {
       leading = k.leading;
       entry = record { counts = same s.0.value ∙ k.entry.counts; ranked = k.entry.ranked; few = k.entry.few; bound = keeps (length (walk_of (trail_of t) s.0.before)) s.0.value k.entry.bound };

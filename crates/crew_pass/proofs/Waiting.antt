@@ -1,5 +1,5 @@
 -- What stands at a departure, arrival by arrival.
-use Rattle.std.proofs.Common.{◌≡◌, ◌∙◌, ◌<◌, ◌≤◌, ℕ, Bool, true, false, List, [], Option, ℤ, pos, length, map, inl, inr, refl, sym, ap, subst, arith}
+use Rattle.std.proofs.Common.{◌≡◌, ◌∙◌, ◌<◌, ◌≤◌, ℕ, Bool, true, false, List, [], ℤ, pos, length, map, inl, inr, refl, sym, ap, subst, arith}
 use Rattle.std.specs.Prelude.{int_le, ◌≤ℤ◌, ◌-ℤ◌}
 use Rattle.std.specs.Ordering.{eq_by_cmp}
 use Rattle.std.proofs.lemmas.Bool.{and_parts, false≢true}
@@ -18,7 +18,8 @@ use Rattle.crew_resource.specs.Members.{Member}
 use Rattle.crew_resource.proofs.Order.{IsOrder}
 use Rattle.crew_vector.proofs.Orders.{same-code}
 use Rattle.crew_pass.specs.Machinery.Held.{AreHeld, IsHeld}
-use Rattle.crew_pass.specs.Machinery.Passing.{AreCovering, AreGathered, Idles, Ways, idle_labels}
+use Rattle.crew_pass.specs.Machinery.Passing.{AreCovering, AreGathered, Idles, idle_labels}
+use Rattle.crew_pass.specs.Machinery.Terms.{Terms}
 
 rest-most : (most : ℕ) (r : ℤ) → most ≤ 8_280 → int_le r (pos most) ≡ true → r ≤ℤ pos 8_280
 rest-most most r h e = grind (arith, ints)
@@ -37,7 +38,7 @@ follows s x g rests h =
       rest_most = rest-most s.max_rest (g.report -ℤ x.release) rests b.1;
     }
 
-module _ {V : Type 0} (w : Ways V) (trail : Link → List ℕ) where
+module _ {V : Type 0} (w : Terms V) (trail : Link → List ℕ) where
   pub covering : (C : V → List ℕ → Type 0) (labels : List (Label V)) → AreGathered w trail C labels → AreCovering w trail C labels
   covering C labels h = record {
     part = λ v k m. h.among v k (h.pool.among v k m);
@@ -60,9 +61,9 @@ module _ {V : Type 0} (w : Ways V) (trail : Link → List ℕ) where
     idle-in true v u k p h e = inl (ap (λ (z : V). (z, [])) e ∙ ap (λ (z : List ℕ). (u, z)) (sym p))
     idle-in false v u k p h e = absurd (false≢true h)
 
-    pub idle-gathered : (base : List ℕ) (g : Departure) → AreGathered w trail (Idles w base g) (idle_labels (eq_by_cmp code_cmp g.airport base) (w.idle g))
-    idle-gathered base g =
-        let here = eq_by_cmp code_cmp g.airport base in
+    pub idle-gathered : (g : Departure) → AreGathered w trail (Idles w g) (idle_labels (eq_by_cmp code_cmp g.airport w.base) (w.idle g))
+    idle-gathered g =
+        let here = eq_by_cmp code_cmp g.airport w.base in
         let labels = idle_labels here (w.idle g) in
         record {
           listed = map (shown trail) labels;
@@ -71,9 +72,9 @@ module _ {V : Type 0} (w : Ways V) (trail : Link → List ℕ) where
           every = λ v k c. idle-in here (w.idle g) v k c.0 c.1 c.2;
         }
 
-module _ {V : Type 0} (count : V → ℤ) (ready : ℕ → V → Type 0) (most : Option ℕ) (duties : ℕ) (t : Tabled V) where
-  pub idle-held : (here : Bool) (v : V) → count v ≡ pos 0 → ready 0 v → AreHeld count ready most duties t (idle_labels here v)
-  idle-held true v c r l (inl e) = subst (IsHeld count ready most duties t) e (record {
+module _ {V : Type 0} (w : Terms V) (t : Tabled V) where
+  pub idle-held : (here : Bool) (v : V) → w.count v ≡ pos 0 → w.ready 0 v → AreHeld w w.ready t (idle_labels here v)
+  idle-held true v c r l (inl e) = subst (IsHeld w w.ready t) e (record {
     leading = tt;
     entry = record { counts = c; ranked = tt; few = λ m h. omega arith; bound = r };
   })

@@ -1,4 +1,5 @@
 -- What code needs, and no definition rests on.
 pub mod Numbered
+pub mod Terms
 pub mod Held
 pub mod Passing

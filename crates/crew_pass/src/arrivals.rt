@@ -1,13 +1,13 @@
 //! The pools of arrivals, which are made once: before the first departures that may wait on them.
-ghost use Rattle.std.specs.Prelude.{◌≡◌, ◌<◌, ◌≤◌, ◌≤ℤ◌, ◌<ℤ◌, ℕ, FitsSigned, List, Some, MatchOption, IfOk, OnOk, get_or, length, map, set, slice_get, slice_index_or, vec_len};
+ghost use Rattle.std.specs.Prelude.{◌≡◌, ◌<◌, ◌≤◌, ◌≤ℤ◌, ◌<ℤ◌, ℕ, FitsSigned, Some, MatchOption, IfOk, OnOk, length, map, set, slice_get, slice_index_or, vec_len};
 ghost use Rattle.std.specs.Arc.{arc_value};
 ghost use Rattle.std.specs.Int.{w64};
 ghost use Rattle.crew_pairing.specs.declared.events.Arrival.{Arrival};
 ghost use Rattle.crew_pairing.specs.declared.events.Departure.{Departure};
-ghost use Rattle.crew_pass.specs.Machinery.Held.{AreHeld, trail_of};
+ghost use Rattle.crew_pass.specs.Machinery.Held.{HaveArrived, trail_of};
 ghost use Rattle.crew_pass.specs.Machinery.Numbered.{in_order};
-ghost use Rattle.crew_pass.specs.Machinery.Passing.{AreGathered, AreKept, AreRestedOf, Arrives, IsArrivedAt, IsDue, IsNotDue, IsPassable, IsUnderWay, ways};
-ghost use Rattle.crew_pass.specs.Passes.{CountsDuties};
+ghost use Rattle.crew_pass.specs.Machinery.Passing.{AreGathered, AreKept, AreTerms, Arrives, IsArrivalMade, IsArrivedAt, IsFound};
+ghost use Rattle.crew_pass.specs.Machinery.Terms.{terms};
 
 use crate::batch::report_at;
 use crate::ground::{Found, Ground};
@@ -39,23 +39,19 @@ fn arrival_pool<R: Lapses<Duty>>(
     fronts: &[Arc<Pool<R>, Global>],
     place: usize,
 ) -> Result<Pool<R>, AllocError>
-    requires passable { IsPassable ground.now.net.now ground.now.turns.now }
-    requires counts { CountsDuties R.same_sums (R.count_of ground.now.resource.now)
-        (R.most ground.now.resource.now) (R.fits ground.now.resource.now) }
+    requires terms { AreTerms
+        (terms R.Lapses.own R.Staged.own R.Forgets.own R.Resource.own ground.now) }
     requires place { place < length ground.now.net.now.arrivals }
-    requires kept { AreKept (ways R.below R.same_sums (R.idle_of ground.now.resource.now)
-        (R.waited ground.now.resource.now) (R.boards ground.now.resource.now))
-        (R.count_of ground.now.resource.now) (R.arrived ground.now.resource.now)
-        (R.most ground.now.resource.now) ground.now.net.now table.now (map arc_value fronts.now) }
-    ensures gathered { IfOk result (λ pool. (x : Arrival)
-        → slice_get ground.now.net.now.arrivals place ≡ Some x
-        → AreGathered (ways R.below R.same_sums (R.idle_of ground.now.resource.now)
-        (R.waited ground.now.resource.now) (R.boards ground.now.resource.now))
+    requires kept { AreKept
+        (terms R.Lapses.own R.Staged.own R.Forgets.own R.Resource.own ground.now) table.now
+        (map arc_value fronts.now) }
+    ensures gathered { IfOk result (λ pool. (x : Arrival) → slice_get ground.now.net.now.arrivals
+        place ≡ Some x → AreGathered
+        (terms R.Lapses.own R.Staged.own R.Forgets.own R.Resource.own ground.now)
         (trail_of table.now) (Arrives ground.now.net.now (trail_of table.now)
         (map arc_value fronts.now) x) pool) }
-    ensures held { IfOk result (AreHeld (R.count_of ground.now.resource.now)
-        (R.arrived ground.now.resource.now) (R.most ground.now.resource.now)
-        (length ground.now.net.now.duties) table.now) }
+    ensures held { IfOk result (HaveArrived
+        (terms R.Lapses.own R.Staged.own R.Forgets.own R.Resource.own ground.now) table.now) }
 {
     let mut pools = Vec::new(alloc);
     for rank in ground.net.arriving(place) {
@@ -72,19 +68,15 @@ fn arrived_at<R: Lapses<Duty>>(
     fronts: &[Arc<Pool<R>, Global>],
     place: usize,
 ) -> Result<Arrived<R>, AllocError>
-    requires passable { IsPassable ground.now.net.now ground.now.turns.now }
-    requires counts { CountsDuties R.same_sums (R.count_of ground.now.resource.now)
-        (R.most ground.now.resource.now) (R.fits ground.now.resource.now) }
+    requires terms { AreTerms
+        (terms R.Lapses.own R.Staged.own R.Forgets.own R.Resource.own ground.now) }
     requires place { place < length ground.now.net.now.arrivals }
-    requires kept { AreKept (ways R.below R.same_sums (R.idle_of ground.now.resource.now)
-        (R.waited ground.now.resource.now) (R.boards ground.now.resource.now))
-        (R.count_of ground.now.resource.now) (R.arrived ground.now.resource.now)
-        (R.most ground.now.resource.now) ground.now.net.now table.now (map arc_value fronts.now) }
-    ensures { IfOk result (λ arrived. IsArrivedAt (ways R.below R.same_sums (R.idle_of ground.now.resource.now)
-        (R.waited ground.now.resource.now) (R.boards ground.now.resource.now))
-        (R.rested_of ground.now.resource.now) (R.count_of ground.now.resource.now)
-        (R.arrived ground.now.resource.now) (R.most ground.now.resource.now) ground.now.net.now
-        table.now (map arc_value fronts.now) place arrived.pool arrived.rested) }
+    requires kept { AreKept
+        (terms R.Lapses.own R.Staged.own R.Forgets.own R.Resource.own ground.now) table.now
+        (map arc_value fronts.now) }
+    ensures { IfOk result (λ arrived. IsArrivedAt
+        (terms R.Lapses.own R.Staged.own R.Forgets.own R.Resource.own ground.now) table.now
+        (map arc_value fronts.now) place arrived.pool arrived.rested) }
 {
     let pool = arrival_pool(alloc, ground, table, fronts, place)?;
     let rested = rested_pool(alloc, ground, table, &pool)?;
@@ -101,20 +93,15 @@ fn due_at<R: Lapses<Duty>>(
     first: i64,
     place: usize,
 ) -> Result<Option<Arrived<R>>, AllocError>
-    requires passable { IsPassable ground.now.net.now ground.now.turns.now }
-    requires counts { CountsDuties R.same_sums (R.count_of ground.now.resource.now)
-        (R.most ground.now.resource.now) (R.fits ground.now.resource.now) }
+    requires terms { AreTerms
+        (terms R.Lapses.own R.Staged.own R.Forgets.own R.Resource.own ground.now) }
     requires place { place < length ground.now.net.now.arrivals }
-    requires kept { AreKept (ways R.below R.same_sums (R.idle_of ground.now.resource.now)
-        (R.waited ground.now.resource.now) (R.boards ground.now.resource.now))
-        (R.count_of ground.now.resource.now) (R.arrived ground.now.resource.now)
-        (R.most ground.now.resource.now) ground.now.net.now table.now (map arc_value fronts.now) }
-    ensures { IfOk result (λ made. MatchOption made (IsNotDue ground.now.net.now before first place)
-        (λ arrived. IsDue ground.now.net.now before first place × IsArrivedAt (ways R.below R.same_sums (R.idle_of ground.now.resource.now)
-        (R.waited ground.now.resource.now) (R.boards ground.now.resource.now))
-        (R.rested_of ground.now.resource.now) (R.count_of ground.now.resource.now)
-        (R.arrived ground.now.resource.now) (R.most ground.now.resource.now) ground.now.net.now
-        table.now (map arc_value fronts.now) place arrived.pool arrived.rested)) }
+    requires kept { AreKept
+        (terms R.Lapses.own R.Staged.own R.Forgets.own R.Resource.own ground.now) table.now
+        (map arc_value fronts.now) }
+    ensures { IfOk result (IsArrivalMade
+        (terms R.Lapses.own R.Staged.own R.Forgets.own R.Resource.own ground.now) table.now
+        (map arc_value fronts.now) before first place) }
 {
     let release = ground.net.arrivals()[place].release;
     if release < before || release >= first {
@@ -133,41 +120,27 @@ fn arrivals_in_turn<R: Lapses<Duty>>(
     before: i64,
     first: i64,
 ) -> Result<Arrivals<R>, AllocError>
-    requires passable { IsPassable ground.now.net.now ground.now.turns.now }
-    requires counts { CountsDuties R.same_sums (R.count_of ground.now.resource.now)
-        (R.most ground.now.resource.now) (R.fits ground.now.resource.now) }
-    requires kept { AreKept (ways R.below R.same_sums (R.idle_of ground.now.resource.now)
-        (R.waited ground.now.resource.now) (R.boards ground.now.resource.now))
-        (R.count_of ground.now.resource.now) (R.arrived ground.now.resource.now)
-        (R.most ground.now.resource.now) ground.now.net.now table.now (map arc_value fronts.now) }
+    requires terms { AreTerms
+        (terms R.Lapses.own R.Staged.own R.Forgets.own R.Resource.own ground.now) }
+    requires kept { AreKept
+        (terms R.Lapses.own R.Staged.own R.Forgets.own R.Resource.own ground.now) table.now
+        (map arc_value fronts.now) }
     ensures long { IfOk result (λ arrivals. vec_len arrivals
         ≡ length ground.now.net.now.arrivals) }
-    ensures each { IfOk result (λ arrivals. (i : ℕ) (d : _)
-        → i < length ground.now.net.now.arrivals → IfOk (slice_index_or arrivals.items i d)
-        (λ made. MatchOption made (IsNotDue ground.now.net.now before first i)
-        (λ arrived. IsDue ground.now.net.now before first i × IsArrivedAt (ways R.below R.same_sums (R.idle_of ground.now.resource.now)
-        (R.waited ground.now.resource.now) (R.boards ground.now.resource.now))
-        (R.rested_of ground.now.resource.now) (R.count_of ground.now.resource.now)
-        (R.arrived ground.now.resource.now) (R.most ground.now.resource.now) ground.now.net.now
-        table.now (map arc_value fronts.now) i arrived.pool arrived.rested))) }
+    ensures each { IfOk result (λ arrivals. (i : ℕ) (d : _) → i < length ground.now.net.now.arrivals
+        → IfOk (slice_index_or arrivals.items i d) (IsArrivalMade
+        (terms R.Lapses.own R.Staged.own R.Forgets.own R.Resource.own ground.now) table.now
+        (map arc_value fronts.now) before first i)) }
 {
     let part = |place: usize| -> Result<Option<Arrived<R>>, AllocError>
         requires { FitsSigned w64 before × FitsSigned w64 first
-            × (place < length ground.now.net.now.arrivals)
-            × IsPassable ground.now.net.now ground.now.turns.now
-            × CountsDuties R.same_sums (R.count_of ground.now.resource.now)
-            (R.most ground.now.resource.now) (R.fits ground.now.resource.now)
-            × AreKept (ways R.below R.same_sums (R.idle_of ground.now.resource.now)
-            (R.waited ground.now.resource.now) (R.boards ground.now.resource.now))
-            (R.count_of ground.now.resource.now) (R.arrived ground.now.resource.now)
-            (R.most ground.now.resource.now) ground.now.net.now table.now
+            × (place < length ground.now.net.now.arrivals) × AreTerms
+            (terms R.Lapses.own R.Staged.own R.Forgets.own R.Resource.own ground.now) × AreKept
+            (terms R.Lapses.own R.Staged.own R.Forgets.own R.Resource.own ground.now) table.now
             (map arc_value fronts.now) }
-        ensures { IfOk result (λ made. MatchOption made (IsNotDue ground.entry.now.net.now before first place)
-            (λ arrived. IsDue ground.entry.now.net.now before first place × IsArrivedAt (ways R.below R.same_sums (R.idle_of ground.entry.now.resource.now)
-            (R.waited ground.entry.now.resource.now) (R.boards ground.entry.now.resource.now))
-            (R.rested_of ground.entry.now.resource.now) (R.count_of ground.entry.now.resource.now)
-            (R.arrived ground.entry.now.resource.now) (R.most ground.entry.now.resource.now) ground.entry.now.net.now
-            table.entry.now (map arc_value fronts.entry.now) place arrived.pool arrived.rested)) }
+        ensures { IfOk result (IsArrivalMade
+            (terms R.Lapses.own R.Staged.own R.Forgets.own R.Resource.own ground.entry.now)
+            table.entry.now (map arc_value fronts.entry.now) before first place) }
     { due_at(alloc, ground, table, fronts, before, first, place) };
     map_in_turn(alloc, ground.net.arrivals().len(), &part)
 }
@@ -185,41 +158,27 @@ fn arrivals_at_once<T: Threads + Sync, R: Lapses<Duty> + Sync>(
 ) -> Result<Arrivals<R>, AllocError>
 where
     R::Value: Send + Sync,
-    requires passable { IsPassable ground.now.net.now ground.now.turns.now }
-    requires counts { CountsDuties R.same_sums (R.count_of ground.now.resource.now)
-        (R.most ground.now.resource.now) (R.fits ground.now.resource.now) }
-    requires kept { AreKept (ways R.below R.same_sums (R.idle_of ground.now.resource.now)
-        (R.waited ground.now.resource.now) (R.boards ground.now.resource.now))
-        (R.count_of ground.now.resource.now) (R.arrived ground.now.resource.now)
-        (R.most ground.now.resource.now) ground.now.net.now table.now (map arc_value fronts.now) }
+    requires terms { AreTerms
+        (terms R.Lapses.own R.Staged.own R.Forgets.own R.Resource.own ground.now) }
+    requires kept { AreKept
+        (terms R.Lapses.own R.Staged.own R.Forgets.own R.Resource.own ground.now) table.now
+        (map arc_value fronts.now) }
     ensures long { IfOk result (λ arrivals. vec_len arrivals
         ≡ length ground.now.net.now.arrivals) }
-    ensures each { IfOk result (λ arrivals. (i : ℕ) (d : _)
-        → i < length ground.now.net.now.arrivals → IfOk (slice_index_or arrivals.items i d)
-        (λ made. MatchOption made (IsNotDue ground.now.net.now before first i)
-        (λ arrived. IsDue ground.now.net.now before first i × IsArrivedAt (ways R.below R.same_sums (R.idle_of ground.now.resource.now)
-        (R.waited ground.now.resource.now) (R.boards ground.now.resource.now))
-        (R.rested_of ground.now.resource.now) (R.count_of ground.now.resource.now)
-        (R.arrived ground.now.resource.now) (R.most ground.now.resource.now) ground.now.net.now
-        table.now (map arc_value fronts.now) i arrived.pool arrived.rested))) }
+    ensures each { IfOk result (λ arrivals. (i : ℕ) (d : _) → i < length ground.now.net.now.arrivals
+        → IfOk (slice_index_or arrivals.items i d) (IsArrivalMade
+        (terms R.Lapses.own R.Staged.own R.Forgets.own R.Resource.own ground.now) table.now
+        (map arc_value fronts.now) before first i)) }
 {
     let part = |place: usize| -> Result<Option<Arrived<R>>, AllocError>
         requires { FitsSigned w64 before × FitsSigned w64 first
-            × (place < length ground.now.net.now.arrivals)
-            × IsPassable ground.now.net.now ground.now.turns.now
-            × CountsDuties R.same_sums (R.count_of ground.now.resource.now)
-            (R.most ground.now.resource.now) (R.fits ground.now.resource.now)
-            × AreKept (ways R.below R.same_sums (R.idle_of ground.now.resource.now)
-            (R.waited ground.now.resource.now) (R.boards ground.now.resource.now))
-            (R.count_of ground.now.resource.now) (R.arrived ground.now.resource.now)
-            (R.most ground.now.resource.now) ground.now.net.now table.now
+            × (place < length ground.now.net.now.arrivals) × AreTerms
+            (terms R.Lapses.own R.Staged.own R.Forgets.own R.Resource.own ground.now) × AreKept
+            (terms R.Lapses.own R.Staged.own R.Forgets.own R.Resource.own ground.now) table.now
             (map arc_value fronts.now) }
-        ensures { IfOk result (λ made. MatchOption made (IsNotDue ground.entry.now.net.now before first place)
-            (λ arrived. IsDue ground.entry.now.net.now before first place × IsArrivedAt (ways R.below R.same_sums (R.idle_of ground.entry.now.resource.now)
-            (R.waited ground.entry.now.resource.now) (R.boards ground.entry.now.resource.now))
-            (R.rested_of ground.entry.now.resource.now) (R.count_of ground.entry.now.resource.now)
-            (R.arrived ground.entry.now.resource.now) (R.most ground.entry.now.resource.now) ground.entry.now.net.now
-            table.entry.now (map arc_value fronts.entry.now) place arrived.pool arrived.rested)) }
+        ensures { IfOk result (IsArrivalMade
+            (terms R.Lapses.own R.Staged.own R.Forgets.own R.Resource.own ground.entry.now)
+            table.entry.now (map arc_value fronts.entry.now) before first place) }
     { due_at(alloc, ground, table, fronts, before, first, place) };
     map_claimed(rt, alloc, threads, ground.net.arrivals().len(), &part)
 }
@@ -251,40 +210,20 @@ fn put_arrivals<R: Lapses<Duty>>(
     arrivals: Arrivals<R>,
 ) -> Result<(), AllocError>
     requires long { vec_len arrivals ≡ length ground.now.net.now.arrivals }
-    requires made { (i : ℕ) (d : _) → i < length ground.now.net.now.arrivals
-        → IfOk (slice_index_or arrivals.items i d)
-        (λ made. MatchOption made (IsNotDue ground.now.net.now found.old.upto first i)
-        (λ arrived. IsDue ground.now.net.now found.old.upto first i × IsArrivedAt (ways R.below R.same_sums (R.idle_of ground.now.resource.now)
-        (R.waited ground.now.resource.now) (R.boards ground.now.resource.now))
-        (R.rested_of ground.now.resource.now) (R.count_of ground.now.resource.now)
-        (R.arrived ground.now.resource.now) (R.most ground.now.resource.now) ground.now.net.now
-        table.now (map arc_value found.old.fronts.items) i arrived.pool arrived.rested)) }
+    requires made { (i : ℕ) (d : _) → i < length ground.now.net.now.arrivals → IfOk
+        (slice_index_or arrivals.items i d) (IsArrivalMade
+        (terms R.Lapses.own R.Staged.own R.Forgets.own R.Resource.own ground.now) table.now
+        (map arc_value found.old.fronts.items) found.old.upto first i) }
     requires rises { found.old.upto ≤ℤ first }
     requires late { (i : ℕ) (g : Departure) → length table.now.pools ≤ i
         → slice_get (in_order ground.now.net.now) i ≡ Some g → first ≤ℤ g.report }
-    requires way { IsUnderWay (ways R.below R.same_sums (R.idle_of ground.now.resource.now)
-        (R.waited ground.now.resource.now) (R.boards ground.now.resource.now))
-        (R.count_of ground.now.resource.now) (R.ready ground.now.resource.now)
-        (R.arrived ground.now.resource.now) (R.most ground.now.resource.now) ground.now.net.now
-        ground.now.base ground.now.turns.now table.now (map arc_value found.old.fronts.items)
-        found.old.arrivals.items found.old.upto (λ rank. get_or ground.now.turns.now rank 0 < length table.now.pools) }
-    requires rested { AreRestedOf (ways R.below R.same_sums (R.idle_of ground.now.resource.now)
-        (R.waited ground.now.resource.now) (R.boards ground.now.resource.now))
-        (R.rested_of ground.now.resource.now) (R.count_of ground.now.resource.now)
-        (R.arrived ground.now.resource.now) (R.most ground.now.resource.now)
-        (length ground.now.net.now.duties) table.now found.old.arrivals.items found.old.rested.items }
+    requires found { IsFound
+        (terms R.Lapses.own R.Staged.own R.Forgets.own R.Resource.own ground.now) table.now
+        found.old (length table.now.pools) }
     ensures upto { OnOk result (found.new.upto ≡ first) }
-    ensures way { OnOk result (IsUnderWay (ways R.below R.same_sums (R.idle_of ground.now.resource.now)
-        (R.waited ground.now.resource.now) (R.boards ground.now.resource.now))
-        (R.count_of ground.now.resource.now) (R.ready ground.now.resource.now)
-        (R.arrived ground.now.resource.now) (R.most ground.now.resource.now) ground.now.net.now
-        ground.now.base ground.now.turns.now table.now (map arc_value found.new.fronts.items)
-        found.new.arrivals.items first (λ rank. get_or ground.now.turns.now rank 0 < length table.now.pools)) }
-    ensures rested { OnOk result (AreRestedOf (ways R.below R.same_sums (R.idle_of ground.now.resource.now)
-        (R.waited ground.now.resource.now) (R.boards ground.now.resource.now))
-        (R.rested_of ground.now.resource.now) (R.count_of ground.now.resource.now)
-        (R.arrived ground.now.resource.now) (R.most ground.now.resource.now)
-        (length ground.now.net.now.duties) table.now found.new.arrivals.items found.new.rested.items) }
+    ensures found { OnOk result (IsFound
+        (terms R.Lapses.own R.Staged.own R.Forgets.own R.Resource.own ground.now) table.now
+        found.new (length table.now.pools)) }
 {
     let mut place = 0;
     for made in arrivals {
@@ -304,35 +243,18 @@ pub(crate) fn arrive<R: Lapses<Duty>>(
     found: &mut Found<R>,
     turn: usize,
 ) -> Result<(), AllocError>
-    requires passable { IsPassable ground.now.net.now ground.now.turns.now }
-    requires counts { CountsDuties R.same_sums (R.count_of ground.now.resource.now)
-        (R.most ground.now.resource.now) (R.fits ground.now.resource.now) }
+    requires terms { AreTerms
+        (terms R.Lapses.own R.Staged.own R.Forgets.own R.Resource.own ground.now) }
     requires turn { turn < length ground.now.net.now.by_report }
     requires next { turn ≡ length table.now.pools }
-    requires way { IsUnderWay (ways R.below R.same_sums (R.idle_of ground.now.resource.now)
-        (R.waited ground.now.resource.now) (R.boards ground.now.resource.now))
-        (R.count_of ground.now.resource.now) (R.ready ground.now.resource.now)
-        (R.arrived ground.now.resource.now) (R.most ground.now.resource.now) ground.now.net.now
-        ground.now.base ground.now.turns.now table.now (map arc_value found.old.fronts.items)
-        found.old.arrivals.items found.old.upto (λ rank. get_or ground.now.turns.now rank 0 < length table.now.pools) }
-    requires rested { AreRestedOf (ways R.below R.same_sums (R.idle_of ground.now.resource.now)
-        (R.waited ground.now.resource.now) (R.boards ground.now.resource.now))
-        (R.rested_of ground.now.resource.now) (R.count_of ground.now.resource.now)
-        (R.arrived ground.now.resource.now) (R.most ground.now.resource.now)
-        (length ground.now.net.now.duties) table.now found.old.arrivals.items found.old.rested.items }
+    requires found { IsFound
+        (terms R.Lapses.own R.Staged.own R.Forgets.own R.Resource.own ground.now) table.now
+        found.old (length table.now.pools) }
     ensures upto { OnOk result ((g : Departure) → slice_get (in_order ground.now.net.now) turn ≡ Some g
         → found.new.upto ≡ g.report) }
-    ensures way { OnOk result (IsUnderWay (ways R.below R.same_sums (R.idle_of ground.now.resource.now)
-        (R.waited ground.now.resource.now) (R.boards ground.now.resource.now))
-        (R.count_of ground.now.resource.now) (R.ready ground.now.resource.now)
-        (R.arrived ground.now.resource.now) (R.most ground.now.resource.now) ground.now.net.now
-        ground.now.base ground.now.turns.now table.now (map arc_value found.new.fronts.items)
-        found.new.arrivals.items found.new.upto (λ rank. get_or ground.now.turns.now rank 0 < length table.now.pools)) }
-    ensures rested { OnOk result (AreRestedOf (ways R.below R.same_sums (R.idle_of ground.now.resource.now)
-        (R.waited ground.now.resource.now) (R.boards ground.now.resource.now))
-        (R.rested_of ground.now.resource.now) (R.count_of ground.now.resource.now)
-        (R.arrived ground.now.resource.now) (R.most ground.now.resource.now)
-        (length ground.now.net.now.duties) table.now found.new.arrivals.items found.new.rested.items) }
+    ensures found { OnOk result (IsFound
+        (terms R.Lapses.own R.Staged.own R.Forgets.own R.Resource.own ground.now) table.now
+        found.new (length table.now.pools)) }
 {
     let first = report_at(ground, turn);
     let fronts = found.fronts.as_slice();
@@ -352,35 +274,18 @@ pub(crate) fn arrive_by_threads<T: Threads + Sync, R: Lapses<Duty> + Sync>(
 ) -> Result<(), AllocError>
 where
     R::Value: Send + Sync,
-    requires passable { IsPassable ground.now.net.now ground.now.turns.now }
-    requires counts { CountsDuties R.same_sums (R.count_of ground.now.resource.now)
-        (R.most ground.now.resource.now) (R.fits ground.now.resource.now) }
+    requires terms { AreTerms
+        (terms R.Lapses.own R.Staged.own R.Forgets.own R.Resource.own ground.now) }
     requires turn { turn < length ground.now.net.now.by_report }
     requires next { turn ≡ length table.now.pools }
-    requires way { IsUnderWay (ways R.below R.same_sums (R.idle_of ground.now.resource.now)
-        (R.waited ground.now.resource.now) (R.boards ground.now.resource.now))
-        (R.count_of ground.now.resource.now) (R.ready ground.now.resource.now)
-        (R.arrived ground.now.resource.now) (R.most ground.now.resource.now) ground.now.net.now
-        ground.now.base ground.now.turns.now table.now (map arc_value found.old.fronts.items)
-        found.old.arrivals.items found.old.upto (λ rank. get_or ground.now.turns.now rank 0 < length table.now.pools) }
-    requires rested { AreRestedOf (ways R.below R.same_sums (R.idle_of ground.now.resource.now)
-        (R.waited ground.now.resource.now) (R.boards ground.now.resource.now))
-        (R.rested_of ground.now.resource.now) (R.count_of ground.now.resource.now)
-        (R.arrived ground.now.resource.now) (R.most ground.now.resource.now)
-        (length ground.now.net.now.duties) table.now found.old.arrivals.items found.old.rested.items }
+    requires found { IsFound
+        (terms R.Lapses.own R.Staged.own R.Forgets.own R.Resource.own ground.now) table.now
+        found.old (length table.now.pools) }
     ensures upto { OnOk result ((g : Departure) → slice_get (in_order ground.now.net.now) turn ≡ Some g
         → found.new.upto ≡ g.report) }
-    ensures way { OnOk result (IsUnderWay (ways R.below R.same_sums (R.idle_of ground.now.resource.now)
-        (R.waited ground.now.resource.now) (R.boards ground.now.resource.now))
-        (R.count_of ground.now.resource.now) (R.ready ground.now.resource.now)
-        (R.arrived ground.now.resource.now) (R.most ground.now.resource.now) ground.now.net.now
-        ground.now.base ground.now.turns.now table.now (map arc_value found.new.fronts.items)
-        found.new.arrivals.items found.new.upto (λ rank. get_or ground.now.turns.now rank 0 < length table.now.pools)) }
-    ensures rested { OnOk result (AreRestedOf (ways R.below R.same_sums (R.idle_of ground.now.resource.now)
-        (R.waited ground.now.resource.now) (R.boards ground.now.resource.now))
-        (R.rested_of ground.now.resource.now) (R.count_of ground.now.resource.now)
-        (R.arrived ground.now.resource.now) (R.most ground.now.resource.now)
-        (length ground.now.net.now.duties) table.now found.new.arrivals.items found.new.rested.items) }
+    ensures found { OnOk result (IsFound
+        (terms R.Lapses.own R.Staged.own R.Forgets.own R.Resource.own ground.now) table.now
+        found.new (length table.now.pools)) }
 {
     let first = report_at(ground, turn);
     let fronts = found.fronts.as_slice();

@@ -22,11 +22,20 @@ use std::sync::Arc;
 ///
 /// A contract sees the network, the turn of each duty's departure by rank, the pools in order of
 /// report, and the fronts by rank.
-#[derive(Drop)]
 pub struct BaseFronts<R: Resource> {
     net: Arc<Net, Global>,
     table: Table<R>,
     fronts: Vec<Arc<Pool<R>, Global>>,
+}
+
+impl<R: Resource> Drop for BaseFronts<R> {
+    fn drop(self) {
+        let Self {
+            net: _,
+            table: _,
+            fronts: _,
+        } = self;
+    }
 }
 
 impl<R: Resource> Model for BaseFronts<R> {

@@ -3,9 +3,9 @@ ghost use Rattle.std.specs.Prelude.{◌≡◌, ◌<◌, ◌≤◌, ◌+◌, ◌-
 ghost use Rattle.std.specs.Arc.{arc_value};
 ghost use Rattle.crew_label.specs.declared.label.Label.{Label};
 ghost use Rattle.crew_resource.specs.Members.{Member};
-ghost use Rattle.crew_pass.specs.Machinery.Held.{AreHeld};
-ghost use Rattle.crew_pass.specs.Machinery.Passing.{AreMade, AreRestedOf, AreSources, IsBoardable, IsClose, IsLinked, IsPassable, IsPoolAt, IsUnderWay, ranks_at, ways};
-ghost use Rattle.crew_pass.specs.Passes.{CountsDuties};
+ghost use Rattle.crew_pass.specs.Machinery.Held.{AreReady};
+ghost use Rattle.crew_pass.specs.Machinery.Passing.{AreMade, AreSources, AreTerms, IsBoardable, IsClose, IsFound, IsLinked, IsPoolAt, ranks_at};
+ghost use Rattle.crew_pass.specs.Machinery.Terms.{terms};
 
 use crate::arrivals::arrive_by_threads;
 use crate::batch::batch_end;
@@ -41,39 +41,26 @@ fn pools_at_once<T: Threads + Sync, R: Lapses<Duty> + Sync>(
 ) -> Result<Pools<R>, AllocError>
 where
     R::Value: Send + Sync,
-    requires passable { IsPassable ground.now.net.now ground.now.turns.now }
-    requires counts { CountsDuties R.same_sums (R.count_of ground.now.resource.now)
-        (R.most ground.now.resource.now) (R.fits ground.now.resource.now) }
+    requires terms { AreTerms
+        (terms R.Lapses.own R.Staged.own R.Forgets.own R.Resource.own ground.now) }
     requires turns { (from ≤ end) × (end ≤ length ground.now.net.now.by_report) }
-    requires sources { AreSources (ways R.below R.same_sums (R.idle_of ground.now.resource.now)
-        (R.waited ground.now.resource.now) (R.boards ground.now.resource.now))
-        (R.rested_of ground.now.resource.now) (R.count_of ground.now.resource.now)
-        (R.arrived ground.now.resource.now) (R.most ground.now.resource.now) ground.now.net.now
-        table.now arrivals.now rested.now }
+    requires sources { AreSources
+        (terms R.Lapses.own R.Staged.own R.Forgets.own R.Resource.own ground.now) table.now
+        arrivals.now rested.now }
     ensures long { IfOk result (λ pools. vec_len pools ≡ end - from) }
-    ensures each { IfOk result (λ pools. (i : ℕ) (d : _) → i < end - from
-        → IfOk (slice_index_or pools.items i d) (λ pool. IsPoolAt (ways R.below R.same_sums (R.idle_of ground.now.resource.now)
-        (R.waited ground.now.resource.now) (R.boards ground.now.resource.now))
-        (R.count_of ground.now.resource.now) (R.ready ground.now.resource.now)
-        (R.most ground.now.resource.now) ground.now.net.now ground.now.base table.now arrivals.now
-        (from + i) (arc_value pool))) }
+    ensures each { IfOk result (λ pools. (i : ℕ) (d : _) → i < end - from → IfOk
+        (slice_index_or pools.items i d) (λ pool. IsPoolAt
+        (terms R.Lapses.own R.Staged.own R.Forgets.own R.Resource.own ground.now) table.now
+        arrivals.now (from + i) (arc_value pool))) }
 {
     let part = |at: usize| -> Result<Arc<Pool<R>, Global>, AllocError>
-        requires { (from + at < length ground.now.net.now.by_report)
-            × (from + at < 2 ^ 64)
-            × IsPassable ground.now.net.now ground.now.turns.now
-            × CountsDuties R.same_sums (R.count_of ground.now.resource.now)
-            (R.most ground.now.resource.now) (R.fits ground.now.resource.now)
-            × AreSources (ways R.below R.same_sums (R.idle_of ground.now.resource.now)
-            (R.waited ground.now.resource.now) (R.boards ground.now.resource.now))
-            (R.rested_of ground.now.resource.now) (R.count_of ground.now.resource.now)
-            (R.arrived ground.now.resource.now) (R.most ground.now.resource.now) ground.now.net.now
+        requires { (from + at < length ground.now.net.now.by_report) × (from + at < 2 ^ 64)
+            × AreTerms (terms R.Lapses.own R.Staged.own R.Forgets.own R.Resource.own ground.now)
+            × AreSources (terms R.Lapses.own R.Staged.own R.Forgets.own R.Resource.own ground.now)
             table.now arrivals.now rested.now }
-        ensures { IfOk result (λ pool. IsPoolAt (ways R.below R.same_sums (R.idle_of ground.entry.now.resource.now)
-            (R.waited ground.entry.now.resource.now) (R.boards ground.entry.now.resource.now))
-            (R.count_of ground.entry.now.resource.now) (R.ready ground.entry.now.resource.now)
-            (R.most ground.entry.now.resource.now) ground.entry.now.net.now ground.entry.now.base table.entry.now arrivals.entry.now
-            (from + at) (arc_value pool)) }
+        ensures { IfOk result (λ pool. IsPoolAt
+            (terms R.Lapses.own R.Staged.own R.Forgets.own R.Resource.own ground.entry.now)
+            table.entry.now arrivals.entry.now (from + at) (arc_value pool)) }
     { pool_at(alloc, ground, table, arrivals, rested, from + at) };
     map_claimed(rt, alloc, threads, end - from, &part)
 }
@@ -90,44 +77,34 @@ fn fronts_at_once<T: Threads + Sync, R: Lapses<Duty> + Sync>(
 ) -> Result<Fronts<R>, AllocError>
 where
     R::Value: Send + Sync,
-    requires passable { IsPassable ground.now.net.now ground.now.turns.now }
-    requires counts { CountsDuties R.same_sums (R.count_of ground.now.resource.now)
-        (R.most ground.now.resource.now) (R.fits ground.now.resource.now) }
+    requires terms { AreTerms
+        (terms R.Lapses.own R.Staged.own R.Forgets.own R.Resource.own ground.now) }
     requires turns { from ≤ end }
     requires turned { table.now.leaves ≡ ground.now.turns.now }
-    requires ready { (labels : List (Label R.Value)) → Member table.now.pools labels
-        → AreHeld (R.count_of ground.now.resource.now) (R.ready ground.now.resource.now)
-        (R.most ground.now.resource.now) (length ground.now.net.now.duties) table.now labels }
-    requires boardable { (turn : ℕ) → from ≤ turn → turn < end → IsBoardable (ways R.below R.same_sums (R.idle_of ground.now.resource.now)
-        (R.waited ground.now.resource.now) (R.boards ground.now.resource.now))
-        ground.now.net.now table.now (turn) }
+    requires ready { (labels : List (Label R.Value)) → Member table.now.pools labels → AreReady
+        (terms R.Lapses.own R.Staged.own R.Forgets.own R.Resource.own ground.now) table.now labels }
+    requires boardable { (turn : ℕ) → from ≤ turn → turn < end → IsBoardable
+        (terms R.Lapses.own R.Staged.own R.Forgets.own R.Resource.own ground.now) table.now (turn) }
     ensures long { IfOk result (λ fronts. vec_len fronts ≡ end - from) }
-    ensures each { IfOk result (λ fronts. (i : ℕ) (d : _) → i < end - from
-        → IfOk (slice_index_or fronts.items i d) (λ made. AreMade (ways R.below R.same_sums (R.idle_of ground.now.resource.now)
-        (R.waited ground.now.resource.now) (R.boards ground.now.resource.now))
-        (R.count_of ground.now.resource.now) (R.arrived ground.now.resource.now)
-        (R.most ground.now.resource.now) ground.now.net.now table.now
-        (get_or table.now.pools (from + i) []) (ranks_at ground.now.net.now (from + i))
+    ensures each { IfOk result (λ fronts. (i : ℕ) (d : _) → i < end - from → IfOk
+        (slice_index_or fronts.items i d) (λ made. AreMade
+        (terms R.Lapses.own R.Staged.own R.Forgets.own R.Resource.own ground.now) table.now (get_or
+        table.now.pools (from + i) []) (ranks_at ground.now.net.now (from + i))
         (map arc_value made.items))) }
 {
     let part = |at: usize| -> Result<Vec<Arc<Pool<R>, Global>>, AllocError>
-        requires { (from + at < 2 ^ 64)
-            × IsPassable ground.now.net.now ground.now.turns.now
-            × CountsDuties R.same_sums (R.count_of ground.now.resource.now)
-            (R.most ground.now.resource.now) (R.fits ground.now.resource.now)
-            × (table.now.leaves ≡ ground.now.turns.now)
-            × ((labels : List (Label R.Value)) → Member table.now.pools labels
-            → AreHeld (R.count_of ground.now.resource.now) (R.ready ground.now.resource.now)
-            (R.most ground.now.resource.now) (length ground.now.net.now.duties) table.now labels)
-            × (IsBoardable (ways R.below R.same_sums (R.idle_of ground.now.resource.now)
-            (R.waited ground.now.resource.now) (R.boards ground.now.resource.now))
-            ground.now.net.now table.now (from + at)) }
-        ensures { IfOk result (λ made. AreMade (ways R.below R.same_sums (R.idle_of ground.entry.now.resource.now)
-            (R.waited ground.entry.now.resource.now) (R.boards ground.entry.now.resource.now))
-            (R.count_of ground.entry.now.resource.now) (R.arrived ground.entry.now.resource.now)
-            (R.most ground.entry.now.resource.now) ground.entry.now.net.now table.entry.now
-            (get_or table.entry.now.pools (from + at) []) (ranks_at ground.entry.now.net.now (from + at))
-            (map arc_value made.items)) }
+        requires { (from + at < 2 ^ 64) × AreTerms
+            (terms R.Lapses.own R.Staged.own R.Forgets.own R.Resource.own ground.now)
+            × (table.now.leaves ≡ ground.now.turns.now) × ((labels : List (Label R.Value)) → Member
+            table.now.pools labels → AreReady
+            (terms R.Lapses.own R.Staged.own R.Forgets.own R.Resource.own ground.now) table.now
+            labels) × (IsBoardable
+            (terms R.Lapses.own R.Staged.own R.Forgets.own R.Resource.own ground.now) table.now
+            (from + at)) }
+        ensures { IfOk result (λ made. AreMade
+            (terms R.Lapses.own R.Staged.own R.Forgets.own R.Resource.own ground.entry.now)
+            table.entry.now (get_or table.entry.now.pools (from + at) []) (ranks_at
+            ground.entry.now.net.now (from + at)) (map arc_value made.items)) }
     { duty_fronts(alloc, ground, table, from + at) };
     map_claimed(rt, alloc, threads, end - from, &part)
 }
@@ -140,45 +117,24 @@ fn add_pools<R: Lapses<Duty>>(
     from: usize,
     pools: &[Result<Arc<Pool<R>, Global>, AllocError>],
 ) -> Result<(), AllocError>
-    requires passable { IsPassable ground.now.net.now ground.now.turns.now }
-    requires counts { CountsDuties R.same_sums (R.count_of ground.now.resource.now)
-        (R.most ground.now.resource.now) (R.fits ground.now.resource.now) }
+    requires terms { AreTerms
+        (terms R.Lapses.own R.Staged.own R.Forgets.own R.Resource.own ground.now) }
     requires from { length table.old.pools ≡ from }
     requires turns { from + length pools.now ≤ length ground.now.net.now.by_report }
     requires close { (turn : ℕ) → from ≤ turn → turn < from + length pools.now
         → IsClose ground.now.net.now found.now.upto turn }
-    requires way { IsUnderWay (ways R.below R.same_sums (R.idle_of ground.now.resource.now)
-        (R.waited ground.now.resource.now) (R.boards ground.now.resource.now))
-        (R.count_of ground.now.resource.now) (R.ready ground.now.resource.now)
-        (R.arrived ground.now.resource.now) (R.most ground.now.resource.now) ground.now.net.now
-        ground.now.base ground.now.turns.now table.old (map arc_value found.now.fronts.items)
-        found.now.arrivals.items found.now.upto (λ rank. get_or ground.now.turns.now rank 0 < from) }
-    requires rested { AreRestedOf (ways R.below R.same_sums (R.idle_of ground.now.resource.now)
-        (R.waited ground.now.resource.now) (R.boards ground.now.resource.now))
-        (R.rested_of ground.now.resource.now) (R.count_of ground.now.resource.now)
-        (R.arrived ground.now.resource.now) (R.most ground.now.resource.now)
-        (length ground.now.net.now.duties) table.old found.now.arrivals.items found.now.rested.items }
-    requires pools { (i : ℕ) (d : _) → i < length pools.now
-        → IfOk (slice_index_or pools.now i d) (λ pool. IsPoolAt (ways R.below R.same_sums (R.idle_of ground.now.resource.now)
-        (R.waited ground.now.resource.now) (R.boards ground.now.resource.now))
-        (R.count_of ground.now.resource.now) (R.ready ground.now.resource.now)
-        (R.most ground.now.resource.now) ground.now.net.now ground.now.base table.old found.now.arrivals.items
-        (from + i) (arc_value pool)) }
+    requires found { IsFound
+        (terms R.Lapses.own R.Staged.own R.Forgets.own R.Resource.own ground.now) table.old
+        found.now from }
+    requires pools { (i : ℕ) (d : _) → i < length pools.now → IfOk (slice_index_or pools.now i d) (λ
+        pool. IsPoolAt (terms R.Lapses.own R.Staged.own R.Forgets.own R.Resource.own ground.now)
+        table.old found.now.arrivals.items (from + i) (arc_value pool)) }
     ensures long { OnOk result (length table.new.pools ≡ from + length pools.now) }
-    ensures way { OnOk result (IsUnderWay (ways R.below R.same_sums (R.idle_of ground.now.resource.now)
-        (R.waited ground.now.resource.now) (R.boards ground.now.resource.now))
-        (R.count_of ground.now.resource.now) (R.ready ground.now.resource.now)
-        (R.arrived ground.now.resource.now) (R.most ground.now.resource.now) ground.now.net.now
-        ground.now.base ground.now.turns.now table.new (map arc_value found.now.fronts.items)
-        found.now.arrivals.items found.now.upto (λ rank. get_or ground.now.turns.now rank 0 < from)) }
-    ensures rested { OnOk result (AreRestedOf (ways R.below R.same_sums (R.idle_of ground.now.resource.now)
-        (R.waited ground.now.resource.now) (R.boards ground.now.resource.now))
-        (R.rested_of ground.now.resource.now) (R.count_of ground.now.resource.now)
-        (R.arrived ground.now.resource.now) (R.most ground.now.resource.now)
-        (length ground.now.net.now.duties) table.new found.now.arrivals.items found.now.rested.items) }
+    ensures found { OnOk result (IsFound
+        (terms R.Lapses.own R.Staged.own R.Forgets.own R.Resource.own ground.now) table.new
+        found.now from) }
     ensures linked { OnOk result ((turn : ℕ) → from ≤ turn → turn < from + length pools.now
-        → IsLinked (ways R.below R.same_sums (R.idle_of ground.now.resource.now)
-        (R.waited ground.now.resource.now) (R.boards ground.now.resource.now))
+        → IsLinked (terms R.Lapses.own R.Staged.own R.Forgets.own R.Resource.own ground.now)
         table.new turn) }
 {
     for pool in pools {
@@ -199,33 +155,22 @@ fn keep_all<R: Lapses<Duty>>(
     from: usize,
     fronts: &[Result<Vec<Arc<Pool<R>, Global>>, AllocError>],
 ) -> Result<(), AllocError>
-    requires passable { IsPassable ground.now.net.now ground.now.turns.now }
+    requires terms { AreTerms
+        (terms R.Lapses.own R.Staged.own R.Forgets.own R.Resource.own ground.now) }
     requires turns { from + length fronts.now ≤ length ground.now.net.now.by_report }
     requires few { from + length fronts.now < 2 ^ 64 }
     requires close { (turn : ℕ) → from ≤ turn → turn < from + length fronts.now
         → IsClose ground.now.net.now found.old.upto turn }
-    requires made { (i : ℕ) (d : _) → i < length fronts.now
-        → IfOk (slice_index_or fronts.now i d) (λ made. AreMade (ways R.below R.same_sums (R.idle_of ground.now.resource.now)
-        (R.waited ground.now.resource.now) (R.boards ground.now.resource.now))
-        (R.count_of ground.now.resource.now) (R.arrived ground.now.resource.now)
-        (R.most ground.now.resource.now) ground.now.net.now table.now
-        (get_or table.now.pools (from + i) []) (ranks_at ground.now.net.now (from + i))
+    requires made { (i : ℕ) (d : _) → i < length fronts.now → IfOk (slice_index_or fronts.now i d)
+        (λ made. AreMade (terms R.Lapses.own R.Staged.own R.Forgets.own R.Resource.own ground.now)
+        table.now (get_or table.now.pools (from + i) []) (ranks_at ground.now.net.now (from + i))
         (map arc_value made.items)) }
-    requires way { IsUnderWay (ways R.below R.same_sums (R.idle_of ground.now.resource.now)
-        (R.waited ground.now.resource.now) (R.boards ground.now.resource.now))
-        (R.count_of ground.now.resource.now) (R.ready ground.now.resource.now)
-        (R.arrived ground.now.resource.now) (R.most ground.now.resource.now) ground.now.net.now
-        ground.now.base ground.now.turns.now table.now (map arc_value found.old.fronts.items)
-        found.old.arrivals.items found.old.upto (λ rank. get_or ground.now.turns.now rank 0 < from) }
-    ensures way { OnOk result (IsUnderWay (ways R.below R.same_sums (R.idle_of ground.now.resource.now)
-        (R.waited ground.now.resource.now) (R.boards ground.now.resource.now))
-        (R.count_of ground.now.resource.now) (R.ready ground.now.resource.now)
-        (R.arrived ground.now.resource.now) (R.most ground.now.resource.now) ground.now.net.now
-        ground.now.base ground.now.turns.now table.now (map arc_value found.new.fronts.items)
-        found.old.arrivals.items found.old.upto
-        (λ rank. get_or ground.now.turns.now rank 0 < from + length fronts.now)) }
-    ensures arrivals { OnOk result (found.new.arrivals ≡ found.old.arrivals) }
-    ensures rested { OnOk result (found.new.rested ≡ found.old.rested) }
+    requires found { IsFound
+        (terms R.Lapses.own R.Staged.own R.Forgets.own R.Resource.own ground.now) table.now
+        found.old from }
+    ensures found { OnOk result (IsFound
+        (terms R.Lapses.own R.Staged.own R.Forgets.own R.Resource.own ground.now) table.now
+        found.new (from + length fronts.now)) }
     ensures upto { OnOk result (found.new.upto ≡ found.old.upto) }
 {
     for (at, made) in fronts.iter().enumerate() {
@@ -250,36 +195,19 @@ fn pass_batch<T: Threads + Sync, R: Lapses<Duty> + Sync>(
 ) -> Result<(), AllocError>
 where
     R::Value: Send + Sync,
-    requires passable { IsPassable ground.now.net.now ground.now.turns.now }
-    requires counts { CountsDuties R.same_sums (R.count_of ground.now.resource.now)
-        (R.most ground.now.resource.now) (R.fits ground.now.resource.now) }
+    requires terms { AreTerms
+        (terms R.Lapses.own R.Staged.own R.Forgets.own R.Resource.own ground.now) }
     requires more { length table.old.pools < end }
     requires turns { end ≤ length ground.now.net.now.by_report }
     requires close { (turn : ℕ) → length table.old.pools ≤ turn → turn < end
         → IsClose ground.now.net.now found.old.upto turn }
-    requires way { IsUnderWay (ways R.below R.same_sums (R.idle_of ground.now.resource.now)
-        (R.waited ground.now.resource.now) (R.boards ground.now.resource.now))
-        (R.count_of ground.now.resource.now) (R.ready ground.now.resource.now)
-        (R.arrived ground.now.resource.now) (R.most ground.now.resource.now) ground.now.net.now
-        ground.now.base ground.now.turns.now table.old (map arc_value found.old.fronts.items)
-        found.old.arrivals.items found.old.upto (λ rank. get_or ground.now.turns.now rank 0 < length table.old.pools) }
-    requires rested { AreRestedOf (ways R.below R.same_sums (R.idle_of ground.now.resource.now)
-        (R.waited ground.now.resource.now) (R.boards ground.now.resource.now))
-        (R.rested_of ground.now.resource.now) (R.count_of ground.now.resource.now)
-        (R.arrived ground.now.resource.now) (R.most ground.now.resource.now)
-        (length ground.now.net.now.duties) table.old found.old.arrivals.items found.old.rested.items }
+    requires found { IsFound
+        (terms R.Lapses.own R.Staged.own R.Forgets.own R.Resource.own ground.now) table.old
+        found.old (length table.old.pools) }
     ensures long { OnOk result (length table.new.pools ≡ end) }
-    ensures way { OnOk result (IsUnderWay (ways R.below R.same_sums (R.idle_of ground.now.resource.now)
-        (R.waited ground.now.resource.now) (R.boards ground.now.resource.now))
-        (R.count_of ground.now.resource.now) (R.ready ground.now.resource.now)
-        (R.arrived ground.now.resource.now) (R.most ground.now.resource.now) ground.now.net.now
-        ground.now.base ground.now.turns.now table.new (map arc_value found.new.fronts.items)
-        found.new.arrivals.items found.new.upto (λ rank. get_or ground.now.turns.now rank 0 < length table.new.pools)) }
-    ensures rested { OnOk result (AreRestedOf (ways R.below R.same_sums (R.idle_of ground.now.resource.now)
-        (R.waited ground.now.resource.now) (R.boards ground.now.resource.now))
-        (R.rested_of ground.now.resource.now) (R.count_of ground.now.resource.now)
-        (R.arrived ground.now.resource.now) (R.most ground.now.resource.now)
-        (length ground.now.net.now.duties) table.new found.new.arrivals.items found.new.rested.items) }
+    ensures found { OnOk result (IsFound
+        (terms R.Lapses.own R.Staged.own R.Forgets.own R.Resource.own ground.now) table.new
+        found.new (length table.new.pools)) }
 {
     let from = table.len();
     let arrivals = found.arrivals.as_slice();
@@ -304,35 +232,18 @@ pub(crate) fn pass_next<T: Threads + Sync, R: Lapses<Duty> + Sync>(
 ) -> Result<(), AllocError>
 where
     R::Value: Send + Sync,
-    requires passable { IsPassable ground.now.net.now ground.now.turns.now }
-    requires counts { CountsDuties R.same_sums (R.count_of ground.now.resource.now)
-        (R.most ground.now.resource.now) (R.fits ground.now.resource.now) }
+    requires terms { AreTerms
+        (terms R.Lapses.own R.Staged.own R.Forgets.own R.Resource.own ground.now) }
     requires most { length table.old.pools ≤ length ground.now.net.now.by_report }
-    requires way { IsUnderWay (ways R.below R.same_sums (R.idle_of ground.now.resource.now)
-        (R.waited ground.now.resource.now) (R.boards ground.now.resource.now))
-        (R.count_of ground.now.resource.now) (R.ready ground.now.resource.now)
-        (R.arrived ground.now.resource.now) (R.most ground.now.resource.now) ground.now.net.now
-        ground.now.base ground.now.turns.now table.old (map arc_value found.old.fronts.items)
-        found.old.arrivals.items found.old.upto (λ rank. get_or ground.now.turns.now rank 0 < length table.old.pools) }
-    requires rested { AreRestedOf (ways R.below R.same_sums (R.idle_of ground.now.resource.now)
-        (R.waited ground.now.resource.now) (R.boards ground.now.resource.now))
-        (R.rested_of ground.now.resource.now) (R.count_of ground.now.resource.now)
-        (R.arrived ground.now.resource.now) (R.most ground.now.resource.now)
-        (length ground.now.net.now.duties) table.old found.old.arrivals.items found.old.rested.items }
+    requires found { IsFound
+        (terms R.Lapses.own R.Staged.own R.Forgets.own R.Resource.own ground.now) table.old
+        found.old (length table.old.pools) }
     ensures most { OnOk result (length table.new.pools ≤ length ground.now.net.now.by_report) }
     ensures more { OnOk result ((n : ℕ) → n < length ground.now.net.now.by_report
         → n ≤ length table.old.pools → n < length table.new.pools) }
-    ensures way { OnOk result (IsUnderWay (ways R.below R.same_sums (R.idle_of ground.now.resource.now)
-        (R.waited ground.now.resource.now) (R.boards ground.now.resource.now))
-        (R.count_of ground.now.resource.now) (R.ready ground.now.resource.now)
-        (R.arrived ground.now.resource.now) (R.most ground.now.resource.now) ground.now.net.now
-        ground.now.base ground.now.turns.now table.new (map arc_value found.new.fronts.items)
-        found.new.arrivals.items found.new.upto (λ rank. get_or ground.now.turns.now rank 0 < length table.new.pools)) }
-    ensures rested { OnOk result (AreRestedOf (ways R.below R.same_sums (R.idle_of ground.now.resource.now)
-        (R.waited ground.now.resource.now) (R.boards ground.now.resource.now))
-        (R.rested_of ground.now.resource.now) (R.count_of ground.now.resource.now)
-        (R.arrived ground.now.resource.now) (R.most ground.now.resource.now)
-        (length ground.now.net.now.duties) table.new found.new.arrivals.items found.new.rested.items) }
+    ensures found { OnOk result (IsFound
+        (terms R.Lapses.own R.Staged.own R.Forgets.own R.Resource.own ground.now) table.new
+        found.new (length table.new.pools)) }
 {
     let from = table.len();
     if from >= ground.net.by_report().len() {

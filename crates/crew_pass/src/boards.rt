@@ -1,16 +1,15 @@
 //! The fronts of the duties of a departure.
-ghost use Rattle.std.specs.Prelude.{◌≡◌, ◌<◌, ◌+◌, ℕ, List, [], Some, IfOk, OnOk, get_or, length, map, set, slice_get};
+ghost use Rattle.std.specs.Prelude.{◌≡◌, ◌<◌, ◌+◌, ℕ, List, [], Some, IfOk, OnOk, get_or, length, map, slice_get};
 ghost use Rattle.std.specs.Arc.{arc_value};
 ghost use Rattle.crew_label.specs.Boarding.{LeadInto};
 ghost use Rattle.crew_label.specs.Pools.{ArePoolOf};
 ghost use Rattle.crew_label.specs.Walks.{shown};
 ghost use Rattle.crew_label.specs.declared.label.Label.{Label};
-ghost use Rattle.crew_pairing.specs.Events.{IsSound};
 ghost use Rattle.crew_pairing.specs.declared.duty.Duty.{Duty};
 ghost use Rattle.crew_resource.specs.Members.{Member};
-ghost use Rattle.crew_pass.specs.Machinery.Held.{AreHeld, leads_of, trail_of};
-ghost use Rattle.crew_pass.specs.Machinery.Passing.{AreFront, AreMade, IsBoardable, IsClean, IsClose, IsPassable, IsUnderWay, ranks_at, ways};
-ghost use Rattle.crew_pass.specs.Passes.{CountsDuties};
+ghost use Rattle.crew_pass.specs.Machinery.Held.{AreReady, HaveArrived, leads_of, trail_of};
+ghost use Rattle.crew_pass.specs.Machinery.Passing.{AreFront, AreMade, AreTerms, IsBoardable, IsClean, IsClose, IsFound, ranks_at};
+ghost use Rattle.crew_pass.specs.Machinery.Terms.{terms};
 
 use crate::ground::{Found, Ground};
 use crew_forgetful::Lapses;
@@ -28,25 +27,24 @@ fn duty_front<R: Lapses<Duty>>(
     pool: &Pool<R>,
     rank: u32,
 ) -> Result<Pool<R>, AllocError>
-    requires sound { (d : Duty) → Member ground.now.net.now.duties d → IsSound d }
-    requires counts { CountsDuties R.same_sums (R.count_of ground.now.resource.now)
-        (R.most ground.now.resource.now) (R.fits ground.now.resource.now) }
+    requires terms { AreTerms
+        (terms R.Lapses.own R.Staged.own R.Forgets.own R.Resource.own ground.now) }
     requires rank { rank < length ground.now.net.now.duties }
     requires into { LeadInto (leads_of table.now) (trail_of table.now) rank pool.now }
-    requires pool { AreHeld (R.count_of ground.now.resource.now) (R.ready ground.now.resource.now)
-        (R.most ground.now.resource.now) (length ground.now.net.now.duties) table.now pool.now }
-    requires clean { IsClean (ways R.below R.same_sums
-        (R.idle_of ground.now.resource.now) (R.waited ground.now.resource.now)
-        (R.boards ground.now.resource.now)) (trail_of table.now) pool.now }
-    ensures front { IfOk result (λ front. (d : Duty)
-        → slice_get ground.now.net.now.duties rank ≡ Some d → AreFront (ways R.below R.same_sums
-        (R.idle_of ground.now.resource.now) (R.waited ground.now.resource.now)
-        (R.boards ground.now.resource.now)) (trail_of table.now) d rank pool.now front) }
+    requires pool { AreReady
+        (terms R.Lapses.own R.Staged.own R.Forgets.own R.Resource.own ground.now) table.now
+        pool.now }
+    requires clean { IsClean
+        (terms R.Lapses.own R.Staged.own R.Forgets.own R.Resource.own ground.now)
+        (trail_of table.now) pool.now }
+    ensures front { IfOk result (λ front. (d : Duty) → slice_get ground.now.net.now.duties
+        rank ≡ Some d → AreFront
+        (terms R.Lapses.own R.Staged.own R.Forgets.own R.Resource.own ground.now)
+        (trail_of table.now) d rank pool.now front) }
     ensures itself { IfOk result (λ front. ArePoolOf R.below R.same_sums (trail_of table.now)
         (map (shown (trail_of table.now)) front) front) }
-    ensures held { IfOk result (AreHeld (R.count_of ground.now.resource.now)
-        (R.arrived ground.now.resource.now) (R.most ground.now.resource.now)
-        (length ground.now.net.now.duties) table.now) }
+    ensures held { IfOk result (HaveArrived
+        (terms R.Lapses.own R.Staged.own R.Forgets.own R.Resource.own ground.now) table.now) }
 {
     let duty = &ground.net.duties().as_slice()[rank as usize];
     front_aboard::<Duty, R, Table<R>>(alloc, ground.resource, table, pool, duty, rank)
@@ -59,20 +57,15 @@ pub(crate) fn duty_fronts<R: Lapses<Duty>>(
     table: &Table<R>,
     turn: usize,
 ) -> Result<Vec<Arc<Pool<R>, Global>>, AllocError>
-    requires passable { IsPassable ground.now.net.now ground.now.turns.now }
-    requires counts { CountsDuties R.same_sums (R.count_of ground.now.resource.now)
-        (R.most ground.now.resource.now) (R.fits ground.now.resource.now) }
+    requires terms { AreTerms
+        (terms R.Lapses.own R.Staged.own R.Forgets.own R.Resource.own ground.now) }
     requires turned { table.now.leaves ≡ ground.now.turns.now }
-    requires ready { (labels : List (Label R.Value)) → Member table.now.pools labels
-        → AreHeld (R.count_of ground.now.resource.now) (R.ready ground.now.resource.now)
-        (R.most ground.now.resource.now) (length ground.now.net.now.duties) table.now labels }
-    requires boardable { IsBoardable (ways R.below R.same_sums (R.idle_of ground.now.resource.now)
-        (R.waited ground.now.resource.now) (R.boards ground.now.resource.now))
-        ground.now.net.now table.now turn }
-    ensures { IfOk result (λ fronts. AreMade (ways R.below R.same_sums (R.idle_of ground.now.resource.now)
-        (R.waited ground.now.resource.now) (R.boards ground.now.resource.now))
-        (R.count_of ground.now.resource.now) (R.arrived ground.now.resource.now)
-        (R.most ground.now.resource.now) ground.now.net.now table.now
+    requires ready { (labels : List (Label R.Value)) → Member table.now.pools labels → AreReady
+        (terms R.Lapses.own R.Staged.own R.Forgets.own R.Resource.own ground.now) table.now labels }
+    requires boardable { IsBoardable
+        (terms R.Lapses.own R.Staged.own R.Forgets.own R.Resource.own ground.now) table.now turn }
+    ensures { IfOk result (λ fronts. AreMade
+        (terms R.Lapses.own R.Staged.own R.Forgets.own R.Resource.own ground.now) table.now
         (get_or table.now.pools turn []) (ranks_at ground.now.net.now turn)
         (map arc_value fronts.items)) }
 {
@@ -98,30 +91,20 @@ pub(crate) fn keep_fronts<R: Lapses<Duty>>(
     turn: usize,
     fronts: &[Arc<Pool<R>, Global>],
 ) -> Result<(), AllocError>
-    requires passable { IsPassable ground.now.net.now ground.now.turns.now }
+    requires terms { AreTerms
+        (terms R.Lapses.own R.Staged.own R.Forgets.own R.Resource.own ground.now) }
     requires turn { turn < length ground.now.net.now.by_report }
     requires close { IsClose ground.now.net.now found.old.upto turn }
-    requires made { AreMade (ways R.below R.same_sums (R.idle_of ground.now.resource.now)
-        (R.waited ground.now.resource.now) (R.boards ground.now.resource.now))
-        (R.count_of ground.now.resource.now) (R.arrived ground.now.resource.now)
-        (R.most ground.now.resource.now) ground.now.net.now table.now
+    requires made { AreMade
+        (terms R.Lapses.own R.Staged.own R.Forgets.own R.Resource.own ground.now) table.now
         (get_or table.now.pools turn []) (ranks_at ground.now.net.now turn)
         (map arc_value fronts.now) }
-    requires way { IsUnderWay (ways R.below R.same_sums (R.idle_of ground.now.resource.now)
-        (R.waited ground.now.resource.now) (R.boards ground.now.resource.now))
-        (R.count_of ground.now.resource.now) (R.ready ground.now.resource.now)
-        (R.arrived ground.now.resource.now) (R.most ground.now.resource.now) ground.now.net.now
-        ground.now.base ground.now.turns.now table.now (map arc_value found.old.fronts.items)
-        found.old.arrivals.items found.old.upto (λ rank. get_or ground.now.turns.now rank 0 < turn) }
-    ensures way { OnOk result (IsUnderWay (ways R.below R.same_sums (R.idle_of ground.now.resource.now)
-        (R.waited ground.now.resource.now) (R.boards ground.now.resource.now))
-        (R.count_of ground.now.resource.now)
-        (R.ready ground.now.resource.now) (R.arrived ground.now.resource.now)
-        (R.most ground.now.resource.now) ground.now.net.now ground.now.base ground.now.turns.now
-        table.now (map arc_value found.new.fronts.items) found.old.arrivals.items found.old.upto
-        (λ rank. get_or ground.now.turns.now rank 0 < turn + 1)) }
-    ensures arrivals { OnOk result (found.new.arrivals ≡ found.old.arrivals) }
-    ensures rested { OnOk result (found.new.rested ≡ found.old.rested) }
+    requires found { IsFound
+        (terms R.Lapses.own R.Staged.own R.Forgets.own R.Resource.own ground.now) table.now
+        found.old turn }
+    ensures found { OnOk result (IsFound
+        (terms R.Lapses.own R.Staged.own R.Forgets.own R.Resource.own ground.now) table.now
+        found.new (turn + 1)) }
     ensures upto { OnOk result (found.new.upto ≡ found.old.upto) }
 {
     let place = ground.net.by_report()[turn] as usize;

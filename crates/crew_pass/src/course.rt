@@ -14,10 +14,15 @@ use std::sync::Arc;
 /// order of report. It owns what it goes by, so it can be kept, and be shared by threads.
 ///
 /// A contract sees the network.
-#[derive(Drop)]
 pub struct Course {
     net: Arc<Net, Global>,
     turns: Arc<Vec<u32>, Global>,
+}
+
+impl Drop for Course {
+    fn drop(self) {
+        let Self { net: _, turns: _ } = self;
+    }
 }
 
 impl Model for Course {

@@ -1,4 +1,7 @@
 //! What a pass of one base goes by, and what it has found so far.
+//!
+//! Clauses name the first as one value: `terms` of the resource's members and the ground
+//! (`specs/Machinery/Terms`).
 use crew_flights::Code;
 use crew_label::Pool;
 use crew_net::Net;

@@ -1,5 +1,5 @@
 //! One pass over the departures of a base's network.
-ghost use Rattle.std.specs.Prelude.{◌≤ℤ◌, ◌≡◌, ◌<◌, ◌+◌, ℕ, List, Some, [], IfOk, OnOk, get_or, length, map, slice_get};
+ghost use Rattle.std.specs.Prelude.{◌≤ℤ◌, ◌≡◌, ◌<◌, ◌+◌, ℕ, List, Some, [], IfOk, OnOk, length, map, slice_get};
 ghost use Rattle.std.specs.Arc.{arc_value};
 ghost use Rattle.crew_answers.specs.Schedules.{schedule_of};
 ghost use Rattle.crew_forgetful.specs.Sweeps.{network_of};
@@ -10,7 +10,8 @@ ghost use Rattle.crew_pairing.specs.declared.duty.Duty.{Duty};
 ghost use Rattle.crew_pairing.specs.declared.events.Departure.{Departure};
 ghost use Rattle.crew_resource.specs.Members.{Member};
 ghost use Rattle.crew_pass.specs.Machinery.Numbered.{in_order};
-ghost use Rattle.crew_pass.specs.Machinery.Passing.{AreRestedOf, HasPassed, IsClose, IsPassable, IsUnderWay, ways};
+ghost use Rattle.crew_pass.specs.Machinery.Passing.{AreTerms, HasPassed, IsClose, IsFound, IsPassable};
+ghost use Rattle.crew_pass.specs.Machinery.Terms.{terms};
 ghost use Rattle.crew_pass.specs.Passes.{CountsDuties, IsCoveredBy};
 
 use crate::arrivals::arrive;
@@ -94,36 +95,17 @@ fn pass_one<R: Lapses<Duty>>(
     table: &mut Table<R>,
     found: &mut Found<R>,
 ) -> Result<(), AllocError>
-    requires passable { IsPassable ground.now.net.now ground.now.turns.now }
-    requires counts { CountsDuties R.same_sums (R.count_of ground.now.resource.now)
-        (R.most ground.now.resource.now) (R.fits ground.now.resource.now) }
+    requires terms { AreTerms
+        (terms R.Lapses.own R.Staged.own R.Forgets.own R.Resource.own ground.now) }
     requires next { length table.old.pools < length ground.now.net.now.by_report }
     requires close { IsClose ground.now.net.now found.old.upto (length table.old.pools) }
-    requires way { IsUnderWay (ways R.below R.same_sums (R.idle_of ground.now.resource.now)
-        (R.waited ground.now.resource.now) (R.boards ground.now.resource.now))
-        (R.count_of ground.now.resource.now) (R.ready ground.now.resource.now)
-        (R.arrived ground.now.resource.now) (R.most ground.now.resource.now) ground.now.net.now
-        ground.now.base ground.now.turns.now table.old (map arc_value found.old.fronts.items)
-        found.old.arrivals.items found.old.upto
-        (λ rank. get_or ground.now.turns.now rank 0 < length table.old.pools) }
-    requires rested { AreRestedOf (ways R.below R.same_sums (R.idle_of ground.now.resource.now)
-        (R.waited ground.now.resource.now) (R.boards ground.now.resource.now))
-        (R.rested_of ground.now.resource.now) (R.count_of ground.now.resource.now)
-        (R.arrived ground.now.resource.now) (R.most ground.now.resource.now)
-        (length ground.now.net.now.duties) table.old found.old.arrivals.items found.old.rested.items }
+    requires found { IsFound
+        (terms R.Lapses.own R.Staged.own R.Forgets.own R.Resource.own ground.now) table.old
+        found.old (length table.old.pools) }
     ensures more { OnOk result (length table.new.pools ≡ length table.old.pools + 1) }
-    ensures way { OnOk result (IsUnderWay (ways R.below R.same_sums (R.idle_of ground.now.resource.now)
-        (R.waited ground.now.resource.now) (R.boards ground.now.resource.now))
-        (R.count_of ground.now.resource.now) (R.ready ground.now.resource.now)
-        (R.arrived ground.now.resource.now) (R.most ground.now.resource.now) ground.now.net.now
-        ground.now.base ground.now.turns.now table.new (map arc_value found.new.fronts.items)
-        found.new.arrivals.items found.new.upto
-        (λ rank. get_or ground.now.turns.now rank 0 < length table.new.pools)) }
-    ensures rested { OnOk result (AreRestedOf (ways R.below R.same_sums (R.idle_of ground.now.resource.now)
-        (R.waited ground.now.resource.now) (R.boards ground.now.resource.now))
-        (R.rested_of ground.now.resource.now) (R.count_of ground.now.resource.now)
-        (R.arrived ground.now.resource.now) (R.most ground.now.resource.now)
-        (length ground.now.net.now.duties) table.new found.new.arrivals.items found.new.rested.items) }
+    ensures found { OnOk result (IsFound
+        (terms R.Lapses.own R.Staged.own R.Forgets.own R.Resource.own ground.now) table.new
+        found.new (length table.new.pools)) }
 {
     let turn = table.len();
     let pool = pool_at(alloc, ground, table, &found.arrivals, &found.rested, turn)?;
@@ -140,35 +122,16 @@ fn pass_next_one<R: Lapses<Duty>>(
     table: &mut Table<R>,
     found: &mut Found<R>,
 ) -> Result<(), AllocError>
-    requires passable { IsPassable ground.now.net.now ground.now.turns.now }
-    requires counts { CountsDuties R.same_sums (R.count_of ground.now.resource.now)
-        (R.most ground.now.resource.now) (R.fits ground.now.resource.now) }
+    requires terms { AreTerms
+        (terms R.Lapses.own R.Staged.own R.Forgets.own R.Resource.own ground.now) }
     requires next { length table.old.pools < length ground.now.net.now.by_report }
-    requires way { IsUnderWay (ways R.below R.same_sums (R.idle_of ground.now.resource.now)
-        (R.waited ground.now.resource.now) (R.boards ground.now.resource.now))
-        (R.count_of ground.now.resource.now) (R.ready ground.now.resource.now)
-        (R.arrived ground.now.resource.now) (R.most ground.now.resource.now) ground.now.net.now
-        ground.now.base ground.now.turns.now table.old (map arc_value found.old.fronts.items)
-        found.old.arrivals.items found.old.upto
-        (λ rank. get_or ground.now.turns.now rank 0 < length table.old.pools) }
-    requires rested { AreRestedOf (ways R.below R.same_sums (R.idle_of ground.now.resource.now)
-        (R.waited ground.now.resource.now) (R.boards ground.now.resource.now))
-        (R.rested_of ground.now.resource.now) (R.count_of ground.now.resource.now)
-        (R.arrived ground.now.resource.now) (R.most ground.now.resource.now)
-        (length ground.now.net.now.duties) table.old found.old.arrivals.items found.old.rested.items }
+    requires found { IsFound
+        (terms R.Lapses.own R.Staged.own R.Forgets.own R.Resource.own ground.now) table.old
+        found.old (length table.old.pools) }
     ensures more { OnOk result (length table.new.pools ≡ length table.old.pools + 1) }
-    ensures way { OnOk result (IsUnderWay (ways R.below R.same_sums (R.idle_of ground.now.resource.now)
-        (R.waited ground.now.resource.now) (R.boards ground.now.resource.now))
-        (R.count_of ground.now.resource.now) (R.ready ground.now.resource.now)
-        (R.arrived ground.now.resource.now) (R.most ground.now.resource.now) ground.now.net.now
-        ground.now.base ground.now.turns.now table.new (map arc_value found.new.fronts.items)
-        found.new.arrivals.items found.new.upto
-        (λ rank. get_or ground.now.turns.now rank 0 < length table.new.pools)) }
-    ensures rested { OnOk result (AreRestedOf (ways R.below R.same_sums (R.idle_of ground.now.resource.now)
-        (R.waited ground.now.resource.now) (R.boards ground.now.resource.now))
-        (R.rested_of ground.now.resource.now) (R.count_of ground.now.resource.now)
-        (R.arrived ground.now.resource.now) (R.most ground.now.resource.now)
-        (length ground.now.net.now.duties) table.new found.new.arrivals.items found.new.rested.items) }
+    ensures found { OnOk result (IsFound
+        (terms R.Lapses.own R.Staged.own R.Forgets.own R.Resource.own ground.now) table.new
+        found.new (length table.new.pools)) }
 {
     let turn = table.len();
     arrive(alloc, ground, table, found, turn)?;
@@ -196,19 +159,11 @@ fn found_none<R: Lapses<Duty>>(
     table: &Table<R>,
 ) -> Result<Found<R>, AllocError>
     requires none { table.now ≡ record { leaves = ground.now.turns.now; pools = [] } }
-    requires passable { IsPassable ground.now.net.now ground.now.turns.now }
-    ensures way { IfOk result (λ found. IsUnderWay (ways R.below R.same_sums (R.idle_of ground.now.resource.now)
-        (R.waited ground.now.resource.now) (R.boards ground.now.resource.now))
-        (R.count_of ground.now.resource.now) (R.ready ground.now.resource.now)
-        (R.arrived ground.now.resource.now) (R.most ground.now.resource.now) ground.now.net.now
-        ground.now.base ground.now.turns.now table.now (map arc_value found.fronts.items)
-        found.arrivals.items found.upto
-        (λ rank. get_or ground.now.turns.now rank 0 < length table.now.pools)) }
-    ensures rested { IfOk result (λ found. AreRestedOf (ways R.below R.same_sums (R.idle_of ground.now.resource.now)
-        (R.waited ground.now.resource.now) (R.boards ground.now.resource.now))
-        (R.rested_of ground.now.resource.now) (R.count_of ground.now.resource.now)
-        (R.arrived ground.now.resource.now) (R.most ground.now.resource.now)
-        (length ground.now.net.now.duties) table.now found.arrivals.items found.rested.items) }
+    requires terms { AreTerms
+        (terms R.Lapses.own R.Staged.own R.Forgets.own R.Resource.own ground.now) }
+    ensures { IfOk result (λ found. IsFound
+        (terms R.Lapses.own R.Staged.own R.Forgets.own R.Resource.own ground.now) table.now found
+        (length table.now.pools)) }
 {
     let net = ground.net;
     let first = first_minute(ground);
@@ -223,15 +178,11 @@ pub(crate) fn pass_all<R: Lapses<Duty>>(
     mut table: Table<R>,
 ) -> Result<(Table<R>, Found<R>), AllocError>
     requires none { table ≡ record { leaves = ground.now.turns.now; pools = [] } }
-    requires passable { IsPassable ground.now.net.now ground.now.turns.now }
-    requires counts { CountsDuties R.same_sums (R.count_of ground.now.resource.now)
-        (R.most ground.now.resource.now) (R.fits ground.now.resource.now) }
-    ensures { IfOk result (λ passed. HasPassed (ways R.below R.same_sums (R.idle_of ground.now.resource.now)
-        (R.waited ground.now.resource.now) (R.boards ground.now.resource.now))
-        (R.count_of ground.now.resource.now) (R.ready ground.now.resource.now)
-        (R.arrived ground.now.resource.now) (R.most ground.now.resource.now) ground.now.net.now
-        ground.now.base ground.now.turns.now passed.0 (map arc_value passed.1.fronts.items)
-        passed.1.arrivals.items passed.1.upto) }
+    requires terms { AreTerms
+        (terms R.Lapses.own R.Staged.own R.Forgets.own R.Resource.own ground.now) }
+    ensures { IfOk result (λ passed. HasPassed
+        (terms R.Lapses.own R.Staged.own R.Forgets.own R.Resource.own ground.now) passed.0
+        (map arc_value passed.1.fronts.items) passed.1.arrivals.items passed.1.upto) }
 {
     let mut found = found_none(alloc, ground, &table)?;
     let count = ground.net.by_report().len();
@@ -253,15 +204,11 @@ pub(crate) fn pass_all_by_threads<T: Threads + Sync, R: Lapses<Duty> + Sync>(
 where
     R::Value: Send + Sync,
     requires none { table ≡ record { leaves = ground.now.turns.now; pools = [] } }
-    requires passable { IsPassable ground.now.net.now ground.now.turns.now }
-    requires counts { CountsDuties R.same_sums (R.count_of ground.now.resource.now)
-        (R.most ground.now.resource.now) (R.fits ground.now.resource.now) }
-    ensures { IfOk result (λ passed. HasPassed (ways R.below R.same_sums (R.idle_of ground.now.resource.now)
-        (R.waited ground.now.resource.now) (R.boards ground.now.resource.now))
-        (R.count_of ground.now.resource.now) (R.ready ground.now.resource.now)
-        (R.arrived ground.now.resource.now) (R.most ground.now.resource.now) ground.now.net.now
-        ground.now.base ground.now.turns.now passed.0 (map arc_value passed.1.fronts.items)
-        passed.1.arrivals.items passed.1.upto) }
+    requires terms { AreTerms
+        (terms R.Lapses.own R.Staged.own R.Forgets.own R.Resource.own ground.now) }
+    ensures { IfOk result (λ passed. HasPassed
+        (terms R.Lapses.own R.Staged.own R.Forgets.own R.Resource.own ground.now) passed.0
+        (map arc_value passed.1.fronts.items) passed.1.arrivals.items passed.1.upto) }
 {
     let mut found = found_none(alloc, ground, &table)?;
     let count = ground.net.by_report().len();

@@ -1,5 +1,5 @@
 //! The pool of a departure.
-ghost use Rattle.std.specs.Prelude.{◌≡◌, ◌⊎◌, ◌<◌, ◌≤◌, ◌++◌, ℕ, true, false, List, Some, IfOk, OnOk, length, map, slice_get};
+ghost use Rattle.std.specs.Prelude.{◌≡◌, ◌⊎◌, ◌<◌, ◌≤◌, ◌++◌, ℕ, List, Some, IfOk, length, map, slice_get};
 ghost use Rattle.std.specs.Arc.{arc_value};
 ghost use Rattle.std.specs.Ordering.{eq_by_cmp};
 ghost use Rattle.crew_flights.specs.Codes.{code_cmp};
@@ -10,9 +10,9 @@ ghost use Rattle.crew_net.specs.Events.{IsWindow};
 ghost use Rattle.crew_pairing.specs.Events.{MayFollow, may_wait};
 ghost use Rattle.crew_pairing.specs.declared.events.Departure.{Departure};
 ghost use Rattle.crew_resource.specs.Members.{Member};
-ghost use Rattle.crew_pass.specs.Machinery.Held.{AreHeld, trail_of};
-ghost use Rattle.crew_pass.specs.Machinery.Passing.{AreCollected, AreCovering, AreSources, IsClean, IsPassable, IsPoolAt, IsRested, Waits, idle_labels, waited_entries, ways};
-ghost use Rattle.crew_pass.specs.Passes.{CountsDuties};
+ghost use Rattle.crew_pass.specs.Machinery.Held.{AreReady, HaveArrived, trail_of};
+ghost use Rattle.crew_pass.specs.Machinery.Passing.{AreCollected, AreCovering, AreSources, AreTerms, IsClean, IsPoolAt, IsRested, Waits, idle_labels, waited_entries};
+ghost use Rattle.crew_pass.specs.Machinery.Terms.{terms};
 
 use crate::ground::Ground;
 use crew_forgetful::Lapses;
@@ -56,23 +56,23 @@ fn waited_at<R: Lapses<Duty>>(
     held: &Pool<R>,
     rested: &Pool<R>,
 ) -> Result<Pool<R>, AllocError>
-    requires counts { CountsDuties R.same_sums (R.count_of ground.now.resource.now)
-        (R.most ground.now.resource.now) (R.fits ground.now.resource.now) }
+    requires terms { AreTerms
+        (terms R.Lapses.own R.Staged.own R.Forgets.own R.Resource.own ground.now) }
     requires follows { MayFollow arrival.now departure.now }
-    requires held { AreHeld (R.count_of ground.now.resource.now) (R.arrived ground.now.resource.now)
-        (R.most ground.now.resource.now) (length ground.now.net.now.duties) table.now held.now }
-    requires clean { IsClean (ways R.below R.same_sums (R.idle_of ground.now.resource.now)
-        (R.waited ground.now.resource.now) (R.boards ground.now.resource.now))
+    requires held { HaveArrived
+        (terms R.Lapses.own R.Staged.own R.Forgets.own R.Resource.own ground.now) table.now
+        held.now }
+    requires clean { IsClean
+        (terms R.Lapses.own R.Staged.own R.Forgets.own R.Resource.own ground.now)
         (trail_of table.now) held.now }
-    requires rested { IsRested (ways R.below R.same_sums (R.idle_of ground.now.resource.now)
-        (R.waited ground.now.resource.now) (R.boards ground.now.resource.now)) (R.rested_of ground.now.resource.now)
-        (R.count_of ground.now.resource.now) (R.arrived ground.now.resource.now)
-        (R.most ground.now.resource.now) (length ground.now.net.now.duties) table.now held.now rested.now }
+    requires rested { IsRested
+        (terms R.Lapses.own R.Staged.own R.Forgets.own R.Resource.own ground.now) table.now held.now
+        rested.now }
     ensures pool { IfOk result (λ waited. ArePoolOf R.below R.same_sums (trail_of table.now)
         (waited_entries (λ v. R.waited ground.now.resource.now v arrival.now departure.now)
         (map (shown (trail_of table.now)) held.now)) waited) }
-    ensures held { IfOk result (AreHeld (R.count_of ground.now.resource.now) (R.ready ground.now.resource.now)
-        (R.most ground.now.resource.now) (length ground.now.net.now.duties) table.now) }
+    ensures held { IfOk result (AreReady
+        (terms R.Lapses.own R.Staged.own R.Forgets.own R.Resource.own ground.now) table.now) }
 {
     let resource = ground.resource;
     if resource.is_rest(arrival, departure) {
@@ -93,26 +93,22 @@ fn window_pools<R: Lapses<Duty>>(
     arrivals: &[Pool<R>],
     rested: &[Pool<R>],
 ) -> Result<Vec<Pool<R>>, AllocError>
-    requires rests { ground.now.net.now.settings.max_rest ≤ 8_280 }
-    requires counts { CountsDuties R.same_sums (R.count_of ground.now.resource.now)
-        (R.most ground.now.resource.now) (R.fits ground.now.resource.now) }
+    requires terms { AreTerms
+        (terms R.Lapses.own R.Staged.own R.Forgets.own R.Resource.own ground.now) }
     requires window { IsWindow (λ x. may_wait ground.now.net.now.settings x departure.now)
         ground.now.net.now.arrivals window }
     requires can_idle { R.can_idle ground.now.resource.now departure.now }
-    requires sources { AreSources (ways R.below R.same_sums (R.idle_of ground.now.resource.now)
-        (R.waited ground.now.resource.now) (R.boards ground.now.resource.now))
-        (R.rested_of ground.now.resource.now) (R.count_of ground.now.resource.now)
-        (R.arrived ground.now.resource.now) (R.most ground.now.resource.now) ground.now.net.now
-        table.now arrivals.now rested.now }
-    ensures collected { IfOk result (λ pools. AreCollected (ways R.below R.same_sums (R.idle_of ground.now.resource.now)
-        (R.waited ground.now.resource.now) (R.boards ground.now.resource.now))
-        (trail_of table.now) (Waits (ways R.below R.same_sums (R.idle_of ground.now.resource.now)
-        (R.waited ground.now.resource.now) (R.boards ground.now.resource.now))
-        ground.now.net.now ground.now.base (trail_of table.now) arrivals.now departure.now)
-        pools.items) }
+    requires sources { AreSources
+        (terms R.Lapses.own R.Staged.own R.Forgets.own R.Resource.own ground.now) table.now
+        arrivals.now rested.now }
+    ensures collected { IfOk result (λ pools. AreCollected
+        (terms R.Lapses.own R.Staged.own R.Forgets.own R.Resource.own ground.now)
+        (trail_of table.now) (Waits
+        (terms R.Lapses.own R.Staged.own R.Forgets.own R.Resource.own ground.now)
+        (trail_of table.now) arrivals.now departure.now) pools.items) }
     ensures held { IfOk result (λ pools. (labels : List (Label R.Value)) → Member pools.items labels
-        → AreHeld (R.count_of ground.now.resource.now) (R.ready ground.now.resource.now)
-        (R.most ground.now.resource.now) (length ground.now.net.now.duties) table.now labels) }
+        → AreReady (terms R.Lapses.own R.Staged.own R.Forgets.own R.Resource.own ground.now)
+        table.now labels) }
 {
     let mut pools = Vec::new(alloc);
     pools.push(idle_pool(alloc, ground, departure)?)?;
@@ -133,16 +129,15 @@ pub(crate) fn joined<R: Lapses<Duty>>(
     table: &Table<R>,
     pools: &[Pool<R>],
 ) -> Result<Pool<R>, AllocError>
-    requires counts { CountsDuties R.same_sums (R.count_of ground.now.resource.now)
-        (R.most ground.now.resource.now) (R.fits ground.now.resource.now) }
-    requires held { (labels : List (Label R.Value)) → Member pools.now labels
-        → AreHeld (R.count_of ground.now.resource.now) (R.ready ground.now.resource.now)
-        (R.most ground.now.resource.now) (length ground.now.net.now.duties) table.now labels }
+    requires terms { AreTerms
+        (terms R.Lapses.own R.Staged.own R.Forgets.own R.Resource.own ground.now) }
+    requires held { (labels : List (Label R.Value)) → Member pools.now labels → AreReady
+        (terms R.Lapses.own R.Staged.own R.Forgets.own R.Resource.own ground.now) table.now labels }
     ensures pool { IfOk result (λ whole. (candidates : List (R.Value × List ℕ))
         → ArePoolsOf R.below R.same_sums (trail_of table.now) candidates pools.now
         → ArePoolOf R.below R.same_sums (trail_of table.now) candidates whole) }
-    ensures held { IfOk result (AreHeld (R.count_of ground.now.resource.now) (R.ready ground.now.resource.now)
-        (R.most ground.now.resource.now) (length ground.now.net.now.duties) table.now) }
+    ensures held { IfOk result (AreReady
+        (terms R.Lapses.own R.Staged.own R.Forgets.own R.Resource.own ground.now) table.now) }
 {
     let mut each = Vec::with_capacity(alloc, pools.len())?;
     for pool in pools {
@@ -161,28 +156,23 @@ fn departure_pool<R: Lapses<Duty>>(
     rested: &[Pool<R>],
     place: usize,
 ) -> Result<Pool<R>, AllocError>
-    requires passable { IsPassable ground.now.net.now ground.now.turns.now }
-    requires counts { CountsDuties R.same_sums (R.count_of ground.now.resource.now)
-        (R.most ground.now.resource.now) (R.fits ground.now.resource.now) }
+    requires terms { AreTerms
+        (terms R.Lapses.own R.Staged.own R.Forgets.own R.Resource.own ground.now) }
     requires place { place < length ground.now.net.now.departures }
-    requires sources { AreSources (ways R.below R.same_sums (R.idle_of ground.now.resource.now)
-        (R.waited ground.now.resource.now) (R.boards ground.now.resource.now))
-        (R.rested_of ground.now.resource.now) (R.count_of ground.now.resource.now)
-        (R.arrived ground.now.resource.now) (R.most ground.now.resource.now) ground.now.net.now
-        table.now arrivals.now rested.now }
-    ensures covers { IfOk result (λ pool. (g : Departure)
-        → slice_get ground.now.net.now.departures place ≡ Some g
-        → AreCovering (ways R.below R.same_sums (R.idle_of ground.now.resource.now)
-        (R.waited ground.now.resource.now) (R.boards ground.now.resource.now)) (trail_of table.now)
-        (Waits (ways R.below R.same_sums (R.idle_of ground.now.resource.now)
-        (R.waited ground.now.resource.now) (R.boards ground.now.resource.now)) ground.now.net.now
-        ground.now.base (trail_of table.now) arrivals.now g) pool) }
-    ensures held { IfOk result (AreHeld (R.count_of ground.now.resource.now)
-        (R.ready ground.now.resource.now) (R.most ground.now.resource.now)
-        (length ground.now.net.now.duties) table.now) }
-    ensures clean { IfOk result (λ pool. IsClean (ways R.below R.same_sums
-        (R.idle_of ground.now.resource.now) (R.waited ground.now.resource.now)
-        (R.boards ground.now.resource.now)) (trail_of table.now) pool) }
+    requires sources { AreSources
+        (terms R.Lapses.own R.Staged.own R.Forgets.own R.Resource.own ground.now) table.now
+        arrivals.now rested.now }
+    ensures covers { IfOk result (λ pool. (g : Departure) → slice_get ground.now.net.now.departures
+        place ≡ Some g → AreCovering
+        (terms R.Lapses.own R.Staged.own R.Forgets.own R.Resource.own ground.now)
+        (trail_of table.now) (Waits
+        (terms R.Lapses.own R.Staged.own R.Forgets.own R.Resource.own ground.now)
+        (trail_of table.now) arrivals.now g) pool) }
+    ensures held { IfOk result (AreReady
+        (terms R.Lapses.own R.Staged.own R.Forgets.own R.Resource.own ground.now) table.now) }
+    ensures clean { IfOk result (λ pool. IsClean
+        (terms R.Lapses.own R.Staged.own R.Forgets.own R.Resource.own ground.now)
+        (trail_of table.now) pool) }
 {
     let departure = &ground.net.departures()[place];
     let window = ground.net.window(place);
@@ -197,15 +187,14 @@ pub(crate) fn rested_pool<R: Lapses<Duty>>(
     table: &Table<R>,
     held: &Pool<R>,
 ) -> Result<Pool<R>, AllocError>
-    requires counts { CountsDuties R.same_sums (R.count_of ground.now.resource.now)
-        (R.most ground.now.resource.now) (R.fits ground.now.resource.now) }
-    requires held { AreHeld (R.count_of ground.now.resource.now) (R.arrived ground.now.resource.now)
-        (R.most ground.now.resource.now) (length ground.now.net.now.duties) table.now held.now }
-    ensures { IfOk result (IsRested (ways R.below R.same_sums (R.idle_of ground.now.resource.now)
-        (R.waited ground.now.resource.now) (R.boards ground.now.resource.now))
-        (R.rested_of ground.now.resource.now) (R.count_of ground.now.resource.now)
-        (R.arrived ground.now.resource.now) (R.most ground.now.resource.now)
-        (length ground.now.net.now.duties) table.now held.now) }
+    requires terms { AreTerms
+        (terms R.Lapses.own R.Staged.own R.Forgets.own R.Resource.own ground.now) }
+    requires held { HaveArrived
+        (terms R.Lapses.own R.Staged.own R.Forgets.own R.Resource.own ground.now) table.now
+        held.now }
+    ensures { IfOk result (IsRested
+        (terms R.Lapses.own R.Staged.own R.Forgets.own R.Resource.own ground.now) table.now
+        held.now) }
 {
     let rested = held.rested::<Duty, Table<R>>(alloc, ground.resource, table)?;
     Ok(rested)
@@ -220,20 +209,15 @@ pub(crate) fn pool_at<R: Lapses<Duty>>(
     rested: &[Pool<R>],
     turn: usize,
 ) -> Result<Arc<Pool<R>, Global>, AllocError>
-    requires passable { IsPassable ground.now.net.now ground.now.turns.now }
-    requires counts { CountsDuties R.same_sums (R.count_of ground.now.resource.now)
-        (R.most ground.now.resource.now) (R.fits ground.now.resource.now) }
+    requires terms { AreTerms
+        (terms R.Lapses.own R.Staged.own R.Forgets.own R.Resource.own ground.now) }
     requires turn { turn < length ground.now.net.now.by_report }
-    requires sources { AreSources (ways R.below R.same_sums (R.idle_of ground.now.resource.now)
-        (R.waited ground.now.resource.now) (R.boards ground.now.resource.now))
-        (R.rested_of ground.now.resource.now) (R.count_of ground.now.resource.now)
-        (R.arrived ground.now.resource.now) (R.most ground.now.resource.now) ground.now.net.now
-        table.now arrivals.now rested.now }
-    ensures { IfOk result (λ pool. IsPoolAt (ways R.below R.same_sums (R.idle_of ground.now.resource.now)
-        (R.waited ground.now.resource.now) (R.boards ground.now.resource.now))
-        (R.count_of ground.now.resource.now) (R.ready ground.now.resource.now)
-        (R.most ground.now.resource.now) ground.now.net.now ground.now.base table.now arrivals.now
-        turn (arc_value pool)) }
+    requires sources { AreSources
+        (terms R.Lapses.own R.Staged.own R.Forgets.own R.Resource.own ground.now) table.now
+        arrivals.now rested.now }
+    ensures { IfOk result (λ pool. IsPoolAt
+        (terms R.Lapses.own R.Staged.own R.Forgets.own R.Resource.own ground.now) table.now
+        arrivals.now turn (arc_value pool)) }
 {
     let place = ground.net.by_report()[turn] as usize;
     let pool = departure_pool(alloc, ground, table, arrivals, rested, place)?;

@@ -11,7 +11,7 @@ use Rattle.crew_pairing.specs.declared.events.Arrival.{Arrival}
 use Rattle.crew_resource.specs.Members.{Member}
 use Rattle.crew_resource.proofs.Members.{Member-get}
 use Rattle.crew_pass.specs.Machinery.Held.{trail_of}
-use Rattle.crew_pass.specs.Machinery.Passing.{ways}
+use Rattle.crew_pass.specs.Machinery.Terms.{terms}
 use Rattle.crew_pass.proofs.Arriving.{all-gathered, none-collected, one-collected}
 use Rattle.crew_pass.proofs.Numbers.{get-within}
 use Rattle.crew_pass.proofs.Slices.{get-at, item-in, map-get, member-got, ranks-out, stands}
@@ -19,10 +19,9 @@ use Rattle.crew_pass.proofs.arrivals.arrival_pool.Goals as goal
 
 pub loop-rank-init : goal.loop-rank-init
 loop-rank-init g c =
-    let r = c.args.ground.now.resource.now in
-    let w = ways g.R.Resource.below g.R.Forgets.same_sums (g.R.Staged.idle_of r) (g.R.Staged.waited r) (g.R.Staged.boards r) in
+    let w = terms g.R.Lapses g.R.Staged g.R.Forgets g.R.Resource c.args.ground.now in
     let value = arc_value {X = Pool g.row.R.Denot g.row.R-Value.Denot Duty} {Z = Global} in
-    none-collected w (g.R.Staged.count_of r) (g.R.Staged.arrived r) (g.R.Staged.most r) c.args.ground.now.net.now c.args.table.now (map value c.args.fronts.now)
+    none-collected w c.args.table.now (map value c.args.fronts.now)
     c.arriving-rank-items.result.now (map (λ (p : Bor (Pool g.row.R.Denot g.row.R-Value.Denot Duty)). p.now) c.new-pools.result.items)
     (ap (map (λ (p : Bor (Pool g.row.R.Denot g.row.R-Value.Denot Duty)). p.now)) c.new-pools.ensures.items)
 
@@ -44,8 +43,7 @@ bounds-fronts-rank g c =
 pub loop-rank-preserved : goal.loop-rank-preserved
 loop-rank-preserved g c =
     let net = c.args.ground.now.net.now in
-    let r = c.args.ground.now.resource.now in
-    let w = ways g.R.Resource.below g.R.Forgets.same_sums (g.R.Staged.idle_of r) (g.R.Staged.waited r) (g.R.Staged.boards r) in
+    let w = terms g.R.Lapses g.R.Staged g.R.Forgets g.R.Resource c.args.ground.now in
     let value = arc_value {X = Pool g.row.R.Denot g.row.R-Value.Denot Duty} {Z = Global} in
     let shared = λ (p : Bor (Pool g.row.R.Denot g.row.R-Value.Denot Duty)). p.now in
     let fronts = c.args.fronts.now in
@@ -61,7 +59,7 @@ loop-rank-preserved g c =
     let within : rank < length fronts = omega (arith, below, long, same) in
     let here : slice_get fronts rank ≡ Some c.index-fronts-rank.result = item-in fronts fronts rank c.index-fronts-rank.result within refl c.index-fronts-rank.is in
     let there : slice_get (map value fronts) rank ≡ Some c.deref.result.now = map-get value fronts rank c.index-fronts-rank.result here ∙ ap Some (sym c.deref.ensures) in
-    one-collected w (g.R.Staged.count_of r) (g.R.Staged.arrived r) (g.R.Staged.most r) net c.args.table.now (map value fronts) c.requires.kept
+    one-collected w c.args.table.now (map value fronts) c.requires.kept
     ranks i c.loop-rank-test.true (map shared c.loop-rank.pools.items) (map shared c.push.new.self.items) c.deref.result.now
     (ap (map shared) c.in_ok-push.ensures.items ∙ map-append shared c.loop-rank.pools.items (c.deref.result ∷ []))
     (get-at (map value fronts) rank c.deref.result.now [] there) (member-got (map value fronts) rank c.deref.result.now there) c.loop-rank.invariant
@@ -69,13 +67,12 @@ loop-rank-preserved g c =
 pub returns-clause-gathered : goal.returns-clause-gathered
 returns-clause-gathered g c =
     let net = c.args.ground.now.net.now in
-    let r = c.args.ground.now.resource.now in
-    let w = ways g.R.Resource.below g.R.Forgets.same_sums (g.R.Staged.idle_of r) (g.R.Staged.waited r) (g.R.Staged.boards r) in
+    let w = terms g.R.Lapses g.R.Staged g.R.Forgets g.R.Resource c.args.ground.now in
     let value = arc_value {X = Pool g.row.R.Denot g.row.R-Value.Denot Duty} {Z = Global} in
     let shared = λ (p : Bor (Pool g.row.R.Denot g.row.R-Value.Denot Duty)). p.now in
     let pools = c.loop-rank.pools.items in
     IfOk-weaker c.of_pools.result _ _ (λ whole pool (x : Arrival) (at : slice_get net.arrivals c.args.place ≡ Some x).
-    all-gathered w (g.R.Staged.count_of r) (g.R.Staged.arrived r) (g.R.Staged.most r) net c.args.table.now (map value c.args.fronts.now) x c.arriving-rank-items.result.now
+    all-gathered w c.args.table.now (map value c.args.fronts.now) x c.arriving-rank-items.result.now
     (c.arriving-rank-items.ensures x at) c.loop-rank.rank-index c.loop-rank-test.false (map shared pools) whole
     (λ candidates h. pool candidates (subst (λ (ps : List (Bor (Pool g.row.R.Denot g.row.R-Value.Denot Duty))). ArePoolsOf w.below w.same (trail_of c.args.table.now) candidates (map shared ps)) (sym c.deref-2.ensures.value) h))
     c.loop-rank.invariant) c.of_pools.ensures.pool

@@ -5,16 +5,16 @@ use Rattle.crew_pass.proofs.arrivals.arrive_by_threads.Goals as goal
 
 pub put_arrivals-requires-clause-rises : goal.put_arrivals-requires-clause-rises
 put_arrivals-requires-clause-rises g c =
-    let p = c.requires.passable in
+    let p = c.requires.terms.passable in
     let first = c.report_at-first.result in
     let read = whole first c.report_at-first.ensures.real in
     let next = c.requires.next in
     no-sooner c.args.ground.now.net.now p.departs p.ordered c.args.turn (to_z w64 (of_z w64 first)) c.args.found.now.upto c.requires.turn (λ g' h. read ∙ c.report_at-first.ensures.exact g' h)
-    (λ g' h. c.requires.way.late c.args.turn g' (omega (arith, next)) h)
+    (λ g' h. c.requires.found.way.late c.args.turn g' (omega (arith, next)) h)
 
 pub put_arrivals-requires-clause-late : goal.put_arrivals-requires-clause-late
 put_arrivals-requires-clause-late g c =
-    let p = c.requires.passable in
+    let p = c.requires.terms.passable in
     let first = c.report_at-first.result in
     let read = whole first c.report_at-first.ensures.real in
     let next = c.requires.next in

@@ -7,7 +7,8 @@ use Rattle.crew_label.specs.declared.label.Label.{Label}
 use Rattle.crew_label.specs.declared.pool.Pool.{Pool}
 use Rattle.crew_pairing.specs.declared.duty.Duty.{Duty}
 use Rattle.crew_pass.specs.Machinery.Numbered.{in_order}
-use Rattle.crew_pass.specs.Machinery.Passing.{IsLinked, IsPoolAt, ways}
+use Rattle.crew_pass.specs.Machinery.Passing.{IsLinked, IsPoolAt}
+use Rattle.crew_pass.specs.Machinery.Terms.{terms}
 use Rattle.crew_pass.proofs.Added.{linked-last, linked-still}
 use Rattle.crew_pass.proofs.Batched.{close-early}
 use Rattle.crew_pass.proofs.Departures.{all-stay, appended, covering-still, departure-more, held-still}
@@ -20,15 +21,9 @@ pub loop-pool-preserved : goal.loop-pool-preserved
 loop-pool-preserved g c =
     let net = c.args.ground.now.net.now in
     let r = c.args.ground.now.resource.now in
-    let w = ways g.R.Resource.below g.R.Forgets.same_sums (g.R.Staged.idle_of r) (g.R.Staged.waited r) (g.R.Staged.boards r) in
+    let w = terms g.R.Lapses g.R.Staged g.R.Forgets g.R.Resource c.args.ground.now in
     let value = arc_value {X = Pool g.row.R.Denot g.row.R-Value.Denot Duty} {Z = Global} in
-    let count = g.R.Staged.count_of r in
     let ready = g.R.Staged.ready r in
-    let arrived = g.R.Staged.arrived r in
-    let most = g.R.Staged.most r in
-    let rest = g.R.Lapses.rested_of r in
-    let duties = length net.duties in
-    let base = c.args.ground.now.base in
     let turns = c.args.ground.now.turns.now in
     let from = c.args.from in
     let k = c.loop-pool.pool-index in
@@ -44,26 +39,28 @@ loop-pool-preserved g c =
     let test = c.loop-pool-test.true in
     let room = c.requires.turns in
     let long = i.0 in
-    let At = λ (ls : List (Label g.row.R-Value.Denot)). IsPoolAt w count ready most net base first held (from + k) ls in
+    let At = λ (ls : List (Label g.row.R-Value.Denot)). IsPoolAt w first held (from + k) ls in
     let made : At pool = subst (λ (ls : List (Label g.row.R-Value.Denot)). At ls) (sym c.in_ok-pool.ensures)
     (subst (λ o. IfOk o (λ p. At (value p))) (sym c.pool-item.is ∙ c.in-Ok.is) (c.requires.pools k c.pool-item.result test)) in
-    let within : from + k < length (in_order net) = subst (λ (n : ℕ). from + k < n) (sym (in-order-long net c.requires.passable.departs c.requires.passable.ordered)) (omega (arith, room, test)) in
+    let within : from + k < length (in_order net) = subst (λ (n : ℕ). from + k < n) (sym (in-order-long net c.requires.terms.passable.departs c.requires.terms.passable.ordered)) (omega (arith, room, test)) in
     let d = stands (in_order net) (from + k) within in
     let at : slice_get (in_order net) (length t.pools) ≡ Some d.0 = ap (λ (n : ℕ). slice_get (in_order net) n) long ∙ d.1 in
-    let same = all-stay first t i.1 count most duties ready pool made.held in
-    let covers = covering-still first t i.1 w count ready arrived most net base turns fronts held c.args.found.now.upto (λ q. get_or turns q 0 < from) c.requires.way d.0 pool pool same (made.covers d.0 d.1) in
-    let stands-held = held-still first t i.1 count most duties ready pool made.held in
-    let stands-clean = clean-stays w rest count arrived most duties first t i.1 ready pool made.held made.clean in
+    let same = all-stay first t i.1 w ready pool made.held in
+    let covers = covering-still first t i.1 w fronts held c.args.found.now.upto (λ q. get_or turns q 0 < from) c.requires.found.way d.0 pool pool same (made.covers d.0 d.1) in
+    let stands-held = held-still first t i.1 w ready pool made.held in
+    let stands-clean = clean-stays w first t i.1 ready pool made.held made.clean in
     let longer = (appended t.pools now.pools pool pools-is).0 in
-    let last = linked-last w rest count ready arrived most duties t now c.in_ok-add.ensures.stays pool leaves-is pools-is stands-held stands-clean c.in_ok-add.ensures.into in (
+    let last = linked-last w t now c.in_ok-add.ensures.stays pool leaves-is pools-is stands-held stands-clean c.in_ok-add.ensures.into in (
       omega (arith, long, longer),
       (λ link h.
           let a = i.1 link h in
           let b = c.in_ok-add.ensures.stays link a.0 in
           (b.0, b.1 ∙ a.1)),
-      departure-more t now c.in_ok-add.ensures.stays w count ready arrived most net base turns fronts held c.args.found.now.upto (λ q. get_or turns q 0 < from) i.2 (λ q h. omega (arith, h, long)) pool leaves-is pools-is d.0 at
-          (close-early net c.args.found.now.upto (from + k) d.0 (c.requires.close (from + k) (omega (arith)) (omega (arith, test))) d.1) covers stands-held,
-      rested-stays w rest count arrived most duties t now c.in_ok-add.ensures.stays held c.args.found.now.rested.items i.2.held_arrived i.3,
+      record {
+        way = departure-more t now c.in_ok-add.ensures.stays w fronts held c.args.found.now.upto (λ q. get_or turns q 0 < from) i.2.way (λ q h. omega (arith, h, long)) pool leaves-is pools-is d.0 at
+            (close-early net c.args.found.now.upto (from + k) d.0 (c.requires.close (from + k) (omega (arith)) (omega (arith, test))) d.1) covers stands-held;
+        rested = rested-stays w t now c.in_ok-add.ensures.stays held c.args.found.now.rested.items i.2.way.held_arrived i.2.rested;
+      },
       (λ turn low high. ⊎_elim {C = IsLinked w now turn}
           (λ s.
           let e = s.1 in
@@ -71,11 +68,11 @@ loop-pool-preserved g c =
           subst (λ (n : ℕ). IsLinked w now n) is last)
           (λ ne.
           let e = ne.1 in
-          linked-still w rest count ready arrived most duties t now c.in_ok-add.ensures.stays pool leaves-is pools-is turn i.2.pools_ready (i.4 turn low (omega (arith, high, e))))
+          linked-still w t now c.in_ok-add.ensures.stays pool leaves-is pools-is turn i.2.way.pools_ready (i.3 turn low (omega (arith, high, e))))
           (eqb_tells turn (from + k))),
     )
 
 pub returns-clause-linked : goal.returns-clause-linked
 returns-clause-linked g c turn low high =
     let over = c.loop-pool-test.false in
-    c.loop-pool.invariant.4 turn low (omega (arith, high, over))
+    c.loop-pool.invariant.3 turn low (omega (arith, high, over))

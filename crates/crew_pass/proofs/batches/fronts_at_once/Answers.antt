@@ -5,4 +5,4 @@ pub map_claimed-requires-after_bounds : goal.map_claimed-requires-after_bounds
 map_claimed-requires-after_bounds g c x y i h =
     let first = c.requires.turns in
     let fits = c.ranges.end.fits in
-    (omega (arith, h, first, fits), c.requires.passable, c.requires.counts, c.requires.turned, c.requires.ready, c.requires.boardable (c.args.from + i) (omega (arith, h)) (omega (arith, h, first)))
+    (omega (arith, h, first, fits), c.requires.terms, c.requires.turned, c.requires.ready, c.requires.boardable (c.args.from + i) (omega (arith, h)) (omega (arith, h, first)))

@@ -8,7 +8,7 @@ use Rattle.crew_pass.proofs.batches.pass_next.Goals as goal
 pub pass_batch-requires-clause-close : goal.pass_batch-requires-clause-close
 pass_batch-requires-clause-close g c κs out turn low high =
     let net = c.args.ground.now.net.now in
-    let p = c.requires.passable in
+    let p = c.requires.terms.passable in
     let len = c.len-from.ensures in
     let long = in-order-long net p.departs p.ordered in
     let same = ap length c.by_report.ensures.places in

@@ -6,4 +6,4 @@ map_claimed-requires-after_bounds g c x y i h =
     let first = c.requires.turns.0 in
     let last = c.requires.turns.1 in
     let fits = c.ranges.end.fits in
-    (omega (arith, h, first, last), omega (arith, h, first, fits), c.requires.passable, c.requires.counts, c.requires.sources)
+    (omega (arith, h, first, last), omega (arith, h, first, fits), c.requires.terms, c.requires.sources)

@@ -9,7 +9,8 @@ use Rattle.crew_pairing.specs.declared.duty.Duty.{Duty}
 use Rattle.crew_resource.specs.Labels.{IsLocal}
 use Rattle.crew_resource.specs.Members.{Member}
 use Rattle.crew_pass.specs.Machinery.Held.{leads_of, trail_of}
-use Rattle.crew_pass.specs.Machinery.Passing.{boarding, ways}
+use Rattle.crew_pass.specs.Machinery.Passing.{boarding}
+use Rattle.crew_pass.specs.Machinery.Terms.{terms}
 use Rattle.crew_pass.proofs.Labels.{boarded-held, counted}
 use Rattle.crew_pass.proofs.Slices.{item-in, member-got, some-same}
 use Rattle.crew_pass.proofs.boards.duty_front.Goals as goal
@@ -19,7 +20,7 @@ front_aboard-requires-clause-sound g c =
     let duties = c.args.ground.now.net.now.duties in
     let d = c.index-as_slice-rank.result in
     let here = item-in duties c.as_slice.result.now c.args.rank d c.requires.rank (c.as_slice.ensures ∙ c.duties.ensures) c.index-as_slice-rank.is in
-    c.requires.sound d (member-got duties c.args.rank d here)
+    c.requires.terms.passable.sound d (member-got duties c.args.rank d here)
 
 pub front_aboard-requires-clause-boards : goal.front_aboard-requires-clause-boards
 front_aboard-requires-clause-boards g c l m =
@@ -29,13 +30,13 @@ front_aboard-requires-clause-boards g c l m =
     let here = item-in duties c.as_slice.result.now c.args.rank d c.requires.rank (c.as_slice.ensures ∙ c.duties.ensures) c.index-as_slice-rank.is in
     let k = (c.requires.pool l m).entry in
     let n = length (shown (trail_of c.args.table.now) l).1 in
-    let few : n ≤ c.requires.counts.limit = k.few c.requires.counts.limit c.requires.counts.has_most in
-    (g.met.R.Staged.bounds r).boards n l.value d (c.requires.sound d (member-got duties c.args.rank d here)) (c.requires.counts.fit (suc n) (omega (arith, few))) k.bound
+    let few : n ≤ c.requires.terms.counts.limit = k.few c.requires.terms.counts.limit c.requires.terms.counts.has_most in
+    (g.met.R.Staged.bounds r).boards n l.value d (c.requires.terms.passable.sound d (member-got duties c.args.rank d here)) (c.requires.terms.counts.fit (suc n) (omega (arith, few))) k.bound
 
 pub front_aboard-requires-clause-counts : goal.front_aboard-requires-clause-counts
 front_aboard-requires-clause-counts g c =
-    let r = c.args.ground.now.resource.now in
-    counted (g.R.Staged.count_of r) (g.R.Staged.most r) (length c.args.ground.now.net.now.duties) c.args.table.now (g.R.Staged.ready r) c.args.pool.now c.requires.pool
+    let w = terms g.R.Lapses g.R.Staged g.R.Forgets g.R.Resource c.args.ground.now in
+    counted w c.args.table.now w.ready c.args.pool.now c.requires.pool
 
 pub returns-clause-front : goal.returns-clause-front
 returns-clause-front g c =
@@ -43,7 +44,7 @@ returns-clause-front g c =
     let duties = c.args.ground.now.net.now.duties in
     let t = c.args.table.now in
     let first = c.index-as_slice-rank.result in
-    let w = ways g.R.Resource.below g.R.Forgets.same_sums (g.R.Staged.idle_of r) (g.R.Staged.waited r) (g.R.Staged.boards r) in
+    let w = terms g.R.Lapses g.R.Staged g.R.Forgets g.R.Resource c.args.ground.now in
     let here = item-in duties c.as_slice.result.now c.args.rank first c.requires.rank (c.as_slice.ensures ∙ c.duties.ensures) c.index-as_slice-rank.is in
     let is = boarded_entries (λ v. g.R.Staged.boards r v first) c.args.rank (leads_of t) (trail_of t) c.args.pool.now c.requires.into in
     IfOk-weaker c.front_aboard.result _ _ (λ front local (d : Duty) (at : slice_get duties c.args.rank ≡ Some d).
@@ -53,19 +54,19 @@ returns-clause-front g c =
 
 pub returns-clause-held : goal.returns-clause-held
 returns-clause-held g c =
+    let w = terms g.R.Lapses g.R.Staged g.R.Forgets g.R.Resource c.args.ground.now in
     let r = c.args.ground.now.resource.now in
-    let n = length c.args.ground.now.net.now.duties in
     let duties = c.args.ground.now.net.now.duties in
     let t = c.args.table.now in
     let d = c.index-as_slice-rank.result in
     let here = item-in duties c.as_slice.result.now c.args.rank d c.requires.rank (c.as_slice.ensures ∙ c.duties.ensures) c.index-as_slice-rank.is in
-    let sound = c.requires.sound d (member-got duties c.args.rank d here) in
+    let sound = c.requires.terms.passable.sound d (member-got duties c.args.rank d here) in
     let board = λ (v : g.row.R-Value.Denot). g.R.Staged.boards r v d in
-    let counting = g.met.R.Staged.counting r c.requires.counts.limit c.requires.counts.has_most in
-    let counts = counted (g.R.Staged.count_of r) (g.R.Staged.most r) n t (g.R.Staged.ready r) c.args.pool.now c.requires.pool in
-    let view = boarded-held (g.R.Staged.count_of r) (g.R.Staged.ready r) (g.R.Staged.arrived r) (g.R.Staged.most r) n t board c.args.rank c.requires.counts.limit
-    c.requires.rank c.requires.counts.has_most (λ v z e. counting.ends v z d e)
+    let counting = g.met.R.Staged.counting r c.requires.terms.counts.limit c.requires.terms.counts.has_most in
+    let counts = counted w t w.ready c.args.pool.now c.requires.pool in
+    let view = boarded-held w t board c.args.rank c.requires.terms.counts.limit
+    c.requires.rank c.requires.terms.counts.has_most (λ v z e. counting.ends v z d e)
     (λ m v z h e. (g.met.R.Staged.bounds r).board_arrived m v z d sound h e) c.args.pool.now (boarded_from board c.args.rank 0 c.args.pool.now) c.requires.pool
     (boarded_entries board c.args.rank (leads_of t) (trail_of t) c.args.pool.now c.requires.into)
-    (boarded_counted board c.args.rank (leads_of t) (trail_of t) (g.R.Staged.count_of r) (λ v z e. counting.one_more v z d e) c.args.pool.now c.requires.into counts) in
+    (boarded_counted board c.args.rank (leads_of t) (trail_of t) w.count (λ v z e. counting.one_more v z d e) c.args.pool.now c.requires.into counts) in
     IfOk-weaker c.front_aboard.result _ _ (λ front from (l : Label g.row.R-Value.Denot) (m : Member front l). view l (from l m)) c.front_aboard.ensures.from

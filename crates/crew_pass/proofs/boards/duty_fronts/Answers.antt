@@ -7,7 +7,8 @@ use Rattle.crew_label.specs.declared.pool.Pool.{Pool}
 use Rattle.crew_pairing.specs.declared.duty.Duty.{Duty}
 use Rattle.crew_resource.proofs.Members.{Member-get_or}
 use Rattle.crew_pass.specs.Machinery.Held.{leads_of, trail_of}
-use Rattle.crew_pass.specs.Machinery.Passing.{IsClean, ranks_at, ways}
+use Rattle.crew_pass.specs.Machinery.Passing.{IsClean, ranks_at}
+use Rattle.crew_pass.specs.Machinery.Terms.{terms}
 use Rattle.crew_pass.proofs.Boarding.{made-all, made-more, rank-known, ranks-at}
 use Rattle.crew_pass.proofs.Numbers.{get-within}
 use Rattle.crew_pass.proofs.Orders.{place-within}
@@ -17,12 +18,10 @@ use Rattle.crew_pass.proofs.boards.duty_fronts.Goals as goal
 pub leaving-ranks-requires : goal.leaving-ranks-requires
 leaving-ranks-requires g c =
     let net = c.args.ground.now.net.now in
-    let r = c.args.ground.now.resource.now in
-    let w = ways g.R.Resource.below g.R.Forgets.same_sums (g.R.Staged.idle_of r) (g.R.Staged.waited r) (g.R.Staged.boards r) in
     let b = c.requires.boardable in
     let place = get_or c.by_report.result.now c.args.turn 0 in
     let at = at-within net.by_report c.args.turn 0 b.ordered ∙ ap (λ (ns : List ℕ). Some (get_or ns c.args.turn 0)) (sym c.by_report.ensures.places) in
-    place-within net c.requires.passable.departs c.requires.passable.ordered c.args.turn place at
+    place-within net c.requires.terms.passable.departs c.requires.terms.passable.ordered c.args.turn place at
 
 pub loop-rank-init : goal.loop-rank-init
 loop-rank-init g c = (ap (λ (xs : List _). length (map (arc_value {X = Pool g.row.R.Denot g.row.R-Value.Denot Duty} {Z = Global}) xs)) c.new-fronts.ensures.items, λ i h. absurd (omega (arith, h)))
@@ -30,89 +29,72 @@ loop-rank-init g c = (ap (λ (xs : List _). length (map (arc_value {X = Pool g.r
 pub duty_front-requires-clause-rank : goal.duty_front-requires-clause-rank
 duty_front-requires-clause-rank g c =
     let net = c.args.ground.now.net.now in
-    let r = c.args.ground.now.resource.now in
-    let w = ways g.R.Resource.below g.R.Forgets.same_sums (g.R.Staged.idle_of r) (g.R.Staged.waited r) (g.R.Staged.boards r) in
+    let w = terms g.R.Lapses g.R.Staged g.R.Forgets g.R.Resource c.args.ground.now in
     let b = c.requires.boardable in
     let place = get_or c.by_report.result.now c.args.turn 0 in
     let at = at-within net.by_report c.args.turn 0 b.ordered ∙ ap (λ (ns : List ℕ). Some (get_or ns c.args.turn 0)) (sym c.by_report.ensures.places) in
-    let d = stands net.departures place (place-within net c.requires.passable.departs c.requires.passable.ordered c.args.turn place at) in
+    let d = stands net.departures place (place-within net c.requires.terms.passable.departs c.requires.terms.passable.ordered c.args.turn place at) in
     let ranks = c.leaving-ranks.result.now in
     let is = c.leaving-ranks.ensures d.0 d.1 in
-    let k = rank-known net c.args.ground.now.turns.now c.requires.passable c.args.turn place d.0 at d.1 ranks is c.loop-rank.rank-index c.loop-rank-test.true in
+    let k = rank-known w c.requires.terms.passable c.args.turn place d.0 at d.1 ranks is c.loop-rank.rank-index c.loop-rank-test.true in
     let rank = get_or ranks c.loop-rank.rank-index 0 in
     get-within net.duties rank k.0 k.1
 
 pub duty_front-requires-clause-into : goal.duty_front-requires-clause-into
 duty_front-requires-clause-into g c =
     let net = c.args.ground.now.net.now in
-    let r = c.args.ground.now.resource.now in
-    let w = ways g.R.Resource.below g.R.Forgets.same_sums (g.R.Staged.idle_of r) (g.R.Staged.waited r) (g.R.Staged.boards r) in
+    let w = terms g.R.Lapses g.R.Staged g.R.Forgets g.R.Resource c.args.ground.now in
     let b = c.requires.boardable in
     let place = get_or c.by_report.result.now c.args.turn 0 in
     let at = at-within net.by_report c.args.turn 0 b.ordered ∙ ap (λ (ns : List ℕ). Some (get_or ns c.args.turn 0)) (sym c.by_report.ensures.places) in
-    let d = stands net.departures place (place-within net c.requires.passable.departs c.requires.passable.ordered c.args.turn place at) in
+    let d = stands net.departures place (place-within net c.requires.terms.passable.departs c.requires.terms.passable.ordered c.args.turn place at) in
     let ranks = c.leaving-ranks.result.now in
     let is = c.leaving-ranks.ensures d.0 d.1 in
-    let k = rank-known net c.args.ground.now.turns.now c.requires.passable c.args.turn place d.0 at d.1 ranks is c.loop-rank.rank-index c.loop-rank-test.true in
+    let k = rank-known w c.requires.terms.passable c.args.turn place d.0 at d.1 ranks is c.loop-rank.rank-index c.loop-rank-test.true in
     let rank = get_or ranks c.loop-rank.rank-index 0 in
     let pools = c.args.table.now.pools in
     let own : get_or pools c.args.turn [] ≡ c.deref.result.now = get-at pools c.args.turn (arc_value c.in-Some.pool.now) [] c.in-Some.ensures ∙ sym c.deref.ensures in
     let turns = c.args.ground.now.turns.now in
     let below = get-within net.duties rank k.0 k.1 in
-    let long = c.requires.passable.are_turns.long in
+    let long = c.requires.terms.passable.are_turns.long in
     let inside : rank < length turns = omega (arith, below, long) in
     subst (λ (ls : List (Label g.row.R-Value.Denot)). LeadInto (leads_of c.args.table.now) (trail_of c.args.table.now) rank ls) own
     (b.linked.into rank (subst (λ (ts : List ℕ). slice_get ts rank ≡ Some c.args.turn) (sym c.requires.turned) (at-within turns rank 0 inside ∙ ap Some k.2)))
 
 pub duty_front-requires-clause-pool : goal.duty_front-requires-clause-pool
 duty_front-requires-clause-pool g c =
-    let net = c.args.ground.now.net.now in
-    let r = c.args.ground.now.resource.now in
-    let w = ways g.R.Resource.below g.R.Forgets.same_sums (g.R.Staged.idle_of r) (g.R.Staged.waited r) (g.R.Staged.boards r) in
     let b = c.requires.boardable in
-    let place = get_or c.by_report.result.now c.args.turn 0 in
-    let at = at-within net.by_report c.args.turn 0 b.ordered ∙ ap (λ (ns : List ℕ). Some (get_or ns c.args.turn 0)) (sym c.by_report.ensures.places) in
     let pools = c.args.table.now.pools in
     let own : get_or pools c.args.turn [] ≡ c.deref.result.now = get-at pools c.args.turn (arc_value c.in-Some.pool.now) [] c.in-Some.ensures ∙ sym c.deref.ensures in
     c.requires.ready c.deref.result.now (Member-get_or pools c.args.turn c.deref.result.now b.linked.within (same-within pools c.args.turn c.deref.result.now [] b.linked.within ∙ own))
 
 pub duty_front-requires-clause-clean : goal.duty_front-requires-clause-clean
 duty_front-requires-clause-clean g c =
-    let net = c.args.ground.now.net.now in
-    let r = c.args.ground.now.resource.now in
-    let w = ways g.R.Resource.below g.R.Forgets.same_sums (g.R.Staged.idle_of r) (g.R.Staged.waited r) (g.R.Staged.boards r) in
+    let w = terms g.R.Lapses g.R.Staged g.R.Forgets g.R.Resource c.args.ground.now in
     let b = c.requires.boardable in
-    let place = get_or c.by_report.result.now c.args.turn 0 in
-    let at = at-within net.by_report c.args.turn 0 b.ordered ∙ ap (λ (ns : List ℕ). Some (get_or ns c.args.turn 0)) (sym c.by_report.ensures.places) in
     let pools = c.args.table.now.pools in
     let own : get_or pools c.args.turn [] ≡ c.deref.result.now = get-at pools c.args.turn (arc_value c.in-Some.pool.now) [] c.in-Some.ensures ∙ sym c.deref.ensures in
     subst (λ (ls : List (Label g.row.R-Value.Denot)). IsClean w (trail_of c.args.table.now) ls) own b.linked.clean
 
 pub loop-rank-preserved : goal.loop-rank-preserved
 loop-rank-preserved g c =
-    let net = c.args.ground.now.net.now in
-    let r = c.args.ground.now.resource.now in
-    let w = ways g.R.Resource.below g.R.Forgets.same_sums (g.R.Staged.idle_of r) (g.R.Staged.waited r) (g.R.Staged.boards r) in
-    let b = c.requires.boardable in
-    let place = get_or c.by_report.result.now c.args.turn 0 in
-    let at = at-within net.by_report c.args.turn 0 b.ordered ∙ ap (λ (ns : List ℕ). Some (get_or ns c.args.turn 0)) (sym c.by_report.ensures.places) in
+    let w = terms g.R.Lapses g.R.Staged g.R.Forgets g.R.Resource c.args.ground.now in
     let pools = c.args.table.now.pools in
     let own : get_or pools c.args.turn [] ≡ c.deref.result.now = get-at pools c.args.turn (arc_value c.in-Some.pool.now) [] c.in-Some.ensures ∙ sym c.deref.ensures in
     let value = arc_value {X = Pool g.row.R.Denot g.row.R-Value.Denot Duty} {Z = Global} in
-    made-more w (g.R.Staged.count_of r) (g.R.Staged.arrived r) (g.R.Staged.most r) net c.args.table.now (get_or pools c.args.turn []) c.deref.result.now own value c.loop-rank.fronts.items c.push.new.self.items c.in_ok-front-2.front
+    made-more w c.args.table.now (get_or pools c.args.turn []) c.deref.result.now own value c.loop-rank.fronts.items c.push.new.self.items c.in_ok-front-2.front
     c.leaving-ranks.result.now c.loop-rank.rank-index c.in_ok-push.ensures.items c.in_ok-front.front c.in_ok-front-2.ensures.ok c.loop-rank.invariant c.in_ok-front.ensures.front c.in_ok-front.ensures.itself c.in_ok-front.ensures.held
 
 pub returns : goal.returns
 returns g c =
     let net = c.args.ground.now.net.now in
-    let r = c.args.ground.now.resource.now in
-    let w = ways g.R.Resource.below g.R.Forgets.same_sums (g.R.Staged.idle_of r) (g.R.Staged.waited r) (g.R.Staged.boards r) in
+    let w = terms g.R.Lapses g.R.Staged g.R.Forgets g.R.Resource c.args.ground.now in
     let b = c.requires.boardable in
     let place = get_or c.by_report.result.now c.args.turn 0 in
     let at = at-within net.by_report c.args.turn 0 b.ordered ∙ ap (λ (ns : List ℕ). Some (get_or ns c.args.turn 0)) (sym c.by_report.ensures.places) in
-    let d = stands net.departures place (place-within net c.requires.passable.departs c.requires.passable.ordered c.args.turn place at) in
+    let d = stands net.departures place (place-within net c.requires.terms.passable.departs c.requires.terms.passable.ordered c.args.turn place at) in
     let ranks = c.leaving-ranks.result.now in
     let is = c.leaving-ranks.ensures d.0 d.1 in
     let value = arc_value {X = Pool g.row.R.Denot g.row.R-Value.Denot Duty} {Z = Global} in
-    made-all w (g.R.Staged.count_of r) (g.R.Staged.arrived r) (g.R.Staged.most r) net c.args.table.now (get_or c.args.table.now.pools c.args.turn []) value c.loop-rank.fronts.items
+    made-all w c.args.table.now (get_or c.args.table.now.pools c.args.turn []) value c.loop-rank.fronts.items
     ranks (ranks_at net c.args.turn) (is ∙ ranks-at net c.args.turn place d.0 at d.1) c.loop-rank.rank-index c.loop-rank-test.false c.loop-rank.auto.rank-index-end c.loop-rank.invariant

@@ -7,13 +7,14 @@ use Rattle.crew_net.specs.Nets.{Net}
 use Rattle.crew_pairing.specs.Events.{arrival_of, departure_of}
 use Rattle.crew_pairing.specs.declared.duty.Duty.{Duty}
 use Rattle.crew_pass.specs.Machinery.Numbered.{AreTurns}
-use Rattle.crew_pass.specs.Machinery.Passing.{HasPassed, IsPassable, ways}
+use Rattle.crew_pass.specs.Machinery.Passing.{HasPassed, IsPassable}
+use Rattle.crew_pass.specs.Machinery.Terms.{terms_of}
 use Rattle.crew_pass.specs.Passes.{AreTold, BasePass, IsCoveredBy}
 use Rattle.crew_pass.proofs.Covering.{covered-by}
 use Rattle.crew_pass.proofs.passing.pass_by_threads.Goals as goal
 
-pub pass_all_by_threads-requires-clause-passable : goal.pass_all_by_threads-requires-clause-passable
-pass_all_by_threads-requires-clause-passable g c κs out =
+pub pass_all_by_threads-requires-clause-terms : goal.pass_all_by_threads-requires-clause-terms
+pass_all_by_threads-requires-clause-terms g c κs out =
     let charted = c.net-net.ensures.charted in
     let turns = subst (λ (ns : List ℕ). AreTurns c.args.course.now ns) (sym (c.as_slice.ensures.value ∙ ap (λ v. v.items) c.deref-2.ensures)) c.turns-turns.ensures in
     let own : IsPassable c.args.course.now c.as_slice.result.now = record {
@@ -26,7 +27,7 @@ pass_all_by_threads-requires-clause-passable g c κs out =
       rests = charted.rests;
       are_turns = turns;
     } in
-    subst (λ (n : Net). IsPassable n c.as_slice.result.now) (sym (c.deref.ensures ∙ c.net-net.ensures.net)) own
+    record { passable = subst (λ (n : Net). IsPassable n c.as_slice.result.now) (sym (c.deref.ensures ∙ c.net-net.ensures.net)) own; counts = c.requires.counts }
 
 pub new-requires : goal.new-requires
 new-requires g c =
@@ -44,10 +45,10 @@ new-requires g c =
 pub returns-clause-covered : goal.returns-clause-covered
 returns-clause-covered g c =
     let r = c.args.resource.now in
-    let w = ways g.R.Resource.below g.R.Forgets.same_sums (g.R.Staged.idle_of r) (g.R.Staged.waited r) (g.R.Staged.boards r) in
     let value = arc_value {X = Pool g.row.R.Denot g.row.R-Value.Denot Duty} {Z = Global} in
     let net = c.args.course.now in
     let turns = c.as_slice.result.now in
+    let over = λ (n : Net). terms_of g.R.Lapses g.R.Staged g.R.Forgets g.R.Resource r n c.args.base turns in
     let t = c.in_ok-table.table in
     let fronts = map value c.in_ok-table.found.fronts.items in
     let held = c.in_ok-table.found.arrivals.items in
@@ -64,8 +65,8 @@ returns-clause-covered g c =
       rests = charted.rests;
       are_turns = are;
     } in
-    let passed = subst (λ (n : Net). HasPassed w (g.R.Staged.count_of r) (g.R.Staged.ready r) (g.R.Staged.arrived r) (g.R.Staged.most r) n c.args.base turns t fronts held upto) (c.deref.ensures ∙ c.net-net.ensures.net) c.in_ok-table.ensures in
-    let covered = covered-by w (g.R.Staged.count_of r) (g.R.Staged.ready r) (g.R.Staged.arrived r) (g.R.Staged.most r) net c.args.base turns passable t fronts held upto passed in
+    let passed = subst (λ (n : Net). HasPassed (over n) t fronts held upto) (c.deref.ensures ∙ c.net-net.ensures.net) c.in_ok-table.ensures in
+    let covered = covered-by (over net) passable t fronts held upto passed in
     let same : c.new.result ≡ record { net = net; turns = t.leaves; pools = t.pools; fronts = fronts }
     = c.new.ensures ∙ ap (λ (n : Net). (let b : BasePass g.row.R-Value.Denot = record { net = n; turns = t.leaves; pools = t.pools; fronts = fronts } in b)) (c.in_ok-shared.ensures ∙ c.net-net.ensures.net) in
     subst (λ (b : BasePass g.row.R-Value.Denot). IsCoveredBy g.R.Resource.below g.R.Forgets.same_sums (network_of (schedule_of net.settings c.args.base net.duties) departure_of arrival_of (g.R.Staged.idle_of r) (g.R.Staged.waited r) (g.R.Staged.boards r)) b) (sym same) covered

@@ -1,20 +1,21 @@
-use Rattle.std.proofs.Common.{◌≡◌, ◌∙◌, List, Bor, ap, length, map, sym, subst}
+use Rattle.std.proofs.Common.{◌≡◌, ◌∙◌, List, Bor, ap, map, sym, subst}
 use Rattle.std.proofs.lemmas.List.{take_all}
 use Rattle.std.proofs.lemmas.Result.{IfOk-weaker}
 use Rattle.crew_label.specs.Pools.{ArePoolsOf}
 use Rattle.crew_label.specs.declared.label.Label.{Label}
 use Rattle.crew_resource.specs.Members.{Member}
 use Rattle.crew_pass.specs.Machinery.Held.{trail_of}
+use Rattle.crew_pass.specs.Machinery.Terms.{terms}
 use Rattle.crew_pass.proofs.Labels.{counted}
 use Rattle.crew_pass.proofs.waits.joined.Goals as goal
 
 pub of_pools-requires-clause-counts : goal.of_pools-requires-clause-counts
 of_pools-requires-clause-counts g c labels m =
-    let r = c.args.ground.now.resource.now in
+    let w = terms g.R.Lapses g.R.Staged g.R.Forgets g.R.Resource c.args.ground.now in
     let pools = c.args.pools.now in
     let all : map (λ (p : Bor (List (Label g.row.R-Value.Denot))). p.now) c.deref.result.now ≡ pools =
     ap (map (λ (p : Bor (List (Label g.row.R-Value.Denot))). p.now)) c.deref.ensures.value ∙ (c.loop-pool.invariant ∙ take_all c.loop-pool.pool-index pools c.loop-pool-test.false) in
-    counted (g.R.Staged.count_of r) (g.R.Staged.most r) (length c.args.ground.now.net.now.duties) c.args.table.now (g.R.Staged.ready r) labels
+    counted w c.args.table.now w.ready labels
     (c.requires.held labels (subst (λ (lss : List (List (Label g.row.R-Value.Denot))). Member lss labels) all m))
 
 pub returns-clause-pool : goal.returns-clause-pool

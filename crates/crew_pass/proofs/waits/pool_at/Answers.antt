@@ -1,7 +1,8 @@
 use Rattle.std.proofs.Common.{◌∙◌, ℕ, List, Some, ap, get_or, subst, sym}
 use Rattle.std.specs.Prelude.{slice_get}
 use Rattle.crew_label.specs.declared.label.Label.{Label}
-use Rattle.crew_pass.specs.Machinery.Passing.{IsPoolAt, ways}
+use Rattle.crew_pass.specs.Machinery.Passing.{IsPoolAt}
+use Rattle.crew_pass.specs.Machinery.Terms.{terms}
 use Rattle.crew_pass.proofs.Orders.{in-order-at, place-within}
 use Rattle.crew_pass.proofs.Slices.{at-within, some-same}
 use Rattle.crew_pass.proofs.waits.pool_at.Goals as goal
@@ -11,19 +12,18 @@ departure_pool-requires-clause-place g c =
     let net = c.args.ground.now.net.now in
     let place = get_or c.by_report.result.now c.args.turn 0 in
     let at = at-within net.by_report c.args.turn 0 c.requires.turn ∙ ap (λ (ns : List ℕ). Some (get_or ns c.args.turn 0)) (sym c.by_report.ensures.places) in
-    place-within net c.requires.passable.departs c.requires.passable.ordered c.args.turn place at
+    place-within net c.requires.terms.passable.departs c.requires.terms.passable.ordered c.args.turn place at
 
 pub returns : goal.returns
 returns g c =
     let net = c.args.ground.now.net.now in
-    let r = c.args.ground.now.resource.now in
-    let w = ways g.R.Resource.below g.R.Forgets.same_sums (g.R.Staged.idle_of r) (g.R.Staged.waited r) (g.R.Staged.boards r) in
+    let w = terms g.R.Lapses g.R.Staged g.R.Forgets g.R.Resource c.args.ground.now in
     let place = get_or c.by_report.result.now c.args.turn 0 in
     let at = at-within net.by_report c.args.turn 0 c.requires.turn ∙ ap (λ (ns : List ℕ). Some (get_or ns c.args.turn 0)) (sym c.by_report.ensures.places) in
-    subst (λ (ls : List (Label g.row.R-Value.Denot)). IsPoolAt w (g.R.Staged.count_of r) (g.R.Staged.ready r) (g.R.Staged.most r) net c.args.ground.now.base c.args.table.now c.args.arrivals.now c.args.turn ls) (sym c.in_ok-pool-2.ensures.ok)
+    subst (λ (ls : List (Label g.row.R-Value.Denot)). IsPoolAt w c.args.table.now c.args.arrivals.now c.args.turn ls) (sym c.in_ok-pool-2.ensures.ok)
     (record {
       covers = λ g' h.
-          let k = in-order-at net c.requires.passable.departs c.requires.passable.ordered c.args.turn g' h in
+          let k = in-order-at net c.requires.terms.passable.departs c.requires.terms.passable.ordered c.args.turn g' h in
           c.in_ok-pool.ensures.covers g' (ap (slice_get net.departures) (some-same (slice_get net.by_report c.args.turn) place k.0 at k.1) ∙ k.2);
       held = c.in_ok-pool.ensures.held;
       clean = c.in_ok-pool.ensures.clean;

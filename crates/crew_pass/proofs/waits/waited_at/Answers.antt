@@ -6,6 +6,7 @@ use Rattle.crew_label.specs.declared.label.Label.{Label}
 use Rattle.crew_label.proofs.Waiting.{pool-itself}
 use Rattle.crew_pass.specs.Machinery.Held.{AreHeld, trail_of}
 use Rattle.crew_pass.specs.Machinery.Passing.{waited_entries}
+use Rattle.crew_pass.specs.Machinery.Terms.{terms}
 use Rattle.crew_pass.proofs.Labels.{waited-held}
 use Rattle.crew_pass.proofs.Resting.{after-rest}
 use Rattle.crew_pass.proofs.waits.waited_at.Goals as goal
@@ -15,16 +16,16 @@ waited-requires-clause-wait g c l m =
     let r = c.args.ground.now.resource.now in
     let k = (c.requires.rested.held l m).entry in
     let n = length (shown (trail_of c.args.table.now) l).1 in
-    let few : n ≤ c.requires.counts.limit = k.few c.requires.counts.limit c.requires.counts.has_most in
-    (g.met.R.Staged.bounds r).waits n l.value c.args.arrival.now c.args.departure.now c.requires.follows (c.requires.counts.fit (suc n) (omega (arith, few))) k.bound
+    let few : n ≤ c.requires.terms.counts.limit = k.few c.requires.terms.counts.limit c.requires.terms.counts.has_most in
+    (g.met.R.Staged.bounds r).waits n l.value c.args.arrival.now c.args.departure.now c.requires.follows (c.requires.terms.counts.fit (suc n) (omega (arith, few))) k.bound
 
 pub waited-requires-else-is_rest-clause-wait : goal.waited-requires-else-is_rest-clause-wait
 waited-requires-else-is_rest-clause-wait g c l m =
     let r = c.args.ground.now.resource.now in
     let k = (c.requires.held l m).entry in
     let n = length (shown (trail_of c.args.table.now) l).1 in
-    let few : n ≤ c.requires.counts.limit = k.few c.requires.counts.limit c.requires.counts.has_most in
-    (g.met.R.Staged.bounds r).waits n l.value c.args.arrival.now c.args.departure.now c.requires.follows (c.requires.counts.fit (suc n) (omega (arith, few))) k.bound
+    let few : n ≤ c.requires.terms.counts.limit = k.few c.requires.terms.counts.limit c.requires.terms.counts.has_most in
+    (g.met.R.Staged.bounds r).waits n l.value c.args.arrival.now c.args.departure.now c.requires.follows (c.requires.terms.counts.fit (suc n) (omega (arith, few))) k.bound
 
 pub returns-then-is_rest-clause-pool : goal.returns-then-is_rest-clause-pool
 returns-then-is_rest-clause-pool g c =
@@ -44,11 +45,12 @@ returns-then-is_rest-clause-pool g c =
 
 pub returns-then-is_rest-clause-held : goal.returns-then-is_rest-clause-held
 returns-then-is_rest-clause-held g c =
+    let w = terms g.R.Lapses g.R.Staged g.R.Forgets g.R.Resource c.args.ground.now in
     let r = c.args.ground.now.resource.now in
-    let Held = AreHeld (g.R.Staged.count_of r) (g.R.Staged.ready r) (g.R.Staged.most r) (length c.args.ground.now.net.now.duties) c.args.table.now in
+    let Held = AreHeld w w.ready c.args.table.now in
     let wait = λ (v : g.row.R-Value.Denot). g.R.Staged.waited r v c.args.arrival.now c.args.departure.now in
-    let all = waited-held (g.R.Staged.count_of r) (g.R.Staged.most r) (length c.args.ground.now.net.now.duties) c.args.table.now (g.R.Staged.arrived r) (g.R.Staged.ready r) wait
-    (λ v. (g.met.R.Staged.counting r c.requires.counts.limit c.requires.counts.has_most).none_more v c.args.arrival.now c.args.departure.now)
+    let all = waited-held w c.args.table.now w.arrived w.ready wait
+    (λ v. (g.met.R.Staged.counting r c.requires.terms.counts.limit c.requires.terms.counts.has_most).none_more v c.args.arrival.now c.args.departure.now)
     (λ n v. (g.met.R.Staged.bounds r).wait_ready n v c.args.arrival.now c.args.departure.now c.requires.follows) c.args.rested.now c.requires.rested.held in
     IfOk-weaker c.waited.result _ _ (λ waited h. subst (λ (ls : List (Label g.row.R-Value.Denot)). Held ls) (sym h) all) c.waited.ensures.labels
 
@@ -64,10 +66,11 @@ returns-else-is_rest-clause-pool g c =
 
 pub returns-else-is_rest-clause-held : goal.returns-else-is_rest-clause-held
 returns-else-is_rest-clause-held g c =
+    let w = terms g.R.Lapses g.R.Staged g.R.Forgets g.R.Resource c.args.ground.now in
     let r = c.args.ground.now.resource.now in
-    let Held = AreHeld (g.R.Staged.count_of r) (g.R.Staged.ready r) (g.R.Staged.most r) (length c.args.ground.now.net.now.duties) c.args.table.now in
+    let Held = AreHeld w w.ready c.args.table.now in
     let wait = λ (v : g.row.R-Value.Denot). g.R.Staged.waited r v c.args.arrival.now c.args.departure.now in
-    let all = waited-held (g.R.Staged.count_of r) (g.R.Staged.most r) (length c.args.ground.now.net.now.duties) c.args.table.now (g.R.Staged.arrived r) (g.R.Staged.ready r) wait
-    (λ v. (g.met.R.Staged.counting r c.requires.counts.limit c.requires.counts.has_most).none_more v c.args.arrival.now c.args.departure.now)
+    let all = waited-held w c.args.table.now w.arrived w.ready wait
+    (λ v. (g.met.R.Staged.counting r c.requires.terms.counts.limit c.requires.terms.counts.has_most).none_more v c.args.arrival.now c.args.departure.now)
     (λ n v. (g.met.R.Staged.bounds r).wait_ready n v c.args.arrival.now c.args.departure.now c.requires.follows) c.args.held.now c.requires.held in
     IfOk-weaker c.waited-else-is_rest.result _ _ (λ waited h. subst (λ (ls : List (Label g.row.R-Value.Denot)). Held ls) (sym h) all) c.waited-else-is_rest.ensures.labels

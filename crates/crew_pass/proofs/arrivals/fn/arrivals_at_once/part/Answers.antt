@@ -5,19 +5,19 @@ use Rattle.std.specs.declared.result.Result.{Result}
 use Rattle.std.proofs.lemmas.Int.{to_z-of_z}
 use Rattle.crew_label.specs.declared.pool.Pool.{Pool}
 use Rattle.crew_pairing.specs.declared.duty.Duty.{Duty}
-use Rattle.crew_pass.specs.Machinery.Passing.{IsArrivedAt, IsDue, IsNotDue, ways}
+use Rattle.crew_pass.specs.Machinery.Passing.{IsArrivedAt, IsDue, IsNotDue}
+use Rattle.crew_pass.specs.Machinery.Terms.{terms}
 use Rattle.crew_pass.specs.declared.arrivals.Arrived.{Arrived}
 use Rattle.crew_pass.proofs.arrivals.fn.arrivals_at_once.part.Goals as goal
 
 pub returns : goal.returns
 returns g c =
-    let r = c.captures.ground.now.resource.now in
     let net = c.captures.ground.now.net.now in
-    let w = ways g.R.Resource.below g.R.Forgets.same_sums (g.R.Staged.idle_of r) (g.R.Staged.waited r) (g.R.Staged.boards r) in
+    let w = terms g.R.Lapses g.R.Staged g.R.Forgets g.R.Resource c.captures.ground.now in
     let value = arc_value {X = Pool g.row.R.Denot g.row.R-Value.Denot Duty} {Z = Global} in
     let P = λ (b f : ℤ) (i : ℕ) (o : Result (Option (Arrived g.row.R.Denot g.row.R-Value.Denot Duty)) AllocError). IfOk o (λ made. MatchOption made (IsNotDue net b f i)
     (λ a. IsDue net b f i
-    × IsArrivedAt w (g.R.Lapses.rested_of r) (g.R.Staged.count_of r) (g.R.Staged.arrived r) (g.R.Staged.most r) net c.captures.table.now (map value c.captures.fronts.now) i a.pool a.rested)) in
+    × IsArrivedAt w c.captures.table.now (map value c.captures.fronts.now) i a.pool a.rested)) in
     let before = c.captures.before in
     let first = c.captures.first in
     let place = c.args.place in
