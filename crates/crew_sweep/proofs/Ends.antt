@@ -16,9 +16,12 @@ use Rattle.crew_resource.specs.Events.{view}
 use Rattle.crew_resource.specs.Members.{Each, Member}
 use Rattle.crew_resource.proofs.Members.{Member-map_out}
 use Rattle.crew_rules.specs.Settings.{IsChecked}
-use Rattle.crew_sweep.specs.Machinery.Kept.{IsKept}
+use Rattle.crew_rules.specs.declared.settings.Settings.{Settings}
+use Rattle.crew_sweep.specs.Machinery.Grounds.{IsLeft}
+use Rattle.crew_sweep.specs.Machinery.Kept.{IsKept, sparing_of}
 use Rattle.crew_sweep.specs.Machinery.Numbered.{AreLocal, departure_place}
 use Rattle.crew_sweep.specs.Machinery.Passing.{AreLabels, HasPassed, IsPassable, passed_network}
+use Rattle.crew_sweep.specs.declared.passed.Passed.{Passed}
 use Rattle.crew_sweep.specs.Sweeps.{BaseSweep, ShowsFronts, in_order, keyed}
 use Rattle.crew_sweep.proofs.Fronts.{swept-fronts}
 use Rattle.crew_sweep.proofs.Numbers.{at-departure, get-within}
@@ -77,37 +80,53 @@ module _ (net : Net) (turns : List ℕ) (passable : IsPassable net turns) (base 
       subst (λ (ls : List (PairingVector × List (List Leg))). IsFrontAt net.settings t base price d (shown_labels net.settings.trip_rig d.release (view (anchored_network net.settings base price net.duties) d ls)))
       (map-or (keyed net walks) pools place within) front
 
+abbrev spared : Settings → ℤ → AnchoredResource
+spared s price = lesser (anchored_resource s price) (s.max_duties - 1)
+
+-- the resource with a duty to spare is that of an earlier sweep
+pub spare-of : (old : BaseSweep) (s : Settings) (price : ℤ) (full : AnchoredResource) → full ≡ anchored_resource s price → old.net.settings ≡ s → price ≡ old.price → lesser full (full.max_duties - 1) ≡ sparing_of old
+spare-of old s price full is settings at = ap (λ (f : AnchoredResource). lesser f (f.max_duties - 1)) is ∙ (ap (λ (z : Settings). spared z price) (sym settings) ∙ ap (spared old.net.settings) at)
+
 -- the resource with a duty to spare, of a network's settings
-module _ (net : Net) (checked : IsChecked net.settings) (price : ℤ) (full spare : AnchoredResource) (full-is : full ≡ anchored_resource net.settings price)
-    (spare-by : (most : ℕ) → most + 1 ≡ full.max_duties → spare ≡ lesser full most) (fits : (n : ℕ) → n ≤ 100_000 → fits_in full n) where
-  abbrev pub most-less : ℕ
+module _ (net : Net) (checked : IsChecked net.settings) (price : ℤ) (full : AnchoredResource) (full-is : full ≡ anchored_resource net.settings price) (fits : (n : ℕ) → n ≤ 100_000 → fits_in full n) where
+  abbrev most-less : ℕ
   most-less = net.settings.max_duties - 1
 
-  pub spare-is : spare ≡ lesser (anchored_resource net.settings price) most-less
-  spare-is =
-      spare-by most-less (one-less net.settings.max_duties checked.max_duties ∙ ap (λ (r : AnchoredResource). r.max_duties) (sym full-is))
-      ∙ ap (λ (r : AnchoredResource). lesser r most-less) full-is
+  abbrev spare : AnchoredResource
+  spare = lesser full (full.max_duties - 1)
 
-  pub full-fits : (n : ℕ) → n ≤ 100_000 → fits_in (anchored_resource net.settings price) n
+  pub spare-by : (r : AnchoredResource) → ((most : ℕ) → most + 1 ≡ full.max_duties → r ≡ lesser full most) → r ≡ spare
+  spare-by r is = is (full.max_duties - 1) (one-less full.max_duties (subst (λ (f : AnchoredResource). 1 ≤ f.max_duties) (sym full-is) checked.max_duties))
+
+  spare-is : spare ≡ lesser (anchored_resource net.settings price) most-less
+  spare-is = ap (λ (f : AnchoredResource). lesser f (f.max_duties - 1)) full-is
+
+  full-fits : (n : ℕ) → n ≤ 100_000 → fits_in (anchored_resource net.settings price) n
   full-fits n h = subst (λ (r : AnchoredResource). fits_in r n) full-is (fits n h)
+
+  few-less : most-less ≤ 12
+  few-less = let most = checked.max_duties_most in omega (arith, most)
 
   pub spare-fits : (n : ℕ) → n ≤ 100_000 → fits_in spare n
   spare-fits n h = subst (λ (r : AnchoredResource). fits_in r n) (sym spare-is) (full-fits n h)
 
-  pub few-less : most-less ≤ 12
-  few-less = let most = checked.max_duties_most in omega (arith, most)
-
   pub spare-few : spare.max_duties ≤ 12
   spare-few = subst (λ (r : AnchoredResource). r.max_duties ≤ 12) (sym spare-is) few-less
 
-  module _ (turns : List ℕ) (passable : IsPassable net turns) (base : List ℕ) (walks : List (List ℕ)) (pools : List Labels) (passed : HasPassed net base spare walks pools) where
-    through : HasPassed net base (lesser (anchored_resource net.settings price) most-less) walks pools
-    through = subst (λ (r : AnchoredResource). HasPassed net base r walks pools) spare-is passed
+  -- what a pass has left
+  module _ (base : List ℕ) (passed : Passed) (left : IsLeft net base full passed) where
+    passable : IsPassable net left.own.turns.now
+    passable = subst (λ (n : Net). IsPassable n left.own.turns.now) left.own_net left.is_ground.passable
 
-    pub all-kept : IsKept (made net base price walks pools) full
-    all-kept = subst (IsKept (made net base price walks pools)) (sym full-is)
-        (kept net turns passable base price most-less few-less (one-less net.settings.max_duties checked.max_duties) full-fits walks pools through)
+    through : HasPassed net base (lesser (anchored_resource net.settings price) most-less) passed.walks passed.pools.items
+    through =
+        subst (λ (r : AnchoredResource). HasPassed net base r passed.walks passed.pools.items) (left.own_resource ∙ spare-is)
+        (subst (λ (b : List ℕ). HasPassed net b left.own.resource passed.walks passed.pools.items) left.own_base
+        (subst (λ (n : Net). HasPassed n left.own.base left.own.resource passed.walks passed.pools.items) left.own_net left.all))
 
-    pub all-right : (t : Timetable) → IsSound t → AreDuties net.settings t net.duties
-        → ShowsFronts t (made net base price walks pools)
-    all-right = right net turns passable base price most-less few-less (one-less net.settings.max_duties checked.max_duties) full-fits walks pools through checked
+    pub all-kept : IsKept (made net base price passed.walks passed.pools.items) full
+    all-kept = subst (IsKept (made net base price passed.walks passed.pools.items)) (sym full-is)
+        (kept net left.own.turns.now passable base price most-less few-less (one-less net.settings.max_duties checked.max_duties) full-fits passed.walks passed.pools.items through)
+
+    pub all-right : (t : Timetable) → IsSound t → AreDuties net.settings t net.duties → ShowsFronts t (made net base price passed.walks passed.pools.items)
+    all-right = right net left.own.turns.now passable base price most-less few-less (one-less net.settings.max_duties checked.max_duties) full-fits passed.walks passed.pools.items through checked

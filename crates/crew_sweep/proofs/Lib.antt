@@ -17,5 +17,6 @@ pub mod Keepings
 pub mod KeptSteps
 pub mod Marks
 pub mod Redone
-pub mod Befores
+pub mod Prices
+pub mod Besides
 pub mod MadeAhead

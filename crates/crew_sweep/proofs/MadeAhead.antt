@@ -13,13 +13,12 @@ use Rattle.crew_pairing.specs.declared.events.Arrival.{Arrival}
 use Rattle.crew_pairing.specs.declared.vector.PairingVector.{PairingVector}
 use Rattle.crew_pool.specs.declared.label_walk.LabelWalk.{LabelWalk}
 use Rattle.crew_resource.specs.Members.{Each, Member}
-use Rattle.crew_sweep.specs.Machinery.Numbered.{arrival_place}
 use Rattle.crew_sweep.specs.Machinery.Passing.{HaveStayed, IsArrivalPool, IsMade, IsPassable, IsPassing, IsSealed}
 use Rattle.crew_sweep.specs.Sweeps.{in_order}
 use Rattle.crew_sweep.proofs.Making as making
 use Rattle.crew_sweep.proofs.Numbers.{arrival-itself, at-arrival, get-within, place-departure}
 use Rattle.crew_sweep.proofs.Orders.{in-order-distinct, place-within}
-use Rattle.crew_sweep.proofs.Slices.{at-within, item-in, member-place, ranks-in, ranks-out, some-same}
+use Rattle.crew_sweep.proofs.Slices.{at-within, member-place, ranks-in, ranks-out, some-same}
 use Rattle.crew_sweep.specs.Machinery.Slides.{AreUnderWay}
 use Rattle.crew_sweep.specs.declared.slides.Slides.{Slides}
 use Rattle.crew_sweep.proofs.Slidings.{sliding-stayed, stands, stayed-itself}
@@ -43,12 +42,6 @@ left-next {A} items rest more place x d left is =
       ap (λ (xs : List A). get_or xs place d) whole ∙ (ap (λ n. get_or (left.0 ++ x ∷ more) n d) (sym left.1) ∙ get_or-append_seam left.0 x more d),
       (left.0 ++ x ∷ [], length-append left.0 (x ∷ []) ∙ ap (λ n. n + 1) left.1, whole ∙ sym (append_assoc left.0 (x ∷ []) more)),
     )
-
--- what is marked as made is
-pub made-at : (made : List Bool) (place : ℕ) (b : Bool) → place < length made → b ≡ get_or made place b → b ≡ true → IsMade made place
-made-at made place b within is on =
-    let there : slice_get made place ≡ Some b = item-in made made place b within refl is in
-    some-same (slice_get made place) (get_or made place false) b (at-within made place false within) there ∙ on
 
 made-or-not : (made : List Bool) (place : ℕ) → IsMade made place ⊎ (IsMade made place → ⊥)
 made-or-not made place = told (get_or made place false)

@@ -135,10 +135,6 @@ module _ (old : BaseSweep) (net : Net) (settings : old.net.settings ≡ net.sett
         let at-place = place-arrival net.arrivals (arrival_of e) (w.from + k.0) (arrivals-distinct net laid.arrives) (twin.2 ∙ ap Some is) in
         (known, same-at e k.0 known at-place within waits)
 
--- before any departure
-pub renewing-none : (old : BaseSweep) (net : Net) (walks : List (List ℕ)) (changed : List Bool) → length changed ≡ length net.arrivals → IsRenewing old net walks [] changed
-renewing-none old net walks changed long = record { long = long; same = λ p h d m at lt. absurd (omega (arith, lt)) }
-
 -- over walks that have grown
 pub renewing-grown : (old : BaseSweep) (net : Net) (before after : List (List ℕ)) (pools : List Labels) (changed : List Bool) → HasGrown before after
     → ((labels : Labels) → Member pools labels → AreCounted (λ (v : PairingVector). v.duties) before true labels) → IsRenewing old net before pools changed → IsRenewing old net after pools changed

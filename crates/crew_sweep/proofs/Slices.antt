@@ -166,6 +166,10 @@ flips x y = grind arith
 pub permuted-place : (count : ℕ) (places : List ℕ) → IsPermutation (range_with_len 0 count) places → (i j n : ℕ) → slice_get places i ≡ Some n → slice_get places j ≡ Some n → i ≡ j
 permuted-place count places all = same-place places (IsDistinct-IsPermutation nat_eq flips (range_with_len 0 count) places all (range-distinct 0 count))
 
+-- what stands at a place of a list that is another
+pub at-turn : (all xs : List ℕ) → xs ≡ all → (i : ℕ) → i < length xs → (n : ℕ) → n ≡ i → slice_get all n ≡ Some (get_or xs i 0)
+at-turn all xs same i within n at = ap (slice_get all) at ∙ subst (λ (ys : List ℕ). slice_get ys i ≡ Some (get_or xs i 0)) same (at-within xs i 0 within)
+
 -- an item read from an equal list
 pub item-in : {A : Type 0} (xs ys : List A) (i : ℕ) (x : A) → i < length xs → ys ≡ xs → x ≡ get_or ys i x → slice_get xs i ≡ Some x
 item-in xs ys i x h same e = at-within xs i x h ∙ ap Some (sym (subst (λ zs. x ≡ get_or zs i x) same e))

@@ -5,4 +5,6 @@ pub mod Passing
 pub mod Parts
 pub mod Sliding
 pub mod Slides
+pub mod Grounds
 pub mod Renewing
+pub mod Beside

@@ -6,17 +6,21 @@
 //! they wait, and the pools of these can be made side by side. Which arrivals are made ahead is a
 //! hint: a pool comes out the same whenever it is made, and what wasn't made ahead is made when it
 //! is first waited on.
-ghost use Rattle.std.specs.Prelude.{◌≡◌, ◌<◌, ◌≤◌, ℕ, Bool, IfOk, List, OnOk, length, set, slice_index_or, true, vec_len};
-ghost use Rattle.crew_anchor.specs.Machinery.Bounds.{fits_in};
+ghost use Rattle.std.specs.Prelude.{◌≡◌, ◌<◌, ◌≤◌, ℕ, IfOk, List, OnOk, length, set, slice_index_or, true, vec_len};
 ghost use Rattle.crew_pairing.specs.declared.vector.PairingVector.{PairingVector};
 ghost use Rattle.crew_pool.specs.declared.label_walk.LabelWalk.{LabelWalk};
-ghost use Rattle.crew_sweep.specs.Machinery.Passing.{AreSealed, HaveStayed, IsArrivalPool, IsMade, IsPassable, IsPassing, IsSealed};
+ghost use Rattle.crew_sweep.specs.Machinery.Grounds.{ArePools, IsGround, IsPoolAt, Stands, Stay};
+ghost use Rattle.crew_sweep.specs.Machinery.Passing.{AreSealed, IsMade, IsSealed};
+ghost use Rattle.crew_sweep.specs.declared.arrivals.Arrivals.{Arrivals as ArrivalsSpec};
 
 use crate::arrivals::{Arrivals, arrival_at};
+use crate::ground::Ground;
+use crate::passed::Passed;
+use crate::passing::Passing;
 use crew_anchor::AnchoredResource;
 use crew_claims::map_claimed;
-use crew_net::{Net, Window};
-use crew_pool::{Pool, Walks, Workspace};
+use crew_net::Window;
+use crew_pool::{Pool, Workspace};
 use std::alloc::{AllocError, Global};
 use std::thread::Threads;
 
@@ -30,24 +34,24 @@ const SHARE: usize = 4;
 type Pools = Vec<Result<Pool<AnchoredResource>, AllocError>>;
 
 // The report of the departure at a turn.
-fn report_at(net: &Net, turns: &[u32], turn: usize) -> i64
-    requires passable { IsPassable net.now turns.now }
-    requires turn { turn < length net.now.by_report }
+fn report_at(ground: &Ground, turn: usize) -> i64
+    requires ground { IsGround ground.now }
+    requires turn { turn < length ground.now.net.now.by_report }
 {
-    net.departures()[net.by_report()[turn] as usize].report
+    ground.net.departures()[ground.net.by_report()[turn] as usize].report
 }
 
 // Where the batch that begins at a turn ends: all departures of it report less than the least rest
 // after the first. No clause says so, since it is there for speed.
-fn batch_end(net: &Net, turns: &[u32], from: usize) -> usize
-    requires passable { IsPassable net.now turns.now }
-    requires from { from < length net.now.by_report }
-    ensures { result ≤ length net.now.by_report }
+fn batch_end(ground: &Ground, from: usize) -> usize
+    requires ground { IsGround ground.now }
+    requires from { from < length ground.now.net.now.by_report }
+    ensures { result ≤ length ground.now.net.now.by_report }
 {
-    let count = net.by_report().len();
-    let first = report_at(net, turns, from);
+    let count = ground.net.by_report().len();
+    let first = report_at(ground, from);
     for turn in from..count {
-        if report_at(net, turns, turn).saturating_sub(first) >= LEAST_REST {
+        if report_at(ground, turn).saturating_sub(first) >= LEAST_REST {
             return turn;
         }
     }
@@ -55,13 +59,13 @@ fn batch_end(net: &Net, turns: &[u32], from: usize) -> usize
 }
 
 // Whether all duties that arrive at a place left with the departures so far.
-fn is_sealed(net: &Net, turns: &[u32], passed: usize, place: usize) -> bool
-    requires passable { IsPassable net.now turns.now }
-    requires place { place < length net.now.arrivals }
-    ensures { result ≡ true → IsSealed net.now passed place }
+fn is_sealed(ground: &Ground, passed: usize, place: usize) -> bool
+    requires ground { IsGround ground.now }
+    requires place { place < length ground.now.net.now.arrivals }
+    ensures { result ≡ true → IsSealed ground.now.net.now passed place }
 {
-    for rank in net.arriving(place) {
-        if turns[*rank as usize] as usize >= passed {
+    for rank in ground.net.arriving(place) {
+        if ground.turns[*rank as usize] as usize >= passed {
             return false;
         }
     }
@@ -82,22 +86,22 @@ fn mark_window(marks: &mut [bool], window: Window)
 // whose pools are kept.
 fn marks_of<K: Fn(usize) -> bool>(
     alloc: Global,
-    net: &Net,
-    turns: &[u32],
+    ground: &Ground,
     from: usize,
     end: usize,
     kept: &K,
 ) -> Result<Vec<bool>, AllocError>
-    requires passable { IsPassable net.now turns.now }
-    requires end { end ≤ length net.now.by_report }
-    requires kept { (place : ℕ) → place < length net.now.departures → K.pre kept.now place }
-    ensures { IfOk result (λ marks. length marks.items ≡ length net.now.arrivals) }
+    requires ground { IsGround ground.now }
+    requires end { end ≤ length ground.now.net.now.by_report }
+    requires kept { (place : ℕ) → place < length ground.now.net.now.departures
+        → K.pre kept.now place }
+    ensures { IfOk result (λ marks. length marks.items ≡ length ground.now.net.now.arrivals) }
 {
-    let mut marks = vec![in alloc; false; net.arrivals().len()]?;
+    let mut marks = vec![in alloc; false; ground.net.arrivals().len()]?;
     for turn in from..end {
-        let place = net.by_report()[turn] as usize;
+        let place = ground.net.by_report()[turn] as usize;
         if !kept(place) {
-            mark_window(&mut marks, net.window(place));
+            mark_window(&mut marks, ground.net.window(place));
         }
     }
     Ok(marks)
@@ -105,47 +109,60 @@ fn marks_of<K: Fn(usize) -> bool>(
 
 // Whether the pool of an arrival is made ahead: it is marked, isn't made, and nothing more will reach
 // it.
-fn is_wanted(
-    net: &Net,
-    turns: &[u32],
-    passed: usize,
-    marks: &[bool],
-    made: &[bool],
-    place: usize,
-) -> bool
-    requires passable { IsPassable net.now turns.now }
-    requires place { place < length net.now.arrivals }
-    requires marks { length marks.now ≡ length net.now.arrivals }
-    requires made { length made.now ≡ length net.now.arrivals }
-    ensures { result ≡ true → IsSealed net.now passed place }
+fn is_wanted(ground: &Ground, passed: usize, marks: &[bool], made: &[bool], place: usize) -> bool
+    requires ground { IsGround ground.now }
+    requires place { place < length ground.now.net.now.arrivals }
+    requires marks { length marks.now ≡ length ground.now.net.now.arrivals }
+    requires made { length made.now ≡ length ground.now.net.now.arrivals }
+    ensures { result ≡ true → IsSealed ground.now.net.now passed place }
 {
     if !marks[place] || made[place] {
         return false;
     }
-    is_sealed(net, turns, passed, place)
+    is_sealed(ground, passed, place)
 }
 
 // Those of the marked arrivals that nothing more will reach, and whose pools aren't made.
 fn unmade(
     alloc: Global,
-    net: &Net,
-    turns: &[u32],
+    ground: &Ground,
     passed: usize,
     marks: &[bool],
     made: &[bool],
 ) -> Result<Vec<usize>, AllocError>
-    requires passable { IsPassable net.now turns.now }
-    requires marks { length marks.now ≡ length net.now.arrivals }
-    requires made { length made.now ≡ length net.now.arrivals }
-    ensures { IfOk result (λ places. AreSealed net.now passed places.items) }
+    requires ground { IsGround ground.now }
+    requires marks { length marks.now ≡ length ground.now.net.now.arrivals }
+    requires made { length made.now ≡ length ground.now.net.now.arrivals }
+    ensures { IfOk result (λ places. AreSealed ground.now.net.now passed places.items) }
 {
     let mut places = Vec::new(alloc);
     for place in 0..marks.len() {
-        if is_wanted(net, turns, passed, marks, made, place) {
+        if is_wanted(ground, passed, marks, made, place) {
             places.push(place)?;
         }
     }
     Ok(places)
+}
+
+// The arrivals to make ahead where a pass comes to a turn: the departures from there on, up to
+// another turn, wait on them, but for those whose pools are kept.
+fn places_ahead<K: Fn(usize) -> bool>(
+    alloc: Global,
+    ground: &Ground,
+    turn: usize,
+    end: usize,
+    kept: &K,
+    made: &[bool],
+) -> Result<Vec<usize>, AllocError>
+    requires ground { IsGround ground.now }
+    requires end { end ≤ length ground.now.net.now.by_report }
+    requires kept { (place : ℕ) → place < length ground.now.net.now.departures
+        → K.pre kept.now place }
+    requires made { length made.now ≡ length ground.now.net.now.arrivals }
+    ensures { IfOk result (λ places. AreSealed ground.now.net.now turn places.items) }
+{
+    let marks = marks_of(alloc, ground, turn, end, kept)?;
+    unmade(alloc, ground, turn, &marks, made)
 }
 
 // In how many threads so many pools are made.
@@ -158,47 +175,27 @@ fn made_at_once<T: Threads + Sync>(
     rt: &T,
     alloc: Global,
     threads: usize,
-    net: &Net,
-    turns: &[u32],
-    resource: &AnchoredResource,
+    ground: &Ground,
     places: &[usize],
-    pools: &[Pool<AnchoredResource>],
-    walks: &Walks,
+    passed: &Passed,
 ) -> Result<Pools, AllocError>
-    requires passable { IsPassable net.now turns.now }
-    requires fits { (n : ℕ) → n ≤ 100_000 → fits_in resource.now n }
-    requires most { resource.now.max_duties ≤ 12 }
-    requires passing { (base : List ℕ) × (made : List Bool)
-        × (held : List (List (PairingVector × LabelWalk)))
-        × IsPassing net.now base resource.now walks.now pools.now made held }
-    requires sealed { AreSealed net.now (length pools.now) places.now }
+    requires ground { IsGround ground.now }
+    requires pools { (arrivals : ArrivalsSpec) × ArePools ground.now passed.now arrivals }
+    requires sealed { AreSealed ground.now.net.now (length passed.now.pools.items) places.now }
     ensures long { IfOk result (λ made. vec_len made ≡ length places.now) }
     ensures each { IfOk result (λ made. (i : ℕ) (d : _) → i < length places.now
-        → IfOk (slice_index_or made.items i d) (IsArrivalPool net.now turns.now resource.now
-        walks.now pools.now (slice_index_or places.now i 0))) }
+        → IfOk (slice_index_or made.items i d) (IsPoolAt ground.now passed.now
+        (slice_index_or places.now i 0))) }
 {
     let part = |index: usize| -> Result<Pool<AnchoredResource>, AllocError>
-        requires { (index < length places.now) × IsPassable net.now turns.now
-            × ((n : ℕ) → n ≤ 100_000 → fits_in resource.now n)
-            × (resource.now.max_duties ≤ 12)
-            × ((base : List ℕ) × (made : List Bool)
-            × (held : List (List (PairingVector × LabelWalk)))
-            × IsPassing net.now base resource.now walks.now pools.now made held)
-            × AreSealed net.now (length pools.now) places.now }
-        ensures { IfOk result (IsArrivalPool net.entry.now turns.entry.now resource.entry.now
-            walks.entry.now pools.entry.now (slice_index_or places.entry.now index 0)) }
+        requires { (index < length places.now) × IsGround ground.now
+            × ((arrivals : ArrivalsSpec) × ArePools ground.now passed.now arrivals)
+            × AreSealed ground.now.net.now (length passed.now.pools.items) places.now }
+        ensures { IfOk result (IsPoolAt ground.entry.now passed.entry.now
+            (slice_index_or places.entry.now index 0)) }
     {
         let mut room = Workspace::new(alloc);
-        arrival_at(
-            alloc,
-            net,
-            turns,
-            resource,
-            places[index],
-            &mut room,
-            pools,
-            walks,
-        )
+        arrival_at(alloc, ground, places[index], &mut room, passed)
     };
     let threads = threads_for(threads, places.len());
     map_claimed(rt, alloc, threads, places.len(), &part)
@@ -226,28 +223,20 @@ impl Arrivals {
     // Puts what was made of the arrivals at some places there.
     fn put_each(
         &mut self,
-        net: &Net,
-        turns: &[u32],
-        resource: &AnchoredResource,
+        ground: &Ground,
         places: &[usize],
         made: Pools,
-        pools: &[Pool<AnchoredResource>],
-        walks: &Walks,
+        passed: &Passed,
     ) -> Result<(), AllocError>
-        requires passable { IsPassable net.now turns.now }
-        requires passing { (base : List ℕ) × IsPassing net.now base resource.now walks.now
-            pools.now self.old.made.items self.old.pools.items }
-        requires sealed { AreSealed net.now (length pools.now) places.now }
+        requires ground { IsGround ground.now }
+        requires pools { ArePools ground.now passed.now self.old }
+        requires sealed { AreSealed ground.now.net.now (length passed.now.pools.items) places.now }
         requires long { vec_len made ≡ length places.now }
         requires each { (i : ℕ) (d : _) → i < length places.now
-            → IfOk (slice_index_or made.items i d) (IsArrivalPool net.now turns.now resource.now
-            walks.now pools.now (slice_index_or places.now i 0)) }
-        ensures passing { OnOk result ((base : List ℕ) → IsPassing net.now base resource.now
-            walks.now pools.now self.old.made.items self.old.pools.items
-            → IsPassing net.now base resource.now walks.now pools.now self.new.made.items
-            self.new.pools.items) }
-        ensures stayed { OnOk result (HaveStayed self.old.made.items self.old.pools.items
-            self.new.made.items self.new.pools.items) }
+            → IfOk (slice_index_or made.items i d) (IsPoolAt ground.now passed.now
+            (slice_index_or places.now i 0)) }
+        ensures pools { OnOk result (ArePools ground.now passed.now self.new) }
+        ensures stayed { OnOk result (Stay self.old self.new) }
     {
         let mut index = 0;
         for pool in made {
@@ -256,47 +245,36 @@ impl Arrivals {
         }
         Ok(())
     }
+}
 
-    /// Where a pass comes to the first departure of a batch: makes at once, in at most so many
-    /// threads, the pools on which the batch waits, but for the departures that are kept. Returns up
-    /// to which turn that is done. With fewer than two threads nothing is made ahead.
+impl Passing {
+    /// Where the pass comes to the first departure of a batch: makes at once, in at most so many
+    /// threads, the pools on which the batch waits, but for the departures that are kept, and notes
+    /// up to which turn that is done. With fewer than two threads nothing is made ahead.
     pub(crate) fn make_ahead<T: Threads + Sync, K: Fn(usize) -> bool>(
         &mut self,
         rt: &T,
         alloc: Global,
         threads: usize,
-        net: &Net,
-        turns: &[u32],
-        resource: &AnchoredResource,
-        pools: &[Pool<AnchoredResource>],
-        walks: &Walks,
-        ahead: usize,
+        ground: &Ground,
         kept: &K,
-    ) -> Result<usize, AllocError>
-        requires passable { IsPassable net.now turns.now }
-        requires fits { (n : ℕ) → n ≤ 100_000 → fits_in resource.now n }
-        requires most { resource.now.max_duties ≤ 12 }
-        requires passing { (base : List ℕ) × IsPassing net.now base resource.now walks.now
-            pools.now self.old.made.items self.old.pools.items }
-        requires kept { (place : ℕ) → place < length net.now.departures → K.pre kept.now place }
-        ensures passing { OnOk result ((base : List ℕ) → IsPassing net.now base resource.now
-            walks.now pools.now self.old.made.items self.old.pools.items
-            → IsPassing net.now base resource.now walks.now pools.now self.new.made.items
-            self.new.pools.items) }
-        ensures stayed { OnOk result (HaveStayed self.old.made.items self.old.pools.items
-            self.new.made.items self.new.pools.items) }
+    ) -> Result<(), AllocError>
+        requires ground { IsGround ground.now }
+        requires stands { Stands ground.now self.old }
+        requires kept { (place : ℕ) → place < length ground.now.net.now.departures
+            → K.pre kept.now place }
+        ensures stands { OnOk result (Stands ground.now self.new) }
+        ensures passed { self.new.passed ≡ self.old.passed }
     {
-        let turn = pools.len();
-        if threads < 2 || turn < ahead || turn >= net.by_report().len() {
-            return Ok(ahead);
+        let turn = self.passed.pools.len();
+        if threads < 2 || turn < self.ahead || turn >= ground.net.by_report().len() {
+            return Ok(());
         }
-        let end = batch_end(net, turns, turn);
-        let marks = marks_of(alloc, net, turns, turn, end, kept)?;
-        let places = unmade(alloc, net, turns, turn, &marks, &self.made)?;
-        let made = made_at_once(
-            rt, alloc, threads, net, turns, resource, &places, pools, walks,
-        )?;
-        self.put_each(net, turns, resource, &places, made, pools, walks)?;
-        Ok(end)
+        let end = batch_end(ground, turn);
+        let places = places_ahead(alloc, ground, turn, end, kept, &self.arrivals.made)?;
+        let made = made_at_once(rt, alloc, threads, ground, &places, &self.passed)?;
+        self.arrivals.put_each(ground, &places, made, &self.passed)?;
+        self.ahead = end;
+        Ok(())
     }
 }

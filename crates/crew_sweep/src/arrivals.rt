@@ -1,14 +1,17 @@
 //! The pools of arrivals.
-ghost use Rattle.std.specs.Prelude.{◌≡◌, ◌<◌, ◌≤◌, ℕ, Bool, IfOk, IsPermutation, List, OnOk, [], false, get_or, length};
-ghost use Rattle.crew_anchor.specs.Machinery.Bounds.{fits_in};
+ghost use Rattle.std.specs.Prelude.{◌≡◌, ◌<◌, ◌≤◌, ℕ, IfOk, IsPermutation, List, OnOk, [], false, get_or, length};
 ghost use Rattle.crew_pairing.specs.declared.vector.PairingVector.{PairingVector};
 ghost use Rattle.crew_pool.specs.declared.label_walk.LabelWalk.{LabelWalk};
 ghost use Rattle.crew_resource.specs.Members.{Member};
-ghost use Rattle.crew_sweep.specs.Machinery.Passing.{AreMade, HaveStayed, IsArrivalPool, IsMade, IsPassable, IsPassing, IsSealed};
+ghost use Rattle.crew_sweep.specs.Machinery.Grounds.{ArePools, IsGround, IsPoolAt, Stay};
+ghost use Rattle.crew_sweep.specs.Machinery.Passing.{AreMade, IsMade, IsSealed};
+ghost use Rattle.crew_sweep.specs.declared.arrivals.Arrivals.{Arrivals as ArrivalsSpec};
 
+use crate::ground::Ground;
+use crate::passed::Passed;
 use crew_anchor::AnchoredResource;
-use crew_net::{Net, Window};
-use crew_pool::{Pool, Walks, Workspace};
+use crew_net::Window;
+use crew_pool::{Pool, Workspace};
 use crew_step::arrival_pool;
 use std::alloc::{AllocError, Global};
 use std::cmp::Reverse;
@@ -32,27 +35,32 @@ fn last_first(alloc: Global, ranks: &[u32], turns: &[u32]) -> Result<Vec<u32>, A
 /// The pool of the arrival at a place, from those of the departures so far.
 pub(crate) fn arrival_at(
     alloc: Global,
-    net: &Net,
-    turns: &[u32],
-    resource: &AnchoredResource,
+    ground: &Ground,
     place: usize,
     room: &mut Workspace<AnchoredResource>,
-    pools: &[Pool<AnchoredResource>],
-    walks: &Walks,
+    passed: &Passed,
 ) -> Result<Pool<AnchoredResource>, AllocError>
-    requires passable { IsPassable net.now turns.now }
-    requires fits { (n : ℕ) → n ≤ 100_000 → fits_in resource.now n }
-    requires most { resource.now.max_duties ≤ 12 }
-    requires passing { (base : List ℕ) × (made : List Bool)
-        × (held : List (List (PairingVector × LabelWalk)))
-        × IsPassing net.now base resource.now walks.now pools.now made held }
-    requires place { place < length net.now.arrivals }
-    requires sealed { IsSealed net.now (length pools.now) place }
-    ensures { IfOk result (IsArrivalPool net.now turns.now resource.now walks.now pools.now place) }
+    requires ground { IsGround ground.now }
+    requires pools { (arrivals : ArrivalsSpec) × ArePools ground.now passed.now arrivals }
+    requires place { place < length ground.now.net.now.arrivals }
+    requires sealed { IsSealed ground.now.net.now (length passed.now.pools.items) place }
+    ensures { IfOk result (IsPoolAt ground.now passed.now place) }
 {
-    let ranks = last_first(alloc, net.arriving(place), turns)?;
-    let duties = net.duties().as_slice();
-    arrival_pool(alloc, resource, room, pools, duties, turns, &ranks, walks)
+    let turns = ground.turns;
+    let ranks = last_first(alloc, ground.net.arriving(place), turns)?;
+    let duties = ground.net.duties().as_slice();
+    let pools = &passed.pools;
+    let walks = &passed.walks;
+    arrival_pool(
+        alloc,
+        &ground.resource,
+        room,
+        pools,
+        duties,
+        turns,
+        &ranks,
+        walks,
+    )
 }
 
 impl Arrivals {
@@ -77,32 +85,22 @@ impl Arrivals {
     pub(crate) fn make_window(
         &mut self,
         alloc: Global,
-        net: &Net,
-        turns: &[u32],
-        resource: &AnchoredResource,
+        ground: &Ground,
         window: Window,
         room: &mut Workspace<AnchoredResource>,
-        pools: &[Pool<AnchoredResource>],
-        walks: &Walks,
+        passed: &Passed,
     ) -> Result<(), AllocError>
-        requires passable { IsPassable net.now turns.now }
-        requires fits { (n : ℕ) → n ≤ 100_000 → fits_in resource.now n }
-        requires most { resource.now.max_duties ≤ 12 }
-        requires passing { (base : List ℕ) × IsPassing net.now base resource.now walks.now
-            pools.now self.old.made.items self.old.pools.items }
-        requires within { window.end ≤ length net.now.arrivals }
+        requires ground { IsGround ground.now }
+        requires pools { ArePools ground.now passed.now self.old }
+        requires within { window.end ≤ length ground.now.net.now.arrivals }
         requires sealed { (place : ℕ) → window.from ≤ place → place < window.end
-            → IsSealed net.now (length pools.now) place }
-        ensures passing { OnOk result ((base : List ℕ) → IsPassing net.now base resource.now
-            walks.now pools.now self.old.made.items self.old.pools.items
-            → IsPassing net.now base resource.now walks.now pools.now self.new.made.items
-            self.new.pools.items) }
-        ensures stayed { OnOk result (HaveStayed self.old.made.items self.old.pools.items
-            self.new.made.items self.new.pools.items) }
+            → IsSealed ground.now.net.now (length passed.now.pools.items) place }
+        ensures pools { OnOk result (ArePools ground.now passed.now self.new) }
+        ensures stayed { OnOk result (Stay self.old self.new) }
         ensures window { OnOk result (AreMade self.new.made.items window) }
     {
         for place in window.from..window.end {
-            self.make(alloc, net, turns, resource, place, room, pools, walks)?;
+            self.make(alloc, ground, place, room, passed)?;
         }
         Ok(())
     }
@@ -111,33 +109,23 @@ impl Arrivals {
     fn make(
         &mut self,
         alloc: Global,
-        net: &Net,
-        turns: &[u32],
-        resource: &AnchoredResource,
+        ground: &Ground,
         place: usize,
         room: &mut Workspace<AnchoredResource>,
-        pools: &[Pool<AnchoredResource>],
-        walks: &Walks,
+        passed: &Passed,
     ) -> Result<(), AllocError>
-        requires passable { IsPassable net.now turns.now }
-        requires fits { (n : ℕ) → n ≤ 100_000 → fits_in resource.now n }
-        requires most { resource.now.max_duties ≤ 12 }
-        requires passing { (base : List ℕ) × IsPassing net.now base resource.now walks.now
-            pools.now self.old.made.items self.old.pools.items }
-        requires place { place < length net.now.arrivals }
-        requires sealed { IsSealed net.now (length pools.now) place }
-        ensures passing { OnOk result ((base : List ℕ) → IsPassing net.now base resource.now
-            walks.now pools.now self.old.made.items self.old.pools.items
-            → IsPassing net.now base resource.now walks.now pools.now self.new.made.items
-            self.new.pools.items) }
-        ensures stayed { OnOk result (HaveStayed self.old.made.items self.old.pools.items
-            self.new.made.items self.new.pools.items) }
+        requires ground { IsGround ground.now }
+        requires pools { ArePools ground.now passed.now self.old }
+        requires place { place < length ground.now.net.now.arrivals }
+        requires sealed { IsSealed ground.now.net.now (length passed.now.pools.items) place }
+        ensures pools { OnOk result (ArePools ground.now passed.now self.new) }
+        ensures stayed { OnOk result (Stay self.old self.new) }
         ensures made { OnOk result (IsMade self.new.made.items place) }
     {
         if self.made[place] {
             return Ok(());
         }
-        let pool = arrival_at(alloc, net, turns, resource, place, room, pools, walks)?;
+        let pool = arrival_at(alloc, ground, place, room, passed)?;
         self.pools[place] = pool;
         self.made[place] = true;
         Ok(())

@@ -1,25 +1,25 @@
 //! What an earlier pass left.
-ghost use Rattle.std.specs.Prelude.{◌≡◌, ◌<◌, ◌≤◌, IfSome, List, length, slice_get, true, Some, ◌-◌};
+ghost use Rattle.std.specs.Prelude.{◌≡◌, ◌<◌, ◌≤◌, IfSome, length, slice_get, true, Some, ◌-◌};
 ghost use Rattle.crew_carry.specs.Twins.{AreTwins};
-ghost use Rattle.crew_pairing.specs.declared.vector.PairingVector.{PairingVector};
-ghost use Rattle.crew_pool.specs.declared.label_walk.LabelWalk.{LabelWalk};
-ghost use Rattle.crew_resource.specs.Members.{Member};
-ghost use Rattle.crew_sweep.specs.Machinery.Kept.{keyed_pools, sparing_of};
-ghost use Rattle.crew_sweep.specs.Machinery.Numbered.{AreLocal};
-ghost use Rattle.crew_sweep.specs.Machinery.Passing.{AreLabels, passed_network};
-ghost use Rattle.crew_sweep.specs.Machinery.Renewing.{IsKeptTurn, IsLaid, IsWindowKept};
+ghost use Rattle.crew_net.specs.Nets.{AreArrivalPlaces};
+ghost use Rattle.crew_sweep.specs.Machinery.Beside.{IsBeside};
+ghost use Rattle.crew_sweep.specs.Machinery.Kept.{sparing_of};
+ghost use Rattle.crew_sweep.specs.Machinery.Renewing.{IsKeptTurn, IsWindowKept};
 ghost use Rattle.crew_sweep.specs.Sweeps.{AreTurns, in_order};
 
+use crate::ground::Ground;
 use crate::swept::Sweep;
 use crew_carry::Twins;
 use crew_net::{Net, Window};
 
-/// An earlier sweep, the turns of its network's duties, and what its network has alike with another.
+/// An earlier sweep, the turns of its network's duties, what its network has alike with another, and
+/// the places at which the other's duties arrive.
 #[derive(Drop)]
 pub(crate) struct Earlier<'a> {
     pub(crate) sweep: &'a Sweep,
     pub(crate) turns: &'a [u32],
     pub(crate) twins: &'a Twins,
+    pub(crate) places: &'a [u32],
 }
 
 // Whether the twin of an arrival stands at a place.
@@ -65,18 +65,22 @@ fn turn_of(net: &Net, turns: &[u32], departure: usize) -> Option<usize>
 }
 
 impl<'a> Earlier<'a> {
-    /// An earlier sweep, beside the turns of its network's duties.
-    pub(crate) fn of(sweep: &'a Sweep, turns: &'a [u32], twins: &'a Twins) -> Earlier<'a>
-        ensures sweep { result.sweep.now ≡ sweep.now }
-        ensures turns { result.turns.now ≡ turns.now }
-        ensures twins { result.twins.now ≡ twins.now }
-        ensures laid { IsLaid sweep.now.net }
-        ensures long { length sweep.now.pools ≡ length sweep.now.net.by_report }
-        ensures local { AreLocal (passed_network sweep.now.net sweep.now.base
-            (sparing_of sweep.now)) (length sweep.now.pools) (keyed_pools sweep.now) }
-        ensures spared { (labels : List (PairingVector × LabelWalk)) → Member sweep.now.pools labels
-            → AreLabels (sparing_of sweep.now) (length sweep.now.net.duties) sweep.now.walks
-            labels }
+    /// An earlier sweep of the ground's base under its resource, beside the turns of that sweep's
+    /// duties, and the places at which the ground's duties arrive.
+    pub(crate) fn of(
+        sweep: &'a Sweep,
+        turns: &'a [u32],
+        twins: &'a Twins,
+        places: &'a [u32],
+        ground: &Ground,
+    ) -> Earlier<'a>
+        requires settings { sweep.now.net.settings ≡ ground.now.net.now.settings }
+        requires turns { AreTurns sweep.now.net turns.now }
+        requires twins { AreTwins sweep.now.net ground.now.net.now twins.now }
+        requires places { AreArrivalPlaces ground.now.net.now places.now }
+        requires base { ground.now.base ≡ sweep.now.base }
+        requires resource { ground.now.resource ≡ sparing_of sweep.now }
+        ensures { IsBeside result ground.now }
     {
         let net = sweep.net();
         let _departures = net.departures();
@@ -87,36 +91,40 @@ impl<'a> Earlier<'a> {
             sweep,
             turns,
             twins,
+            places,
         }
     }
 
     /// The turn at which the departure at a place was come to, where all that it waits on is as it
     /// was.
-    pub(crate) fn kept_turn(&self, net: &Net, changed: &[bool], place: usize) -> Option<usize>
-        requires twins { AreTwins self.now.sweep.now.net net.now self.now.twins.now }
-        requires turns { AreTurns self.now.sweep.now.net self.now.turns.now }
-        requires place { place < length net.now.departures }
-        requires marks { length changed.now ≡ length net.now.arrivals }
-        ensures { IfSome result (IsKeptTurn self.now.sweep.now net.now self.now.twins.now
-            changed.now place) }
+    pub(crate) fn kept_turn(&self, ground: &Ground, changed: &[bool], place: usize) -> Option<usize>
+        requires beside { IsBeside self.now ground.now }
+        requires place { place < length ground.now.net.now.departures }
+        requires marks { length changed.now ≡ length ground.now.net.now.arrivals }
+        ensures { IfSome result (IsKeptTurn self.now.sweep.now ground.now.net.now
+            self.now.twins.now changed.now place) }
     {
         let old = self.twins.departure(place)?;
         let before = self.sweep.net();
-        if !is_kept(self.twins, changed, net.window(place), before.window(old)) {
+        if !is_kept(
+            self.twins,
+            changed,
+            ground.net.window(place),
+            before.window(old),
+        ) {
             return None;
         }
         turn_of(before, self.turns, old)
     }
 
     /// The turn at which the departure of the same event was come to.
-    pub(crate) fn turn(&self, net: &Net, place: usize) -> Option<usize>
-        requires twins { AreTwins self.now.sweep.now.net net.now self.now.twins.now }
-        requires turns { AreTurns self.now.sweep.now.net self.now.turns.now }
-        requires place { place < length net.now.departures }
+    pub(crate) fn turn(&self, ground: &Ground, place: usize) -> Option<usize>
+        requires beside { IsBeside self.now ground.now }
+        requires place { place < length ground.now.net.now.departures }
         ensures { IfSome result (λ turn. slice_get (in_order self.now.sweep.now.net) turn
-            ≡ slice_get net.now.departures place) }
+            ≡ slice_get ground.now.net.now.departures place) }
     {
-        let _departures = net.departures();
+        let _departures = ground.net.departures();
         let old = self.twins.departure(place)?;
         turn_of(self.sweep.net(), self.turns, old)
     }

@@ -1,5 +1,5 @@
 //! What one pass leaves.
-ghost use Rattle.std.specs.Prelude.{◌≡◌, ◌<◌, List, [], get_or, length, true};
+ghost use Rattle.std.specs.Prelude.{◌≡◌, ◌<◌, ◌≤◌, ℕ, List, [], get_or, length, true};
 ghost use Rattle.std.specs.Arc.{arc_value};
 ghost use Rattle.crew_anchor.specs.Stages.{anchored_resource};
 ghost use Rattle.crew_pairing.specs.Events.{IsSound};
@@ -9,6 +9,7 @@ ghost use Rattle.crew_pool.specs.Counted.{AreCounted};
 ghost use Rattle.crew_pool.specs.declared.label_walk.LabelWalk.{LabelWalk};
 ghost use Rattle.crew_resource.specs.Members.{Member};
 
+use crate::passed::Passed;
 use crew_anchor::AnchoredResource;
 use crew_flights::Code;
 use crew_net::Net;
@@ -21,7 +22,6 @@ use std::sync::Arc;
 ///
 /// A contract sees the network, the base with its price, the walks by place, and the labels of each
 /// pool. Labels stand as of a common instant.
-#[derive(Drop)]
 pub struct Sweep {
     net: Arc<Net, Global>,
     base: Code,
@@ -29,6 +29,19 @@ pub struct Sweep {
     resource: AnchoredResource,
     walks: Walks,
     pools: Vec<Pool<AnchoredResource>>,
+}
+
+impl Drop for Sweep {
+    fn drop(self) {
+        let Self {
+            net: _,
+            base: _,
+            price: _,
+            resource: _,
+            walks: _,
+            pools: _,
+        } = self;
+    }
 }
 
 impl Model for Sweep {
@@ -55,41 +68,45 @@ impl Model for Sweep {
 }
 
 impl Sweep {
-    ghost use Rattle.crew_sweep.specs.Machinery.Kept.{AreKept, IsKept, keyed_pools, sparing_of};
+    ghost use Rattle.crew_anchor.specs.Machinery.Bounds.{fits_in};
+    ghost use Rattle.crew_flights.specs.Timetable.{IsBasePrice, IsSound as IsSoundTable, Timetable};
+    ghost use Rattle.crew_pairing.specs.Duties.{AreDuties};
+    ghost use Rattle.crew_sweep.specs.Machinery.Grounds.{IsLeft};
+    ghost use Rattle.crew_sweep.specs.Machinery.Kept.{AreKept, keyed_pools, sparing_of};
     ghost use Rattle.crew_sweep.specs.Machinery.Numbered.{AreLocal};
     ghost use Rattle.crew_sweep.specs.Machinery.Passing.{AreLabels, passed_network};
+    ghost use Rattle.crew_sweep.specs.Sweeps.{ShowsFronts};
 
-    // The pools of a base, under its resource.
-    pub(crate) fn new(
+    // What a pass over all departures of a base leaves, under the base's own resource.
+    pub(crate) fn of(
         net: Arc<Net, Global>,
         base: Code,
         price: i64,
         resource: AnchoredResource,
-        walks: Walks,
-        pools: Vec<Pool<AnchoredResource>>,
+        passed: Passed,
     ) -> Sweep
-        requires { IsKept (record {
+        requires price { IsBasePrice price }
+        requires resource { resource ≡ anchored_resource (arc_value net).settings price }
+        requires fits { (n : ℕ) → n ≤ 100_000 → fits_in resource n }
+        requires passed { IsLeft (arc_value net) base resource passed }
+        ensures is { result ≡ record {
           net = arc_value net;
           base = base;
           price = price;
-          walks = walks;
-          pools = pools.items;
-        }) resource }
-        ensures { result ≡ record {
-          net = arc_value net;
-          base = base;
-          price = price;
-          walks = walks;
-          pools = pools.items;
+          walks = passed.walks;
+          pools = passed.pools.items;
         } }
+        ensures right { (t : Timetable) → IsSoundTable t
+            → AreDuties (arc_value net).settings t (arc_value net).duties → ShowsFronts t result }
     {
+        let _settings = net.settings();
         Sweep {
             net,
             base,
             price,
             resource,
-            walks,
-            pools,
+            walks: passed.walks,
+            pools: passed.pools,
         }
     }
 

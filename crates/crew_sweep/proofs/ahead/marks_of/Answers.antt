@@ -7,29 +7,29 @@ use Rattle.crew_sweep.proofs.ahead.marks_of.Goals as goal
 
 pub kept-requires : goal.kept-requires
 kept-requires g c =
-    let net = c.args.net.now in
+    let net = c.args.ground.now.net.now in
     let turn = c.loop-turn.turn in
     let end = c.requires.end in
     let within : turn < length net.by_report = omega (arith, c.loop-turn-test.true, end) in
-    let there = stands-at net c.args.turns.now c.requires.passable turn within in
+    let there = stands-at net c.args.ground.now.turns.now c.requires.ground.passable turn within in
     c.requires.kept _ (subst (λ (ps : List ℕ). get_or ps turn 0 < length net.departures) (sym c.by_report.ensures.places) there)
 
 pub window-requires : goal.window-requires
 window-requires g c =
-    let net = c.args.net.now in
+    let net = c.args.ground.now.net.now in
     let turn = c.loop-turn.turn in
     let end = c.requires.end in
     let within : turn < length net.by_report = omega (arith, c.loop-turn-test.true, end) in
-    let there = stands-at net c.args.turns.now c.requires.passable turn within in
+    let there = stands-at net c.args.ground.now.turns.now c.requires.ground.passable turn within in
     subst (λ (ps : List ℕ). get_or ps turn 0 < length net.departures) (sym c.by_report.ensures.places) there
 
 pub mark_window-requires : goal.mark_window-requires
 mark_window-requires g c =
-    let net = c.args.net.now in
+    let net = c.args.ground.now.net.now in
     let turn = c.loop-turn.turn in
     let end = c.requires.end in
     let within : turn < length net.by_report = omega (arith, c.loop-turn-test.true, end) in
-    let there = stands-at net c.args.turns.now c.requires.passable turn within in
+    let there = stands-at net c.args.ground.now.turns.now c.requires.ground.passable turn within in
     let place = stands net.departures (get_or c.by_report.result.now turn 0) (subst (λ (ps : List ℕ). get_or ps turn 0 < length net.departures) (sym c.by_report.ensures.places) there) in
     let window = (c.window.ensures place.0 place.1).within in
     let long = c.loop-turn.invariant in

@@ -3,4 +3,4 @@ use Rattle.crew_sweep.proofs.ahead.marks_of.Given as goal
 
 -- there is a mark for each arrival
 abbrev pub invariant-loop-turn : goal.invariant-loop-turn
-invariant-loop-turn g l = length l.marks.items ≡ length l.net.arrivals
+invariant-loop-turn g l = length l.marks.items ≡ length l.ground.net.now.arrivals

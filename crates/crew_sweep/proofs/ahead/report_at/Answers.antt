@@ -1,4 +1,4 @@
-use Rattle.std.proofs.Common.{◌<◌, List, ℕ, ap, arith, get_or, length, subst, sym}
+use Rattle.std.proofs.Common.{◌<◌, List, ℕ, get_or, length, subst, sym}
 use Rattle.crew_pairing.specs.declared.events.Departure.{Departure}
 use Rattle.crew_sweep.proofs.MadeAhead.{stands-at}
 use Rattle.crew_sweep.proofs.ahead.report_at.Goals as goal
@@ -8,12 +8,12 @@ bounds-by_report-turn c = subst (λ (ps : List ℕ). c.args.turn < length ps) (s
 
 pub bounds-departures-by_report : goal.bounds-departures-by_report
 bounds-departures-by_report c =
-    let there = stands-at c.args.net.now c.args.turns.now c.requires.passable c.args.turn c.requires.turn in
-    let listed = subst (λ (ps : List ℕ). get_or ps c.args.turn 0 < length c.args.net.now.departures) (sym c.by_report.ensures.places) there in
+    let there = stands-at c.args.ground.now.net.now c.args.ground.now.turns.now c.requires.ground.passable c.args.turn c.requires.turn in
+    let listed = subst (λ (ps : List ℕ). get_or ps c.args.turn 0 < length c.args.ground.now.net.now.departures) (sym c.by_report.ensures.places) there in
     subst (λ (gs : List Departure). get_or c.by_report.result.now c.args.turn 0 < length gs) (sym c.departures.ensures.events) listed
 
 pub bounds-departures-by_report-2 : goal.bounds-departures-by_report-2
 bounds-departures-by_report-2 c =
-    let there = stands-at c.args.net.now c.args.turns.now c.requires.passable c.args.turn c.requires.turn in
-    let listed = subst (λ (ps : List ℕ). get_or ps c.args.turn 0 < length c.args.net.now.departures) (sym c.by_report.ensures.places) there in
+    let there = stands-at c.args.ground.now.net.now c.args.ground.now.turns.now c.requires.ground.passable c.args.turn c.requires.turn in
+    let listed = subst (λ (ps : List ℕ). get_or ps c.args.turn 0 < length c.args.ground.now.net.now.departures) (sym c.by_report.ensures.places) there in
     subst (λ (gs : List Departure). get_or c.by_report.result.now c.args.turn 0 < length gs) (sym c.departures.ensures.events) listed

@@ -1,11 +1,13 @@
-use Rattle.std.proofs.Common.{◌≡◌, ◌∙◌, ◌<◌, Err, IfOk, List, ℕ, Ok, Some, length, map, refl, subst, sym}
+use Rattle.std.proofs.Common.{◌≡◌, ◌∙◌, ◌<◌, Err, IfOk, List, ℕ, Ok, Some, get_or, length, map, refl, subst, sym}
 use Rattle.std.specs.Prelude.{slice_get}
 use Rattle.std.specs.List.Sorted.{IsPermutation}
 use Rattle.std.specs.declared.result.Result.{Result}
 use Rattle.crew_anchor.specs.Stages.{anchored_board}
 use Rattle.crew_pairing.specs.declared.duty.Duty.{Duty}
 use Rattle.crew_pairing.specs.declared.events.Arrival.{Arrival}
+use Rattle.crew_pairing.specs.declared.vector.PairingVector.{PairingVector}
 use Rattle.crew_pool.specs.LabelWalks.{IsPoolOf, shown}
+use Rattle.crew_pool.specs.declared.label_walk.LabelWalk.{LabelWalk}
 use Rattle.crew_resource.specs.Members.{Member}
 use Rattle.crew_step.specs.Pools.{boarded}
 use Rattle.crew_vector.specs.Dominance.{is_at_most}
@@ -14,43 +16,53 @@ use Rattle.crew_sweep.proofs.Passable.{may-board}
 use Rattle.crew_sweep.proofs.Slidings.{stands}
 use Rattle.crew_sweep.proofs.arrivals.arrival_at.Goals as goal
 
+abbrev Labels : Type 0
+Labels = List (PairingVector × LabelWalk)
+
 pub arrival_pool-requires-clause-counting : goal.arrival_pool-requires-clause-counting
-arrival_pool-requires-clause-counting c = (c.args.resource.now.max_duties, refl)
+arrival_pool-requires-clause-counting c = (c.args.ground.now.resource.max_duties, refl)
 
 pub arrival_pool-requires-clause-within : goal.arrival_pool-requires-clause-within
 arrival_pool-requires-clause-within c rank m =
-    let net = c.args.net.now in
-    let p = c.requires.passing in
+    let g = c.args.ground.now in
+    let net = g.net.now in
+    let passed = c.args.passed.now in
+    let p = c.requires.pools in
     let a = stands net.arrivals c.args.place c.requires.place in
     let all = subst (λ (rs : List ℕ). IsPermutation rs c.in_ok-ranks.ranks.items) (c.arriving.ensures a.0 a.1) c.in_ok-ranks.ensures in
-    let k = making.ranks-within net c.args.turns.now c.requires.passable p.0 c.args.resource.now c.args.walks.now c.args.pools.now p.1 p.2 p.3
-    c.args.place a.0 a.1 c.requires.sealed c.in_ok-ranks.ranks.items all rank (subst (λ (rs : List ℕ). Member rs rank) c.deref.ensures.value m) in
-    (subst (λ (ds : List Duty). rank < length ds) (sym (c.as_slice-duties.ensures ∙ c.duties.ensures)) k.0, k.1)
+    let k = making.ranks-within net g.turns.now c.requires.ground.passable g.base g.resource passed.walks passed.pools.items p.0.made.items p.0.pools.items p.1
+    c.args.place a.0 a.1 c.requires.sealed c.in_ok-ranks.ranks.items all rank (subst (λ (rs : List ℕ). Member rs rank) c.deref-2.ensures.value m) in (
+      subst (λ (ds : List Duty). rank < length ds) (sym (c.as_slice-duties.ensures ∙ c.duties.ensures)) k.0,
+      subst (λ (ps : List Labels). get_or g.turns.now rank 0 < length ps) (sym c.deref.ensures.value) k.1,
+    )
 
 pub arrival_pool-requires-clause-can : goal.arrival_pool-requires-clause-can
 arrival_pool-requires-clause-can c labels l item known m k =
-    let p = c.requires.passing in
-    may-board c.args.net.now c.args.turns.now c.requires.passable p.0 c.args.resource.now c.args.walks.now c.args.pools.now p.1 p.2 p.3
-    c.requires.fits c.requires.most labels l item known m (subst (λ (ds : List Duty). Member ds item) (c.as_slice-duties.ensures ∙ c.duties.ensures) k)
+    let g = c.args.ground.now in
+    let passed = c.args.passed.now in
+    let p = c.requires.pools in
+    may-board g.net.now g.turns.now c.requires.ground.passable g.base g.resource passed.walks passed.pools.items p.0.made.items p.0.pools.items p.1
+    c.requires.ground.fits c.requires.ground.most labels l item (subst (λ (ps : List Labels). Member ps labels) c.deref.ensures.value known) m (subst (λ (ds : List Duty). Member ds item) (c.as_slice-duties.ensures ∙ c.duties.ensures) k)
 
 pub arrival_pool-requires-clause-whole : goal.arrival_pool-requires-clause-whole
-arrival_pool-requires-clause-whole c = c.requires.passing.3.whole
+arrival_pool-requires-clause-whole c labels m = c.requires.pools.1.whole labels (subst (λ (ps : List Labels). Member ps labels) c.deref.ensures.value m)
 
 pub returns : goal.returns
 returns c =
-    let net = c.args.net.now in
-    let r = c.args.resource.now in
-    let walks = c.args.walks.now in
-    let turns = c.args.turns.now in
-    let pools = c.args.pools.now in
-    let place = c.args.place in
+    let g = c.args.ground.now in
+    let net = g.net.now in
+    let walks = c.args.passed.now.walks in
+    let turns = g.turns.now in
     let ranks = c.in_ok-ranks.ranks.items in
-    let all = λ (x : Arrival) (at : slice_get net.arrivals place ≡ Some x). subst (λ (rs : List ℕ). IsPermutation rs ranks) (c.arriving.ensures x at) c.in_ok-ranks.ensures in
+    let duties = c.as_slice-duties.result.now in
+    let boards = anchored_board g.resource in
+    let all = λ (x : Arrival) (at : slice_get net.arrivals c.args.place ≡ Some x). subst (λ (rs : List ℕ). IsPermutation rs ranks) (c.arriving.ensures x at) c.in_ok-ranks.ensures in
     both c.arrival_pool.result (λ pool local counts. record {
       ranks = ranks;
       all = all;
-      local = subst (λ (ds : List Duty). IsPoolOf is_at_most (boarded walks (anchored_board r) ds turns pools ranks) (map (shown walks) pool)) (c.as_slice-duties.ensures ∙ c.duties.ensures)
-          (subst (λ (rs : List ℕ). IsPoolOf is_at_most (boarded walks (anchored_board r) c.as_slice-duties.result.now turns pools rs) (map (shown walks) pool)) c.deref.ensures.value local);
+      local = subst (λ (ds : List Duty). IsPoolOf is_at_most (boarded walks boards ds turns c.args.passed.now.pools.items ranks) (map (shown walks) pool)) (c.as_slice-duties.ensures ∙ c.duties.ensures)
+          (subst (λ (ps : List Labels). IsPoolOf is_at_most (boarded walks boards duties turns ps ranks) (map (shown walks) pool)) c.deref.ensures.value
+          (subst (λ (rs : List ℕ). IsPoolOf is_at_most (boarded walks boards duties turns c.deref.result.now rs) (map (shown walks) pool)) c.deref-2.ensures.value local));
       counts = counts;
     }) c.arrival_pool.ensures.local c.arrival_pool.ensures.counts
   where

@@ -1,8 +1,8 @@
-use Rattle.std.proofs.Common.{Bool, ℕ, List, Option, get_or, subst, sym, [], true}
+use Rattle.std.proofs.Common.{ℕ, List, Option, get_or, subst, sym, [], true}
 use Rattle.crew_pairing.specs.declared.vector.PairingVector.{PairingVector}
 use Rattle.crew_pool.specs.Counted.{AreCounted}
 use Rattle.crew_pool.specs.declared.label_walk.LabelWalk.{LabelWalk}
-use Rattle.crew_sweep.specs.Machinery.Renewing.{IsKeptPool, IsKeptTurn}
+use Rattle.crew_sweep.specs.Machinery.Renewing.{IsKeptPool}
 use Rattle.crew_sweep.proofs.KeptSteps.{AreCarried, AreRankedNow, if-carried, kept-pool}
 use Rattle.crew_sweep.proofs.renewal.kept_pool.Goals as goal
 
@@ -10,9 +10,9 @@ pub returns-clause-kept : goal.returns-clause-kept
 returns-clause-kept c =
     let Labels = List (PairingVector × LabelWalk) in
     let old = c.args.earlier.now.sweep.now in
-    let net = c.args.net.now in
+    let net = c.args.ground.now.net.now in
     let t = c.args.earlier.now.twins.now in
-    if-carried c.carry.result _ _ _ (IsKeptPool old net t c.args.renewal.now.changed.items c.carry.new.to c.args.place) c.carry.ensures.labels c.carry.ensures.counted c.carry.ensures.ranked
+    if-carried c.carry.result _ _ _ (IsKeptPool old net t c.args.changed.now c.carry.new.to c.args.place) c.carry.ensures.labels c.carry.ensures.counted c.carry.ensures.ranked
     (λ pool labels counts ranked.
     let now = c.carry.new.to in
     let was = get_or old.pools c.in-Some.turn [] in
@@ -22,5 +22,5 @@ returns-clause-kept c =
     let carried : AreCarried t.ranks old.walks was now pool = subst (λ (ls : Labels). AreCarried t.ranks old.walks ls now pool) c.pool-pool.ensures.same by-walks in
     let own : AreCounted (λ (v : PairingVector). v.duties) c.walks-from.result.now true c.pool-pool.result.now = subst (λ (ws : List (List ℕ)). AreCounted (λ (v : PairingVector). v.duties) ws true c.pool-pool.result.now) (sym c.walks-from.ensures) c.pool-pool.ensures.kept.counts in
     let all-ranked : AreRankedNow c.ranks-ranks.result.now now pool = ranked in
-    kept-pool old net t c.requires.twins c.args.renewal.now.changed.items now c.args.place c.in-Some.turn (subst (λ (bs : List Bool). IsKeptTurn old net t bs c.args.place c.in-Some.turn) c.deref.ensures.value c.in-Some.ensures) pool carried (counts (λ (v : PairingVector). v.duties) own)
+    kept-pool old net t c.requires.beside.earlier.twins c.args.changed.now now c.args.place c.in-Some.turn c.in-Some.ensures pool carried (counts (λ (v : PairingVector). v.duties) own)
     (subst (λ (rs : List (Option ℕ)). AreRankedNow rs now pool) c.ranks-ranks.ensures all-ranked))

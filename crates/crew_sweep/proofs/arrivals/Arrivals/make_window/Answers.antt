@@ -5,20 +5,25 @@ use Rattle.crew_sweep.proofs.arrivals.Arrivals.make_window.Goals as goal
 
 pub loop-place-init : goal.loop-place-init
 loop-place-init c = (
-  λ base passing. passing,
+  c.requires.pools,
   stayed-itself c.args.self.now.made.items c.args.self.now.pools.items,
   λ place from end. absurd (omega (arith, from, end)),
 )
 
-pub make-requires-clause-passing : goal.make-requires-clause-passing
-make-requires-clause-passing c = (c.requires.passing.0, c.loop-place.invariant.0 c.requires.passing.0 c.requires.passing.1)
+pub make-requires-clause-pools : goal.make-requires-clause-pools
+make-requires-clause-pools c = c.loop-place.invariant.0
+
+pub make-requires-clause-sealed : goal.make-requires-clause-sealed
+make-requires-clause-sealed c = (let from = c.loop-place.auto.place in let end = c.loop-place-test.true in c.requires.sealed c.loop-place.place (omega (arith, from)) (omega (arith, end)))
 
 pub loop-place-preserved : goal.loop-place-preserved
 loop-place-preserved c =
+    let first = c.args.self.now in
+    let was = c.loop-place.self in
     let now = c.make.new.self in
     let stayed = c.in_ok-make.ensures.stayed in (
-      λ base passing. c.in_ok-make.ensures.passing base (c.loop-place.invariant.0 base passing),
-      stayed-through c.args.self.now.made.items c.args.self.now.pools.items c.loop-place.self.made.items c.loop-place.self.pools.items now.made.items now.pools.items c.loop-place.invariant.1 stayed,
+      c.in_ok-make.ensures.pools,
+      stayed-through first.made.items first.pools.items was.made.items was.pools.items now.made.items now.pools.items c.loop-place.invariant.1 stayed,
       λ place from end. ⊎_elim {C = IsMade now.made.items place} (λ l. (stayed place (c.loop-place.invariant.2 place from l)).0) (λ e. subst (IsMade now.made.items) (sym e) c.in_ok-make.ensures.made) (below-or-at place c.loop-place.place end),
     )
   where

@@ -1,0 +1,19 @@
+use Rattle.std.proofs.Common.{subst}
+use Rattle.crew_sweep.specs.Machinery.Renewing.{IsLaid}
+use Rattle.crew_sweep.proofs.earlier.Earlier.of.Goals as goal
+
+pub returns : goal.returns
+returns c = record {
+  earlier = record {
+    settings = c.requires.settings;
+    laid = subst IsLaid c.net-net.ensures.net (record { departs = c.departures-departures.ensures.exact; arrives = c.arrivals-arrivals.ensures.exact; ordered = c.by_report-places.ensures.exact });
+    twins = c.requires.twins;
+    are_turns = c.requires.turns;
+    own_base = c.requires.base;
+    resource = c.requires.resource;
+    long = c.pools-pools.ensures.long;
+    local = c.pools-pools.ensures.local;
+    spared = c.pools-pools.ensures.spared;
+  };
+  places = c.requires.places;
+}

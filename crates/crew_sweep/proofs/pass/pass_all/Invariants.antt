@@ -1,9 +1,0 @@
-use Rattle.std.proofs.Common.{◌≡◌, length}
-use Rattle.crew_sweep.specs.Machinery.Passing.{IsPassing}
-use Rattle.crew_sweep.specs.Machinery.Slides.{AreUnderWay}
-use Rattle.crew_sweep.proofs.pass.pass_all.Given as goal
-
--- so many departures are passed
-abbrev pub invariant-loop-place : goal.invariant-loop-place
-invariant-loop-place l = IsPassing l.net l.base l.resource l.walks l.pools.items l.arrivals.made.items l.arrivals.pools.items × (length l.pools.items ≡ l.place-index)
-    × AreUnderWay l.net l.walks l.arrivals.made.items l.arrivals.pools.items l.slides

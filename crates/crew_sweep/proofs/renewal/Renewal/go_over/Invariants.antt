@@ -1,0 +1,7 @@
+use Rattle.std.proofs.Common.{◌≡◌, length}
+use Rattle.crew_sweep.specs.Machinery.Beside.{StandsBeside}
+use Rattle.crew_sweep.proofs.renewal.Renewal.go_over.Given as goal
+
+-- so many departures are passed
+abbrev pub invariant-loop-place : goal.invariant-loop-place
+invariant-loop-place l = StandsBeside l.earlier l.ground l.self × (length l.self.passing.passed.pools.items ≡ l.place-index)

@@ -1,0 +1,51 @@
+use Rattle.std.proofs.Common.{◌≡◌, ◌∙◌, ◌++◌, ◌∷◌, [], List, inl, refl, sym, ap, subst}
+use Rattle.crew_pairing.specs.declared.vector.PairingVector.{PairingVector}
+use Rattle.crew_pool.specs.declared.label_walk.LabelWalk.{LabelWalk}
+use Rattle.crew_resource.specs.Members.{Member}
+use Rattle.crew_resource.proofs.Members.{Member-append_right}
+use Rattle.crew_sweep.specs.Machinery.Renewing.{IsRenewing}
+use Rattle.crew_sweep.proofs.Besides.{stands-beside}
+use Rattle.crew_sweep.proofs.Orders.{place-within}
+use Rattle.crew_sweep.proofs.Redone.{carried-grown, last-pool, on-ok-by, renewing-redone}
+use Rattle.crew_sweep.proofs.renewal.Renewal.redo_one.Goals as goal
+
+abbrev Labels : Type 0
+Labels = List (PairingVector × LabelWalk)
+
+pub note-requires-clause-place : goal.note-requires-clause-place
+note-requires-clause-place c =
+    let p = c.requires.ground.passable in
+    place-within c.args.ground.now.net.now p.departs p.ordered _ c.args.place c.requires.place
+
+pub note-requires-clause-counts : goal.note-requires-clause-counts
+note-requires-clause-counts c =
+    let was = c.args.self.now.passing.passed.pools in
+    let now = c.go_on.new.self.passed.pools.items in
+    let pool = c.index-pool.result.now in
+    let added = c.in_ok-go_on.ensures.added in
+    let is = last-pool was.items now added.0 pool c.len-last.result added.1 (c.len-last.ensures ∙ was.ok.0) c.index-pool.ensures in
+    let last = Member-append_right was.items (added.0 ∷ []) added.0 (inl refl) in
+    let there = subst (λ (ps : List Labels). Member ps pool) (sym added.1) (subst (λ (p : Labels). Member (was.items ++ added.0 ∷ []) p) (sym is) last) in
+    c.in_ok-go_on.ensures.stands.pools.whole pool there
+
+pub returns-clause-stands : goal.returns-clause-stands
+returns-clause-stands c =
+    let e = c.args.earlier.now in
+    let g = c.args.ground.now in
+    let old = e.sweep.now in
+    let net = g.net.now in
+    let renewal = c.args.self.now in
+    let was = renewal.passing.passed in
+    let now = c.go_on.new.self.passed in
+    let stands = c.requires.stands in
+    let grown = c.go_on.ensures.grown in
+    let pool = c.index-pool.result.now in
+    let added = c.in_ok-go_on.ensures.added in
+    let is = last-pool was.pools.items now.pools.items added.0 pool c.len-last.result added.1 (c.len-last.ensures ∙ was.pools.ok.0) c.index-pool.ensures in
+    let all : now.pools.items ≡ was.pools.items ++ pool ∷ [] = added.1 ∙ ap (λ (p : Labels). was.pools.items ++ p ∷ []) (sym is) in
+    let carried = carried-grown e.twins.now.ranks old.walks was.walks now.walks renewal.carrier grown stands.carried in
+    on-ok-by c.note.result
+    (λ own. stands-beside e g c.in_ok-go_on.ensures.stands (subst (λ (ps : List Labels). IsRenewing old net now.walks ps c.note.new.changed.items) (sym all)
+    (renewing-redone old net g.turns.now c.requires.ground.passable was.walks now.walks grown was.pools.items stands.passing.pools.whole renewal.changed.items c.note.new.changed.items
+    stands.marks c.note.ensures.long c.note.ensures.less c.args.place c.requires.place pool own)) carried)
+    c.note.ensures.own

@@ -1,0 +1,138 @@
+//! A pass over the departures of a base's network, departure by departure.
+ghost use Rattle.std.specs.Prelude.{◌≡◌, ◌<◌, ◌+◌, ◌++◌, ◌∷◌, ℕ, IfOk, List, OnOk, Some, [], length, slice_get, true};
+ghost use Rattle.crew_anchor.specs.Machinery.Bounds.{fits_in};
+ghost use Rattle.crew_net.specs.Machinery.Moments.{IsReal};
+ghost use Rattle.crew_net.specs.Events.{IsWindow};
+ghost use Rattle.crew_pairing.specs.Events.{may_wait};
+ghost use Rattle.crew_pairing.specs.declared.events.Departure.{Departure};
+ghost use Rattle.crew_pairing.specs.declared.vector.PairingVector.{PairingVector};
+ghost use Rattle.crew_pool.specs.Counted.{AreCounted};
+ghost use Rattle.crew_pool.specs.declared.label_walk.LabelWalk.{LabelWalk};
+ghost use Rattle.crew_step.specs.Walks.{HasGrown};
+ghost use Rattle.crew_sweep.specs.Machinery.Grounds.{IsGround, Stands};
+ghost use Rattle.crew_sweep.specs.Machinery.Numbered.{idle_at};
+ghost use Rattle.crew_sweep.specs.Machinery.Passing.{AreMade, IsPooled};
+
+use crate::arrivals::Arrivals;
+use crate::ground::Ground;
+use crate::passed::Passed;
+use crate::slides::Slides;
+use crew_anchor::AnchoredResource;
+use crew_flights::Code;
+use crew_net::Window;
+use crew_pairing::{Departure, PairingVector};
+use crew_pool::{Pool, Walks, Workspace};
+use crew_resource::Staged;
+use crew_step::departure_pool;
+use std::alloc::{AllocError, Global};
+
+/// What a pass has made so far, with the room in which it merges: `ahead` is the turn up to which
+/// several threads have made what departures wait on.
+#[derive(Drop)]
+pub(crate) struct Passing {
+    pub(crate) room: Workspace<AnchoredResource>,
+    pub(crate) slides: Slides,
+    pub(crate) arrivals: Arrivals,
+    pub(crate) passed: Passed,
+    pub(crate) ahead: usize,
+}
+
+// The empty label of a departure: where the base is.
+fn idle_label(
+    resource: &AnchoredResource,
+    base: Code,
+    departure: &Departure,
+) -> Option<PairingVector>
+    requires fits { fits_in resource.now 1 }
+    requires real { IsReal departure.now.report }
+    ensures { result ≡ idle_at resource.now base (Some departure.now) }
+{
+    if departure.airport == base {
+        Some(resource.idle(departure))
+    } else {
+        None
+    }
+}
+
+impl Passing {
+    /// A pass that has come to no departure yet.
+    pub(crate) fn new(alloc: Global, ground: &Ground) -> Result<Passing, AllocError>
+        ensures stands { IfOk result (Stands ground.now) }
+        ensures none { IfOk result (λ passing. length passing.passed.pools.items ≡ 0) }
+    {
+        let net = ground.net;
+        let slides = Slides::new(alloc, net.departures())?;
+        let arrivals = Arrivals::new(alloc, net.arrivals().len())?;
+        let pools = Vec::with_capacity(alloc, net.departures().len())?;
+        let walks = Walks::new(alloc);
+        Ok(Passing {
+            room: Workspace::new(alloc),
+            slides,
+            arrivals,
+            passed: Passed { walks, pools },
+            ahead: 0,
+        })
+    }
+
+    // The pool of the departure at a place, from what has arrived in its window.
+    fn pool_at(
+        &mut self,
+        alloc: Global,
+        ground: &Ground,
+        place: usize,
+        window: Window,
+    ) -> Result<Pool<AnchoredResource>, AllocError>
+        requires ground { IsGround ground.now }
+        requires stands { Stands ground.now self.old }
+        requires place { place < length ground.now.net.now.departures }
+        requires window { (g : Departure) → slice_get ground.now.net.now.departures place ≡ Some g
+            → IsWindow (λ x. may_wait ground.now.net.now.settings x g)
+            ground.now.net.now.arrivals window }
+        requires made { AreMade self.old.arrivals.made.items window }
+        ensures pooled { IfOk result (IsPooled ground.now.net.now ground.now.base
+            ground.now.resource self.old.passed.walks self.new.passed.walks place window
+            self.old.arrivals.pools.items) }
+        ensures counts { IfOk result (AreCounted (λ (v : PairingVector). v.duties)
+            self.new.passed.walks true) }
+        ensures stands { OnOk result (Stands ground.now self.new) }
+        ensures grown { HasGrown self.old.passed.walks self.new.passed.walks }
+        ensures arrivals { self.new.arrivals ≡ self.old.arrivals }
+        ensures pools { self.new.passed.pools ≡ self.old.passed.pools }
+    {
+        let resource = &ground.resource;
+        let held = &self.arrivals.pools;
+        let walks = &mut self.passed.walks;
+        let number = self
+            .slides
+            .slide_to(alloc, resource, place, held, window, walks)?;
+        let idle = idle_label(resource, ground.base, &ground.net.departures()[place]);
+        let waiting = self.slides.pool(number);
+        departure_pool(alloc, resource, &mut self.room, waiting, idle, walks)
+    }
+
+    /// The pass goes on by one departure: the arrivals on which it waits, and its pool.
+    pub(crate) fn go_on(
+        &mut self,
+        alloc: Global,
+        ground: &Ground,
+        place: usize,
+    ) -> Result<(), AllocError>
+        requires ground { IsGround ground.now }
+        requires place { slice_get ground.now.net.now.by_report
+            (length self.old.passed.pools.items) ≡ Some place }
+        requires stands { Stands ground.now self.old }
+        ensures stands { OnOk result (Stands ground.now self.new) }
+        ensures more { OnOk result (length self.new.passed.pools.items
+            ≡ length self.old.passed.pools.items + 1) }
+        ensures grown { HasGrown self.old.passed.walks self.new.passed.walks }
+        ensures added { OnOk result ((pool : List (PairingVector × LabelWalk))
+            × (self.new.passed.pools.items ≡ self.old.passed.pools.items ++ pool ∷ [])) }
+    {
+        let window = ground.net.window(place);
+        self.arrivals
+            .make_window(alloc, ground, window, &mut self.room, &self.passed)?;
+        let pool = self.pool_at(alloc, ground, place, window)?;
+        self.passed.pools.push(pool)?;
+        Ok(())
+    }
+}
