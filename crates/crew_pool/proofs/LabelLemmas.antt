@@ -1,12 +1,13 @@
 -- Labels beside their marks.
-use Rattle.std.proofs.Common.{◌≡◌, ℕ, suc, ◌+◌, ◌<◌, Bool, true, false, cond, not, List, [], ◌∷◌, ◌++◌, length, take, map, get_or, set, ltb, Option, Some, None, refl, sym, ◌∙◌, ap, arith, ⊎_elim}
-use Rattle.std.specs.Prelude.{◌&&◌, ◌||◌, ◌≤◌}
+use Rattle.std.proofs.Common.{◌≡◌, ℕ, zero, suc, ◌+◌, ◌<◌, ◌⊎◌, Bool, true, false, cond, not, List, [], ◌∷◌, ◌++◌, length, take, map, get_or, set, ltb, Option, Some, None, refl, subst, sym, ◌∙◌, ap, arith, ⊎_elim}
+use Rattle.std.specs.Prelude.{◌&&◌, ◌||◌, ◌≤◌, slice_get}
 use Rattle.std.specs.Option.{is_some}
-use Rattle.std.specs.List.{list_any, position, position_or_len, swap, zip}
+use Rattle.std.specs.List.{list_any, position, position_or_len, swap}
 use borrow.Author.Tests.{ltb-true, ltb-false}
 use Rattle.std.proofs.Math.ListN.{get_or-map}
 use Rattle.std.proofs.lemmas.Bool.{cases_Bool, lt-ltb, le-ltb}
 use Rattle.std.proofs.lemmas.List.{map_more, map-set}
+use Rattle.std.proofs.lemmas.List.Sums.{position_or_len_is}
 
 -- the elements of two places change them, and so do what a function makes of them
 pub map-swap : {X Y : Type 0} (f : X → Y) (xs : List X) (i j : ℕ) → map f (swap xs i j) ≡ swap (map f xs) i j
@@ -24,31 +25,53 @@ map-swap f (d ∷ ys) i j =
 pub swapped_in_step : {X Y : Type 0} (f : X → Y) (xs us : List X) (ys vs : List Y) (i j : ℕ) → ys ≡ map f xs → us ≡ swap xs i j → vs ≡ swap ys i j → vs ≡ map f us
 swapped_in_step f xs us ys vs i j e p q = q ∙ (ap (λ z. swap z i j) e ∙ (sym (map-swap f xs i j) ∙ ap (map f) (sym p)))
 
--- a test and one that it implies are as strong as the test
-implied : (a b : Bool) → (b ≡ true → a ≡ true) → (a && b) ≡ b
-implied true b h = refl
-implied false true h = h refl
-implied false false h = refl
+-- the first label that passes a test, looked for by marks that tell of most that don't
+module _ {X Y : Type 0} (f : X → Y) (test : X → Bool) where
+  -- none of so many passes it
+  abbrev pub NoneOf : List X → ℕ → Type 0
+  NoneOf xs i = (k : ℕ) (x : X) → k < i → slice_get xs k ≡ Some x → test x ≡ false
 
--- the first place where what passes the test has passed a weaker one, too
-same_place : {X Y : Type 0} (f : X → Y) (weak : Y → Bool) (test : X → Bool) → ((x : X) → test x ≡ true → weak (f x) ≡ true) → (xs : List X)
-    → position_or_len (λ (p : X × Y). weak p.1 && test p.0) (zip xs (map f xs)) ≡ position_or_len test xs
-same_place {X} {Y} f weak test h [] = refl
-same_place {X} {Y} f weak test h (x ∷ xs) =
-    let e = implied (weak (f x)) (test x) (h x) in
-    ap (λ t. cond (not t) (1 + position_or_len (λ (p : X × Y). weak p.1 && test p.0) (zip xs (map f xs))) 0) e
-    ∙ ap (λ n. cond (not (test x)) (1 + n) 0) (same_place f weak test h xs)
+  pub mark-at : (xs : List X) (i : ℕ) (x : X) (d : Y) → slice_get xs i ≡ Some x → get_or (map f xs) i d ≡ f x
+  mark-at [] i x d h = absurd (let q : ⊥ = (cc) in q)
+  mark-at (y ∷ ys) zero x d h = let q : y ≡ x = (cc) in ap f q
+  mark-at (y ∷ ys) (suc i) x d h = mark-at ys i x d h
 
-zip_long : {X Y : Type 0} (f : X → Y) (xs : List X) → length (zip xs (map f xs)) ≡ length xs
-zip_long f [] = refl
-zip_long f (x ∷ xs) = ap suc (zip_long f xs)
+  pub none-more : (xs : List X) (i : ℕ) → NoneOf xs i → ((x : X) → slice_get xs i ≡ Some x → test x ≡ false) → NoneOf xs (i + 1)
+  none-more xs i none here k x h at = ⊎_elim {C = test x ≡ false} (λ l. none k x l at) (λ e. here x (subst (λ n. slice_get xs n ≡ Some x) e at)) (either k i h)
+    where
+      either : (k i : ℕ) → k < i + 1 → (k < i) ⊎ (k ≡ i)
+      either k i h = grind (arith)
 
-pub same_position : {X Y : Type 0} (f : X → Y) (weak : Y → Bool) (test : X → Bool) → ((x : X) → test x ≡ true → weak (f x) ≡ true) → (xs : List X)
-    → position (λ (p : X × Y). weak p.1 && test p.0) (zip xs (map f xs)) ≡ position test xs
-same_position {X} {Y} f weak test h xs =
-    let p = position_or_len (λ (p : X × Y). weak p.1 && test p.0) (zip xs (map f xs)) in
-    ap (λ n. cond (ltb p n) (Some p) None) (zip_long f xs)
-    ∙ ap (λ n. cond (ltb n (length xs)) (Some n) None) (same_place f weak test h xs)
+  there : (xs : List X) (k : ℕ) (d : X) → k < length xs → slice_get xs k ≡ Some (get_or xs k d)
+  there [] k d h = absurd (omega (arith, h))
+  there (x ∷ xs) zero d h = refl
+  there (x ∷ xs) (suc k) d h = there xs k d (omega (arith, h))
+
+  pub got : (xs : List X) (k : ℕ) (x d : X) → slice_get xs k ≡ Some x → get_or xs k d ≡ x
+  got [] k x d h = absurd (let q : ⊥ = (cc) in q)
+  got (y ∷ ys) zero x d h = let q : y ≡ x = (cc) in q
+  got (y ∷ ys) (suc k) x d h = got ys k x d h
+
+  pub label-at : (xs : List X) (k : ℕ) (x : X) → k < length xs → x ≡ get_or xs k x → slice_get xs k ≡ Some x
+  label-at xs k x h is = there xs k x h ∙ ap Some (sym is)
+
+  short : (xs : List X) (i : ℕ) (x : X) → slice_get xs i ≡ Some x → i < length xs
+  short [] i x h = absurd (let q : ⊥ = (cc) in q)
+  short (y ∷ ys) zero x h = omega arith
+  short (y ∷ ys) (suc i) x h = let l = short ys i x h in omega (arith, l)
+
+  pub first-found : (xs : List X) (i : ℕ) (x : X) → NoneOf xs i → slice_get xs i ≡ Some x → test x ≡ true → Some i ≡ position test xs
+  first-found xs i x none at passes =
+      let less = short xs i x at in
+      let place : position_or_len test xs ≡ i = position_or_len_is test xs i x (omega (arith, less)) (λ k l. none k (get_or xs k x) l (there xs k x (omega (arith, l, less)))) (λ l. ap test (got xs i x x at) ∙ passes) in
+      sym (ap (λ n. cond (ltb n (length xs)) (Some n) None) place ∙ ap (λ b. cond b (Some i) None) (lt-ltb i (length xs) less))
+
+  pub none-found : (xs : List X) → NoneOf xs (length xs) → None ≡ position test xs
+  none-found [] none = refl
+  none-found (x ∷ xs) none =
+      let all = x ∷ xs in
+      let place : position_or_len test all ≡ length all = position_or_len_is test all (length all) x (omega arith) (λ k l. none k (get_or all k x) l (there all k x l)) (λ l. absurd (omega (arith, l))) in
+      sym (ap (λ n. cond (ltb n (length all)) (Some n) None) place ∙ ap (λ b. cond b (Some (length all)) None) (le-ltb (length all) (length all) (omega arith)))
 
 is_lit : {X : Type 0} (b : Bool) (x : X) → is_some (cond b (Some x) None) ≡ b
 is_lit true x = refl

@@ -102,9 +102,14 @@ impl<R: Marked> Labels<R> {
         requires { marks.now ≡ R.marks_of value.now }
         ensures { result ≡ position (λ l. R.below l.0 value.now) self.now }
     {
-        self.labels.iter().zip(&self.marks).position(|(label, held)| {
-            are_at_most(held, marks) && resource.at_most(&label.0, value)
-        })
+        for place in 0..self.marks.len() {
+            if are_at_most(&self.marks[place], marks)
+                && resource.at_most(&self.labels[place].0, value)
+            {
+                return Some(place);
+            }
+        }
+        None
     }
 
     /// Whether a value is at most the vector of the label at a place.

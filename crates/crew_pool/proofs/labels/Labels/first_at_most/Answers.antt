@@ -1,29 +1,58 @@
-use Rattle.std.proofs.Common.{◌≡◌, ◌∙◌, ap, rules, subst, sym, tests, true}
-use Rattle.std.specs.Prelude.{◌&&◌}
-use Rattle.std.specs.List.{position, zip}
-use Rattle.std.specs.Iterator.Adapters.{zip_first, zip_second}
-use Rattle.std.specs.Slice.Iter.{iter_rest}
-use Rattle.std.proofs.lemmas.Iterator.{YieldsList-from_slice, YieldsList-from_zip}
-use Rattle.std.proofs.lemmas.Iterator.Search.{position_from_yields_List}
+use Rattle.std.proofs.Common.{◌≡◌, ◌∙◌, ◌<◌, arith, ap, false, get_or, length, map, refl, sym, subst, true, true≢false, Bool, List, Some, ℤ}
+use Rattle.std.specs.Prelude.{slice_get}
+use Rattle.std.proofs.lemmas.List.{length-map}
 use Rattle.crew_pool.specs.Marks.{are_at_most}
-use Rattle.crew_pool.proofs.LabelLemmas.{same_position}
+use Rattle.crew_pool.proofs.LabelLemmas.{NoneOf, first-found, got, label-at, mark-at, none-found, none-more}
+use Rattle.crew_pool.proofs.labels.Labels.first_at_most.Goals.{else-are_at_most-via-then-are_at_most+else-at_most, else-are_at_most-via-else-are_at_most}
 use Rattle.crew_pool.proofs.labels.Labels.first_at_most.Goals as goal
+
+pub loop-place-init : goal.loop-place-init
+loop-place-init g c k x l at = absurd (omega (arith, l))
+
+not-so : (b : Bool) → (b ≡ true → ⊥) → b ≡ false
+not-so true h = absurd (h refl)
+not-so false h = refl
+
+pub returns-then-at_most : goal.returns-then-at_most
+returns-then-at_most g c =
+    let below = g.R.Resource.below in
+    let marks_of = g.R.Marked.marks_of in
+    let value = c.args.value.now in
+    let place = c.loop-place.place in
+    let label = c.index-then-are_at_most.result.now in
+    let items = c.self.inside.labels.items in
+    let long : place < length items = (let marks = ap length c.self.invariant ∙ length-map items (λ e. marks_of e.0) in let held = c.self.inside.marks.ok.0 in let end = c.len-place-end.ensures in let l = c.loop-place-test.true in omega (arith, marks, held, end, l)) in
+    let at = subst (λ ls. slice_get ls place ≡ Some label) c.self.view_is (label-at (λ e. marks_of e.0) (λ e. below e.0 value) items place label long c.index-then-are_at_most.ensures) in
+    first-found (λ e. marks_of e.0) (λ e. below e.0 value) c.args.self.now place label c.loop-place.invariant at (sym c.at_most.ensures ∙ c.if-at_most.true)
+
+pub loop-place-preserved : goal.loop-place-preserved
+loop-place-preserved g c =
+    let below = g.R.Resource.below in
+    let marks_of = g.R.Marked.marks_of in
+    let value = c.args.value.now in
+    let place = c.loop-place.place in
+    let items = c.self.inside.labels.items in
+    none-more (λ e. marks_of e.0) (λ e. below e.0 value) c.args.self.now place c.loop-place.invariant (λ x at.
+    let there = subst (λ ls. slice_get ls place ≡ Some x) (sym c.self.view_is) at in
+    elim c.else-are_at_most.branch [
+      | else-are_at_most-via-then-are_at_most+else-at_most w ↦
+          let label = w.index-then-are_at_most.result.now in
+          let same = w.index-then-are_at_most.ensures ∙ got (λ e. marks_of e.0) (λ e. below e.0 value) items place x label there in
+          ap (λ e. below e.0 value) (sym same) ∙ (sym w.at_most.ensures ∙ w.if-at_most.false)
+      | else-are_at_most-via-else-are_at_most w ↦
+          let mark = c.index.result.now in
+          let same : mark ≡ marks_of x.0 = c.index.ensures ∙ (ap (λ (ms : List (List ℤ)). get_or ms place mark) c.self.invariant ∙ mark-at (λ e. marks_of e.0) (λ e. below e.0 value) items place x mark there) in
+          let apart : are_at_most (marks_of x.0) (marks_of value) ≡ false = ap (λ m. are_at_most m (marks_of value)) (sym same) ∙ (ap (are_at_most mark) (sym c.requires) ∙ (sym c.are_at_most.ensures ∙ w.if-are_at_most.false)) in
+          not-so (below x.0 value) (λ e. true≢false (sym (g.met.R.Marked.marks_rise x.0 value e) ∙ apart))
+    ])
 
 pub returns : goal.returns
 returns g c =
     let below = g.R.Resource.below in
     let marks_of = g.R.Marked.marks_of in
-    let marks = c.args.marks.now in
     let value = c.args.value.now in
-    let ls = c.self.inside.labels.items in
-    let ms = c.self.inside.marks.items in
-    let first : iter_rest (zip_first c.zip.result) ≡ ls = ap iter_rest c.zip.ensures.first ∙ (c.iter.ensures.rest ∙ c.deref.ensures.value) in
-    let second : iter_rest (zip_second c.zip.result) ≡ ms = c.zip.ensures.second.0 in
-    position_from_yields_List (λ p. are_at_most p.1 marks && below p.0.0 value) c.position.new.self _ c.position.result c.position.ensures.ran
-    (YieldsList-from_zip (YieldsList-from_slice {s = zip_first c.zip.result} ls first) (YieldsList-from_slice {s = zip_second c.zip.result} ms second))
-    (λ x b q k. search (rules, tests))
-    ∙ (ap (λ z. position (λ p. are_at_most p.1 marks && below p.0.0 value) (zip ls z)) c.self.invariant
-    ∙ (same_position (λ e. marks_of e.0) (λ m. are_at_most m marks) (λ e. below e.0 value)
-    (λ x e. subst (λ m. are_at_most (marks_of x.0) m ≡ true) (sym c.requires) (g.met.R.Marked.marks_rise x.0 value e))
-    ls
-    ∙ ap (position (λ e. below e.0 value)) c.self.view_is))
+    let items = c.self.inside.labels.items in
+    let long : length c.self.inside.marks.items ≡ length c.args.self.now = ap length c.self.invariant ∙ (length-map items (λ e. marks_of e.0) ∙ ap length c.self.view_is) in
+    let held = c.self.inside.marks.ok.0 in
+    let end = c.len-place-end.ensures in
+    none-found (λ e. marks_of e.0) (λ e. below e.0 value) c.args.self.now (λ k x h at. c.loop-place.invariant k x (let l = c.loop-place-test.false in omega (arith, h, long, held, end, l)) at)
