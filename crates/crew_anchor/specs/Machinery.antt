@@ -4,3 +4,4 @@ pub mod Bounds
 pub mod Marks
 pub mod Shifts
 pub mod Values
+pub mod Narrow

@@ -3,7 +3,7 @@ ghost use Rattle.std.specs.Prelude.{◌≡◌};
 ghost use Rattle.crew_anchor.specs.Machinery.Marks.{marks_of, marks_rise, narrowed};
 
 use crate::AnchoredResource;
-use crew_pairing::PairingVector;
+use crate::vector::AnchoredVector;
 use crew_pool::Marked;
 
 /// The nearest number of 32 bits.
@@ -21,15 +21,16 @@ impl Marked for AnchoredResource {
 
     /// The seven parts, each as near as 32 bits come, and 0.
     #[inline]
-    fn marks(&self, value: &PairingVector) -> [i32; 8] {
+    fn marks(&self, value: &AnchoredVector) -> [i32; 8] {
+        let parts = value.parts();
         [
-            narrow(value.duty_pay),
-            narrow(value.trip_rig),
-            narrow(value.guarantee),
-            narrow(value.fdp),
-            narrow(value.fly),
-            narrow(value.duties),
-            narrow(value.away),
+            narrow(parts.duty_pay),
+            narrow(parts.trip_rig),
+            narrow(parts.guarantee),
+            narrow(parts.fdp),
+            narrow(parts.fly),
+            narrow(parts.duties),
+            narrow(parts.away),
             0,
         ]
     }

@@ -14,6 +14,7 @@ ghost use Rattle.crew_vector.specs.Dominance.{is_at_most};
 ghost use Rattle.crew_vector.specs.Machinery.Named.{named_order};
 ghost use Rattle.crew_flights.specs.Timetable.{IsBasePrice};
 
+use crate::vector::AnchoredVector;
 use crew_pairing::{Arrival, Departure, Duty, PairingVector};
 use crew_resource::{Count, Placed, Resource, Staged};
 use crew_rules::Settings;
@@ -86,12 +87,12 @@ impl AnchoredResource {
 
     /// The vector as of a minute.
     #[inline]
-    pub fn show(&self, value: &PairingVector, minute: i64) -> PairingVector
+    pub fn show(&self, value: &AnchoredVector, minute: i64) -> PairingVector
         requires room { HasRoom (fits_in self.now) (is_ready self.now) value.now }
         requires minute { LiesWithin 2_147_483_648 minute }
         ensures { result ≡ shown self.now.trip_rig minute value.now }
     {
-        self.at(value, minute)
+        self.at(&value.parts(), minute)
     }
 
     // The vector as of a minute, of parts that fit.
@@ -130,7 +131,10 @@ impl AnchoredResource {
     #[inline]
     fn is_within_caps(&self, value: &PairingVector, minute: i32) -> bool
         requires { LiesWithin (2 ^ 62) value.now.away }
-        ensures { result ≡ is_within_caps_at self.now minute value.now }
+        ensures within { result ≡ is_within_caps_at self.now minute value.now }
+        ensures fdp { self.now.fdp_cap ≤ 4_294_967_295 }
+        ensures fly { self.now.fly_cap ≤ 4_294_967_295 }
+        ensures duties { self.now.max_duties ≤ 4_294_967_295 }
     {
         let away = value.away + i64::from(minute);
         (value.fdp <= i64::from(self.fdp_cap))
@@ -141,7 +145,7 @@ impl AnchoredResource {
 }
 
 impl Resource for AnchoredResource {
-    type Value = PairingVector;
+    type Value = AnchoredVector;
 
     type Item = Duty;
 
@@ -166,7 +170,7 @@ impl Resource for AnchoredResource {
     ghost grading = { anchored_grading };
 
     #[inline]
-    fn start(&self, duty: &Duty) -> Result<Option<PairingVector>, AllocError> {
+    fn start(&self, duty: &Duty) -> Result<Option<AnchoredVector>, AllocError> {
         let begun = self.idle(&duty.departure());
         Ok(self.board(&begun, duty))
     }
@@ -174,30 +178,30 @@ impl Resource for AnchoredResource {
     #[inline]
     fn extend(
         &self,
-        value: &PairingVector,
+        value: &AnchoredVector,
         _last: &Duty,
         next: &Duty,
-    ) -> Result<Option<PairingVector>, AllocError> {
+    ) -> Result<Option<AnchoredVector>, AllocError> {
         Ok(self.board(value, next))
     }
 
     #[inline]
-    fn at_most(&self, a: &PairingVector, b: &PairingVector) -> bool {
+    fn at_most(&self, a: &AnchoredVector, b: &AnchoredVector) -> bool {
         let money = (a.duty_pay <= b.duty_pay)
             & ((a.trip_rig <= b.trip_rig) & (a.guarantee <= b.guarantee));
         let minutes = (a.fdp <= b.fdp) & (a.fly <= b.fly);
-        money & (minutes & ((a.duties <= b.duties) & (a.away <= b.away)))
+        money & (minutes & ((a.duties <= b.duties) & (a.report >= b.report)))
     }
 
     #[inline]
-    fn copy(&self, value: &PairingVector) -> Result<PairingVector, AllocError> {
+    fn copy(&self, value: &AnchoredVector) -> Result<AnchoredVector, AllocError> {
         Ok(*value)
     }
 
     #[inline]
-    fn grade(&self, value: &PairingVector) -> u32 {
+    fn grade(&self, value: &AnchoredVector) -> u32 {
         let count: Count<Duty> = Count::new(self.max_duties);
-        count.grade(&value.duties)
+        count.grade(&i64::from(value.duties))
     }
 }
 
@@ -235,35 +239,36 @@ impl Staged<Duty> for AnchoredResource {
     ghost bounds = { anchored_bounds };
 
     #[inline]
-    fn idle(&self, departure: &Departure) -> PairingVector {
+    fn idle(&self, departure: &Departure) -> AnchoredVector {
         let minute = near_minute(departure.report);
         let price = i64::from(self.base_price);
-        PairingVector {
+        AnchoredVector {
             duty_pay: -price,
             trip_rig: -price - points_to(self.trip_rig, minute),
             guarantee: -price,
             fdp: 0,
             fly: 0,
             duties: 0,
-            away: -minute,
+            report: minute as i32,
         }
     }
 
     #[inline]
     fn wait(
         &self,
-        value: &PairingVector,
+        value: &AnchoredVector,
         _arrival: &Arrival,
         _departure: &Departure,
-    ) -> PairingVector {
+    ) -> AnchoredVector {
         *value
     }
 
     #[inline]
-    fn board(&self, value: &PairingVector, duty: &Duty) -> Option<PairingVector> {
-        let longer = self.with_duty(value, duty);
+    fn board(&self, value: &AnchoredVector, duty: &Duty) -> Option<AnchoredVector> {
+        let parts = value.parts();
+        let longer = self.with_duty(&parts, duty);
         if self.is_within_caps(&longer, duty.release) {
-            Some(longer)
+            Some(AnchoredVector::of(&longer))
         } else {
             None
         }

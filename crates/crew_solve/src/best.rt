@@ -21,6 +21,7 @@ use crate::base_fronts::BaseFronts;
 use crate::floors::keep_home;
 use crate::kept::Kept;
 use crate::walk_view::WalkView;
+use crew_anchor::AnchoredVector;
 use crew_flights::Code;
 use crew_pairing::{Duty, PairingVector, Walk};
 use crew_pool::{LabelWalk, View};
@@ -112,7 +113,7 @@ fn keep_label(
     minute: i64,
     marks: &[bool],
     kept: &mut Kept,
-    label: &(PairingVector, LabelWalk),
+    label: &(AnchoredVector, LabelWalk),
     floor: i64,
 ) -> Result<i64, AllocError>
     requires rate { trip_rig ≡ sweep.now.net.settings.trip_rig }
@@ -324,7 +325,7 @@ fn floor_below(
 fn floor_of(
     sweep: &Sweep,
     kept: &Kept,
-    labels: &[(PairingVector, LabelWalk)],
+    labels: &[(AnchoredVector, LabelWalk)],
     marks: &mut [bool],
 ) -> i64
     requires readable { AreReadable sweep.now labels.now }
@@ -334,8 +335,8 @@ fn floor_of(
     ensures marks { AreMarks kept.now.beside sweep.now marks.new }
 {
     let mut floor = i64::MAX;
-    for (vector, label) in labels {
-        floor = floor_below(sweep, kept, vector.duty_pay, *label, floor, marks);
+    for label in labels {
+        floor = floor_below(sweep, kept, label.0.duty_pay(), label.1, floor, marks);
     }
     floor
 }

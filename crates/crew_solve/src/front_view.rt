@@ -11,7 +11,7 @@ ghost use Rattle.crew_vector.specs.Fronts.{RiseByVector};
 use crate::lookup::Lookup;
 use crate::shown_entries::ShownEntries;
 use crate::walk_view::WalkView;
-use crew_anchor::AnchoredResource;
+use crew_anchor::{AnchoredResource, AnchoredVector};
 use crew_pairing::{Duty, PairingVector};
 use crew_pool::{LabelWalk, View};
 use crew_sweep::Sweep;
@@ -27,7 +27,7 @@ pub struct FrontView<'a> {
     duty: &'a Duty,
     view: View<'a, Duty, AnchoredResource>,
     rank: u32,
-    labels: &'a [(PairingVector, LabelWalk)],
+    labels: &'a [(AnchoredVector, LabelWalk)],
 }
 
 impl<'a> Model for FrontView<'a> {

@@ -9,6 +9,7 @@ ghost use Rattle.crew_solve.specs.Machinery.Lent as Spec;
 
 use crate::shown_entries::entry_of;
 use crate::walk_view::WalkView;
+use crew_anchor::AnchoredVector;
 use crew_pairing::{Duty, PairingVector};
 use crew_pool::LabelWalk;
 use crew_resource::Staged;
@@ -27,7 +28,7 @@ pub(crate) struct Lookup<'a> {
     sweep: &'a Sweep,
     duty: &'a Duty,
     rank: u32,
-    labels: slice::Iter<'a, (PairingVector, LabelWalk)>,
+    labels: slice::Iter<'a, (AnchoredVector, LabelWalk)>,
 }
 
 impl<'a> Model for Lookup<'a> {
@@ -59,11 +60,11 @@ pub(crate) fn is_same_entry(one: &Entry<'_>, other: &Entry<'_>) -> bool
 }
 
 // The pay of a label's duties and of one more, less the prices of all.
-fn duty_pay_with(vector: &PairingVector, duty: &Duty) -> i64
+fn duty_pay_with(vector: &AnchoredVector, duty: &Duty) -> i64
     requires { may_board vector.now duty.now }
     ensures { result ≡ vector.now.duty_pay +ℤ (duty.now.pay -ℤ duty.now.price) }
 {
-    vector.duty_pay + (i64::from(duty.pay) - duty.price)
+    vector.duty_pay() + (i64::from(duty.pay) - duty.price)
 }
 
 // Whether an entry is what a label shows at a duty. The pay tells most labels apart.
@@ -71,7 +72,7 @@ fn is_shown(
     sweep: &Sweep,
     duty: &Duty,
     rank: u32,
-    label: &(PairingVector, LabelWalk),
+    label: &(AnchoredVector, LabelWalk),
     wanted: &Entry<'_>,
 ) -> bool
     requires { Spec.MayBeShown sweep.now duty.now rank (label.now ∷ []) }
@@ -94,7 +95,7 @@ fn pass_labels(
     sweep: &Sweep,
     duty: &Duty,
     rank: u32,
-    labels: &mut slice::Iter<'_, (PairingVector, LabelWalk)>,
+    labels: &mut slice::Iter<'_, (AnchoredVector, LabelWalk)>,
     wanted: &Entry<'_>,
 ) -> bool
     requires { Spec.MayBeShown sweep.now duty.now rank (iter_rest labels.old) }
@@ -119,7 +120,7 @@ impl<'a> Lookup<'a> {
         sweep: &'a Sweep,
         duty: &'a Duty,
         rank: u32,
-        labels: &'a [(PairingVector, LabelWalk)],
+        labels: &'a [(AnchoredVector, LabelWalk)],
     ) -> Lookup<'a>
         requires { Spec.MayBeShown sweep.now duty.now rank labels.now }
         ensures { result ≡ Spec.shown_at sweep.now duty.now rank labels.now }

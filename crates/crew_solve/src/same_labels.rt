@@ -14,24 +14,25 @@ use crate::base_fronts::BaseFronts;
 use crate::entries::place_of;
 use crate::lookup::{Entry, is_same_entry};
 use crate::walk_view::WalkView;
-use crew_pairing::{Duty, PairingVector};
+use crew_anchor::AnchoredVector;
+use crew_pairing::Duty;
 use crew_pool::LabelWalk;
 use crew_sweep::Sweep;
 
 // A label as of the common instant, with its walk.
-fn label_entry<'a>(sweep: &'a Sweep, label: &(PairingVector, LabelWalk)) -> Entry<'a>
+fn label_entry<'a>(sweep: &'a Sweep, label: &(AnchoredVector, LabelWalk)) -> Entry<'a>
     requires there { label.now.1.walk < length sweep.now.walks }
     requires ranked { Each (λ rank. rank < length sweep.now.net.duties)
         (walk_of_label sweep.now.walks label.now.1) }
     ensures { result ≡ keyed_label sweep.now label.now }
 {
-    (label.0, WalkView::new(sweep, label.1))
+    (label.0.parts(), WalkView::new(sweep, label.1))
 }
 
 // The place, from one on, of a label that is a wanted one.
 fn find_from(
     sweep: &Sweep,
-    labels: &[(PairingVector, LabelWalk)],
+    labels: &[(AnchoredVector, LabelWalk)],
     from: usize,
     wanted: &Entry<'_>,
 ) -> Option<usize>
@@ -51,7 +52,7 @@ fn find_from(
 // The place of a label that is a wanted one, which is looked for from a place on, and then among all.
 fn find(
     sweep: &Sweep,
-    labels: &[(PairingVector, LabelWalk)],
+    labels: &[(AnchoredVector, LabelWalk)],
     from: usize,
     wanted: &Entry<'_>,
 ) -> Option<usize>
@@ -69,9 +70,9 @@ fn find(
 // was found, so labels that stand alike are gone over once.
 fn are_all_among(
     one: &Sweep,
-    labels: &[(PairingVector, LabelWalk)],
+    labels: &[(AnchoredVector, LabelWalk)],
     other: &Sweep,
-    others: &[(PairingVector, LabelWalk)],
+    others: &[(AnchoredVector, LabelWalk)],
 ) -> bool
     requires own { AreReadable one.now labels.now }
     requires others { AreReadable other.now others.now }
@@ -91,7 +92,7 @@ fn are_all_among(
 }
 
 // The labels of the pool that a duty leaves from; `None` where no duty of the network leaves there.
-fn labels_at<'a>(sweep: &'a Sweep, duty: &Duty) -> Option<&'a [(PairingVector, LabelWalk)]>
+fn labels_at<'a>(sweep: &'a Sweep, duty: &Duty) -> Option<&'a [(AnchoredVector, LabelWalk)]>
     ensures pool { IfSome result (λ labels. labels.now ≡ pool_at sweep.now duty.now) }
     ensures readable { IfSome result (λ labels. AreReadable sweep.now labels.now) }
 {

@@ -10,7 +10,7 @@ ghost use Rattle.crew_solve.specs.Machinery.Homes.{resource_of};
 ghost use Rattle.crew_solve.specs.Machinery.Lent as Spec;
 
 use crate::walk_view::WalkView;
-use crew_anchor::AnchoredResource;
+use crew_anchor::{AnchoredResource, AnchoredVector};
 use crew_pairing::{Duty, PairingVector};
 use crew_pool::{Entries, LabelWalk, View};
 use crew_sweep::Sweep;
@@ -44,7 +44,7 @@ impl<'a> Model for ShownEntries<'a> {
 pub(crate) fn entry_of<'a>(
     sweep: &'a Sweep,
     duty: &Duty,
-    value: &PairingVector,
+    value: &AnchoredVector,
     label: LabelWalk,
 ) -> (PairingVector, WalkView<'a>)
     requires room { LiesWithin 2_147_483_648 duty.now.release

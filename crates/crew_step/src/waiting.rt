@@ -25,7 +25,8 @@ pub fn waiting_labels<P: Placed, R: Staged<P>>(
     ensures counts { IfOk result (AreCounted (R.count_of resource.now) walks.new true) }
     ensures grown { HasGrown walks.old walks.new }
 {
-    let mut labels = Vec::with_capacity(alloc, pool.len())?;
+    // With room for the empty label, which a departure's pool may take in besides.
+    let mut labels = Vec::with_capacity(alloc, pool.len().saturating_add(1))?;
     for label in pool.as_slice() {
         let whole = whole_label::<P, R>(resource, label, walks)?;
         labels.push(whole)?;

@@ -20,3 +20,4 @@ pub mod Redone
 pub mod Prices
 pub mod Besides
 pub mod MadeAhead
+pub mod LettingGo

@@ -103,14 +103,14 @@ set-at f [] i v h = absurd (omega (arith, h))
 set-at f (x ∷ xs) zero v h = refl
 set-at f (x ∷ xs) (suc i) v h = set-at f xs i v (omega (arith, h))
 
-set-other : {A B : Type 0} (f : List A → List B) (xs : List (List A)) (i p : ℕ) (v : List A) → (i ≡ p → ⊥) → get_or (map f (set xs i v)) p [] ≡ get_or (map f xs) p []
+pub set-other : {A B : Type 0} (f : List A → List B) (xs : List (List A)) (i p : ℕ) (v : List A) → (i ≡ p → ⊥) → get_or (map f (set xs i v)) p [] ≡ get_or (map f xs) p []
 set-other f [] i p v h = refl
 set-other f (x ∷ xs) zero zero v h = absurd (h refl)
 set-other f (x ∷ xs) zero (suc p) v h = refl
 set-other f (x ∷ xs) (suc i) zero v h = refl
 set-other f (x ∷ xs) (suc i) (suc p) v h = set-other f xs i p v (λ e. h (ap suc e))
 
-each-set : {A : Type 0} (P : A → Type 0) (xs : List A) (i : ℕ) (v : A) → ((x : A) → Member xs x → P x) → P v → (x : A) → Member (set xs i v) x → P x
+pub each-set : {A : Type 0} (P : A → Type 0) (xs : List A) (i : ℕ) (v : A) → ((x : A) → Member xs x → P x) → P v → (x : A) → Member (set xs i v) x → P x
 each-set P xs i v all one x m = ⊎_elim {C = P x} (all x) (λ e. subst P (sym e) one) (Member-set_out xs i v x m)
 
 -- what is marked as not made isn't

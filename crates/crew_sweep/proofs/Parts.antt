@@ -144,19 +144,18 @@ last-or (z ∷ zs) x zero y h = inl h
 last-or (z ∷ zs) x (suc i) y h = ⊎_elim (λ k. inl k) (λ k. inr (ap suc k.0, k.1)) (last-or zs x i y h)
 
 module _ (walks : List (List ℕ)) (held : List Labels) (end : ℕ) where
-  pub ends-none : AreEnds walks held end ([] ∷ [])
-  ends-none = record { reach = first-reach; parts = first-part }
+  -- the nearest of them alone
+  pub ends-fewer : (pools : List Labels) (n : ℕ) → AreEnds walks held end pools → AreEnds walks held end (take n pools)
+  ends-fewer pools n ends = record {
+    reach = λ i labels at. ends.reach i labels (taken pools n i labels at);
+    parts = λ i labels at. ends.parts i labels (taken pools n i labels at);
+  }
     where
-      first-reach : (i : ℕ) (labels : Labels) → slice_get ([] ∷ []) i ≡ Some labels → i ≤ end
-      first-reach zero labels h = omega arith
-      first-reach (suc i) labels h = absurd (let q : ⊥ = (cc) in q)
-
-      first-part : (i : ℕ) (labels : Labels) → slice_get ([] ∷ []) i ≡ Some labels → IsPart walks held (end - i) end labels
-      first-part zero labels h =
-          let q : [] ≡ labels = (cc) in
-          let e : end ≡ end - 0 = omega arith in
-          subst (λ (ls : Labels). IsPart walks held (end - 0) end ls) q (subst (λ n. IsPart walks held n end []) e (part-none walks held end))
-      first-part (suc i) labels h = absurd (let q : ⊥ = (cc) in q)
+      taken : (xs : List Labels) (n i : ℕ) (x : Labels) → slice_get (take n xs) i ≡ Some x → slice_get xs i ≡ Some x
+      taken xs zero i x h = absurd (let q : ⊥ = (cc) in q)
+      taken [] (suc n) i x h = h
+      taken (y ∷ ys) (suc n) zero x h = h
+      taken (y ∷ ys) (suc n) (suc i) x h = taken ys n i x h
 
   pub ends-more : (pools : List Labels) (longer : Labels) → AreEnds walks held end pools → length pools ≤ end → IsPart walks held (end - length pools) end longer → AreEnds walks held end (pools ++ longer ∷ [])
   ends-more pools longer ends few part = record {

@@ -24,39 +24,11 @@ use crew_pool::{Pool, Workspace};
 use std::alloc::{AllocError, Global};
 use std::thread::Threads;
 
-// The least minutes of rest between a release and the next report.
-const LEAST_REST: i64 = 600;
-
 // The fewest pools for each thread: with fewer a thread costs more than it gives.
 const SHARE: usize = 4;
 
 // Some pools, or want of memory.
 type Pools = Vec<Result<Pool<AnchoredResource>, AllocError>>;
-
-// The report of the departure at a turn.
-fn report_at(ground: &Ground, turn: usize) -> i64
-    requires ground { IsGround ground.now }
-    requires turn { turn < length ground.now.net.now.by_report }
-{
-    ground.net.departures()[ground.net.by_report()[turn] as usize].report
-}
-
-// Where the batch that begins at a turn ends: all departures of it report less than the least rest
-// after the first. No clause says so, since it is there for speed.
-fn batch_end(ground: &Ground, from: usize) -> usize
-    requires ground { IsGround ground.now }
-    requires from { from < length ground.now.net.now.by_report }
-    ensures { result ≤ length ground.now.net.now.by_report }
-{
-    let count = ground.net.by_report().len();
-    let first = report_at(ground, from);
-    for turn in from..count {
-        if report_at(ground, turn).saturating_sub(first) >= LEAST_REST {
-            return turn;
-        }
-    }
-    count
-}
 
 // Whether all duties that arrive at a place left with the departures so far.
 fn is_sealed(ground: &Ground, passed: usize, place: usize) -> bool
@@ -248,9 +220,9 @@ impl Arrivals {
 }
 
 impl Passing {
-    /// Where the pass comes to the first departure of a batch: makes at once, in at most so many
-    /// threads, the pools on which the batch waits, but for the departures that are kept, and notes
-    /// up to which turn that is done. With fewer than two threads nothing is made ahead.
+    /// Where the pass comes to the first departure of a batch: begins it, and makes at once, in at
+    /// most so many threads, the pools on which the batch waits, but for the departures that are
+    /// kept. With fewer than two threads nothing is made ahead.
     pub(crate) fn make_ahead<T: Threads + Sync, K: Fn(usize) -> bool>(
         &mut self,
         rt: &T,
@@ -266,15 +238,16 @@ impl Passing {
         ensures stands { OnOk result (Stands ground.now self.new) }
         ensures passed { self.new.passed ≡ self.old.passed }
     {
-        let turn = self.passed.pools.len();
-        if threads < 2 || turn < self.ahead || turn >= ground.net.by_report().len() {
+        let Some(end) = self.begin_batch(alloc, ground) else {
+            return Ok(());
+        };
+        if threads < 2 {
             return Ok(());
         }
-        let end = batch_end(ground, turn);
+        let turn = self.passed.pools.len();
         let places = places_ahead(alloc, ground, turn, end, kept, &self.arrivals.made)?;
         let made = made_at_once(rt, alloc, threads, ground, &places, &self.passed)?;
         self.arrivals.put_each(ground, &places, made, &self.passed)?;
-        self.ahead = end;
         Ok(())
     }
 }

@@ -80,6 +80,17 @@ impl Renewal {
         self.redo_one(alloc, earlier, ground, place)
     }
 
+    // Where the pass comes to the first departure of a batch: lets go of what lies behind it.
+    fn begin_batch(&mut self, alloc: Global, earlier: &Earlier, ground: &Ground)
+        requires ground { IsGround ground.now }
+        requires beside { IsBeside earlier.now ground.now }
+        requires stands { StandsBeside earlier.now ground.now self.old }
+        ensures stands { StandsBeside earlier.now ground.now self.new }
+        ensures passed { self.new.passing.passed ≡ self.old.passing.passed }
+    {
+        self.passing.begin_batch(alloc, ground);
+    }
+
     // Where the pass comes to the first departure of a batch: makes at once, by threads, what those
     // of the batch wait on whose pools can't be kept.
     fn renew_ahead<T: Threads + Sync>(
@@ -118,8 +129,9 @@ impl Renewal {
         requires none { length self.old.passing.passed.pools.items ≡ 0 }
         ensures { OnOk result (HasPassedAll ground.now self.new.passing.passed) }
     {
-        for place in ground.net.by_report() {
-            let place = *place as usize;
+        for departure in ground.net.by_report() {
+            let place = *departure as usize;
+            self.begin_batch(alloc, earlier, ground);
             self.renew_one(alloc, earlier, ground, place)?;
         }
         Ok(())

@@ -2,16 +2,18 @@
 //! departure from the arrivals in its window, and the pool of an arrival, when it is first waited
 //! on, from all duties that arrive there, with a duty to spare; it promises that the pools show
 //! each legal duty's front. The windows of an airport slide, so an arrival's labels are merged a
-//! constant number of times. `sweep_by_threads` makes the pools of arrivals several at a time, since
-//! departures that report less than the least rest after one another don't wait on each other's
-//! duties; no result depends on the number of threads. `renew` and `renew_by_threads` are the same
-//! beside an earlier sweep, whose pools they keep where nothing changed.
+//! constant number of times, and its pool is let go of where windows have gone past it.
+//! `sweep_by_threads` makes the pools of arrivals several at a time, since departures that report
+//! less than the least rest after one another don't wait on each other's duties; no result depends
+//! on the number of threads. `renew` and `renew_by_threads` are the same beside an earlier sweep,
+//! whose pools they keep where nothing changed.
 //! `laws` has what this rests on.
 #![tactic(auto)]
 
 mod ahead;
 mod anew;
 mod arrivals;
+mod batch;
 mod earlier;
 mod ground;
 pub mod laws;

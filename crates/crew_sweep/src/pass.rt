@@ -28,8 +28,9 @@ impl Passing {
         requires none { length self.old.passed.pools.items ≡ 0 }
         ensures { OnOk result (HasPassedAll ground.now self.new.passed) }
     {
-        for place in ground.net.by_report() {
-            let place = *place as usize;
+        for departure in ground.net.by_report() {
+            let place = *departure as usize;
+            self.begin_batch(alloc, ground);
             self.go_on(alloc, ground, place)?;
         }
         Ok(())

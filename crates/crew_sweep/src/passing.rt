@@ -17,24 +17,24 @@ use crate::arrivals::Arrivals;
 use crate::ground::Ground;
 use crate::passed::Passed;
 use crate::slides::Slides;
-use crew_anchor::AnchoredResource;
+use crew_anchor::{AnchoredResource, AnchoredVector};
 use crew_flights::Code;
 use crew_net::Window;
-use crew_pairing::{Departure, PairingVector};
+use crew_pairing::Departure;
 use crew_pool::{Pool, Walks, Workspace};
 use crew_resource::Staged;
 use crew_step::departure_pool;
 use std::alloc::{AllocError, Global};
 
-/// What a pass has made so far, with the room in which it merges: `ahead` is the turn up to which
-/// several threads have made what departures wait on.
+/// What a pass has made so far, with the room in which it merges: `batch_end` is the turn at which
+/// the batch of departures ends that it is in.
 #[derive(Drop)]
 pub(crate) struct Passing {
     pub(crate) room: Workspace<AnchoredResource>,
     pub(crate) slides: Slides,
     pub(crate) arrivals: Arrivals,
     pub(crate) passed: Passed,
-    pub(crate) ahead: usize,
+    pub(crate) batch_end: usize,
 }
 
 // The empty label of a departure: where the base is.
@@ -42,7 +42,7 @@ fn idle_label(
     resource: &AnchoredResource,
     base: Code,
     departure: &Departure,
-) -> Option<PairingVector>
+) -> Option<AnchoredVector>
     requires fits { fits_in resource.now 1 }
     requires real { IsReal departure.now.report }
     ensures { result ≡ idle_at resource.now base (Some departure.now) }
@@ -70,7 +70,7 @@ impl Passing {
             slides,
             arrivals,
             passed: Passed { walks, pools },
-            ahead: 0,
+            batch_end: 0,
         })
     }
 

@@ -11,9 +11,8 @@ ghost use Rattle.crew_sweep.specs.Machinery.Parts.{AreHeld, AreEnds, IsPart};
 ghost use Rattle.crew_sweep.specs.Machinery.Sliding.{Covers, IsSliding, IsStacked, Stacks};
 ghost use Rattle.crew_vector.specs.Dominance.{is_at_most};
 
-use crew_anchor::AnchoredResource;
+use crew_anchor::{AnchoredResource, AnchoredVector};
 use crew_net::Window;
-use crew_pairing::PairingVector;
 use crew_pool::{GrowingPool, LabelWalk, Pool, Walks, Workspace};
 use std::alloc::{AllocError, Global};
 
@@ -36,7 +35,7 @@ fn joined(
     resource: &AnchoredResource,
     room: &mut Workspace<AnchoredResource>,
     first: &Pool<AnchoredResource>,
-    second: &[(PairingVector, LabelWalk)],
+    second: &[(AnchoredVector, LabelWalk)],
     walks: &Walks,
 ) -> Result<Pool<AnchoredResource>, AllocError>
     requires first { AreCounted (λ (v : PairingVector). v.duties) walks.now false first.now }
@@ -143,7 +142,8 @@ impl Slide {
         Ok(())
     }
 
-    // Turns, unless the slide reaches the window as it is.
+    // Turns, unless the slide reaches the window as it is; then it lets go of the pools from places
+    // before the window.
     fn begin_at(
         &mut self,
         alloc: Global,
@@ -166,6 +166,7 @@ impl Slide {
             → Stacks self.old place ⊎ ((window.from ≤ place) × (place < window.end))) }
     {
         if self.reaches(window) {
+            self.before.truncate(self.middle - window.from + 1);
             return Ok(());
         }
         self.turn(alloc, resource, room, held, window, walks)
@@ -227,6 +228,19 @@ impl Slide {
         self.pool = joined(alloc, resource, room, first, self.after.as_slice(), walks)?;
         self.window = window;
         Ok(())
+    }
+
+    /// Whether the pool of a place is in the window, or the stacks have merged it.
+    pub(crate) fn covers(&self, place: usize) -> bool
+        ensures { result ≡ false → Covers self.now place → ⊥ }
+    {
+        if self.window.from <= place && place < self.window.end {
+            return true;
+        }
+        if self.middle <= place {
+            return place < self.end;
+        }
+        self.middle - place < self.before.len()
     }
 
     /// The pool of the window.

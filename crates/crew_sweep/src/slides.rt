@@ -1,5 +1,5 @@
 //! A slide for each airport.
-ghost use Rattle.std.specs.Prelude.{◌≡◌, ◌≤◌, ◌<◌, ◌⊎◌, ℕ, IfOk, List, OnOk, Some, length, slice_get, true};
+ghost use Rattle.std.specs.Prelude.{◌≡◌, ◌≤◌, ◌<◌, ◌⊎◌, ℕ, IfOk, List, OnOk, Some, false, length, slice_get, true};
 ghost use Rattle.crew_pairing.specs.declared.vector.PairingVector.{PairingVector};
 ghost use Rattle.crew_pool.specs.declared.label_walk.LabelWalk.{LabelWalk};
 ghost use Rattle.crew_sweep.specs.Machinery.Parts.{AreHeld, IsPart};
@@ -83,6 +83,18 @@ impl Slides {
         let slide = &mut self.slides[number];
         slide.slide_to(alloc, resource, &mut self.room, held, window, walks)?;
         Ok(number)
+    }
+
+    /// Whether a slide has merged the pool of a place.
+    pub(crate) fn cover(&self, place: usize) -> bool
+        ensures { result ≡ false → CoverAny self.now place → ⊥ }
+    {
+        for slide in &self.slides {
+            if slide.covers(place) {
+                return true;
+            }
+        }
+        false
     }
 
     /// The pool of a slide's window.

@@ -1,15 +1,15 @@
-use Rattle.std.proofs.Common.{inl, inr, map, sym, subst}
-use Rattle.crew_resource.proofs.Members.{Member-map_out}
+use Rattle.std.proofs.Common.{◌∙◌, inl, inr, map, sym, subst}
+use Rattle.crew_resource.proofs.Members.{Member-get_or, Member-map_out}
 use Rattle.crew_resource.specs.Members.{Member}
-use Rattle.crew_solve.proofs.SameLabels.{index-member, one-more, take-whole}
+use Rattle.crew_solve.proofs.SameLabels.{one-more, take-whole}
 use Rattle.crew_solve.specs.Machinery.Keyed.{keyed_label}
 use Rattle.crew_solve.proofs.same_labels.are_all_among.Goals as goal
 
 pub label_entry-wanted-requires-clause-there : goal.label_entry-wanted-requires-clause-there
-label_entry-wanted-requires-clause-there c = (c.requires.own _ (index-member c.args.labels.now c.loop-place.place _ c.loop-place-test.true)).0
+label_entry-wanted-requires-clause-there c = (c.requires.own _ (Member-get_or c.args.labels.now c.loop-place.place c.index-labels-place.result c.loop-place-test.true (sym c.index-labels-place.is))).0
 
 pub label_entry-wanted-requires-clause-ranked : goal.label_entry-wanted-requires-clause-ranked
-label_entry-wanted-requires-clause-ranked c = (c.requires.own _ (index-member c.args.labels.now c.loop-place.place _ c.loop-place-test.true)).1
+label_entry-wanted-requires-clause-ranked c = (c.requires.own _ (Member-get_or c.args.labels.now c.loop-place.place c.index-labels-place.result c.loop-place-test.true (sym c.index-labels-place.is))).1
 
 pub loop-place-preserved : goal.loop-place-preserved
 loop-place-preserved c = λ x m.
@@ -17,9 +17,10 @@ loop-place-preserved c = λ x m.
     let other = c.args.other.now in
     let others = c.args.others.now in
     let found = subst (λ e. Member (map (keyed_label other) others) e) c.label_entry-wanted.ensures c.in-Some.ensures.1 in
-    elim (one-more c.args.labels.now c.loop-place.place _ x c.loop-place-test.true m) [
+    let label = c.index-labels-place.result in
+    elim (one-more c.args.labels.now c.loop-place.place label x c.loop-place-test.true m) [
       | inl k ↦ c.loop-place.invariant x k
-      | inr e ↦ subst (λ z. Member (map (keyed_label other) others) (keyed_label one z)) e found
+      | inr e ↦ subst (λ z. Member (map (keyed_label other) others) (keyed_label one z)) (c.index-labels-place.is ∙ e) found
     ]
 
 pub returns : goal.returns

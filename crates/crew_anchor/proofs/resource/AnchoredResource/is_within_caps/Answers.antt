@@ -6,8 +6,8 @@ use Rattle.crew_anchor.proofs.resource.AnchoredResource.is_within_caps.Goals as 
 abbrev held : ℤ → ℤ
 held z = to_z w64 (of_z w64 z)
 
-pub returns : goal.returns
-returns c =
+pub returns-clause-within : goal.returns-clause-within
+returns-clause-within c =
     let r = c.args.self.now in
     let v = c.args.value.now in
     same-caps (held v.fdp) (held v.fly) (held v.duties) (held (held v.away +ℤ held c.from.result)) (held c.from-2.result) (held c.from-3.result) (held c.from-4.result) (held c.from-5.result)

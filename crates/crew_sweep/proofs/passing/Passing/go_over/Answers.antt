@@ -1,25 +1,29 @@
 use Rattle.std.proofs.Common.{◌≡◌, ◌∙◌, ◌+◌, ap, arith, length}
+use Rattle.crew_sweep.specs.declared.passed.Passed.{Passed}
 use Rattle.crew_sweep.proofs.Slices.{at-turn}
 use Rattle.crew_sweep.proofs.passing.Passing.go_over.Goals as goal
 
-pub loop-place-init : goal.loop-place-init
-loop-place-init c = (c.requires.stands, c.requires.none)
+pub loop-departure-init : goal.loop-departure-init
+loop-departure-init c = (c.requires.stands, c.requires.none)
+
+pub begin_batch-requires-clause-stands : goal.begin_batch-requires-clause-stands
+begin_batch-requires-clause-stands c = c.loop-departure.invariant.0
 
 pub go_on-requires-clause-place : goal.go_on-requires-clause-place
-go_on-requires-clause-place c = at-turn c.args.ground.now.net.now.by_report c.by_report-place-items.result.now c.by_report-place-items.ensures.places c.loop-place.place-index c.loop-place-test.true _ c.loop-place.invariant.1
+go_on-requires-clause-place c = at-turn c.args.ground.now.net.now.by_report c.by_report-departure-items.result.now c.by_report-departure-items.ensures.places c.loop-departure.departure-index c.loop-departure-test.true _ (ap (λ (p : Passed). length p.pools.items) c.begin_batch.ensures.passed ∙ c.loop-departure.invariant.1)
 
 pub go_on-requires-clause-stands : goal.go_on-requires-clause-stands
-go_on-requires-clause-stands c = c.loop-place.invariant.0
+go_on-requires-clause-stands c = c.begin_batch.ensures.stands
 
-pub loop-place-preserved : goal.loop-place-preserved
-loop-place-preserved c = (c.in_ok-go_on.ensures.stands, c.in_ok-go_on.ensures.more ∙ ap (λ n. n + 1) c.loop-place.invariant.1)
+pub loop-departure-preserved : goal.loop-departure-preserved
+loop-departure-preserved c = (c.in_ok-go_on.ensures.stands, c.in_ok-go_on.ensures.more ∙ ap (λ n. n + 1) (ap (λ (p : Passed). length p.pools.items) c.begin_batch.ensures.passed ∙ c.loop-departure.invariant.1))
 
 pub returns : goal.returns
 returns c =
-    let all : c.loop-place.place-index ≡ length c.by_report-place-items.result.now = omega arith in
+    let all : c.loop-departure.departure-index ≡ length c.by_report-departure-items.result.now = omega arith in
     record {
-      made = c.loop-place.self.arrivals.made.items;
-      held = c.loop-place.self.arrivals.pools.items;
-      all = c.loop-place.invariant.1 ∙ (all ∙ ap length c.by_report-place-items.ensures.places);
-      passing = c.loop-place.invariant.0.pools;
+      made = c.loop-departure.self.arrivals.made.items;
+      held = c.loop-departure.self.arrivals.pools.items;
+      all = c.loop-departure.invariant.1 ∙ (all ∙ ap length c.by_report-departure-items.ensures.places);
+      passing = c.loop-departure.invariant.0.pools;
     }

@@ -3,5 +3,5 @@ use Rattle.crew_sweep.specs.Machinery.Grounds.{Stands}
 use Rattle.crew_sweep.proofs.passing.Passing.go_over.Given as goal
 
 -- so many departures are passed
-abbrev pub invariant-loop-place : goal.invariant-loop-place
-invariant-loop-place l = Stands l.ground l.self × (length l.self.passed.pools.items ≡ l.place-index)
+abbrev pub invariant-loop-departure : goal.invariant-loop-departure
+invariant-loop-departure l = Stands l.ground l.self × (length l.self.passed.pools.items ≡ l.departure-index)

@@ -1,7 +1,7 @@
 use Rattle.std.proofs.Common.{◌<◌, List, ℕ, get_or, length, subst, sym}
 use Rattle.crew_pairing.specs.declared.events.Departure.{Departure}
 use Rattle.crew_sweep.proofs.MadeAhead.{stands-at}
-use Rattle.crew_sweep.proofs.ahead.report_at.Goals as goal
+use Rattle.crew_sweep.proofs.batch.report_at.Goals as goal
 
 pub bounds-by_report-turn : goal.bounds-by_report-turn
 bounds-by_report-turn c = subst (λ (ps : List ℕ). c.args.turn < length ps) (sym c.by_report.ensures.places) c.requires.turn

@@ -1,0 +1,14 @@
+use Rattle.std.proofs.Common.{sym, subst}
+use Rattle.crew_sweep.specs.Machinery.Parts.{AreEnds}
+use Rattle.crew_sweep.proofs.Parts.{ends-fewer}
+use Rattle.crew_sweep.proofs.slide.Slide.begin_at.Goals as goal
+
+pub returns-then-reaches-clause-stacked : goal.returns-then-reaches-clause-stacked
+returns-then-reaches-clause-stacked c =
+    let was = c.args.self.now in
+    let stacked = c.requires.sliding.stacked in
+    record {
+      ordered = stacked.ordered;
+      before = subst (AreEnds c.args.walks.now c.args.held.now was.middle) (sym c.truncate.ensures.items) (ends-fewer c.args.walks.now c.args.held.now was.middle was.before.items _ stacked.before);
+      after = stacked.after;
+    }
