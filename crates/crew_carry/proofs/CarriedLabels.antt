@@ -11,7 +11,7 @@ use Rattle.crew_pool.specs.declared.label_walk.LabelWalk.{LabelWalk}
 use Rattle.crew_resource.specs.Members.{Each, Member}
 use Rattle.crew_step.specs.Walks.{HasGrown}
 use Rattle.crew_step.proofs.Loops.{append-none}
-use Rattle.crew_carry.specs.Carried.{AreTwinWalks, twin_of}
+use Rattle.crew_carry.specs.Carried.{AreTwinWalks, IsCarried, twin_of}
 use Rattle.crew_carry.specs.Labels.{AreCarriedLabels, IsCarriedLabel}
 use Rattle.crew_carry.specs.Twins.{AreRankTwins}
 
@@ -131,3 +131,13 @@ module _ {V : Type 0} (ranks : List (Option ℕ)) (from : List (List ℕ)) where
           subst (λ (z : V × List ℕ). Each (λ k. k < length news) z.1) s
           (subst (λ (z : List ℕ). Each (λ k. k < length news) z) (sym (whole-shows to n.1 c.0.whole)) (twins-within ranks olds news twins (walk_at from o.1.walk) (walk_at to n.1.walk) c.0.walk))
       labels-ranked (o ∷ os) (n ∷ ns) c e (inr m) = labels-ranked os ns c.1 e m
+
+-- labels whose walks were carried to their own places are carried as they are
+pub labels-in-place : {V : Type 0} (ranks : List (Option ℕ)) (from to : List (List ℕ)) (places : List (Option ℕ)) → IsCarried ranks from to places → (ls : List (V × LabelWalk))
+    → ((l : V × LabelWalk) → Member ls l → slice_get places l.1.walk ≡ Some (Some l.1.walk)) → AreWhole ls → AreCarriedLabels ranks from to ls ls
+labels-in-place ranks from to places c [] at w = tt
+labels-in-place ranks from to places c (l ∷ ls) at w =
+    let e = at l (inl refl) in (
+      record { value = refl; there = c.there l.1.walk l.1.walk e; whole = w l (inl refl); walk = c.shows l.1.walk l.1.walk e },
+      labels-in-place ranks from to places c ls (λ m k. at m (inr k)) (λ m k. w m (inr k)),
+    )

@@ -1,5 +1,6 @@
 //! Pools that are carried from one list of walks to another.
-ghost use Rattle.std.specs.Prelude.{◌≡◌, ◌<◌, ℕ, ℤ, IfOk, IfSome, IsNone, List, Option, length, map, true};
+ghost use Rattle.std.specs.Arc.{arc_value};
+ghost use Rattle.std.specs.Prelude.{◌≡◌, ◌<◌, ℕ, ℤ, IfOk, IfSome, IsNone, List, OnOk, Option, Some, length, map, slice_get, true};
 ghost use Rattle.crew_carry.specs.Carried.{AreTwinWalks, IsCarried, LacksTwin, twin_of};
 ghost use Rattle.crew_carry.specs.Labels.{AreCarriedLabels};
 ghost use Rattle.crew_carry.specs.Twins.{AreRankTwins};
@@ -16,6 +17,7 @@ use crew_pool::{LabelWalk, NO_DUTY, Pool, Walks};
 use crew_resource::Resource;
 use std::alloc::{AllocError, Global};
 use std::marker::Model;
+use std::sync::Arc;
 
 /// Where walks of one list stand in another, so far as they were carried there.
 ///
@@ -44,6 +46,64 @@ impl Carrier {
     {
         let places = vec![in alloc; None; count]?;
         Ok(Carrier { places })
+    }
+
+    /// For all old walks, which are carried at once, with the new walks.
+    ///
+    /// Each old walk comes to its own place; one with a duty that has no twin isn't carried, and leaves
+    /// its place to a walk of which no label knows. So a pool of carried walks can be shared as it
+    /// stands. No clause says so: `share` looks where each walk is.
+    pub fn in_place(
+        alloc: Global,
+        from: &Walks,
+        ranks: &[Option<u32>],
+    ) -> Result<(Carrier, Walks), AllocError>
+        ensures { IfOk result (λ made. IsCarried ranks.now from.now made.1 made.0) }
+    {
+        let mut to = Walks::new(alloc);
+        let mut carrier = Carrier::new(alloc, from.count())?;
+        carry_all(&mut carrier.places, from, ranks, &mut to)?;
+        Ok((carrier, to))
+    }
+
+    /// A pool over the new walks, as `carry` makes it: the old one itself, shared, where each of its
+    /// walks is carried to its own place.
+    ///
+    /// On want of memory some walks may already have been added, and nothing else has changed.
+    pub fn share<R: Resource>(
+        &mut self,
+        alloc: Global,
+        resource: &R,
+        pool: &Arc<Pool<R>, Global>,
+        from: &Walks,
+        ranks: &[Option<u32>],
+        to: &mut Walks,
+    ) -> Result<Option<Arc<Pool<R>, Global>>, AllocError>
+        requires there { (l : R.Value × LabelWalk) → Member (arc_value pool.now) l
+            → l.1.walk < length from.now }
+        requires whole { AreWhole (arc_value pool.now) }
+        requires carried { IsCarried ranks.now from.now to.old self.old }
+        ensures carried { IsCarried ranks.now from.now to.new self.new }
+        ensures grown { HasGrown to.old to.new }
+        ensures labels { IfOk result (λ o. IfSome o (λ new. (olds news : List Duty)
+            → AreRankTwins olds news ranks.now → by_key news (map (shown to.new) (arc_value new))
+            ≡ by_key olds (map (shown from.now) (arc_value pool.now)))) }
+        ensures counted { IfOk result (λ o. IfSome o (λ new. (count : R.Value → ℤ)
+            → AreCounted count from.now true (arc_value pool.now)
+            → AreCounted count to.new true (arc_value new))) }
+        ensures ranked { IfOk result (λ o. IfSome o (λ new. (olds news : List Duty)
+            → AreRankTwins olds news ranks.now
+            → AreRanked (length news) (map (shown to.new) (arc_value new)))) }
+        ensures none { IfOk result (λ o. IsNone o → (l : R.Value × LabelWalk)
+            × Member (arc_value pool.now) l × LacksTwin ranks.now (walk_at from.now l.1.walk)) }
+    {
+        if are_in_place::<R>(&self.places, pool.as_slice()) {
+            return Ok(Some(Arc::try_clone(pool)?));
+        }
+        let Some(new) = self.carry(alloc, resource, pool, from, ranks, to)? else {
+            return Ok(None);
+        };
+        Ok(Some(Arc::new(alloc, new)?))
     }
 
     /// A pool over the new walks, with the same vectors in the same order, each at its old walk's
@@ -86,6 +146,76 @@ impl Carrier {
         };
         Ok(Some(Pool::from_apart(labels)))
     }
+}
+
+// Carries all walks in order: where each leaves one walk behind it, each comes to its own place.
+fn carry_all(
+    places: &mut [Option<u32>],
+    from: &Walks,
+    ranks: &[Option<u32>],
+    to: &mut Walks,
+) -> Result<(), AllocError>
+    requires carried { IsCarried ranks.now from.now to.old places.old }
+    ensures carried { OnOk result (IsCarried ranks.now from.now to.new places.new) }
+{
+    for walk in 0..from.count() {
+        let Ok(walk) = u32::try_from(walk) else {
+            break;
+        };
+        carry_next(places, walk, from, ranks, to)?;
+    }
+    Ok(())
+}
+
+// Carries a walk, if the one before it is carried and its last duty has a twin. Else a walk of which no
+// label knows takes its place.
+fn carry_next(
+    places: &mut [Option<u32>],
+    walk: u32,
+    from: &Walks,
+    ranks: &[Option<u32>],
+    to: &mut Walks,
+) -> Result<(), AllocError>
+    requires there { walk < length from.now }
+    requires carried { IsCarried ranks.now from.now to.old places.old }
+    ensures carried { OnOk result (IsCarried ranks.now from.now to.new places.new) }
+{
+    let nowhere = to.empty_walk();
+    let Some((before, duty)) = from.last(walk) else {
+        places[walk as usize] = Some(nowhere);
+        return Ok(());
+    };
+    let (Some(first), Some(twin)) = (places[before as usize], twin(ranks, duty)) else {
+        to.add(nowhere, 0)?;
+        return Ok(());
+    };
+    places[walk as usize] = Some(to.add(first, twin)?);
+    Ok(())
+}
+
+// Whether a walk was carried to its own place.
+fn is_in_place(places: &[Option<u32>], walk: u32) -> bool
+    requires { walk < length places.now }
+    ensures { result ≡ true → slice_get places.now walk ≡ Some (Some walk) }
+{
+    match places[walk as usize] {
+        Some(place) => place == walk,
+        None => false,
+    }
+}
+
+// Whether the walks of all labels were carried to their own places.
+fn are_in_place<R: Resource>(places: &[Option<u32>], labels: &[(R::Value, LabelWalk)]) -> bool
+    requires { (l : R.Value × LabelWalk) → Member labels.now l → l.1.walk < length places.now }
+    ensures { result ≡ true → (l : R.Value × LabelWalk) → Member labels.now l
+        → slice_get places.now l.1.walk ≡ Some (Some l.1.walk) }
+{
+    for label in labels {
+        if !is_in_place(places, label.1.walk) {
+            return false;
+        }
+    }
+    true
 }
 
 // The labels over the new walks, one by one.

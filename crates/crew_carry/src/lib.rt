@@ -1,7 +1,7 @@
 //! What two networks have alike, and pools that are carried from one to the other. `Twins` tells
 //! which departures, arrivals and keys of duties both have; a `Carrier` brings pools over, with
-//! each walk's duties by their ranks in the new network; `are_alike` tells whether two pools show
-//! the same by key.
+//! each walk's duties by their ranks in the new network, and shares those whose walks keep their
+//! places; `are_alike` tells whether two pools show the same by key.
 #![tactic(auto)]
 
 mod alike;

@@ -10,8 +10,6 @@ use Rattle.std.proofs.Crossing.{crosses}
 use Rattle.std.specs.contracts.collections.LinkedList as List
 use Rattle.std.specs.contracts.alloc.Global as Heap
 use Rattle.std.specs.contracts.impls.GlobalAllocator.TheImpl.{ghosts as heap}
-use Rattle.left_right.specs.contracts.reader.Reader as Reader
-use Rattle.left_right.specs.contracts.reader.Factory as Factory
 use Rattle.left_right.specs.contracts.part.Part as Part
 use Rattle.atomic_table.specs.contracts.send_lease.SendLease as Lease
 use Rattle.atomic_table.specs.contracts.shared.Seat as Place
@@ -21,8 +19,6 @@ use Rattle.atomic_table.proofs.Rights.{right_send}
 use Rattle.atomic_table.proofs.Sent.{owns_keyless, seat_keyless, shares_keyless}
 use Rattle.core.specs.declared.alloc.Allocator.{Ghosts as HeapGhosts}
 use Rattle.std_alloc.proofs.SendSync.{quiet, seen}
-use Rattle.crew_publish.specs.contracts.shown.OneChain as OneChain
-use Rattle.crew_publish.specs.contracts.shown.OneChainProtocolShownKnown.TheImpl.{ghosts as chain}
 use Rattle.std.proofs.MapsCrossing.{crosses as maps_cross}
 use Rattle.std.specs.declared.cmp.Ord.{Ghosts as OrdGhosts}
 use Rattle.std.specs.declared.cmp.PartialEq.{Ghosts as EqGhosts}
@@ -39,9 +35,11 @@ use Rattle.crew_label.specs.contracts.pool.Pool as Pool
 use Rattle.crew_label.specs.contracts.table.Table as Labels
 use Rattle.crew_pass.specs.contracts.base_fronts.BaseFronts as Passed
 use Rattle.crew_plan.specs.contracts.solution.Solution as Solution
+use Rattle.crew_pool.specs.contracts.pool.Pool as SweptPool
 use Rattle.crew_resource.specs.declared.resource.Resource.{Ghosts as ResourceGhosts}
 use Rattle.crew_solve.specs.contracts.base_fronts.BaseFronts as SweptFronts
 use Rattle.crew_solve.specs.contracts.solution.Solution as SweptSolution
+use Rattle.crew_step.specs.contracts.pools.Pools as SweptPools
 use Rattle.crew_version.specs.contracts.draft.Draft as Draft
 use Rattle.crew_version.specs.contracts.version.Version as Version
 
@@ -49,11 +47,27 @@ ruleset parts = (sendable, crosses, maps_cross)
 
 -- ---- what a version holds
 
+swept-pool-send : (R V F : RattleType) (g : ResourceGhosts R.Denot V.Denot F.Denot) (o : OrdGhosts V.Denot) (e : EqGhosts V.Denot) (p : PartialOrdGhosts V.Denot) → IsSend V → IsSend (SweptPool.the_row R V F g o e p)
+swept-pool-send R V F g o e p s = search parts depth 40 fits 30000
+
+swept-pool-sync : (R V F : RattleType) (g : ResourceGhosts R.Denot V.Denot F.Denot) (o : OrdGhosts V.Denot) (e : EqGhosts V.Denot) (p : PartialOrdGhosts V.Denot) → IsSync V → IsSync (SweptPool.the_row R V F g o e p)
+swept-pool-sync R V F g o e p s = search parts depth 40 fits 30000
+
+ruleset with_swept_pool = (parts, swept-pool-send, swept-pool-sync)
+
+swept-pools-send : (R V F : RattleType) (g : ResourceGhosts R.Denot V.Denot F.Denot) (o : OrdGhosts V.Denot) (e : EqGhosts V.Denot) (p : PartialOrdGhosts V.Denot) → IsSend V → IsSync V → IsSend (SweptPools.the_row R V F g o e p)
+swept-pools-send R V F g o e p s y = search with_swept_pool depth 40 fits 30000
+
+swept-pools-sync : (R V F : RattleType) (g : ResourceGhosts R.Denot V.Denot F.Denot) (o : OrdGhosts V.Denot) (e : EqGhosts V.Denot) (p : PartialOrdGhosts V.Denot) → IsSend V → IsSync V → IsSync (SweptPools.the_row R V F g o e p)
+swept-pools-sync R V F g o e p s y = search with_swept_pool depth 40 fits 30000
+
+ruleset with_swept_pools = (parts, swept-pools-send, swept-pools-sync)
+
 swept-fronts-send : IsSend SweptFronts.the_row
-swept-fronts-send = search parts depth 40 fits 30000
+swept-fronts-send = search with_swept_pools depth 40 fits 30000
 
 swept-fronts-sync : IsSync SweptFronts.the_row
-swept-fronts-sync = search parts depth 40 fits 30000
+swept-fronts-sync = search with_swept_pools depth 40 fits 30000
 
 ruleset with_swept = (parts, swept-fronts-send, swept-fronts-sync)
 

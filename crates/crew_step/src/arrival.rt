@@ -6,6 +6,7 @@ ghost use Rattle.crew_pool.specs.declared.label_walk.LabelWalk.{LabelWalk};
 ghost use Rattle.crew_resource.specs.Members.{Member};
 ghost use Rattle.crew_step.specs.Pools.{boarded};
 
+use crate::pools::Pools;
 use crew_pool::{GrowingPool, Marked, Pool, Walks, Workspace, absorb_boarding};
 use crew_resource::{Placed, Staged};
 use std::alloc::{AllocError, Global};
@@ -18,7 +19,7 @@ pub fn arrival_pool<P: Placed, R: Staged<P> + Marked>(
     alloc: Global,
     resource: &R,
     room: &mut Workspace<R>,
-    pools: &[Pool<R>],
+    pools: &Pools<R>,
     items: &[P],
     turns: &[u32],
     ranks: &[u32],
@@ -43,7 +44,7 @@ pub fn arrival_pool<P: Placed, R: Staged<P> + Marked>(
     let mut pool = GrowingPool::new(alloc);
     for rank in ranks {
         let item = &items[*rank as usize];
-        let from = &pools[turns[*rank as usize] as usize];
+        let from = pools.get(turns[*rank as usize] as usize);
         absorb_boarding(resource, &mut pool, room, from, item, *rank, walks)?;
     }
     Ok(pool.into_pool())

@@ -4,7 +4,8 @@
 //! type keeps that the entries of what is `Done` are exactly what the opening and all extensions of
 //! the entries before leave, each vector with its least walk, in order of vector. At events,
 //! `departure_pool` makes a departure's pool from what has been gathered for it, `arrival_pool` an
-//! arrival's from what boards into it, and both promise what their candidates leave.
+//! arrival's from what boards into it, and both promise what their candidates leave; `Pools` has such
+//! pools in a row, which rows may share.
 //! `laws` has it that entries of fronts are values of their walks, as a job wants them.
 #![tactic(auto)]
 
@@ -15,6 +16,7 @@ mod feed;
 mod job;
 pub mod laws;
 mod offers;
+mod pools;
 mod same;
 mod step;
 mod waiting;
@@ -24,6 +26,7 @@ pub use departure::departure_pool;
 pub use done::Done;
 pub use feed::{Feed, Predecessor};
 pub use job::Job;
+pub use pools::Pools;
 pub use same::is_same_duty;
 pub use step::work;
 pub use waiting::waiting_labels;

@@ -24,7 +24,7 @@ use Rattle.crew_sweep.proofs.Slidings.{under-way-grown}
 abbrev Labels : Type 0
 Labels = List (PairingVector × LabelWalk)
 
-pub stands-beside : (e : Earlier) (g : Ground) {r : Renewal} → Stands g r.passing → IsRenewing e.sweep.now g.net.now r.passing.passed.walks r.passing.passed.pools.items r.changed.items
+pub stands-beside : (e : Earlier) (g : Ground) {r : Renewal} → Stands g r.passing → IsRenewing e.sweep.now g.net.now r.passing.passed.walks r.passing.passed.pools r.changed.items
     → IsCarried e.twins.now.ranks e.sweep.now.walks r.passing.passed.walks r.carrier → StandsBeside e g r
 stands-beside e g stands marks carried = record { passing = stands; marks = marks; carried = carried }
 
@@ -35,7 +35,7 @@ renewing-first old net walks pools changed none long = record {
   same = λ p free d m at before. absurd (omega (arith, before, none));
 }
 
-module _ (e : Earlier) (g : Ground) (ground : IsGround g) (beside : IsBeside e g) (p : Passing) (stands : Stands g p) (changed : List Bool) (marks : IsRenewing e.sweep.now g.net.now p.passed.walks p.passed.pools.items changed)
+module _ (e : Earlier) (g : Ground) (ground : IsGround g) (beside : IsBeside e g) (p : Passing) (stands : Stands g p) (changed : List Bool) (marks : IsRenewing e.sweep.now g.net.now p.passed.walks p.passed.pools changed)
     (after : List (List ℕ)) (grown : HasGrown p.passed.walks after) where
   abbrev made : List Bool
   made = p.arrivals.made.items
@@ -43,34 +43,34 @@ module _ (e : Earlier) (g : Ground) (ground : IsGround g) (beside : IsBeside e g
   abbrev held : List Labels
   held = p.arrivals.pools.items
 
-  pub pools-still : IsPassing g.net.now g.base g.resource after p.passed.pools.items made held
-  pools-still = passing-grown p.passed.walks after grown g.net.now g.base g.resource p.passed.pools.items made held stands.pools
+  pub pools-still : IsPassing g.net.now g.base g.resource after p.passed.pools made held
+  pools-still = passing-grown p.passed.walks after grown g.net.now g.base g.resource p.passed.pools made held stands.pools
 
   pub slides-still : AreUnderWay g.net.now after made held p.slides
   slides-still = under-way-grown g.net.now p.passed.walks after grown made held stands.pools.pending p.slides stands.slides
 
-  pub marks-still : IsRenewing e.sweep.now g.net.now after p.passed.pools.items changed
-  marks-still = renewing-grown e.sweep.now g.net.now p.passed.walks after p.passed.pools.items changed grown stands.pools.whole marks
+  pub marks-still : IsRenewing e.sweep.now g.net.now after p.passed.pools changed
+  marks-still = renewing-grown e.sweep.now g.net.now p.passed.walks after p.passed.pools changed grown stands.pools.whole marks
 
-  module _ (place : ℕ) (at : slice_get g.net.now.by_report (length p.passed.pools.items) ≡ Some place) (pool : Labels) (kept : IsKeptPool e.sweep.now g.net.now e.twins.now changed after place pool) where
+  module _ (place : ℕ) (at : slice_get g.net.now.by_report (length p.passed.pools) ≡ Some place) (pool : Labels) (kept : IsKeptPool e.sweep.now g.net.now e.twins.now changed after place pool) where
     abbrev old : BaseSweep
     old = e.sweep.now
 
     abbrev ByBase : List ℕ → Type 0
-    ByBase base = IsEarlier old g.net.now e.twins.now e.turns.now base g.resource → IsPassing g.net.now base g.resource p.passed.walks p.passed.pools.items made held
-        → IsPassing g.net.now base g.resource after (p.passed.pools.items ++ pool ∷ []) made held × IsRenewing old g.net.now after (p.passed.pools.items ++ pool ∷ []) changed
+    ByBase base = IsEarlier old g.net.now e.twins.now e.turns.now base g.resource → IsPassing g.net.now base g.resource p.passed.walks p.passed.pools made held
+        → IsPassing g.net.now base g.resource after (p.passed.pools ++ pool ∷ []) made held × IsRenewing old g.net.now after (p.passed.pools ++ pool ∷ []) changed
 
     by-old : ByBase old.base
     by-old earlier passing = (
-      steps.passing-kept old g.net.now e.twins.now e.turns.now g.resource earlier g.turns.now ground.passable p.passed.walks after grown p.passed.pools.items changed place at pool kept made held passing marks,
-      steps.renewing-kept old g.net.now e.twins.now e.turns.now g.resource earlier g.turns.now ground.passable p.passed.walks after grown p.passed.pools.items changed place at pool kept made held passing marks,
+      steps.passing-kept old g.net.now e.twins.now e.turns.now g.resource earlier g.turns.now ground.passable p.passed.walks after grown p.passed.pools changed place at pool kept made held passing marks,
+      steps.renewing-kept old g.net.now e.twins.now e.turns.now g.resource earlier g.turns.now ground.passable p.passed.walks after grown p.passed.pools changed place at pool kept made held passing marks,
     )
 
     both : ByBase g.base
     both = subst ByBase (sym beside.earlier.own_base) by-old
 
-    pub pools-more : IsPassing g.net.now g.base g.resource after (p.passed.pools.items ++ pool ∷ []) made held
+    pub pools-more : IsPassing g.net.now g.base g.resource after (p.passed.pools ++ pool ∷ []) made held
     pools-more = (both beside.earlier stands.pools).0
 
-    pub marks-more : IsRenewing old g.net.now after (p.passed.pools.items ++ pool ∷ []) changed
+    pub marks-more : IsRenewing old g.net.now after (p.passed.pools ++ pool ∷ []) changed
     marks-more = (both beside.earlier stands.pools).1

@@ -118,15 +118,15 @@ module _ (net : Net) (checked : IsChecked net.settings) (price : ℤ) (full : An
     passable : IsPassable net left.own.turns.now
     passable = subst (λ (n : Net). IsPassable n left.own.turns.now) left.own_net left.is_ground.passable
 
-    through : HasPassed net base (lesser (anchored_resource net.settings price) most-less) passed.walks passed.pools.items
+    through : HasPassed net base (lesser (anchored_resource net.settings price) most-less) passed.walks passed.pools
     through =
-        subst (λ (r : AnchoredResource). HasPassed net base r passed.walks passed.pools.items) (left.own_resource ∙ spare-is)
-        (subst (λ (b : List ℕ). HasPassed net b left.own.resource passed.walks passed.pools.items) left.own_base
-        (subst (λ (n : Net). HasPassed n left.own.base left.own.resource passed.walks passed.pools.items) left.own_net left.all))
+        subst (λ (r : AnchoredResource). HasPassed net base r passed.walks passed.pools) (left.own_resource ∙ spare-is)
+        (subst (λ (b : List ℕ). HasPassed net b left.own.resource passed.walks passed.pools) left.own_base
+        (subst (λ (n : Net). HasPassed n left.own.base left.own.resource passed.walks passed.pools) left.own_net left.all))
 
-    pub all-kept : IsKept (made net base price passed.walks passed.pools.items) full
-    all-kept = subst (IsKept (made net base price passed.walks passed.pools.items)) (sym full-is)
-        (kept net left.own.turns.now passable base price most-less few-less (one-less net.settings.max_duties checked.max_duties) full-fits passed.walks passed.pools.items through)
+    pub all-kept : IsKept (made net base price passed.walks passed.pools) full
+    all-kept = subst (IsKept (made net base price passed.walks passed.pools)) (sym full-is)
+        (kept net left.own.turns.now passable base price most-less few-less (one-less net.settings.max_duties checked.max_duties) full-fits passed.walks passed.pools through)
 
-    pub all-right : (t : Timetable) → IsSound t → AreDuties net.settings t net.duties → ShowsFronts t (made net base price passed.walks passed.pools.items)
-    all-right = right net left.own.turns.now passable base price most-less few-less (one-less net.settings.max_duties checked.max_duties) full-fits passed.walks passed.pools.items through checked
+    pub all-right : (t : Timetable) → IsSound t → AreDuties net.settings t net.duties → ShowsFronts t (made net base price passed.walks passed.pools)
+    all-right = right net left.own.turns.now passable base price most-less few-less (one-less net.settings.max_duties checked.max_duties) full-fits passed.walks passed.pools through checked

@@ -45,8 +45,8 @@ carried-grown ranks from before after places grown c = record {
 }
 
 -- the last pool
-pub last-pool : (pools all : List Labels) (pool last : Labels) (n : ℕ) → all ≡ pools ++ pool ∷ [] → n ≡ length pools → last ≡ get_or all n last → last ≡ pool
-last-pool pools all pool last n is at h = h ∙ (ap (λ (ps : List Labels). get_or ps n last) is ∙ get_new pools pool last n at)
+pub last-pool : (pools all : List Labels) (pool last : Labels) (n : ℕ) → all ≡ pools ++ pool ∷ [] → n ≡ length pools → last ≡ get_or all n [] → last ≡ pool
+last-pool pools all pool last n is at h = h ∙ (ap (λ (ps : List Labels). get_or ps n []) is ∙ get_new pools pool [] n at)
 
 -- what is marked after a pool is made anew
 pub renewing-redone : (old : BaseSweep) (net : Net) (turns : List ℕ) (passable : IsPassable net turns) (before after : List (List ℕ)) → HasGrown before after → (pools : List Labels) → ((labels : Labels) → Member pools labels → AreCounted (λ (v : PairingVector). v.duties) before true labels)

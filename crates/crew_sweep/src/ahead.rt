@@ -22,13 +22,14 @@ use crew_claims::map_claimed;
 use crew_net::Window;
 use crew_pool::{Pool, Workspace};
 use std::alloc::{AllocError, Global};
+use std::cmp::Reverse;
 use std::thread::Threads;
 
 // The fewest pools for each thread: with fewer a thread costs more than it gives.
 const SHARE: usize = 4;
 
-// Some pools, or want of memory.
-type Pools = Vec<Result<Pool<AnchoredResource>, AllocError>>;
+// Pools that threads made, or want of memory.
+type MadePools = Vec<Result<Pool<AnchoredResource>, AllocError>>;
 
 // Whether all duties that arrive at a place left with the departures so far.
 fn is_sealed(ground: &Ground, passed: usize, place: usize) -> bool
@@ -83,45 +84,86 @@ fn marks_of<K: Fn(usize) -> bool>(
 // it.
 fn is_wanted(ground: &Ground, passed: usize, marks: &[bool], made: &[bool], place: usize) -> bool
     requires ground { IsGround ground.now }
-    requires place { place < length ground.now.net.now.arrivals }
     requires marks { length marks.now ≡ length ground.now.net.now.arrivals }
     requires made { length made.now ≡ length ground.now.net.now.arrivals }
-    ensures { result ≡ true → IsSealed ground.now.net.now passed place }
+    ensures within { result ≡ true → place < length ground.now.net.now.arrivals }
+    ensures sealed { result ≡ true → IsSealed ground.now.net.now passed place }
 {
-    if !marks[place] || made[place] {
+    if place >= marks.len() || !marks[place] || made[place] {
         return false;
     }
     is_sealed(ground, passed, place)
 }
 
-// Those of the marked arrivals that nothing more will reach, and whose pools aren't made.
+// How many labels of the departures so far may board the duties that arrive at a place. No clause says
+// so, since it is there for speed.
+fn label_count(ground: &Ground, passed: &Passed, place: usize) -> usize
+    requires ground { IsGround ground.now }
+    requires place { place < length ground.now.net.now.arrivals }
+{
+    let ranks = ground.net.arriving(place);
+    let mut count: usize = 0;
+    for rank in ranks {
+        let turn = ground.turns[*rank as usize] as usize;
+        if turn < passed.pools.len() {
+            count = count.saturating_add(passed.pools.get(turn).len());
+        }
+    }
+    count
+}
+
+// The marked arrivals, each after how many labels may board into it, most first: a long one that a
+// thread begins late keeps the others waiting. No clause says so, since it is there for speed.
+fn longest_first(
+    alloc: Global,
+    ground: &Ground,
+    passed: &Passed,
+    marks: &[bool],
+) -> Result<Vec<(usize, usize)>, AllocError>
+    requires ground { IsGround ground.now }
+    requires marks { length marks.now ≡ length ground.now.net.now.arrivals }
+{
+    let mut places = Vec::new(alloc);
+    for place in 0..marks.len() {
+        if marks[place] {
+            places.push((label_count(ground, passed, place), place))?;
+        }
+    }
+    places.sort_unstable_by_key(|it| Reverse(it.0));
+    Ok(places)
+}
+
+// Those of the marked arrivals that nothing more will reach, and whose pools aren't made, the longest
+// first.
 fn unmade(
     alloc: Global,
     ground: &Ground,
-    passed: usize,
+    passed: &Passed,
     marks: &[bool],
     made: &[bool],
 ) -> Result<Vec<usize>, AllocError>
     requires ground { IsGround ground.now }
     requires marks { length marks.now ≡ length ground.now.net.now.arrivals }
     requires made { length made.now ≡ length ground.now.net.now.arrivals }
-    ensures { IfOk result (λ places. AreSealed ground.now.net.now passed places.items) }
+    ensures { IfOk result (λ places. AreSealed ground.now.net.now (length passed.now.pools)
+        places.items) }
 {
+    let turn = passed.pools.len();
     let mut places = Vec::new(alloc);
-    for place in 0..marks.len() {
-        if is_wanted(ground, passed, marks, made, place) {
-            places.push(place)?;
+    for it in longest_first(alloc, ground, passed, marks)? {
+        if is_wanted(ground, turn, marks, made, it.1) {
+            places.push(it.1)?;
         }
     }
     Ok(places)
 }
 
-// The arrivals to make ahead where a pass comes to a turn: the departures from there on, up to
-// another turn, wait on them, but for those whose pools are kept.
+// The arrivals to make ahead after the departures so far: those that follow, up to a turn, wait on
+// them, but for those whose pools are kept. Those into which the most labels may board come first.
 fn places_ahead<K: Fn(usize) -> bool>(
     alloc: Global,
     ground: &Ground,
-    turn: usize,
+    passed: &Passed,
     end: usize,
     kept: &K,
     made: &[bool],
@@ -131,10 +173,11 @@ fn places_ahead<K: Fn(usize) -> bool>(
     requires kept { (place : ℕ) → place < length ground.now.net.now.departures
         → K.pre kept.now place }
     requires made { length made.now ≡ length ground.now.net.now.arrivals }
-    ensures { IfOk result (λ places. AreSealed ground.now.net.now turn places.items) }
+    ensures { IfOk result (λ places. AreSealed ground.now.net.now (length passed.now.pools)
+        places.items) }
 {
-    let marks = marks_of(alloc, ground, turn, end, kept)?;
-    unmade(alloc, ground, turn, &marks, made)
+    let marks = marks_of(alloc, ground, passed.pools.len(), end, kept)?;
+    unmade(alloc, ground, passed, &marks, made)
 }
 
 // In how many threads so many pools are made.
@@ -150,10 +193,10 @@ fn made_at_once<T: Threads + Sync>(
     ground: &Ground,
     places: &[usize],
     passed: &Passed,
-) -> Result<Pools, AllocError>
+) -> Result<MadePools, AllocError>
     requires ground { IsGround ground.now }
     requires pools { (arrivals : ArrivalsSpec) × ArePools ground.now passed.now arrivals }
-    requires sealed { AreSealed ground.now.net.now (length passed.now.pools.items) places.now }
+    requires sealed { AreSealed ground.now.net.now (length passed.now.pools) places.now }
     ensures long { IfOk result (λ made. vec_len made ≡ length places.now) }
     ensures each { IfOk result (λ made. (i : ℕ) (d : _) → i < length places.now
         → IfOk (slice_index_or made.items i d) (IsPoolAt ground.now passed.now
@@ -162,7 +205,7 @@ fn made_at_once<T: Threads + Sync>(
     let part = |index: usize| -> Result<Pool<AnchoredResource>, AllocError>
         requires { (index < length places.now) × IsGround ground.now
             × ((arrivals : ArrivalsSpec) × ArePools ground.now passed.now arrivals)
-            × AreSealed ground.now.net.now (length passed.now.pools.items) places.now }
+            × AreSealed ground.now.net.now (length passed.now.pools) places.now }
         ensures { IfOk result (IsPoolAt ground.entry.now passed.entry.now
             (slice_index_or places.entry.now index 0)) }
     {
@@ -197,12 +240,12 @@ impl Arrivals {
         &mut self,
         ground: &Ground,
         places: &[usize],
-        made: Pools,
+        made: MadePools,
         passed: &Passed,
     ) -> Result<(), AllocError>
         requires ground { IsGround ground.now }
         requires pools { ArePools ground.now passed.now self.old }
-        requires sealed { AreSealed ground.now.net.now (length passed.now.pools.items) places.now }
+        requires sealed { AreSealed ground.now.net.now (length passed.now.pools) places.now }
         requires long { vec_len made ≡ length places.now }
         requires each { (i : ℕ) (d : _) → i < length places.now
             → IfOk (slice_index_or made.items i d) (IsPoolAt ground.now passed.now
@@ -244,8 +287,8 @@ impl Passing {
         if threads < 2 {
             return Ok(());
         }
-        let turn = self.passed.pools.len();
-        let places = places_ahead(alloc, ground, turn, end, kept, &self.arrivals.made)?;
+        let made = &self.arrivals.made;
+        let places = places_ahead(alloc, ground, &self.passed, end, kept, made)?;
         let made = made_at_once(rt, alloc, threads, ground, &places, &self.passed)?;
         self.arrivals.put_each(ground, &places, made, &self.passed)?;
         Ok(())

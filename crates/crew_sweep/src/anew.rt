@@ -36,16 +36,16 @@ impl Renewal {
         requires ground { IsGround ground.now }
         requires beside { IsBeside earlier.now ground.now }
         requires place { slice_get ground.now.net.now.by_report
-            (length self.old.passing.passed.pools.items) ≡ Some place }
+            (length self.old.passing.passed.pools) ≡ Some place }
         requires stands { StandsBeside earlier.now ground.now self.old }
         ensures stands { OnOk result (StandsBeside earlier.now ground.now self.new) }
-        ensures more { OnOk result (length self.new.passing.passed.pools.items
-            ≡ length self.old.passing.passed.pools.items + 1) }
+        ensures more { OnOk result (length self.new.passing.passed.pools
+            ≡ length self.old.passing.passed.pools + 1) }
     {
         let last = self.passing.passed.pools.len();
         self.passing.go_on(alloc, ground, place)?;
         let passed = &self.passing.passed;
-        let pool = &passed.pools[last];
+        let pool = passed.pools.get(last);
         note(
             alloc,
             earlier,
@@ -68,11 +68,11 @@ impl Renewal {
         requires ground { IsGround ground.now }
         requires beside { IsBeside earlier.now ground.now }
         requires place { slice_get ground.now.net.now.by_report
-            (length self.old.passing.passed.pools.items) ≡ Some place }
+            (length self.old.passing.passed.pools) ≡ Some place }
         requires stands { StandsBeside earlier.now ground.now self.old }
         ensures stands { OnOk result (StandsBeside earlier.now ground.now self.new) }
-        ensures more { OnOk result (length self.new.passing.passed.pools.items
-            ≡ length self.old.passing.passed.pools.items + 1) }
+        ensures more { OnOk result (length self.new.passing.passed.pools
+            ≡ length self.old.passing.passed.pools + 1) }
     {
         if self.keep_one(alloc, earlier, ground, place)? {
             return Ok(());
@@ -126,7 +126,7 @@ impl Renewal {
         requires ground { IsGround ground.now }
         requires beside { IsBeside earlier.now ground.now }
         requires stands { StandsBeside earlier.now ground.now self.old }
-        requires none { length self.old.passing.passed.pools.items ≡ 0 }
+        requires none { length self.old.passing.passed.pools ≡ 0 }
         ensures { OnOk result (HasPassedAll ground.now self.new.passing.passed) }
     {
         for departure in ground.net.by_report() {
@@ -150,7 +150,7 @@ impl Renewal {
         requires ground { IsGround ground.now }
         requires beside { IsBeside earlier.now ground.now }
         requires stands { StandsBeside earlier.now ground.now self.old }
-        requires none { length self.old.passing.passed.pools.items ≡ 0 }
+        requires none { length self.old.passing.passed.pools ≡ 0 }
         ensures { OnOk result (HasPassedAll ground.now self.new.passing.passed) }
     {
         for departure in ground.net.by_report() {

@@ -43,7 +43,7 @@ pub(crate) fn arrival_at(
     requires ground { IsGround ground.now }
     requires pools { (arrivals : ArrivalsSpec) × ArePools ground.now passed.now arrivals }
     requires place { place < length ground.now.net.now.arrivals }
-    requires sealed { IsSealed ground.now.net.now (length passed.now.pools.items) place }
+    requires sealed { IsSealed ground.now.net.now (length passed.now.pools) place }
     ensures { IfOk result (IsPoolAt ground.now passed.now place) }
 {
     let turns = ground.turns;
@@ -94,7 +94,7 @@ impl Arrivals {
         requires pools { ArePools ground.now passed.now self.old }
         requires within { window.end ≤ length ground.now.net.now.arrivals }
         requires sealed { (place : ℕ) → window.from ≤ place → place < window.end
-            → IsSealed ground.now.net.now (length passed.now.pools.items) place }
+            → IsSealed ground.now.net.now (length passed.now.pools) place }
         ensures pools { OnOk result (ArePools ground.now passed.now self.new) }
         ensures stayed { OnOk result (Stay self.old self.new) }
         ensures window { OnOk result (AreMade self.new.made.items window) }
@@ -117,7 +117,7 @@ impl Arrivals {
         requires ground { IsGround ground.now }
         requires pools { ArePools ground.now passed.now self.old }
         requires place { place < length ground.now.net.now.arrivals }
-        requires sealed { IsSealed ground.now.net.now (length passed.now.pools.items) place }
+        requires sealed { IsSealed ground.now.net.now (length passed.now.pools) place }
         ensures pools { OnOk result (ArePools ground.now passed.now self.new) }
         ensures stayed { OnOk result (Stay self.old self.new) }
         ensures made { OnOk result (IsMade self.new.made.items place) }

@@ -16,6 +16,7 @@ use crate::swept::Sweep;
 use crew_anchor::AnchoredResource;
 use crew_flights::Code;
 use crew_net::Net;
+use crew_pool::Walks;
 use std::alloc::{AllocError, Global};
 use std::sync::Arc;
 use std::thread::Threads;
@@ -25,7 +26,7 @@ impl Passing {
     fn go_over(&mut self, alloc: Global, ground: &Ground) -> Result<(), AllocError>
         requires ground { IsGround ground.now }
         requires stands { Stands ground.now self.old }
-        requires none { length self.old.passed.pools.items ≡ 0 }
+        requires none { length self.old.passed.pools ≡ 0 }
         ensures { OnOk result (HasPassedAll ground.now self.new.passed) }
     {
         for departure in ground.net.by_report() {
@@ -47,7 +48,7 @@ impl Passing {
     ) -> Result<(), AllocError>
         requires ground { IsGround ground.now }
         requires stands { Stands ground.now self.old }
-        requires none { length self.old.passed.pools.items ≡ 0 }
+        requires none { length self.old.passed.pools ≡ 0 }
         ensures { OnOk result (HasPassedAll ground.now self.new.passed) }
     {
         let kept = |_: usize| -> bool { false };
@@ -65,7 +66,7 @@ fn pass_all(alloc: Global, ground: &Ground) -> Result<Passed, AllocError>
     requires { IsGround ground.now }
     ensures { IfOk result (HasPassedAll ground.now) }
 {
-    let mut passing = Passing::new(alloc, ground)?;
+    let mut passing = Passing::new(alloc, ground, Walks::new(alloc))?;
     passing.go_over(alloc, ground)?;
     Ok(passing.passed)
 }
@@ -80,7 +81,7 @@ fn pass_all_by_threads<T: Threads + Sync>(
     requires { IsGround ground.now }
     ensures { IfOk result (HasPassedAll ground.now) }
 {
-    let mut passing = Passing::new(alloc, ground)?;
+    let mut passing = Passing::new(alloc, ground, Walks::new(alloc))?;
     passing.go_over_by_threads(rt, alloc, threads, ground)?;
     Ok(passing.passed)
 }

@@ -23,8 +23,9 @@ use crew_net::Window;
 use crew_pairing::Departure;
 use crew_pool::{Pool, Walks, Workspace};
 use crew_resource::Staged;
-use crew_step::departure_pool;
+use crew_step::{Pools, departure_pool};
 use std::alloc::{AllocError, Global};
+use std::sync::Arc;
 
 /// What a pass has made so far, with the room in which it merges: `batch_end` is the turn at which
 /// the batch of departures ends that it is in.
@@ -55,16 +56,16 @@ fn idle_label(
 }
 
 impl Passing {
-    /// A pass that has come to no departure yet.
-    pub(crate) fn new(alloc: Global, ground: &Ground) -> Result<Passing, AllocError>
+    /// A pass that has come to no departure yet, over walks to which it adds its own.
+    pub(crate) fn new(alloc: Global, ground: &Ground, walks: Walks) -> Result<Passing, AllocError>
         ensures stands { IfOk result (Stands ground.now) }
-        ensures none { IfOk result (λ passing. length passing.passed.pools.items ≡ 0) }
+        ensures none { IfOk result (λ passing. length passing.passed.pools ≡ 0) }
+        ensures walks { IfOk result (λ passing. passing.passed.walks ≡ walks) }
     {
         let net = ground.net;
         let slides = Slides::new(alloc, net.departures())?;
         let arrivals = Arrivals::new(alloc, net.arrivals().len())?;
-        let pools = Vec::with_capacity(alloc, net.departures().len())?;
-        let walks = Walks::new(alloc);
+        let pools = Pools::with_capacity(alloc, net.departures().len())?;
         Ok(Passing {
             room: Workspace::new(alloc),
             slides,
@@ -119,20 +120,20 @@ impl Passing {
     ) -> Result<(), AllocError>
         requires ground { IsGround ground.now }
         requires place { slice_get ground.now.net.now.by_report
-            (length self.old.passed.pools.items) ≡ Some place }
+            (length self.old.passed.pools) ≡ Some place }
         requires stands { Stands ground.now self.old }
         ensures stands { OnOk result (Stands ground.now self.new) }
-        ensures more { OnOk result (length self.new.passed.pools.items
-            ≡ length self.old.passed.pools.items + 1) }
+        ensures more { OnOk result (length self.new.passed.pools
+            ≡ length self.old.passed.pools + 1) }
         ensures grown { HasGrown self.old.passed.walks self.new.passed.walks }
         ensures added { OnOk result ((pool : List (PairingVector × LabelWalk))
-            × (self.new.passed.pools.items ≡ self.old.passed.pools.items ++ pool ∷ [])) }
+            × (self.new.passed.pools ≡ self.old.passed.pools ++ pool ∷ [])) }
     {
         let window = ground.net.window(place);
         self.arrivals
             .make_window(alloc, ground, window, &mut self.room, &self.passed)?;
         let pool = self.pool_at(alloc, ground, place, window)?;
-        self.passed.pools.push(pool)?;
+        self.passed.pools.push(Arc::new(alloc, pool)?)?;
         Ok(())
     }
 }

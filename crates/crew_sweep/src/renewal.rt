@@ -1,4 +1,5 @@
 //! What a pass keeps of an earlier one.
+ghost use Rattle.std.specs.Arc.{arc_value};
 ghost use Rattle.std.specs.Prelude.{◌≡◌, ◌<◌, ◌+◌, ℕ, IfOk, IfSome, Ok, OnOk, false, get_or, length, slice_get, true, Some, []};
 ghost use Rattle.crew_carry.specs.Carried.{IsCarried};
 ghost use Rattle.crew_pairing.specs.Events.{arrival_of, departure_of};
@@ -20,6 +21,11 @@ use crew_anchor::AnchoredResource;
 use crew_carry::{Carrier, Twins, are_alike};
 use crew_pool::{Pool, Walks};
 use std::alloc::{AllocError, Global};
+use std::sync::Arc;
+
+// How many walks of an earlier pass there may be for each label of its pools, for its pools to be kept
+// as they stand: walks that no label has any more are kept with them.
+const SPARE: usize = 2;
 
 /// A pass that keeps what it can of an earlier one: what it has carried over, and the marks of change
 /// at arrivals, of which each that has none comes from pools that have the labels that they had.
@@ -40,14 +46,14 @@ fn kept_pool(
     changed: &[bool],
     carrier: &mut Carrier,
     walks: &mut Walks,
-) -> Result<Option<Pool<AnchoredResource>>, AllocError>
+) -> Result<Option<Arc<Pool<AnchoredResource>, Global>>, AllocError>
     requires beside { IsBeside earlier.now ground.now }
     requires place { place < length ground.now.net.now.departures }
     requires marks { length changed.now ≡ length ground.now.net.now.arrivals }
     requires carried { IsCarried earlier.now.twins.now.ranks earlier.now.sweep.now.walks walks.old
         carrier.old }
-    ensures kept { IfOk result (λ kept. IfSome kept (IsKeptPool earlier.now.sweep.now
-        ground.now.net.now earlier.now.twins.now changed.now walks.new place)) }
+    ensures kept { IfOk result (λ kept. IfSome kept (λ pool. IsKeptPool earlier.now.sweep.now
+        ground.now.net.now earlier.now.twins.now changed.now walks.new place (arc_value pool))) }
     ensures carried { OnOk result (IsCarried earlier.now.twins.now.ranks
         earlier.now.sweep.now.walks walks.new carrier.new) }
     ensures grown { HasGrown walks.old walks.new }
@@ -57,9 +63,24 @@ fn kept_pool(
     };
     let sweep = earlier.sweep;
     let ranks = earlier.twins.ranks();
-    let pool = sweep.pool(turn);
+    let pool = sweep.shared(turn);
     let from = sweep.walks();
-    carrier.carry(alloc, &ground.resource, pool, from, ranks, walks)
+    carrier.share(alloc, &ground.resource, pool, from, ranks, walks)
+}
+
+// Where the walks of the earlier pass stand, and the walks with which this one begins: each in its own
+// place, unless most of them are of no label any more.
+fn walks_beside(alloc: Global, earlier: &Earlier) -> Result<(Carrier, Walks), AllocError>
+    ensures { IfOk result (λ made. IsCarried earlier.now.twins.now.ranks
+        earlier.now.sweep.now.walks made.1 made.0) }
+{
+    let sweep = earlier.sweep;
+    let from = sweep.walks();
+    if from.count() / SPARE > sweep.label_count() {
+        let carrier = Carrier::new(alloc, from.count())?;
+        return Ok((carrier, Walks::new(alloc)));
+    }
+    Carrier::in_place(alloc, from, earlier.twins.ranks())
 }
 
 impl Renewal {
@@ -70,11 +91,11 @@ impl Renewal {
         ground: &Ground,
     ) -> Result<Renewal, AllocError>
         ensures stands { IfOk result (StandsBeside earlier.now ground.now) }
-        ensures none { IfOk result (λ renewal. length renewal.passing.passed.pools.items ≡ 0) }
+        ensures none { IfOk result (λ renewal. length renewal.passing.passed.pools ≡ 0) }
     {
-        let carrier = Carrier::new(alloc, earlier.sweep.walks().count())?;
+        let (carrier, walks) = walks_beside(alloc, earlier)?;
         let changed = vec![in alloc; false; ground.net.arrivals().len()]?;
-        let passing = Passing::new(alloc, ground)?;
+        let passing = Passing::new(alloc, ground, walks)?;
         Ok(Renewal {
             passing,
             carrier,
@@ -93,11 +114,11 @@ impl Renewal {
         requires ground { IsGround ground.now }
         requires beside { IsBeside earlier.now ground.now }
         requires place { slice_get ground.now.net.now.by_report
-            (length self.old.passing.passed.pools.items) ≡ Some place }
+            (length self.old.passing.passed.pools) ≡ Some place }
         requires stands { StandsBeside earlier.now ground.now self.old }
         ensures stands { OnOk result (StandsBeside earlier.now ground.now self.new) }
-        ensures kept { result ≡ Ok true → length self.new.passing.passed.pools.items
-            ≡ length self.old.passing.passed.pools.items + 1 }
+        ensures kept { result ≡ Ok true → length self.new.passing.passed.pools
+            ≡ length self.old.passing.passed.pools + 1 }
         ensures not_kept { result ≡ Ok false → self.new.passing.passed.pools
             ≡ self.old.passing.passed.pools }
     {

@@ -14,6 +14,7 @@ use crew_anchor::AnchoredResource;
 use crew_flights::Code;
 use crew_net::Net;
 use crew_pool::{Pool, Walks};
+use crew_step::Pools;
 use std::alloc::Global;
 use std::marker::Model;
 use std::sync::Arc;
@@ -28,7 +29,7 @@ pub struct Sweep {
     price: i64,
     resource: AnchoredResource,
     walks: Walks,
-    pools: Vec<Pool<AnchoredResource>>,
+    pools: Pools<AnchoredResource>,
 }
 
 impl Drop for Sweep {
@@ -55,7 +56,7 @@ impl Model for Sweep {
       base = s.base;
       price = s.price;
       walks = s.walks;
-      pools = s.pools.items;
+      pools = s.pools;
     } };
 
     ghost invariant = { λ s. IsKept (record {
@@ -63,7 +64,7 @@ impl Model for Sweep {
       base = s.base;
       price = s.price;
       walks = s.walks;
-      pools = s.pools.items;
+      pools = s.pools;
     }) s.resource };
 }
 
@@ -94,7 +95,7 @@ impl Sweep {
           base = base;
           price = price;
           walks = passed.walks;
-          pools = passed.pools.items;
+          pools = passed.pools;
         } }
         ensures right { (t : Timetable) → IsSoundTable t
             → AreDuties (arc_value net).settings t (arc_value net).duties → ShowsFronts t result }
@@ -140,7 +141,7 @@ impl Sweep {
     }
 
     // The pools of all departures, in order of report.
-    pub(crate) fn pools(&self) -> &[Pool<AnchoredResource>]
+    pub(crate) fn pools(&self) -> &Pools<AnchoredResource>
         ensures all { result.now ≡ self.now.pools }
         ensures long { length self.now.pools ≡ length self.now.net.by_report }
         ensures local { AreLocal (passed_network self.now.net self.now.base (sparing_of self.now))
@@ -169,6 +170,25 @@ impl Sweep {
         ensures kept { AreKept (anchored_resource self.now.net.settings self.now.price)
             (length self.now.net.duties) self.now.walks result.now }
     {
-        &self.pools[index]
+        self.pools.get(index)
+    }
+
+    /// The same pool, to be shared.
+    pub(crate) fn shared(&self, index: usize) -> &Arc<Pool<AnchoredResource>, Global>
+        requires { index < length self.now.net.by_report }
+        ensures same { arc_value result.now ≡ get_or self.now.pools index [] }
+        ensures kept { AreKept (anchored_resource self.now.net.settings self.now.price)
+            (length self.now.net.duties) self.now.walks (arc_value result.now) }
+    {
+        self.pools.shared(index)
+    }
+
+    /// How many labels the pools have. No clause says so, since it is there for memory's sake.
+    pub(crate) fn label_count(&self) -> usize {
+        let mut count: usize = 0;
+        for turn in 0..self.pools.len() {
+            count = count.saturating_add(self.pools.get(turn).len());
+        }
+        count
     }
 }

@@ -28,6 +28,6 @@ HasOldLabels e g walks departure labels = HaveSame (keyed g.net.now walks labels
 -- such a pass stands so: as any does, with its marks and what it has carried over
 pub record StandsBeside (e : Earlier) (g : Ground) (r : Renewal) : Type 0 where
   pub passing : Stands g r.passing
-  pub marks : IsRenewing e.sweep.now g.net.now r.passing.passed.walks r.passing.passed.pools.items
+  pub marks : IsRenewing e.sweep.now g.net.now r.passing.passed.walks r.passing.passed.pools
       r.changed.items
   pub carried : IsCarried e.twins.now.ranks e.sweep.now.walks r.passing.passed.walks r.carrier

@@ -20,7 +20,7 @@ pub record IsGround (g : Ground) : Type 0 where
 
 -- the pools of so many departures, and of the arrivals that are made
 abbrev pub ArePools : Ground → Passed → Arrivals → Type 0
-ArePools g p a = IsPassing g.net.now g.base g.resource p.walks p.pools.items a.made.items
+ArePools g p a = IsPassing g.net.now g.base g.resource p.walks p.pools a.made.items
     a.pools.items
 
 -- what was made of the arrivals stays made, and as it was
@@ -29,7 +29,7 @@ Stay old new = HaveStayed old.made.items old.pools.items new.made.items new.pool
 
 -- the pool of the arrival at a place, from those of so many departures
 abbrev pub IsPoolAt : Ground → Passed → ℕ → List (PairingVector × LabelWalk) → Type 0
-IsPoolAt g p place = IsArrivalPool g.net.now g.turns.now g.resource p.walks p.pools.items place
+IsPoolAt g p place = IsArrivalPool g.net.now g.turns.now g.resource p.walks p.pools place
 
 -- a pass stands so: its pools, and its slides over those of arrivals
 pub record Stands (g : Ground) (p : Passing) : Type 0 where
@@ -39,7 +39,7 @@ pub record Stands (g : Ground) (p : Passing) : Type 0 where
 
 -- all departures are passed
 abbrev pub HasPassedAll : Ground → Passed → Type 0
-HasPassedAll g p = HasPassed g.net.now g.base g.resource p.walks p.pools.items
+HasPassedAll g p = HasPassed g.net.now g.base g.resource p.walks p.pools
 
 -- a pass over a network, of a base and under its resource with a duty to spare, has left this
 pub record IsLeft (net : Net) (base : List ℕ) (full : AnchoredResource) (p : Passed) : Type 0 where

@@ -1,10 +1,11 @@
 use Rattle.std.proofs.Common.{◌≡◌, ◌∙◌, ◌+◌, ◌++◌, [], List, Some, ℕ, ap, arith, false, get_or, map, subst, sym, take}
 use Rattle.std.specs.Prelude.{slice_get}
 use Rattle.std.proofs.lemmas.List.{take_all}
-use Rattle.std.proofs.lemmas.Option.{get_or_from_slice_get, slice_get-get_or}
+use Rattle.std.proofs.lemmas.Option.{slice_get-get_or}
 use Rattle.crew_pool.specs.Counted.{AreCounted}
 use Rattle.crew_pool.specs.LabelWalks.{IsPoolOf, shown}
 use Rattle.crew_pool.specs.declared.label_walk.LabelWalk.{LabelWalk}
+use Rattle.crew_resource.specs.Members.{Member}
 use Rattle.crew_resource.proofs.Members.{Member-get, Member-get_or}
 use Rattle.crew_step.specs.Pools.{boarded, boarding}
 use Rattle.crew_step.proofs.Loops.{flat-more, item-at}
@@ -27,8 +28,8 @@ bounds-turns-rank g c =
     let within = (c.requires.within (get_or ranks c.loop-rank.rank-index 0) (Member-get ranks c.loop-rank.rank-index 0 c.loop-rank-test.true)).0 in
     omega (arith, within, c.requires.turns)
 
-pub bounds-pools-turns : goal.bounds-pools-turns
-bounds-pools-turns g c =
+pub get-from-requires : goal.get-from-requires
+get-from-requires g c =
     let ranks = c.args.ranks.now in
     (c.requires.within (get_or ranks c.loop-rank.rank-index 0) (Member-get ranks c.loop-rank.rank-index 0 c.loop-rank-test.true)).1
 
@@ -44,9 +45,9 @@ absorb_boarding-requires-clause-can g c l m =
     let rank = get_or ranks c.loop-rank.rank-index 0 in
     let within = c.requires.within rank (Member-get ranks c.loop-rank.rank-index 0 c.loop-rank-test.true) in
     let item = c.index-items-rank.result in
-    let from = c.index-pools-turns.result in
+    let from = c.get-from.result.now in
     c.requires.can from l item
-    (Member-get_or c.args.pools.now (get_or c.args.turns.now rank 0) from within.1 (sym c.index-pools-turns.is)) m
+    (subst (Member c.args.pools.now) (sym c.get-from.ensures) (Member-get c.args.pools.now (get_or c.args.turns.now rank 0) [] within.1)) m
     (Member-get_or c.args.items.now rank item within.0 (sym c.index-items-rank.is))
 
 pub absorb_boarding-requires-clause-list_counts : goal.absorb_boarding-requires-clause-list_counts
@@ -54,8 +55,8 @@ absorb_boarding-requires-clause-list_counts g c =
     let ranks = c.args.ranks.now in
     let rank = get_or ranks c.loop-rank.rank-index 0 in
     let within = c.requires.within rank (Member-get ranks c.loop-rank.rank-index 0 c.loop-rank-test.true) in
-    let from = c.index-pools-turns.result in
-    c.requires.whole from (Member-get_or c.args.pools.now (get_or c.args.turns.now rank 0) from within.1 (sym c.index-pools-turns.is))
+    let from = c.get-from.result.now in
+    c.requires.whole from (subst (Member c.args.pools.now) (sym c.get-from.ensures) (Member-get c.args.pools.now (get_or c.args.turns.now rank 0) [] within.1))
 
 pub loop-rank-init : goal.loop-rank-init
 loop-rank-init g c =
@@ -77,14 +78,14 @@ loop-rank-preserved g c =
     let within = c.requires.within rank (Member-get ranks i 0 c.loop-rank-test.true) in
     let turn = get_or c.args.turns.now rank 0 in
     let item = c.index-items-rank.result in
-    let from = c.index-pools-turns.result in
+    let from = c.get-from.result.now in
     let board = g.R.Staged.boards c.args.resource.now in
     let now = c.absorb_boarding.new.pool in
     let one : ℕ → List (V × List ℕ) = λ r. boarding board (slice_get c.args.items.now r) r (map (shown {V = V} ws) (get_or c.args.pools.now (get_or c.args.turns.now r 0) [])) in
     let before : List (V × List ℕ) = boarded {V = V} ws board c.args.items.now c.args.turns.now c.args.pools.now (take i ranks) in
     let known = item-at c.args.items.now rank item within.0 c.index-items-rank.is in
     let labels : List (V × LabelWalk) → List (V × List ℕ) = map (shown {V = V} ws) in
-    let there : get_or c.args.pools.now turn [] ≡ from = get_or_from_slice_get c.args.pools.now turn from [] (item-at c.args.pools.now turn from within.1 c.index-pools-turns.is) in
+    let there : get_or c.args.pools.now turn [] ≡ from = sym c.get-from.ensures in
     let brings : boarding board (Some item) rank (labels from) ≡ one rank =
     sym (ap (λ o. boarding board o rank (labels from)) known) ∙ sym (ap (λ (es : List (V × LabelWalk)). boarding board (slice_get c.args.items.now rank) rank (labels es)) there) in
     let step = c.in_ok-absorb_boarding.ensures.local before c.loop-rank.invariant.0 in

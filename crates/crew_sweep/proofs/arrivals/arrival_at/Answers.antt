@@ -1,4 +1,4 @@
-use Rattle.std.proofs.Common.{◌≡◌, ◌∙◌, ◌<◌, Err, IfOk, List, ℕ, Ok, Some, get_or, length, map, refl, subst, sym}
+use Rattle.std.proofs.Common.{◌≡◌, ◌∙◌, ◌<◌, Err, IfOk, List, ℕ, Ok, Some, length, map, refl, subst, sym}
 use Rattle.std.specs.Prelude.{slice_get}
 use Rattle.std.specs.List.Sorted.{IsPermutation}
 use Rattle.std.specs.declared.result.Result.{Result}
@@ -30,10 +30,10 @@ arrival_pool-requires-clause-within c rank m =
     let p = c.requires.pools in
     let a = stands net.arrivals c.args.place c.requires.place in
     let all = subst (λ (rs : List ℕ). IsPermutation rs c.in_ok-ranks.ranks.items) (c.arriving.ensures a.0 a.1) c.in_ok-ranks.ensures in
-    let k = making.ranks-within net g.turns.now c.requires.ground.passable g.base g.resource passed.walks passed.pools.items p.0.made.items p.0.pools.items p.1
-    c.args.place a.0 a.1 c.requires.sealed c.in_ok-ranks.ranks.items all rank (subst (λ (rs : List ℕ). Member rs rank) c.deref-2.ensures.value m) in (
+    let k = making.ranks-within net g.turns.now c.requires.ground.passable g.base g.resource passed.walks passed.pools p.0.made.items p.0.pools.items p.1
+    c.args.place a.0 a.1 c.requires.sealed c.in_ok-ranks.ranks.items all rank (subst (λ (rs : List ℕ). Member rs rank) c.deref.ensures.value m) in (
       subst (λ (ds : List Duty). rank < length ds) (sym (c.as_slice-duties.ensures ∙ c.duties.ensures)) k.0,
-      subst (λ (ps : List Labels). get_or g.turns.now rank 0 < length ps) (sym c.deref.ensures.value) k.1,
+      k.1,
     )
 
 pub arrival_pool-requires-clause-can : goal.arrival_pool-requires-clause-can
@@ -41,11 +41,11 @@ arrival_pool-requires-clause-can c labels l item known m k =
     let g = c.args.ground.now in
     let passed = c.args.passed.now in
     let p = c.requires.pools in
-    may-board g.net.now g.turns.now c.requires.ground.passable g.base g.resource passed.walks passed.pools.items p.0.made.items p.0.pools.items p.1
-    c.requires.ground.fits c.requires.ground.most labels l item (subst (λ (ps : List Labels). Member ps labels) c.deref.ensures.value known) m (subst (λ (ds : List Duty). Member ds item) (c.as_slice-duties.ensures ∙ c.duties.ensures) k)
+    may-board g.net.now g.turns.now c.requires.ground.passable g.base g.resource passed.walks passed.pools p.0.made.items p.0.pools.items p.1
+    c.requires.ground.fits c.requires.ground.most labels l item known m (subst (λ (ds : List Duty). Member ds item) (c.as_slice-duties.ensures ∙ c.duties.ensures) k)
 
 pub arrival_pool-requires-clause-whole : goal.arrival_pool-requires-clause-whole
-arrival_pool-requires-clause-whole c labels m = c.requires.pools.1.whole labels (subst (λ (ps : List Labels). Member ps labels) c.deref.ensures.value m)
+arrival_pool-requires-clause-whole c labels m = c.requires.pools.1.whole labels m
 
 pub returns : goal.returns
 returns c =
@@ -60,9 +60,8 @@ returns c =
     both c.arrival_pool.result (λ pool local counts. record {
       ranks = ranks;
       all = all;
-      local = subst (λ (ds : List Duty). IsPoolOf is_at_most (boarded walks boards ds turns c.args.passed.now.pools.items ranks) (map (shown walks) pool)) (c.as_slice-duties.ensures ∙ c.duties.ensures)
-          (subst (λ (ps : List Labels). IsPoolOf is_at_most (boarded walks boards duties turns ps ranks) (map (shown walks) pool)) c.deref.ensures.value
-          (subst (λ (rs : List ℕ). IsPoolOf is_at_most (boarded walks boards duties turns c.deref.result.now rs) (map (shown walks) pool)) c.deref-2.ensures.value local));
+      local = subst (λ (ds : List Duty). IsPoolOf is_at_most (boarded walks boards ds turns c.args.passed.now.pools ranks) (map (shown walks) pool)) (c.as_slice-duties.ensures ∙ c.duties.ensures)
+          (subst (λ (rs : List ℕ). IsPoolOf is_at_most (boarded walks boards duties turns c.args.passed.now.pools rs) (map (shown walks) pool)) c.deref.ensures.value local);
       counts = counts;
     }) c.arrival_pool.ensures.local c.arrival_pool.ensures.counts
   where

@@ -22,7 +22,7 @@ put-requires-clause-made c =
     let fewer = c.in-Some.ensures.steps.1 in
     let long = c.requires.long in
     let within : c.loop-pool.index < length c.args.places.now = omega (arith, counted, fewer, long) in
-    let there = each-at (λ p. (p < length net.arrivals) × IsSealed net (length c.args.passed.now.pools.items) p) c.args.places.now c.loop-pool.index 0 within c.requires.sealed in
+    let there = each-at (λ p. (p < length net.arrivals) × IsSealed net (length c.args.passed.now.pools) p) c.args.places.now c.loop-pool.index 0 within c.requires.sealed in
     let passing = c.loop-pool.invariant.2 in
     subst (λ n. get_or c.args.places.now c.loop-pool.index 0 < n) (sym passing.marks) there.0
 
@@ -33,7 +33,7 @@ put-requires-clause-pools c =
     let fewer = c.in-Some.ensures.steps.1 in
     let long = c.requires.long in
     let within : c.loop-pool.index < length c.args.places.now = omega (arith, counted, fewer, long) in
-    let there = each-at (λ p. (p < length net.arrivals) × IsSealed net (length c.args.passed.now.pools.items) p) c.args.places.now c.loop-pool.index 0 within c.requires.sealed in
+    let there = each-at (λ p. (p < length net.arrivals) × IsSealed net (length c.args.passed.now.pools) p) c.args.places.now c.loop-pool.index 0 within c.requires.sealed in
     let passing = c.loop-pool.invariant.2 in
     subst (λ n. get_or c.args.places.now c.loop-pool.index 0 < n) (sym passing.long) there.0
 
@@ -43,7 +43,7 @@ loop-pool-preserved c =
     let turns = c.args.ground.now.turns.now in
     let r = c.args.ground.now.resource in
     let walks = c.args.passed.now.walks in
-    let pools = c.args.passed.now.pools.items in
+    let pools = c.args.passed.now.pools in
     let index = c.loop-pool.index in
     let counted = c.loop-pool.invariant.0 in
     let steps = c.in-Some.ensures.steps in

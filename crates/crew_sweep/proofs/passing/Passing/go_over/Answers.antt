@@ -10,13 +10,13 @@ pub begin_batch-requires-clause-stands : goal.begin_batch-requires-clause-stands
 begin_batch-requires-clause-stands c = c.loop-departure.invariant.0
 
 pub go_on-requires-clause-place : goal.go_on-requires-clause-place
-go_on-requires-clause-place c = at-turn c.args.ground.now.net.now.by_report c.by_report-departure-items.result.now c.by_report-departure-items.ensures.places c.loop-departure.departure-index c.loop-departure-test.true _ (ap (λ (p : Passed). length p.pools.items) c.begin_batch.ensures.passed ∙ c.loop-departure.invariant.1)
+go_on-requires-clause-place c = at-turn c.args.ground.now.net.now.by_report c.by_report-departure-items.result.now c.by_report-departure-items.ensures.places c.loop-departure.departure-index c.loop-departure-test.true _ (ap (λ (p : Passed). length p.pools) c.begin_batch.ensures.passed ∙ c.loop-departure.invariant.1)
 
 pub go_on-requires-clause-stands : goal.go_on-requires-clause-stands
 go_on-requires-clause-stands c = c.begin_batch.ensures.stands
 
 pub loop-departure-preserved : goal.loop-departure-preserved
-loop-departure-preserved c = (c.in_ok-go_on.ensures.stands, c.in_ok-go_on.ensures.more ∙ ap (λ n. n + 1) (ap (λ (p : Passed). length p.pools.items) c.begin_batch.ensures.passed ∙ c.loop-departure.invariant.1))
+loop-departure-preserved c = (c.in_ok-go_on.ensures.stands, c.in_ok-go_on.ensures.more ∙ ap (λ n. n + 1) (ap (λ (p : Passed). length p.pools) c.begin_batch.ensures.passed ∙ c.loop-departure.invariant.1))
 
 pub returns : goal.returns
 returns c =

@@ -84,7 +84,7 @@ returns-clause-stands c =
     let grown = c.departure_pool.ensures.grown in
     let sliding = subst (λ (hs : List Labels). AreSliding was.passed.walks hs c.slide_to.new.self) c.deref.ensures.value c.in_ok-number.ensures.sliding in
     let all : Stands ground (record { room = c.departure_pool.new.room; slides = c.slide_to.new.self; arrivals = was.arrivals; passed = record { walks = after; pools = was.passed.pools }; batch_end = was.batch_end }) = record {
-      pools = passing-grown was.passed.walks after grown ground.net.now ground.base ground.resource was.passed.pools.items made held pools;
+      pools = passing-grown was.passed.walks after grown ground.net.now ground.base ground.resource was.passed.pools made held pools;
       slides = under-way-more ground.net.now was.passed.walks after grown made held made held (stayed-itself made held) was.slides c.slide_to.new.self pools.pending c.requires.stands.slides sliding c.slide_to.ensures.airports c.args.window
           c.requires.made c.in_ok-number.ensures.covers;
     } in

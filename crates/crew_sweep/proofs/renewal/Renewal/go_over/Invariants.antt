@@ -4,4 +4,4 @@ use Rattle.crew_sweep.proofs.renewal.Renewal.go_over.Given as goal
 
 -- so many departures are passed
 abbrev pub invariant-loop-departure : goal.invariant-loop-departure
-invariant-loop-departure l = StandsBeside l.earlier l.ground l.self × (length l.self.passing.passed.pools.items ≡ l.departure-index)
+invariant-loop-departure l = StandsBeside l.earlier l.ground l.self × (length l.self.passing.passed.pools ≡ l.departure-index)

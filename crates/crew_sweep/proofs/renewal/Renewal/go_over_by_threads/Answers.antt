@@ -10,10 +10,10 @@ pub renew_ahead-requires-clause-stands : goal.renew_ahead-requires-clause-stands
 renew_ahead-requires-clause-stands g c _ _ = c.loop-departure.invariant.0
 
 pub renew_one-requires-clause-place : goal.renew_one-requires-clause-place
-renew_one-requires-clause-place g c = at-turn c.args.ground.now.net.now.by_report c.by_report-departure-items.result.now c.by_report-departure-items.ensures.places c.loop-departure.departure-index c.loop-departure-test.true _ (ap (λ (p : Passed). length p.pools.items) c.renew_ahead.ensures.passed ∙ c.loop-departure.invariant.1)
+renew_one-requires-clause-place g c = at-turn c.args.ground.now.net.now.by_report c.by_report-departure-items.result.now c.by_report-departure-items.ensures.places c.loop-departure.departure-index c.loop-departure-test.true _ (ap (λ (p : Passed). length p.pools) c.renew_ahead.ensures.passed ∙ c.loop-departure.invariant.1)
 
 pub loop-departure-preserved : goal.loop-departure-preserved
-loop-departure-preserved g c = (c.in_ok-renew_one.ensures.stands, c.in_ok-renew_one.ensures.more ∙ ap (λ n. n + 1) (ap (λ (p : Passed). length p.pools.items) c.renew_ahead.ensures.passed ∙ c.loop-departure.invariant.1))
+loop-departure-preserved g c = (c.in_ok-renew_one.ensures.stands, c.in_ok-renew_one.ensures.more ∙ ap (λ n. n + 1) (ap (λ (p : Passed). length p.pools) c.renew_ahead.ensures.passed ∙ c.loop-departure.invariant.1))
 
 pub returns : goal.returns
 returns g c =

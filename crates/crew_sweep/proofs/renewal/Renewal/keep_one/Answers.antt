@@ -1,3 +1,6 @@
+use Rattle.std.specs.Arc.{arc_value}
+use Rattle.std.specs.Global.{Global}
+use Rattle.std.specs.declared.sync.Arc.{Arc}
 use Rattle.std.proofs.Common.{Bool, List, subst, sym}
 use Rattle.std.specs.Prelude.{IfSome}
 use Rattle.crew_pairing.specs.declared.vector.PairingVector.{PairingVector}
@@ -41,11 +44,11 @@ returns-clause-stands c =
     let grown = c.kept_pool.ensures.grown in
     let made = was.passing.arrivals.made.items in
     let held = was.passing.arrivals.pools.items in
-    let marked = subst (λ (bs : List Bool). IfSome c.in_ok-kept.kept (IsKeptPool old net e.twins.now bs after c.args.place)) c.deref.ensures.value c.in_ok-kept.ensures.kept in
-    let kept = subst (λ o. IfSome o (IsKeptPool old net e.twins.now was.changed.items after c.args.place)) c.in-Some.is marked in
-    let pools = besides.pools-more e g c.requires.ground c.requires.beside was.passing stands.passing was.changed.items stands.marks after grown c.args.place c.requires.place c.in-Some.pool kept in
-    let marks = besides.marks-more e g c.requires.ground c.requires.beside was.passing stands.passing was.changed.items stands.marks after grown c.args.place c.requires.place c.in-Some.pool kept in
+    let marked = subst (λ (bs : List Bool). IfSome c.in_ok-kept.kept (λ (p : Arc Labels Global). IsKeptPool old net e.twins.now bs after c.args.place (arc_value p))) c.deref.ensures.value c.in_ok-kept.ensures.kept in
+    let kept = subst (λ o. IfSome o (λ (p : Arc Labels Global). IsKeptPool old net e.twins.now was.changed.items after c.args.place (arc_value p))) c.in-Some.is marked in
+    let pools = besides.pools-more e g c.requires.ground c.requires.beside was.passing stands.passing was.changed.items stands.marks after grown c.args.place c.requires.place (arc_value c.in-Some.pool) kept in
+    let marks = besides.marks-more e g c.requires.ground c.requires.beside was.passing stands.passing was.changed.items stands.marks after grown c.args.place c.requires.place (arc_value c.in-Some.pool) kept in
     besides.stands-beside e g (record {
-      pools = subst (λ (ps : List Labels). IsPassing net g.base g.resource after ps made held) (sym c.in_ok-push.ensures.items) pools;
+      pools = subst (λ (ps : List Labels). IsPassing net g.base g.resource after ps made held) (sym c.in_ok-push.ensures.added) pools;
       slides = besides.slides-still e g c.requires.ground c.requires.beside was.passing stands.passing was.changed.items stands.marks after grown;
-    }) (subst (λ (ps : List Labels). IsRenewing old net after ps was.changed.items) (sym c.in_ok-push.ensures.items) marks) c.in_ok-kept.ensures.carried
+    }) (subst (λ (ps : List Labels). IsRenewing old net after ps was.changed.items) (sym c.in_ok-push.ensures.added) marks) c.in_ok-kept.ensures.carried

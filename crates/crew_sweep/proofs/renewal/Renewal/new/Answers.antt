@@ -1,4 +1,5 @@
-use Rattle.std.proofs.Common.{◌≡◌, ◌∙◌, List, ap, length, sym, ℕ}
+use Rattle.std.proofs.Common.{◌≡◌, ◌∙◌, List, ap, length, subst, sym, ℕ}
+use Rattle.crew_carry.specs.Carried.{IsCarried}
 use Rattle.crew_pairing.specs.declared.events.Arrival.{Arrival}
 use Rattle.crew_sweep.proofs.Besides as besides
 use Rattle.crew_sweep.proofs.renewal.Renewal.new.Goals as goal
@@ -11,6 +12,5 @@ returns-clause-stands c =
     let passing = c.in_ok-passing.passing in
     let changed = c.in_ok-changed.changed in
     let long : length changed.items ≡ length net.arrivals = sym changed.ok.0 ∙ (c.in_ok-changed.ensures.len ∙ ap (λ (xs : List Arrival). length xs) c.arrivals.ensures.events) in
-    let count = sym (c.count.ensures ∙ ap (λ (ws : List (List ℕ)). length ws) c.walks.ensures) in
-    besides.stands-beside e c.args.ground.now c.in_ok-passing.ensures.stands (besides.renewing-first old net passing.passed.walks passing.passed.pools.items changed.items c.in_ok-passing.ensures.none long)
-    (c.in_ok-carrier.ensures e.twins.now.ranks old.walks passing.passed.walks count)
+    besides.stands-beside e c.args.ground.now c.in_ok-passing.ensures.stands (besides.renewing-first old net passing.passed.walks passing.passed.pools changed.items c.in_ok-passing.ensures.none long)
+    (subst (λ (ws : List (List ℕ)). IsCarried e.twins.now.ranks old.walks ws c.in_ok-carrier.carrier) (sym c.in_ok-passing.ensures.walks) c.in_ok-carrier.ensures)

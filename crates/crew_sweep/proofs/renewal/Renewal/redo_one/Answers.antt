@@ -20,12 +20,12 @@ note-requires-clause-place c =
 pub note-requires-clause-counts : goal.note-requires-clause-counts
 note-requires-clause-counts c =
     let was = c.args.self.now.passing.passed.pools in
-    let now = c.go_on.new.self.passed.pools.items in
-    let pool = c.index-pool.result.now in
+    let now = c.go_on.new.self.passed.pools in
+    let pool = c.get-pool.result.now in
     let added = c.in_ok-go_on.ensures.added in
-    let is = last-pool was.items now added.0 pool c.len-last.result added.1 (c.len-last.ensures ∙ was.ok.0) c.index-pool.ensures in
-    let last = Member-append_right was.items (added.0 ∷ []) added.0 (inl refl) in
-    let there = subst (λ (ps : List Labels). Member ps pool) (sym added.1) (subst (λ (p : Labels). Member (was.items ++ added.0 ∷ []) p) (sym is) last) in
+    let is = last-pool was now added.0 pool c.len-last.result added.1 c.len-last.ensures c.get-pool.ensures in
+    let last = Member-append_right was (added.0 ∷ []) added.0 (inl refl) in
+    let there = subst (λ (ps : List Labels). Member ps pool) (sym added.1) (subst (λ (p : Labels). Member (was ++ added.0 ∷ []) p) (sym is) last) in
     c.in_ok-go_on.ensures.stands.pools.whole pool there
 
 pub returns-clause-stands : goal.returns-clause-stands
@@ -39,13 +39,13 @@ returns-clause-stands c =
     let now = c.go_on.new.self.passed in
     let stands = c.requires.stands in
     let grown = c.go_on.ensures.grown in
-    let pool = c.index-pool.result.now in
+    let pool = c.get-pool.result.now in
     let added = c.in_ok-go_on.ensures.added in
-    let is = last-pool was.pools.items now.pools.items added.0 pool c.len-last.result added.1 (c.len-last.ensures ∙ was.pools.ok.0) c.index-pool.ensures in
-    let all : now.pools.items ≡ was.pools.items ++ pool ∷ [] = added.1 ∙ ap (λ (p : Labels). was.pools.items ++ p ∷ []) (sym is) in
+    let is = last-pool was.pools now.pools added.0 pool c.len-last.result added.1 c.len-last.ensures c.get-pool.ensures in
+    let all : now.pools ≡ was.pools ++ pool ∷ [] = added.1 ∙ ap (λ (p : Labels). was.pools ++ p ∷ []) (sym is) in
     let carried = carried-grown e.twins.now.ranks old.walks was.walks now.walks renewal.carrier grown stands.carried in
     on-ok-by c.note.result
     (λ own. stands-beside e g c.in_ok-go_on.ensures.stands (subst (λ (ps : List Labels). IsRenewing old net now.walks ps c.note.new.changed.items) (sym all)
-    (renewing-redone old net g.turns.now c.requires.ground.passable was.walks now.walks grown was.pools.items stands.passing.pools.whole renewal.changed.items c.note.new.changed.items
+    (renewing-redone old net g.turns.now c.requires.ground.passable was.walks now.walks grown was.pools stands.passing.pools.whole renewal.changed.items c.note.new.changed.items
     stands.marks c.note.ensures.long c.note.ensures.less c.args.place c.requires.place pool own)) carried)
     c.note.ensures.own
