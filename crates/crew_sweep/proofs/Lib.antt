@@ -21,3 +21,6 @@ pub mod Prices
 pub mod Besides
 pub mod MadeAhead
 pub mod LettingGo
+pub mod Gathering
+pub mod Mends
+pub mod Mendings

@@ -8,7 +8,6 @@ use Rattle.crew_pairing.specs.declared.duty.Duty.{Duty}
 use Rattle.crew_pairing.specs.declared.events.Departure.{Departure}
 use Rattle.crew_pairing.specs.declared.vector.PairingVector.{PairingVector}
 use Rattle.crew_pool.specs.Arena.{walk_at}
-use Rattle.crew_pool.specs.Counted.{AreCounted}
 use Rattle.crew_pool.specs.declared.label_walk.LabelWalk.{LabelWalk}
 use Rattle.crew_resource.specs.Members.{Member}
 use Rattle.crew_resource.proofs.Loop.{get_new}
@@ -20,7 +19,7 @@ use Rattle.crew_sweep.specs.Machinery.Renewing.{HaveSame, IsRenewing}
 use Rattle.crew_sweep.specs.Sweeps.{BaseSweep, in_order, keyed}
 use Rattle.crew_sweep.proofs.KeptSteps.{laid-of}
 use Rattle.crew_sweep.proofs.Passable as passable-proofs
-use Rattle.crew_sweep.proofs.Renewed.{renewing-grown, renewing-more}
+use Rattle.crew_sweep.proofs.Renewed.{renewing-more}
 
 abbrev Labels : Type 0
 Labels = List (PairingVector × LabelWalk)
@@ -48,13 +47,13 @@ carried-grown ranks from before after places grown c = record {
 pub last-pool : (pools all : List Labels) (pool last : Labels) (n : ℕ) → all ≡ pools ++ pool ∷ [] → n ≡ length pools → last ≡ get_or all n [] → last ≡ pool
 last-pool pools all pool last n is at h = h ∙ (ap (λ (ps : List Labels). get_or ps n []) is ∙ get_new pools pool [] n at)
 
--- what is marked after a pool is made anew
-pub renewing-redone : (old : BaseSweep) (net : Net) (turns : List ℕ) (passable : IsPassable net turns) (before after : List (List ℕ)) → HasGrown before after → (pools : List Labels) → ((labels : Labels) → Member pools labels → AreCounted (λ (v : PairingVector). v.duties) before true labels)
-    → (changed marked : List Bool) → IsRenewing old net before pools changed → length marked ≡ length changed → ((p : ℕ) → get_or marked p true ≡ false → get_or changed p true ≡ false)
+-- what is marked after a pool is made
+pub renewing-redone : (old : BaseSweep) (net : Net) (turns : List ℕ) (passable : IsPassable net turns) (walks : List (List ℕ)) (pools : List Labels) (changed marked : List Bool) → IsRenewing old net walks pools changed
+    → length marked ≡ length changed → ((p : ℕ) → get_or marked p true ≡ false → get_or changed p true ≡ false)
     → (place : ℕ) → slice_get net.by_report (length pools) ≡ Some place → (pool : Labels)
     → ((g : Departure) → slice_get net.departures place ≡ Some g → (p : ℕ) → get_or marked p true ≡ false → (d : Duty) → Member net.duties d → arrival_place net.arrivals (arrival_of d) ≡ p → departure_of d ≡ g
-    → HaveSame (keyed net after pool) (get_or (keyed_pools old) (departure_place (in_order old.net) g) []))
-    → IsRenewing old net after (pools ++ pool ∷ []) marked
-renewing-redone old net turns passable before after grown pools whole changed marked renewing long less place at pool own =
+    → HaveSame (keyed net walks pool) (get_or (keyed_pools old) (departure_place (in_order old.net) g) []))
+    → IsRenewing old net walks (pools ++ pool ∷ []) marked
+renewing-redone old net turns passable walks pools changed marked renewing long less place at pool own =
     let g = passable-proofs.departs-at net turns passable (length pools) place at in
-    renewing-more old net (laid-of net turns passable) after pools changed marked (renewing-grown old net before after pools changed grown whole renewing) long less pool g.0 g.2 (own g.0 g.1)
+    renewing-more old net (laid-of net turns passable) walks pools changed marked renewing long less pool g.0 g.2 (own g.0 g.1)

@@ -48,7 +48,7 @@ may-wait net laid i g at e m =
     ap (λ o. window_at net.settings o (slice_get (in_order net) i)) (at-arrival net.arrivals (arrival_of e) (laid.arrives.every e m))
     ∙ ap (λ o. window_at net.settings (Some (arrival_of e)) o) at
 
-same-settings : (s t : Settings) → s ≡ t → (x : Arrival) (g : Departure) → may_wait s x g ≡ may_wait t x g
+pub same-settings : (s t : Settings) → s ≡ t → (x : Arrival) (g : Departure) → may_wait s x g ≡ may_wait t x g
 same-settings s t e x g = ap (λ z. may_wait z x g) e
 
 module _ (old : BaseSweep) (net : Net) (settings : old.net.settings ≡ net.settings) (laid-old : IsLaid old.net) (laid : IsLaid net) (r : AnchoredResource) (walks : List (List ℕ)) (pools : List Labels) where
@@ -61,24 +61,25 @@ module _ (old : BaseSweep) (net : Net) (settings : old.net.settings ≡ net.sett
   abbrev now-pools : List Shown
   now-pools = map (keyed net walks) pools
 
+  -- what a duty with the same labels before it shows
+  pub seen-old : (e : Duty) → HasSameLabels old net walks pools e → (v : PairingVector) (w : List (List Leg)) → Member (Views Num now-pools e) (v, w) → Member (Views Old (keyed_pools old) e) (v, w)
+  seen-old e same v w m =
+      let k = view_out Duty PairingVector (List (List Leg)) ℕ ℕ Num e (get_or now-pools (departure_place (in_order net) (departure_of e)) []) v w m in
+      let there = (same (k.0, k.1)).0 k.2 in
+      subst (λ (y : List (List Leg)). Member (Views Old (keyed_pools old) e) (v, y)) (sym k.4)
+      (view_in Duty PairingVector (List (List Leg)) ℕ ℕ Old e (get_or (keyed_pools old) (departure_place (in_order old.net) (departure_of e)) []) k.0 k.1 v there k.3)
+
+  pub seen-now : (e : Duty) → HasSameLabels old net walks pools e → (v : PairingVector) (w : List (List Leg)) → Member (Views Old (keyed_pools old) e) (v, w) → Member (Views Num now-pools e) (v, w)
+  seen-now e same v w m =
+      let k = view_out Duty PairingVector (List (List Leg)) ℕ ℕ Old e (get_or (keyed_pools old) (departure_place (in_order old.net) (departure_of e)) []) v w m in
+      let there = (same (k.0, k.1)).1 k.2 in
+      subst (λ (y : List (List Leg)). Member (Views Num now-pools e) (v, y)) (sym k.4)
+      (view_in Duty PairingVector (List (List Leg)) ℕ ℕ Num e (get_or now-pools (departure_place (in_order net) (departure_of e)) []) k.0 k.1 v there k.3)
+
   -- a departure that both have, which waits on the same duties, from pools that have the labels that they had
   module _ (i j : ℕ) (g : Departure) (at : slice_get (in_order net) i ≡ Some g) (old-at : slice_get (in_order old.net) j ≡ Some g)
       (kept-in : (e : Duty) → Member net.duties e → may_wait net.settings (arrival_of e) g ≡ true → Member old.net.duties e × HasSameLabels old net walks pools e)
       (kept-out : (e : Duty) → Member old.net.duties e → may_wait net.settings (arrival_of e) g ≡ true → Member net.duties e × HasSameLabels old net walks pools e) where
-    seen-old : (e : Duty) → HasSameLabels old net walks pools e → (v : PairingVector) (w : List (List Leg)) → Member (Views Num now-pools e) (v, w) → Member (Views Old (keyed_pools old) e) (v, w)
-    seen-old e same v w m =
-        let k = view_out Duty PairingVector (List (List Leg)) ℕ ℕ Num e (get_or now-pools (departure_place (in_order net) (departure_of e)) []) v w m in
-        let there = (same (k.0, k.1)).0 k.2 in
-        subst (λ (y : List (List Leg)). Member (Views Old (keyed_pools old) e) (v, y)) (sym k.4)
-        (view_in Duty PairingVector (List (List Leg)) ℕ ℕ Old e (get_or (keyed_pools old) (departure_place (in_order old.net) (departure_of e)) []) k.0 k.1 v there k.3)
-
-    seen-now : (e : Duty) → HasSameLabels old net walks pools e → (v : PairingVector) (w : List (List Leg)) → Member (Views Old (keyed_pools old) e) (v, w) → Member (Views Num now-pools e) (v, w)
-    seen-now e same v w m =
-        let k = view_out Duty PairingVector (List (List Leg)) ℕ ℕ Old e (get_or (keyed_pools old) (departure_place (in_order old.net) (departure_of e)) []) v w m in
-        let there = (same (k.0, k.1)).1 k.2 in
-        subst (λ (y : List (List Leg)). Member (Views Num now-pools e) (v, y)) (sym k.4)
-        (view_in Duty PairingVector (List (List Leg)) ℕ ℕ Num e (get_or now-pools (departure_place (in_order net) (departure_of e)) []) k.0 k.1 v there k.3)
-
     to-now : (v : PairingVector) (w : List (List Leg)) → FromFronts Old (Views Old (keyed_pools old)) j v w → FromFronts Num (Views Num now-pools) i v w
     to-now v w = ⊎_elim
         (λ c. inl (c.0, ap (idle_at r old.base) (at ∙ sym old-at) ∙ c.1))

@@ -8,3 +8,4 @@ pub mod Slides
 pub mod Grounds
 pub mod Renewing
 pub mod Beside
+pub mod Mending

@@ -1,15 +1,19 @@
 //! A pass over the departures of a base's network that keeps what an earlier one has.
-ghost use Rattle.std.specs.Prelude.{◌≡◌, ◌<◌, ◌≤◌, ◌+◌, IfOk, OnOk, Some, length, slice_get};
+ghost use Rattle.std.specs.Prelude.{◌≡◌, ◌<◌, ◌≤◌, ◌+◌, ◌++◌, ◌∷◌, [], IfOk, List, OnOk, Some, length, slice_get};
 ghost use Rattle.std.specs.Arc.{arc_value};
+ghost use Rattle.crew_carry.specs.Carried.{IsCarried};
 ghost use Rattle.crew_carry.specs.Twins.{AreTwins};
 ghost use Rattle.crew_flights.specs.Timetable as TimetableSpec;
 ghost use Rattle.crew_net.specs.Nets.{AreArrivalPlaces};
 ghost use Rattle.crew_pairing.specs.Duties.{AreDuties, RiseByKey};
 ghost use Rattle.crew_pairing.specs.Events.{IsSound};
 ghost use Rattle.crew_pairing.specs.declared.duty.Duty.{Duty};
+ghost use Rattle.crew_pairing.specs.declared.vector.PairingVector.{PairingVector};
+ghost use Rattle.crew_pool.specs.declared.label_walk.LabelWalk.{LabelWalk};
 ghost use Rattle.crew_resource.specs.Members.{Member};
 ghost use Rattle.crew_sweep.specs.Machinery.Beside.{IsBeside, StandsBeside};
-ghost use Rattle.crew_sweep.specs.Machinery.Grounds.{HasPassedAll, IsGround};
+ghost use Rattle.crew_sweep.specs.Machinery.Grounds.{HasPassedAll, IsGround, Stands};
+ghost use Rattle.crew_sweep.specs.Machinery.Renewing.{IsRenewing};
 ghost use Rattle.crew_sweep.specs.Sweeps.{AreTurns, ShowsFronts};
 
 use crate::earlier::Earlier;
@@ -25,7 +29,34 @@ use std::sync::Arc;
 use std::thread::Threads;
 
 impl Renewal {
-    // The pass goes on by one departure, whose pool is made anew.
+    // The pass goes on by one departure, whose pool is mended where it can be, or else made anew.
+    fn make_one(
+        &mut self,
+        alloc: Global,
+        earlier: &Earlier,
+        ground: &Ground,
+        place: usize,
+    ) -> Result<(), AllocError>
+        requires ground { IsGround ground.now }
+        requires beside { IsBeside earlier.now ground.now }
+        requires place { slice_get ground.now.net.now.by_report
+            (length self.old.passing.passed.pools) ≡ Some place }
+        requires stands { StandsBeside earlier.now ground.now self.old }
+        ensures stands { OnOk result (Stands ground.now self.new.passing) }
+        ensures marks { OnOk result (IsRenewing earlier.now.sweep.now ground.now.net.now
+            self.new.passing.passed.walks self.old.passing.passed.pools self.new.changed.items) }
+        ensures carried { OnOk result (IsCarried earlier.now.twins.now.ranks
+            earlier.now.sweep.now.walks self.new.passing.passed.walks self.new.carrier) }
+        ensures made { OnOk result ((pool : List (PairingVector × LabelWalk))
+            × (self.new.passing.passed.pools ≡ self.old.passing.passed.pools ++ pool ∷ [])) }
+    {
+        if self.mend_one(alloc, earlier, ground, place)? {
+            return Ok(());
+        }
+        self.passing.go_on(alloc, ground, place)
+    }
+
+    // The pass goes on by one departure, whose pool isn't kept.
     fn redo_one(
         &mut self,
         alloc: Global,
@@ -43,7 +74,7 @@ impl Renewal {
             ≡ length self.old.passing.passed.pools + 1) }
     {
         let last = self.passing.passed.pools.len();
-        self.passing.go_on(alloc, ground, place)?;
+        self.make_one(alloc, earlier, ground, place)?;
         let passed = &self.passing.passed;
         let pool = passed.pools.get(last);
         note(
@@ -193,7 +224,7 @@ fn renew_all_by_threads<T: Threads + Sync>(
 /// The pools of a base over a network, as `sweep` makes them, beside an earlier sweep of that base at
 /// the same price over another network, with what the two networks have alike. The pool of a
 /// departure is kept where the same duties can be waited on and all of them leave from pools that
-/// have the labels that they had.
+/// have the labels that they had, and mended where that is so but for a few.
 pub fn renew(
     alloc: Global,
     earlier: &Sweep,

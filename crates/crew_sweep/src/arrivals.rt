@@ -105,8 +105,8 @@ impl Arrivals {
         Ok(())
     }
 
-    // Makes the pool of an arrival, where it isn't made yet.
-    fn make(
+    /// Makes the pool of an arrival, where it isn't made yet.
+    pub(crate) fn make(
         &mut self,
         alloc: Global,
         ground: &Ground,

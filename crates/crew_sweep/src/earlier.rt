@@ -83,6 +83,7 @@ impl<'a> Earlier<'a> {
         ensures { IsBeside result ground.now }
     {
         let net = sweep.net();
+        let _duties = net.duty_count();
         let _departures = net.departures();
         let _arrivals = net.arrivals();
         let _places = net.by_report();

@@ -6,7 +6,7 @@
 //! `sweep_by_threads` makes the pools of arrivals several at a time, since departures that report
 //! less than the least rest after one another don't wait on each other's duties; no result depends
 //! on the number of threads. `renew` and `renew_by_threads` are the same beside an earlier sweep,
-//! whose pools they keep where nothing changed.
+//! whose pools they keep where nothing changed, and mend where little did.
 //! `laws` has what this rests on.
 #![tactic(auto)]
 
@@ -17,6 +17,7 @@ mod batch;
 mod earlier;
 mod ground;
 pub mod laws;
+mod mending;
 mod pass;
 mod passed;
 mod passing;

@@ -5,6 +5,7 @@ use Rattle.crew_carry.specs.Twins.{AreTwins, Twins}
 use Rattle.crew_net.specs.Events.{AreEvents, IsWindow, arrival_cmp, departure_cmp}
 use Rattle.crew_net.specs.Nets.{AreByReport, Net}
 use Rattle.crew_net.specs.declared.window.Window.{Window}
+use Rattle.crew_pairing.specs.Duties.{RiseByKey}
 use Rattle.crew_pairing.specs.Events.{arrival_of, departure_of, may_wait}
 use Rattle.crew_pairing.specs.Legs.{Leg}
 use Rattle.crew_pairing.specs.declared.duty.Duty.{Duty}
@@ -60,6 +61,7 @@ pub record IsEarlier (old : BaseSweep) (net : Net) (t : Twins) (turns : List ℕ
     (r : AnchoredResource) : Type 0 where
   pub settings : old.net.settings ≡ net.settings
   pub laid : IsLaid old.net
+  pub rise : RiseByKey old.net.duties
   pub twins : AreTwins old.net net t
   pub are_turns : AreTurns old.net turns
   pub own_base : base ≡ old.base

@@ -6,7 +6,7 @@ use Rattle.crew_resource.proofs.Members.{Member-append_right}
 use Rattle.crew_sweep.specs.Machinery.Renewing.{IsRenewing}
 use Rattle.crew_sweep.proofs.Besides.{stands-beside}
 use Rattle.crew_sweep.proofs.Orders.{place-within}
-use Rattle.crew_sweep.proofs.Redone.{carried-grown, last-pool, on-ok-by, renewing-redone}
+use Rattle.crew_sweep.proofs.Redone.{last-pool, on-ok-by, renewing-redone}
 use Rattle.crew_sweep.proofs.renewal.Renewal.redo_one.Goals as goal
 
 abbrev Labels : Type 0
@@ -20,13 +20,13 @@ note-requires-clause-place c =
 pub note-requires-clause-counts : goal.note-requires-clause-counts
 note-requires-clause-counts c =
     let was = c.args.self.now.passing.passed.pools in
-    let now = c.go_on.new.self.passed.pools in
+    let now = c.make_one.new.self.passing.passed.pools in
     let pool = c.get-pool.result.now in
-    let added = c.in_ok-go_on.ensures.added in
+    let added = c.in_ok-make_one.ensures.made in
     let is = last-pool was now added.0 pool c.len-last.result added.1 c.len-last.ensures c.get-pool.ensures in
     let last = Member-append_right was (added.0 ∷ []) added.0 (inl refl) in
     let there = subst (λ (ps : List Labels). Member ps pool) (sym added.1) (subst (λ (p : Labels). Member (was ++ added.0 ∷ []) p) (sym is) last) in
-    c.in_ok-go_on.ensures.stands.pools.whole pool there
+    c.in_ok-make_one.ensures.stands.pools.whole pool there
 
 pub returns-clause-stands : goal.returns-clause-stands
 returns-clause-stands c =
@@ -34,18 +34,15 @@ returns-clause-stands c =
     let g = c.args.ground.now in
     let old = e.sweep.now in
     let net = g.net.now in
-    let renewal = c.args.self.now in
-    let was = renewal.passing.passed in
-    let now = c.go_on.new.self.passed in
-    let stands = c.requires.stands in
-    let grown = c.go_on.ensures.grown in
+    let was = c.args.self.now.passing.passed in
+    let made = c.make_one.new.self in
+    let now = made.passing.passed in
     let pool = c.get-pool.result.now in
-    let added = c.in_ok-go_on.ensures.added in
+    let added = c.in_ok-make_one.ensures.made in
     let is = last-pool was.pools now.pools added.0 pool c.len-last.result added.1 c.len-last.ensures c.get-pool.ensures in
     let all : now.pools ≡ was.pools ++ pool ∷ [] = added.1 ∙ ap (λ (p : Labels). was.pools ++ p ∷ []) (sym is) in
-    let carried = carried-grown e.twins.now.ranks old.walks was.walks now.walks renewal.carrier grown stands.carried in
     on-ok-by c.note.result
-    (λ own. stands-beside e g c.in_ok-go_on.ensures.stands (subst (λ (ps : List Labels). IsRenewing old net now.walks ps c.note.new.changed.items) (sym all)
-    (renewing-redone old net g.turns.now c.requires.ground.passable was.walks now.walks grown was.pools stands.passing.pools.whole renewal.changed.items c.note.new.changed.items
-    stands.marks c.note.ensures.long c.note.ensures.less c.args.place c.requires.place pool own)) carried)
+    (λ own. stands-beside e g c.in_ok-make_one.ensures.stands (subst (λ (ps : List Labels). IsRenewing old net now.walks ps c.note.new.changed.items) (sym all)
+    (renewing-redone old net g.turns.now c.requires.ground.passable now.walks was.pools made.changed.items c.note.new.changed.items
+    c.in_ok-make_one.ensures.marks c.note.ensures.long c.note.ensures.less c.args.place c.requires.place pool own)) c.in_ok-make_one.ensures.carried)
     c.note.ensures.own
