@@ -47,20 +47,21 @@ fn is_alone(words: &[&str]) -> bool {
     words.get(1) == Some(&"run") && !words.iter().any(|word| *word == "--workers")
 }
 
-// Shows that a run beside so many workers comes to something else.
-fn tell_other<R: Print>(rt: &R, workers: u32) -> io::Result<()> {
-    println!(rt; "beside {workers} workers it comes to something else")
-}
-
-// Whether a run under these words comes to this.
-fn comes_to<R: Print + Eprint + Threads + Wait + Sync + Clock>(
+// Runs a session beside so many workers; shows where that comes to something else.
+fn compare_beside<R: Print + Eprint + Threads + Wait + Sync + Clock>(
     rt: &R,
     alloc: Global,
     words: &[&str],
     case: &Case<'_>,
-    outcome: &Outcome,
-) -> bool {
-    outcome_of(rt, alloc, words, case) == *outcome
+    alone: &Outcome,
+    workers: &str,
+) -> io::Result<()> {
+    let words = with_workers(alloc, words, workers)?;
+    if outcome_of(rt, alloc, &words, case) == *alone {
+        Ok(())
+    } else {
+        println!(rt; "beside {workers} workers it comes to something else")
+    }
 }
 
 /// Runs a session once more without workers, and beside 1 and 8; shows which comes to something
@@ -75,13 +76,6 @@ pub fn compare<R: Print + Eprint + Threads + Wait + Sync + Clock>(
         return Ok(());
     }
     let alone = outcome_of(rt, alloc, words, case);
-    let one = with_workers(alloc, words, "1")?;
-    if !comes_to(rt, alloc, &one, case, &alone) {
-        tell_other(rt, 1)?;
-    }
-    let eight = with_workers(alloc, words, "8")?;
-    if !comes_to(rt, alloc, &eight, case, &alone) {
-        tell_other(rt, 8)?;
-    }
-    Ok(())
+    compare_beside(rt, alloc, words, case, &alone, "1")?;
+    compare_beside(rt, alloc, words, case, &alone, "8")
 }

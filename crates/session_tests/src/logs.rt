@@ -2,7 +2,7 @@
 
 ghost use Rattle.crew_log.specs.Logs.{AreOf};
 
-use crate::commands::{Answer, read};
+use crate::words::{Answer, read};
 use crew_flights::{Edit, FlightId};
 use crew_log::{Log, Receipt, Seat};
 use std::alloc::Global;

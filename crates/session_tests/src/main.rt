@@ -1,9 +1,11 @@
 //! Plays the cases that stand on standard input, and writes a transcript of what came of them:
 //! whole runs of the program, from their words to their status, over readers and writers in memory
-//! that may be slow or fail, what an engine without workers shows, and what a log, a published pair
-//! and a running service answer to commands (`log`, `pair`, `service`), each a line of the input that
-//! is written again with its answer. The stored run has the cases (`stdin`) and what has to come of them (`stdout`), both as
-//! plain data, which costs no proof. It promises nothing to others, so its functions have no clause.
+//! that may be slow or fail, and what the libraries (`library`), slots (`slots`), functions that no
+//! program calls (`calls`), a log, a published pair and a running service (`log`, `pair`, `service`)
+//! answer to calls, each a line of the input that is written again with its answer. The stored run has
+//! the cases (`stdin`) and what has to come of them (`stdout`), both as plain data, which costs no
+//! proof. It promises nothing to others, so its functions have no clause, but for what a call below
+//! asks for.
 //!
 //! A case begins with `#` and its name. Lines that begin with `%` say how its streams behave
 //! (`Ways`), other lines are remarks, and the line that begins with `$` has its words; what
@@ -17,16 +19,17 @@
 #![tactic(auto)]
 
 mod beside;
-mod commands;
+mod calls;
 mod desk;
 mod edits;
-mod engines;
+mod library;
 mod logs;
 mod meeting;
 mod pairs;
 mod runs;
 mod serving;
 mod sights;
+mod slots;
 mod strange;
 mod streams;
 mod versions;
@@ -65,10 +68,8 @@ fn play_words<R: Print + Eprint + Threads + Wait + Sync + Clock>(
     case: &Case<'_>,
 ) -> io::Result<()> {
     match words {
-        ["edits"] => engines::play_edits(rt, alloc),
-        ["copies"] => engines::play_copies(rt, alloc, case),
-        ["strange"] => strange::play_strange(rt, alloc),
-        ["faults"] => commands::play_faults(rt),
+        ["library"] => library::play(rt, alloc, text_of(case.input())),
+        ["slots" | "calls"] => slots::play(rt, alloc, text_of(case.input())),
         ["log"] => logs::play_log(rt, alloc, text_of(case.input())),
         ["pair", more, place, viewers] => {
             let words = [*more, *place, *viewers];

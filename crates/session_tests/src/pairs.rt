@@ -1,7 +1,7 @@
 //! A published pair, by commands.
 
-use crate::commands::{Answer, number_of, read};
 use crate::versions::fill;
+use crate::words::{Answer, count_of, read};
 use crew_publish::{Note, PairFault, Publisher, View, Viewer, pair};
 use crew_version::Version;
 use std::alloc::Global;
@@ -90,7 +90,7 @@ fn hold_all(viewers: &mut [Viewer], held: &mut Vec<View>) -> Answer {
 }
 
 // How many of the views are of the version of this number.
-fn count_of(views: &[View], number: u64) -> Answer {
+fn count_shown(views: &[View], number: u64) -> Answer {
     let mut count: u64 = 0;
     for view in views {
         if told(view.version()) == Ok(number) {
@@ -272,7 +272,7 @@ impl<R: Wait + Drop + Send> Desk<R> {
             "near" => see_near(self.viewers.get_mut(first), second as u64),
             "all" => all_see(&mut self.viewers, first as u64),
             "hold" => hold_all(&mut self.viewers, &mut self.held),
-            "held" => count_of(&self.held, first as u64),
+            "held" => count_shown(&self.held, first as u64),
             "add" => add_all(&mut self.publisher, &mut self.viewers, first),
             "drop" => let_go(&mut self.viewers),
             "fresh" => go_on(&mut self.publisher, self.viewers.get_mut(first)),
@@ -357,9 +357,9 @@ pub fn play_pair<R: Print + Threads + Wait + Sync>(
 ) -> io::Result<()> {
     let [more, place, viewers] = words;
     let mut versions = Vec::new(alloc);
-    match fill(rt, alloc, &mut versions, number_of(more)) {
+    match fill(rt, alloc, &mut versions, count_of(more)) {
         Some(()) => {
-            let (place, viewers) = (number_of(place), number_of(viewers));
+            let (place, viewers) = (count_of(place), count_of(viewers));
             play_over(rt, alloc, &versions, place, viewers, input)
         }
         None => Err(io::Error::from(io::ErrorKind::OutOfMemory)),

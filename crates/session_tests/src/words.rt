@@ -12,6 +12,14 @@ pub fn count_of(word: &str) -> usize {
     word.parse::<usize>().unwrap_or(0)
 }
 
+/// The word of a command, and its numbers, which are at most two.
+pub fn read(line: &str) -> (&str, usize, usize) {
+    let mut words = line.split(' ');
+    let word = words.next().unwrap_or("");
+    let first = count_of(words.next().unwrap_or(""));
+    (word, first, count_of(words.next().unwrap_or("")))
+}
+
 /// A code of three letters.
 pub fn code_of(word: &str) -> Option<Code> {
     let [first, second, third] = word.as_bytes() else {
