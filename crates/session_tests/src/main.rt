@@ -15,7 +15,7 @@
 //!
 //! `service SEATS VIEWERS WORKERS` is a service with so many of each: threads that work, clients that
 //! submit, a planner that settles, and viewers. `meet WORKERS` is a service whose gates hold whoever
-//! comes first until another comes.
+//! comes first until another comes. `strange` is sessions that engines end which answer a settle wrongly.
 #![tactic(auto)]
 
 mod beside;
@@ -80,6 +80,7 @@ fn play_words<R: Print + Eprint + Threads + Wait + Sync + Clock>(
             serving::play(rt, alloc, counts, count_of(workers), text_of(case.input()))
         }
         ["meet", workers] => meeting::play(rt, alloc, count_of(workers)),
+        ["strange"] => strange::play_strange(rt, alloc),
         _ => runs::play_run(rt, alloc, words, case),
     }
 }
