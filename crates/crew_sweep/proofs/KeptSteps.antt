@@ -11,7 +11,6 @@ use Rattle.crew_pairing.specs.Legs.{Leg}
 use Rattle.crew_pairing.specs.declared.duty.Duty.{Duty}
 use Rattle.crew_pairing.specs.declared.events.Departure.{Departure}
 use Rattle.crew_pairing.specs.declared.vector.PairingVector.{PairingVector}
-use Rattle.crew_pool.specs.Counted.{AreCounted}
 use Rattle.crew_pool.specs.LabelWalks.{shown}
 use Rattle.crew_pool.specs.Ranks.{AreRanked, by_key}
 use Rattle.crew_pool.specs.declared.label_walk.LabelWalk.{LabelWalk}
@@ -22,7 +21,7 @@ use Rattle.crew_step.specs.Walks.{HasGrown}
 use Rattle.crew_sweep.specs.Machinery.Kept.{keyed_pools}
 use Rattle.crew_sweep.specs.Machinery.Numbered.{AreLocal, departure_place}
 use Rattle.crew_sweep.specs.Machinery.Passing.{AreLabels, IsPassable, IsPassing, passed_network}
-use Rattle.crew_sweep.specs.Machinery.Renewing.{HaveSame, IsEarlier, IsKeptPool, IsKeptTurn, IsLaid, IsRenewing}
+use Rattle.crew_sweep.specs.Machinery.Renewing.{HaveSame, IsEarlier, IsKeptPool, IsLaid, IsRenewing}
 use Rattle.crew_sweep.specs.Sweeps.{BaseSweep, in_order, keyed}
 use Rattle.crew_sweep.proofs.Keepings as keepings
 use Rattle.crew_sweep.proofs.Numbers.{get-within, place-departure}
@@ -71,13 +70,13 @@ module _ (old : BaseSweep) (net : Net) (t : Twins) (old-turns : List ℕ) (r : A
   within = subst (λ n. j < n) (sym earlier.long) (turn-within old.net j g kept.stands.old_at)
 
   labels-are : keyed net after pool ≡ get_or (keyed_pools old) j []
-  labels-are = kept.labels ∙ sym (pool-by-key old.net old.walks old.pools j)
+  labels-are = kept.has.labels ∙ sym (pool-by-key old.net old.walks old.pools j)
 
   local-before : AreLocal (passed_network old.net old.base r) (length old.pools) (keyed_pools old)
   local-before = subst (λ (z : AnchoredResource). AreLocal (passed_network old.net old.base z) (length old.pools) (keyed_pools old)) (sym earlier.resource) earlier.local
 
   labels : AreLabels r (length net.duties) after pool
-  labels = keepings.carried-labels r old.net.duties net.duties old.walks after (get_or old.pools j []) pool kept.labels kept.ranked
+  labels = keepings.carried-labels r old.net.duties net.duties old.walks after (get_or old.pools j []) pool kept.has.labels kept.has.ranked
       (subst (λ (z : AnchoredResource). AreLabels z (length old.net.duties) old.walks (get_or old.pools j [])) (sym earlier.resource)
       (earlier.spared (get_or old.pools j []) (member-got old.pools j (get_or old.pools j []) (at-within old.pools j [] within))))
 
@@ -95,7 +94,7 @@ module _ (old : BaseSweep) (net : Net) (t : Twins) (old-turns : List ℕ) (r : A
         local-before within (keyed net after pool) labels-are
 
     pub passing-kept : IsPassing net old.base r after (pools ++ pool ∷ []) made held
-    passing-kept = keepings.passing-with net turns passable old.base r before after grown pools made held passing pool local kept.counts labels
+    passing-kept = keepings.passing-with net turns passable old.base r before after grown pools made held passing pool local kept.has.counts labels
 
     own : HaveSame (keyed net after pool) (get_or (keyed_pools old) (departure_place (in_order old.net) g) [])
     own =
@@ -105,20 +104,6 @@ module _ (old : BaseSweep) (net : Net) (t : Twins) (old-turns : List ℕ) (r : A
 
     pub renewing-kept : IsRenewing old net after (pools ++ pool ∷ []) changed
     renewing-kept = renewed.renewing-more old net laid after pools changed changed still refl (λ p h. h) pool g at (λ p h d m is leaves. own)
-
--- what is carried from a kept turn is the pool that is kept
-pub kept-pool : (old : BaseSweep) (net : Net) (t : Twins) (twins : AreTwins old.net net t) (changed : List Bool) (walks : List (List ℕ)) (place turn : ℕ) → IsKeptTurn old net t changed place turn → (pool : Labels)
-    → ((olds news : List Duty) → AreRankTwins olds news t.ranks → by_key news (map (shown walks) pool) ≡ by_key olds (map (shown old.walks) (get_or old.pools turn [])))
-    → AreCounted (λ (v : PairingVector). v.duties) walks true pool
-    → ((olds news : List Duty) → AreRankTwins olds news t.ranks → AreRanked (length news) (map (shown walks) pool))
-    → IsKeptPool old net t changed walks place pool
-kept-pool old net t twins changed walks place turn stands pool labels counts ranked = record {
-  turn = turn;
-  stands = stands;
-  labels = labels old.net.duties net.duties twins.ranks;
-  counts = counts;
-  ranked = ranked old.net.duties net.duties twins.ranks;
-}
 
 -- pools that are alike have the same labels
 pub alike-is : (old : BaseSweep) (net : Net) (t : Twins) (twins : AreTwins old.net net t) (laid : IsLaid old.net) (walks : List (List ℕ)) (place turn : ℕ) → slice_get (in_order old.net) turn ≡ slice_get net.departures place → (pool : Labels)
@@ -144,6 +129,12 @@ pub if-carried : {A E : Type 0} (result : Result (Option A) E) (P Q S T : A → 
 if-carried (Ok None) P Q S T p q s f = tt
 if-carried (Ok (Some a)) P Q S T p q s f = f a p q s
 if-carried (Err e) P Q S T p q s f = tt
+
+-- what one clause gives of it
+pub if-carried-is : {A E : Type 0} (result : Result (Option A) E) (P T : A → Type 0) → IfOk result (λ o. IfSome o P) → ((a : A) → P a → T a) → IfOk result (λ o. IfSome o T)
+if-carried-is (Ok None) P T p f = tt
+if-carried-is (Ok (Some a)) P T p f = f a p
+if-carried-is (Err e) P T p f = tt
 
 -- a pool has the labels by key of another, whose walks stand elsewhere
 abbrev pub AreCarried : List (Option ℕ) → List (List ℕ) → Labels → List (List ℕ) → Labels → Type 0

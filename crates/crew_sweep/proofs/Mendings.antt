@@ -36,9 +36,11 @@ old-pool-grown old net before after grown place pool was =
     record {
       turn = was.turn;
       at = was.at;
-      labels = keyed-grown before after grown net true pool was.counts ∙ was.labels;
-      counts = λ l m. counted-grown count before after true grown l (was.counts l m);
-      ranked = subst (AreRanked (length net.duties)) (sym (all-shown-grown count before after true grown pool was.counts)) was.ranked;
+      has = record {
+        labels = keyed-grown before after grown net true pool was.has.counts ∙ was.has.labels;
+        counts = λ l m. counted-grown count before after true grown l (was.has.counts l m);
+        ranked = subst (AreRanked (length net.duties)) (sym (all-shown-grown count before after true grown pool was.has.counts)) was.has.ranked;
+      };
     }
 
 module _ (e : Earlier) (g : Ground) (ground : IsGround g) (beside : IsBeside e g) (p : Passing) (stands : Stands g p) (changed : List Bool) (marks : IsRenewing e.sweep.now g.net.now p.passed.walks p.passed.pools changed)

@@ -1,5 +1,6 @@
 -- A departure whose pool is mended: what it waits on where nothing has changed was waited on before.
 use Rattle.std.proofs.Common.{◌≡◌, ◌∙◌, ◌<◌, ◌≤◌, ℕ, Bool, true, false, not, List, [], ◌∷◌, ◌++◌, ◌⊎◌, length, map, get_or, Option, Some, None, inl, inr, refl, sym, ap, subst, ⊎_elim, arith, zero, suc}
+use Rattle.std.specs.Option.{is_some}
 use Rattle.std.specs.Prelude.{slice_get}
 use Rattle.std.specs.Cmp.Lexicographic.{slice_cmp}
 use Rattle.std.specs.Ordering.{is_le, nat_cmp, ordering_reverse}
@@ -35,7 +36,7 @@ use Rattle.crew_resource.specs.Members.{Each, Member}
 use Rattle.crew_resource.proofs.Members.{Member-append, Member-append_left, Member-append_right, Member-map_in, Member-map_out}
 use Rattle.crew_resource.proofs.Pools.{view_out}
 use Rattle.crew_sweep.specs.Machinery.Kept.{keyed_pools}
-use Rattle.crew_sweep.specs.Machinery.Mending.{AreSound, IsFresh, IsMended, IsNextPool, IsOldPool, ends_unchanged, is_there, is_unchanged}
+use Rattle.crew_sweep.specs.Machinery.Mending.{AreSound, IsFresh, IsMended, IsNextPool, IsOldPool, ends_unchanged, is_unchanged}
 use Rattle.crew_sweep.specs.Machinery.Numbered.{AreLocal, arrival_place, departure_place, idle_at}
 use Rattle.crew_sweep.specs.Machinery.Passing.{AreLabels, IsLabel, IsPassable, IsPassing, passed_network}
 use Rattle.crew_sweep.specs.Machinery.Renewing.{HasSameLabels, IsEarlier, IsLaid, IsRenewing}
@@ -113,7 +114,7 @@ not-out : (b : Bool) → not b ≡ true → b ≡ false
 not-out true h = sym h
 not-out false h = refl
 
-there-out : (o : Option ℕ) → is_there o ≡ true → (q : ℕ) × (o ≡ Some q)
+there-out : (o : Option ℕ) → is_some o ≡ true → (q : ℕ) × (o ≡ Some q)
 there-out None h = absurd (let q : ⊥ = (cc) in q)
 there-out (Some q) h = (q, refl)
 
@@ -125,7 +126,7 @@ got-some (x ∷ xs) (suc p) q h = got-some xs p q h
 -- what isn't changed
 pub unchanged-out : (t : Twins) (changed : List Bool) (p : ℕ) → is_unchanged t changed p ≡ true → (get_or changed p true ≡ false) × (q : ℕ) × (slice_get t.arrivals p ≡ Some (Some q))
 unchanged-out t changed p h =
-    let k = and_parts (not (get_or changed p true)) (is_there (get_or t.arrivals p None)) h in
+    let k = and_parts (not (get_or changed p true)) (is_some (get_or t.arrivals p None)) h in
     let q = there-out (get_or t.arrivals p None) k.1 in
     (not-out (get_or changed p true) k.0, q.0, got-some t.arrivals p q.0 q.1)
 
@@ -208,7 +209,7 @@ module _ (old : BaseSweep) (net : Net) (t : Twins) (old-turns : List ℕ) (r : A
   within = subst (λ n. j < n) (sym earlier.long) (turn-within old.net j g old-at)
 
   before-are : keyed net walks before ≡ get_or (keyed_pools old) j []
-  before-are = was.labels ∙ sym (pool-by-key old.net old.walks old.pools j)
+  before-are = was.has.labels ∙ sym (pool-by-key old.net old.walks old.pools j)
 
   local-old : IsLocal is_at_most walk_at_most (FromFronts Old (Views Old (keyed_pools old)) j) (get_or (keyed_pools old) j [])
   local-old = subst (λ (z : AnchoredResource). AreLocal (passed_network old.net old.base z) (length old.pools) (keyed_pools old)) (sym earlier.resource) earlier.local j within
@@ -245,7 +246,7 @@ module _ (old : BaseSweep) (net : Net) (t : Twins) (old-turns : List ℕ) (r : A
       subst (IsLabel r (length net.duties)) l.2 (passing.arrived h.0 (member-got held p h.0 h.1) l.0 h.2)
 
   old-labels : AreLabels r (length net.duties) walks before
-  old-labels = keepings.carried-labels r old.net.duties net.duties old.walks walks (get_or old.pools j []) before was.labels was.ranked
+  old-labels = keepings.carried-labels r old.net.duties net.duties old.walks walks (get_or old.pools j []) before was.has.labels was.has.ranked
       (subst (λ (z : AnchoredResource). AreLabels z (length old.net.duties) old.walks (get_or old.pools j [])) (sym earlier.resource)
       (earlier.spared (get_or old.pools j []) (member-got old.pools j (get_or old.pools j []) (at-within old.pools j [] within))))
 
@@ -332,7 +333,7 @@ module _ (old : BaseSweep) (net : Net) (t : Twins) (old-turns : List ℕ) (r : A
       inr (a.0, l.0, a.1, renewed.may-wait net laid i g at a.0 a.1 ∙ waits, a.3, refl)
 
   whole-walk : (l : PairingVector × LabelWalk) → Member before l → walk_of_label walks l.1 ≡ walk_at walks l.1.walk
-  whole-walk l m = ap (λ (ds : List ℕ). walk_at walks l.1.walk ++ ds) (duty_none l.1.duty (was.counts l m).stands) ∙ append-none (walk_at walks l.1.walk)
+  whole-walk l m = ap (λ (ds : List ℕ). walk_at walks l.1.walk ++ ds) (duty_none l.1.duty (was.has.counts l m).stands) ∙ append-none (walk_at walks l.1.walk)
     where
       append-none : (ns : List ℕ) → ns ++ [] ≡ ns
       append-none [] = refl
@@ -344,7 +345,7 @@ module _ (old : BaseSweep) (net : Net) (t : Twins) (old-turns : List ℕ) (r : A
   ending l m ends e known keys is =
       let k = snoc-out (key_at net.duties) (shown walks l).1 keys e.key is in
       let rank = k.1 in
-      let ranked : Each (λ n. n < length net.duties) (k.0 ++ rank ∷ []) = subst (Each (λ n. n < length net.duties)) k.2 (was.ranked (shown walks l) (Member-map_in (shown walks) before l m)) in
+      let ranked : Each (λ n. n < length net.duties) (k.0 ++ rank ∷ []) = subst (Each (λ n. n < length net.duties)) k.2 (was.has.ranked (shown walks l) (Member-map_in (shown walks) before l m)) in
       let d = duty-at net.duties rank (each-last (λ n. n < length net.duties) k.0 rank ranked) in
       let key : d.0.key ≡ e.key = sym (key-of net.duties rank d.0 d.1) ∙ k.3 in
       let stands = are.exact rank d.0 d.1 in

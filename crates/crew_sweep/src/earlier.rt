@@ -1,16 +1,23 @@
 //! What an earlier pass left.
-ghost use Rattle.std.specs.Prelude.{◌≡◌, ◌<◌, ◌≤◌, IfSome, length, slice_get, true, Some, ◌-◌};
+ghost use Rattle.std.specs.Arc.{arc_value};
+ghost use Rattle.std.specs.Prelude.{◌≡◌, ◌<◌, ◌≤◌, IfOk, IfSome, length, slice_get, true, Some, ◌-◌};
+ghost use Rattle.crew_carry.specs.Carried.{IsCarried};
 ghost use Rattle.crew_carry.specs.Twins.{AreTwins};
 ghost use Rattle.crew_net.specs.Nets.{AreArrivalPlaces};
+ghost use Rattle.crew_step.specs.Walks.{HasGrown};
 ghost use Rattle.crew_sweep.specs.Machinery.Beside.{IsBeside};
 ghost use Rattle.crew_sweep.specs.Machinery.Kept.{sparing_of};
-ghost use Rattle.crew_sweep.specs.Machinery.Renewing.{IsKeptTurn, IsWindowKept};
+ghost use Rattle.crew_sweep.specs.Machinery.Renewing.{IsKeptTurn, IsTurnPool, IsWindowKept};
 ghost use Rattle.crew_sweep.specs.Sweeps.{AreTurns, in_order};
 
 use crate::ground::Ground;
 use crate::swept::Sweep;
-use crew_carry::Twins;
+use crew_anchor::AnchoredResource;
+use crew_carry::{Carrier, Twins};
 use crew_net::{Net, Window};
+use crew_pool::{Pool, Walks};
+use std::alloc::{AllocError, Global};
+use std::sync::Arc;
 
 /// An earlier sweep, the turns of its network's duties, what its network has alike with another, and
 /// the places at which the other's duties arrive.
@@ -128,5 +135,32 @@ impl<'a> Earlier<'a> {
         let _departures = ground.net.departures();
         let old = self.twins.departure(place)?;
         turn_of(self.sweep.net(), self.turns, old)
+    }
+
+    /// The pool of a turn over the walks of a pass beside the earlier one, where each duty of it is
+    /// still there.
+    pub(crate) fn carried_pool(
+        &self,
+        alloc: Global,
+        ground: &Ground,
+        turn: usize,
+        carrier: &mut Carrier,
+        walks: &mut Walks,
+    ) -> Result<Option<Arc<Pool<AnchoredResource>, Global>>, AllocError>
+        requires beside { IsBeside self.now ground.now }
+        requires turn { turn < length self.now.sweep.now.net.by_report }
+        requires carried { IsCarried self.now.twins.now.ranks self.now.sweep.now.walks walks.old
+            carrier.old }
+        ensures pool { IfOk result (λ carried. IfSome carried (λ pool. IsTurnPool
+            self.now.sweep.now ground.now.net.now walks.new turn (arc_value pool))) }
+        ensures carried { IsCarried self.now.twins.now.ranks self.now.sweep.now.walks walks.new
+            carrier.new }
+        ensures grown { HasGrown walks.old walks.new }
+    {
+        let sweep = self.sweep;
+        let ranks = self.twins.ranks();
+        let pool = sweep.shared(turn);
+        let from = sweep.walks();
+        carrier.share(alloc, &ground.resource, pool, from, ranks, walks)
     }
 }

@@ -285,11 +285,7 @@ fn old_pool(
     let Some(turn) = earlier.turn(ground, place) else {
         return Ok(None);
     };
-    let sweep = earlier.sweep;
-    let ranks = earlier.twins.ranks();
-    let pool = sweep.shared(turn);
-    let from = sweep.walks();
-    carrier.share(alloc, &ground.resource, pool, from, ranks, walks)
+    earlier.carried_pool(alloc, ground, turn, carrier, walks)
 }
 
 impl Renewal {

@@ -1,6 +1,6 @@
 //! What a pass keeps of an earlier one.
 ghost use Rattle.std.specs.Arc.{arc_value};
-ghost use Rattle.std.specs.Prelude.{◌≡◌, ◌<◌, ◌+◌, ℕ, IfOk, IfSome, Ok, OnOk, false, get_or, length, slice_get, true, Some, []};
+ghost use Rattle.std.specs.Prelude.{◌≡◌, ◌<◌, ◌+◌, ℕ, IfOk, IfSome, Ok, OnOk, false, get_or, length, slice_get, true, Some};
 ghost use Rattle.crew_carry.specs.Carried.{IsCarried};
 ghost use Rattle.crew_pairing.specs.Events.{arrival_of, departure_of};
 ghost use Rattle.crew_pairing.specs.declared.duty.Duty.{Duty};
@@ -61,11 +61,7 @@ fn kept_pool(
     let Some(turn) = earlier.kept_turn(ground, changed, place) else {
         return Ok(None);
     };
-    let sweep = earlier.sweep;
-    let ranks = earlier.twins.ranks();
-    let pool = sweep.shared(turn);
-    let from = sweep.walks();
-    carrier.share(alloc, &ground.resource, pool, from, ranks, walks)
+    earlier.carried_pool(alloc, ground, turn, carrier, walks)
 }
 
 // Where the walks of the earlier pass stand, and the walks with which this one begins: each in its own

@@ -1,5 +1,6 @@
 -- Pools that are mended, where little has changed of what is waited on.
-use Rattle.std.specs.Prelude.{◌≡◌, ◌≤◌, ◌<◌, ◌&&◌, ℕ, Bool, true, false, not, List, [], ◌∷◌, ◌++◌, ◌⊎◌, Option, Some, None, get_or, length, map, slice_get}
+use Rattle.std.specs.Prelude.{◌≡◌, ◌≤◌, ◌<◌, ◌&&◌, ℕ, Bool, true, false, not, List, [], ◌∷◌, ◌++◌, ◌⊎◌, None, get_or, length, map, slice_get}
+use Rattle.std.specs.Option.{is_some}
 use Rattle.crew_anchor.specs.declared.resource.AnchoredResource.{AnchoredResource}
 use Rattle.crew_carry.specs.Twins.{Twins}
 use Rattle.crew_net.specs.Nets.{Net}
@@ -9,22 +10,18 @@ use Rattle.crew_pairing.specs.declared.vector.PairingVector.{PairingVector}
 use Rattle.crew_pool.specs.Arena.{walk_at}
 use Rattle.crew_pool.specs.Counted.{AreCounted}
 use Rattle.crew_pool.specs.LabelWalks.{IsPoolOf, ranks_at_most, shown}
-use Rattle.crew_pool.specs.Ranks.{AreRanked}
 use Rattle.crew_pool.specs.declared.label_walk.LabelWalk.{LabelWalk}
 use Rattle.crew_resource.specs.Events.{FromFronts, Views}
 use Rattle.crew_resource.specs.Labels.{IsLocal}
 use Rattle.crew_resource.specs.Members.{Member}
 use Rattle.crew_sweep.specs.Machinery.Passing.{AreLabels, IsMade, passed_network}
+use Rattle.crew_sweep.specs.Machinery.Renewing.{IsTurnPool}
 use Rattle.crew_sweep.specs.Sweeps.{BaseSweep, in_order, keyed}
 use Rattle.crew_vector.specs.Dominance.{is_at_most}
 
-abbrev pub is_there : Option ℕ → Bool
-is_there None = false
-is_there (Some place) = true
-
 -- the arrival at a place has the duties that it had, from pools that have the labels that they had
 abbrev pub is_unchanged : Twins → List Bool → ℕ → Bool
-is_unchanged t changed place = not (get_or changed place true) && is_there (get_or t.arrivals place None)
+is_unchanged t changed place = not (get_or changed place true) && is_some (get_or t.arrivals place None)
 
 -- the last duty of a walk arrives where nothing has changed, or it has none; by the places at which
 -- duties arrive
@@ -62,9 +59,7 @@ pub record IsOldPool (old : BaseSweep) (net : Net) (walks : List (List ℕ)) (pl
     (pool : List (PairingVector × LabelWalk)) : Type 0 where
   pub turn : ℕ
   pub at : slice_get (in_order old.net) turn ≡ slice_get net.departures place
-  pub labels : keyed net walks pool ≡ keyed old.net old.walks (get_or old.pools turn [])
-  pub counts : AreCounted (λ (v : PairingVector). v.duties) walks true pool
-  pub ranked : AreRanked (length net.duties) (map (shown walks) pool)
+  pub has : IsTurnPool old net walks turn pool
 
 -- the pool by which a pass may go on
 pub record IsNextPool (net : Net) (base : List ℕ) (r : AnchoredResource) (walks : List (List ℕ))

@@ -85,11 +85,16 @@ pub record IsKeptTurn (old : BaseSweep) (net : Net) (t : Twins) (changed : List 
   pub is_old_window : IsWindow (λ x. may_wait old.net.settings x event) old.net.arrivals old_window
   pub kept : IsWindowKept t changed window old_window
 
+-- the pool that the old departure with a turn has, over the walks of another network
+pub record IsTurnPool (old : BaseSweep) (net : Net) (walks : List (List ℕ)) (turn : ℕ)
+    (pool : List (PairingVector × LabelWalk)) : Type 0 where
+  pub labels : keyed net walks pool ≡ keyed old.net old.walks (get_or old.pools turn [])
+  pub counts : AreCounted (λ (v : PairingVector). v.duties) walks true pool
+  pub ranked : AreRanked (length net.duties) (map (shown walks) pool)
+
 -- the pool of such a departure, as it was
 pub record IsKeptPool (old : BaseSweep) (net : Net) (t : Twins) (changed : List Bool)
     (walks : List (List ℕ)) (place : ℕ) (pool : List (PairingVector × LabelWalk)) : Type 0 where
   pub turn : ℕ
   pub stands : IsKeptTurn old net t changed place turn
-  pub labels : keyed net walks pool ≡ keyed old.net old.walks (get_or old.pools turn [])
-  pub counts : AreCounted (λ (v : PairingVector). v.duties) walks true pool
-  pub ranked : AreRanked (length net.duties) (map (shown walks) pool)
+  pub has : IsTurnPool old net walks turn pool

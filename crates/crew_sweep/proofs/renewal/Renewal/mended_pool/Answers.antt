@@ -76,7 +76,7 @@ fresh_labels-requires-clause-sealed c place from end =
 pub are_reached-requires-clause-there : goal.are_reached-requires-clause-there
 are_reached-requires-clause-there c l m =
     let had = subst (λ o. IfSome o (λ (p : Arc Labels Global). IsOldPool c.args.earlier.now.sweep.now c.args.ground.now.net.now c.old_pool.new.walks c.args.place (arc_value p))) c.in-Some.is c.in_ok-old.ensures.old in
-    let short = (had.counts l (subst (λ (ls : Labels). Member ls l) c.deref-3.ensures m)).there in
+    let short = (had.has.counts l (subst (λ (ls : Labels). Member ls l) c.deref-3.ensures m)).there in
     let longer = c.in_ok-fresh.ensures.grown.longer in
     omega (arith, short, longer)
 
@@ -88,7 +88,7 @@ are_reached-requires-clause-ranks c l m rank k =
     let had = subst (λ o. IfSome o (λ (p : Arc Labels Global). IsOldPool e.sweep.now net c.old_pool.new.walks c.args.place (arc_value p))) c.in-Some.is c.in_ok-old.ensures.old in
     let before = mendings.old-pool-grown e.sweep.now net c.old_pool.new.walks now.passed.walks c.in_ok-fresh.ensures.grown c.args.place (arc_value c.in-Some.old) had in
     let own = subst (λ (ls : Labels). Member ls l) c.deref-3.ensures m in
-    let found = ranked-within net e.places.now c.requires.beside.places c.args.self.now.changed.items c.requires.stands.marks.long now.passed.walks l (before.ranked (shown now.passed.walks l) (Member-map_in (shown now.passed.walks) (arc_value c.in-Some.old) l own)) rank k in
+    let found = ranked-within net e.places.now c.requires.beside.places c.args.self.now.changed.items c.requires.stands.marks.long now.passed.walks l (before.has.ranked (shown now.passed.walks l) (Member-map_in (shown now.passed.walks) (arc_value c.in-Some.old) l own)) rank k in
     (found.0, subst (λ (bs : List Bool). get_or e.places.now rank 0 < length bs) (sym c.deref-2.ensures.value) found.1)
 
 pub are_sound-requires-clause-ranks : goal.are_sound-requires-clause-ranks
@@ -161,7 +161,7 @@ returns-then-are_sound-clause-next c =
     let marked = subst (λ (bs : List Bool). AreSound e.twins.now bs e.places.now walks c.count-added.result c.as_slice.result.now) c.deref-5.ensures.value told in
     let sound = subst (AreSound e.twins.now was.changed.items e.places.now walks c.count-added.result) c.as_slice.ensures.all marked in
     mendings.next-pool e g c.requires.ground c.requires.beside now c.in_ok-fresh.ensures.stands was.changed.items marks c.args.place at c.args.window c.requires.window (arc_value c.in-Some.old) before c.in_ok-fresh.fresh newly c.in_ok-pool.pool (subst (λ (ls : Labels). IsMended walks c.in_ok-fresh.fresh ls c.in_ok-pool.pool) c.deref-4.ensures c.in_ok-pool.ensures)
-    c.count-added.result (λ l m. subst (λ n. l.1.walk < n) (sym c.count-added.ensures) (had.counts l m).there) sound
+    c.count-added.result (λ l m. subst (λ n. l.1.walk < n) (sym c.count-added.ensures) (had.has.counts l m).there) sound
 
 pub returns-clause-stands : goal.returns-clause-stands
 returns-clause-stands c =
