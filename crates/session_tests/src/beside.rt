@@ -37,14 +37,13 @@ fn with_workers<'a>(
     workers: &'a str,
 ) -> Result<Vec<&'a str>, AllocError> {
     let mut all = words.to_vec(alloc)?;
-    all.push("--workers")?;
-    all.push(workers)?;
+    all.extend_from_slice(&["--workers", workers])?;
     Ok(all)
 }
 
 // Whether words ask for a session, and say nothing of workers.
 fn is_alone(words: &[&str]) -> bool {
-    words.get(1) == Some(&"run") && !words.iter().any(|word| *word == "--workers")
+    words.get(1) == Some(&"run") && !words.contains(&"--workers")
 }
 
 // Runs a session beside so many workers; shows where that comes to something else.
@@ -64,6 +63,20 @@ fn compare_beside<R: Print + Eprint + Threads + Wait + Sync + Clock>(
     }
 }
 
+// Runs a session once more without workers, and beside 1 and 8.
+fn compare_all<R: Print + Eprint + Threads + Wait + Sync + Clock>(
+    rt: &R,
+    alloc: Global,
+    words: &[&str],
+    case: &Case<'_>,
+) -> io::Result<()> {
+    let alone = outcome_of(rt, alloc, words, case);
+    for workers in ["1", "8"] {
+        compare_beside(rt, alloc, words, case, &alone, workers)?;
+    }
+    Ok(())
+}
+
 /// Runs a session once more without workers, and beside 1 and 8; shows which comes to something
 /// else.
 pub fn compare<R: Print + Eprint + Threads + Wait + Sync + Clock>(
@@ -72,10 +85,9 @@ pub fn compare<R: Print + Eprint + Threads + Wait + Sync + Clock>(
     words: &[&str],
     case: &Case<'_>,
 ) -> io::Result<()> {
-    if !is_alone(words) {
-        return Ok(());
+    if is_alone(words) {
+        compare_all(rt, alloc, words, case)
+    } else {
+        Ok(())
     }
-    let alone = outcome_of(rt, alloc, words, case);
-    compare_beside(rt, alloc, words, case, &alone, "1")?;
-    compare_beside(rt, alloc, words, case, &alone, "8")
 }

@@ -87,12 +87,34 @@ fn ask<R: Threads + Sync>(
     }
 }
 
-// Adds an entry.
-fn enter(entries: &mut Vec<Entry>, seat: &str, number: &str, fields: &[&str]) -> Option<()> {
+// Adds an entry, by its seat, its number and the record of its edit.
+fn enter(entries: &mut Vec<Entry>, words: &[&str]) -> Option<()> {
+    let [seat, number, fields @ ..] = words else {
+        return None;
+    };
     let seat = seat.parse::<u8>().ok()?;
     let number = number.parse::<u32>().ok()?;
     let edit = edit_of(fields)?;
     entries.push(Entry { seat, number, edit }).ok()
+}
+
+// Keeps the timetable as the earlier one.
+fn keep(alloc: Global, desk: &mut Desk) -> Option<()> {
+    desk.earlier = desk.timetable.copy(alloc).ok()?;
+    Some(())
+}
+
+// Writes the answer of a call.
+fn answer<R: Threads + Sync>(
+    rt: &R,
+    alloc: Global,
+    desk: &Desk,
+    words: &[&str],
+    out: &mut String,
+) -> Option<()> {
+    out.push('=').ok()?;
+    ask(rt, alloc, desk, words, out)?;
+    out.push('\n').ok()
 }
 
 /// Obeys a line's words.
@@ -103,19 +125,11 @@ pub fn obey<R: Threads + Sync>(
     words: &[&str],
     out: &mut String,
 ) -> Option<()> {
-    match *words {
-        ["kept"] => {
-            desk.earlier = desk.timetable.copy(alloc).ok()?;
-            Some(())
-        }
-        ["entry", seat, number, ref fields @ ..] => {
-            enter(&mut desk.entries, seat, number, fields)
-        }
-        ["base" | "flight" | "price" | "cancel", ..] => take(&mut desk.timetable, words),
-        _ => {
-            out.push('=').ok()?;
-            ask(rt, alloc, desk, words, out)?;
-            out.push('\n').ok()
-        }
+    let (word, rest) = words.split_first()?;
+    match *word {
+        "kept" => keep(alloc, desk),
+        "entry" => enter(&mut desk.entries, rest),
+        "base" | "flight" | "price" | "cancel" => take(&mut desk.timetable, words),
+        _ => answer(rt, alloc, desk, words, out),
     }
 }
