@@ -6,11 +6,12 @@ use crate::edits::edit_of;
 use crate::sights::{
     all_see, best_cost, count_views, entries_of, held_of, hold_all, verdict_at, view_of,
 };
-use crate::words::{Answer, count_of};
+use crate::words::{Answer, count_at, count_of, parted};
 use crew_flights::Edit;
 use crew_log::{Receipt, Seat};
 use crew_publish::{Note, View, Viewer};
 use crew_service::{Gate, Planner, Shared};
+use crew_version::Version;
 use std::alloc::Global;
 use std::io::{self, Print};
 use std::marker::Model;
@@ -28,6 +29,17 @@ pub struct Desk<'a, R: Wait, G: Gate> {
     note: Option<Note<&'a R>>,
     viewers: Vec<Viewer>,
     held: Vec<View>,
+}
+
+// What words, behind a viewer's, ask of a version.
+fn asked_of(version: &Version, words: &[&str]) -> Answer {
+    match *words {
+        [_, "see"] => Ok(version.number()),
+        [_, "count"] => Ok(version.count() as u64),
+        [_, "verdict", place] => verdict_at(version, count_of(place)),
+        [_, "front", base, flight] => entries_of(version, base, flight),
+        _ => Err(None),
+    }
 }
 
 impl<'a, R: Wait, G: Gate> Model for Desk<'a, R, G> {
@@ -111,16 +123,9 @@ impl<'a, R: Wait, G: Gate> Desk<'a, R, G> {
     }
 
     // What words ask of the version that a viewer sees.
-    fn ask(&mut self, viewer: &str, words: &[&str]) -> Answer {
-        let view = view_of(&mut self.viewers, count_of(viewer))?;
-        let version = view.version();
-        match *words {
-            ["see"] => Ok(version.number()),
-            ["count"] => Ok(version.count() as u64),
-            ["verdict", place] => verdict_at(version, count_of(place)),
-            ["front", base, flight] => entries_of(version, base, flight),
-            _ => Err(None),
-        }
+    fn ask(&mut self, viewer: usize, words: &[&str]) -> Answer {
+        let view = view_of(&mut self.viewers, viewer)?;
+        asked_of(view.version(), words)
     }
 
     // How many of so many views of a viewer are of the version of this number.
@@ -131,18 +136,33 @@ impl<'a, R: Wait, G: Gate> Desk<'a, R, G> {
         }
     }
 
-    // What words ask for that a viewer answers.
-    fn look(&mut self, words: &[&str]) -> Answer {
-        match *words {
-            ["ask", viewer, ref words @ ..] => self.ask(viewer, words),
-            ["views", viewer, number, views] => {
-                self.count_views(count_of(viewer), count_of(number), count_of(views))
-            }
-            ["learn", viewer] => self.learn(count_of(viewer)),
-            ["all", number] => all_see(&mut self.viewers, count_of(number) as u64),
-            ["hold"] => hold_all(&mut self.viewers, &mut self.held),
-            ["held", number] => held_of(&self.held, count_of(number) as u64),
+    // What a word and others ask for that a viewer answers.
+    fn look(&mut self, word: &str, rest: &[&str]) -> Answer {
+        match word {
+            "ask" => self.ask(count_at(rest, 0), rest),
+            "views" => self.count_views(count_at(rest, 0), count_at(rest, 1), count_at(rest, 2)),
+            "learn" => self.learn(count_at(rest, 0)),
+            "all" => all_see(&mut self.viewers, count_at(rest, 0) as u64),
+            "hold" => hold_all(&mut self.viewers, &mut self.held),
+            "held" => held_of(&self.held, count_at(rest, 0) as u64),
             _ => Err(None),
+        }
+    }
+
+    // What a seat and the record of an edit submit.
+    fn submit_as(&mut self, rt: &R, words: &[&str]) -> Answer {
+        let (seat, fields) = parted(words);
+        match edit_of(fields) {
+            Some(edit) => self.submit(rt, count_of(seat), edit),
+            None => Err(None),
+        }
+    }
+
+    // How many nodes the open round has.
+    fn count_open(&self, rt: &R) -> Answer {
+        match self.shared.progress(rt) {
+            Some(progress) => Ok(progress.nodes as u64),
+            None => Err(None),
         }
     }
 
@@ -154,18 +174,13 @@ impl<'a, R: Wait, G: Gate> Desk<'a, R, G> {
         alloc: Global,
         words: &[&str],
     ) -> Answer {
-        match *words {
-            ["submit", seat, ref fields @ ..] => match edit_of(fields) {
-                Some(edit) => self.submit(wait, count_of(seat), edit),
-                None => Err(None),
-            },
-            ["settle"] => self.settle(rt, alloc),
-            ["kept"] => Ok(self.planner.version().number()),
-            ["open"] => match self.shared.progress(wait) {
-                Some(progress) => Ok(progress.nodes as u64),
-                None => Err(None),
-            },
-            _ => self.look(words),
+        let (word, rest) = parted(words);
+        match word {
+            "submit" => self.submit_as(wait, rest),
+            "settle" => self.settle(rt, alloc),
+            "kept" => Ok(self.planner.version().number()),
+            "open" => self.count_open(wait),
+            _ => self.look(word, rest),
         }
     }
 

@@ -44,7 +44,7 @@ use std::sync::Wait;
 use std::thread::Threads;
 use std::time::Clock;
 use ways::Ways;
-use words::count_of;
+use words::{count_at, parted};
 
 // A part of a case as text; nothing where it is none.
 fn text_of(part: &[u8]) -> &str {
@@ -67,20 +67,16 @@ fn play_words<R: Print + Eprint + Threads + Wait + Sync + Clock>(
     words: &[&str],
     case: &Case<'_>,
 ) -> io::Result<()> {
-    match words {
-        ["library"] => library::play(rt, alloc, text_of(case.input())),
-        ["slots" | "calls"] => slots::play(rt, alloc, text_of(case.input())),
-        ["log"] => logs::play_log(rt, alloc, text_of(case.input())),
-        ["pair", more, place, viewers] => {
-            let words = [*more, *place, *viewers];
-            pairs::play_pair(rt, alloc, words, text_of(case.input()))
-        }
-        ["service", seats, viewers, workers] => {
-            let counts = (count_of(seats), count_of(viewers));
-            serving::play(rt, alloc, counts, count_of(workers), text_of(case.input()))
-        }
-        ["meet", workers] => meeting::play(rt, alloc, count_of(workers)),
-        ["strange"] => strange::play_strange(rt, alloc),
+    let input = text_of(case.input());
+    let (word, rest) = parted(words);
+    match word {
+        "library" => library::play(rt, alloc, input),
+        "slots" | "calls" => slots::play(rt, alloc, input),
+        "log" => logs::play_log(rt, alloc, input),
+        "pair" => pairs::play_pair(rt, alloc, rest, input),
+        "service" => serving::play(rt, alloc, rest, input),
+        "meet" => meeting::play(rt, alloc, count_at(rest, 0)),
+        "strange" => strange::play_strange(rt, alloc),
         _ => runs::play_run(rt, alloc, words, case),
     }
 }

@@ -1,7 +1,7 @@
 //! A published pair, by commands.
 
 use crate::versions::fill;
-use crate::words::{Answer, count_of, read};
+use crate::words::{Answer, count_at, read};
 use crew_publish::{Note, PairFault, Publisher, View, Viewer, pair};
 use crew_version::Version;
 use std::alloc::Global;
@@ -352,14 +352,13 @@ fn play_over<R: Print + Threads + Wait + Sync>(
 pub fn play_pair<R: Print + Threads + Wait + Sync>(
     rt: &R,
     alloc: Global,
-    words: [&str; 3],
+    words: &[&str],
     input: &str,
 ) -> io::Result<()> {
-    let [more, place, viewers] = words;
     let mut versions = Vec::new(alloc);
-    match fill(rt, alloc, &mut versions, count_of(more)) {
+    match fill(rt, alloc, &mut versions, count_at(words, 0)) {
         Some(()) => {
-            let (place, viewers) = (count_of(place), count_of(viewers));
+            let (place, viewers) = (count_at(words, 1), count_at(words, 2));
             play_over(rt, alloc, &versions, place, viewers, input)
         }
         None => Err(io::Error::from(io::ErrorKind::OutOfMemory)),

@@ -3,6 +3,7 @@ ghost use Rattle.std.specs.Prelude.{◌≡◌};
 ghost use Rattle.crew_rules.specs.Settings.{IsChecked};
 
 use crate::desk::Desk;
+use crate::words::count_at;
 use crew_rules::Settings;
 use crew_service::{Gate, Open, Service, Shared, Worker};
 use std::alloc::Global;
@@ -50,14 +51,16 @@ fn play_over<R: Print + Threads + Wait + Sync>(
     serve(rt, alloc, &shared, &mut desk, workers, input)
 }
 
-/// Plays the commands of a case over a service, or shows the number of why there is none.
+/// Plays the commands of a case over a service, or shows the number of why there is none. The words
+/// are how many seats it has, how many viewers, and how many workers.
 pub fn play<R: Print + Threads + Wait + Sync>(
     rt: &R,
     alloc: Global,
-    counts: (usize, usize),
-    workers: usize,
+    words: &[&str],
     input: &str,
 ) -> io::Result<()> {
+    let counts = (count_at(words, 0), count_at(words, 1));
+    let workers = count_at(words, 2);
     match Service::new(rt, alloc, &Settings::standard(), counts, Open) {
         Ok(service) => play_over(rt, alloc, service, workers, input),
         Err(fault) => println!(rt; "no service: {:?}", fault.number()),

@@ -12,6 +12,22 @@ pub fn count_of(word: &str) -> usize {
     word.parse::<usize>().unwrap_or(0)
 }
 
+/// The count at a place of some words; 0 where there is none.
+pub fn count_at(words: &[&str], place: usize) -> usize {
+    match words.get(place) {
+        Some(word) => count_of(word),
+        None => 0,
+    }
+}
+
+/// The first of some words, and the others; an empty one where there is none.
+pub fn parted<'a, 'b>(words: &'b [&'a str]) -> (&'a str, &'b [&'a str]) {
+    match words {
+        [word, rest @ ..] => (*word, rest),
+        [] => ("", words),
+    }
+}
+
 /// The word of a command, and its numbers, which are at most two.
 pub fn read(line: &str) -> (&str, usize, usize) {
     let mut words = line.split(' ');
