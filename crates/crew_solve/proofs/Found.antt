@@ -1,7 +1,7 @@
 -- Entries that are looked for among the labels of a departure's pool.
-use Rattle.std.proofs.Common.{◌≡◌, ◌∙◌, ◌++◌, append-nil, ℕ, List, [], ◌∷◌, Option, Some, None, inl, inr, refl, sym, ap, subst, ⊎_elim, map}
+use Rattle.std.proofs.Common.{◌≡◌, ◌∙◌, ◌++◌, ◌+ℤ◌, ◌-ℤ◌, append-nil, ℕ, Bool, true, false, cond, List, [], ◌∷◌, Option, Some, None, inl, inr, refl, sym, ap, subst, ⊎_elim, map}
 use Rattle.std.proofs.lemmas.List.{map-append}
-use Rattle.crew_anchor.specs.Stages.{anchored_board}
+use Rattle.crew_anchor.specs.Stages.{anchored_board, flown, is_within_caps_at}
 use Rattle.crew_pairing.specs.declared.duty.Duty.{Duty}
 use Rattle.crew_pairing.specs.declared.vector.PairingVector.{PairingVector}
 use Rattle.crew_pool.specs.Counted.{boarded_label}
@@ -85,6 +85,14 @@ module _ (b : BaseSweep) (d : Duty) (rank : ℕ) where
 
     pub none-boards : (e : Entry) → anchored_board (resource_of b) l.0 d ≡ None → Member (shown_at b d rank (l ∷ [])) e → ⊥
     none-boards e is m = subst (λ o. Member (entries o) e) is m
+
+    -- what it shows has the pay of its duties and of the duty, less the prices of all
+    paid-if : (t : Bool) (e : Entry) → Member (entries (cond t (Some (flown (resource_of b) l.0 d)) None)) e → e.0.duty_pay ≡ l.0.duty_pay +ℤ (d.pay -ℤ d.price)
+    paid-if true e m = ⊎_elim {C = e.0.duty_pay ≡ l.0.duty_pay +ℤ (d.pay -ℤ d.price)} (λ q. sym (ap (λ (x : Entry). x.0.duty_pay) q)) (λ n. absurd n) m
+    paid-if false e m = absurd m
+
+    pub same-pay : (e : Entry) → Member (shown_at b d rank (l ∷ [])) e → e.0.duty_pay ≡ l.0.duty_pay +ℤ (d.pay -ℤ d.price)
+    same-pay e m = paid-if (is_within_caps_at (resource_of b) d.release (flown (resource_of b) l.0 d)) e m
 
     pub boards-to : (v : PairingVector) → anchored_board (resource_of b) l.0 d ≡ Some v → Member (boarding_at b d rank (l ∷ [])) (v, after)
     boards-to v is = subst (λ o. Member (labelled o after ++ []) (v, after)) (sym is) (inl refl)

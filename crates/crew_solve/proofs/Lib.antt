@@ -1,5 +1,6 @@
 pub mod Amounts
 pub mod Listed
+pub mod Results
 pub mod Pairings
 pub mod Floored
 pub mod Boarded

@@ -1,5 +1,5 @@
 -- What stands at the places of bases, and the sweeps of all bases.
-use Rattle.std.proofs.Common.{◌≡◌, ◌∙◌, ◌<◌, ◌≤◌, ℕ, suc, ℤ, List, [], ◌∷◌, Option, None, Some, true, IfSome, get_or, length, map, arith, ap, refl, sym, subst}
+use Rattle.std.proofs.Common.{◌≡◌, ◌∙◌, ◌<◌, ◌≤◌, ℕ, suc, ℤ, List, [], ◌∷◌, Option, None, Some, true, Result, Ok, Err, IfOk, IfSome, get_or, length, map, arith, ap, refl, sym, subst}
 use Rattle.std.proofs.lemmas.List.{length-map}
 use Rattle.std.specs.Prelude.{slice_get}
 use Rattle.std.specs.Arc.{arc_value}
@@ -112,6 +112,16 @@ kept-of net p base b past same from =
       same = is;
       fronts = subst (λ (n : Net). (u : Timetable) → IsSound u → AreDuties n.settings u n.duties → ShowsFronts u b) is from.right;
     }
+
+-- a sweep over the network, if there is one, of a base at a price
+pub swept-by : {E : Type 0} (r : Result BaseSweep E) (shared net : Net) (base : List ℕ) (price : ℤ) → shared ≡ net → IfOk r (λ b. b.net ≡ shared) → IfOk r (λ b. (b.base ≡ base) × (b.price ≡ price))
+    → IfOk r (λ b. (t : Timetable) → IsSound t → AreDuties b.net.settings t b.net.duties → ShowsFronts t b) → IfOk r (IsSwept net (base, price))
+swept-by (Ok b) shared net base price same own based right = record {
+  own = λ i. (based.0 i, based.1 i);
+  same = own ∙ same;
+  fronts = λ t sound duties. right t sound (subst (λ (n : Net). AreDuties n.settings t n.duties) (sym (own ∙ same)) duties);
+}
+swept-by (Err e) shared net base price same own based right = tt
 
 -- what was made at the places of all bases
 pub each-made : {A : Type 0} (f : A → BaseSweep) (plan : Plan) (made : List (Option A)) (all : List A) → length made ≡ length plan.prices

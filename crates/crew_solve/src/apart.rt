@@ -1,14 +1,14 @@
 //! The least pairings of all that comes home that share few flights.
 
-ghost use Rattle.std.specs.Prelude.{◌≡◌, ◌<◌, List, [], IfOk, Some, map, take};
+ghost use Rattle.std.specs.Prelude.{◌≡◌, ◌<◌, List, [], IfOk, OnOk, Some, length, map, take};
 ghost use Rattle.std.specs.Arc.{arc_value};
 ghost use Rattle.std.specs.List.{flat_map};
 ghost use Rattle.crew_resource.specs.Members.{Each};
 ghost use Rattle.crew_solve.specs.Apart.{taken_from};
 ghost use Rattle.crew_solve.specs.Machinery.Floors.{AreKnown};
 ghost use Rattle.crew_solve.specs.Machinery.Homes.{home_of};
-ghost use Rattle.crew_solve.specs.Machinery.Keeps.{IsLook};
-ghost use Rattle.crew_solve.specs.Machinery.Takes.{AreInOrder};
+ghost use Rattle.crew_solve.specs.Machinery.Keeps.{IsLook, KeepsSome, Kept as KeptOf, keep_all};
+ghost use Rattle.crew_solve.specs.Machinery.Takes.{AreInOrder, Taken as TakenOf, looked_at};
 ghost use Rattle.crew_vector.specs.declared.priced.PricedPairing.{PricedPairing as Pairing};
 
 use crate::base_fronts::BaseFronts;
@@ -39,6 +39,46 @@ fn more_than(many: usize, taken: usize) -> usize
     next.max(LEAST)
 }
 
+// Keeps the least of what comes home, first by the departures whose floors are low.
+fn keep_least(
+    alloc: Global,
+    fronts: &[Arc<BaseFronts, Global>],
+    trip_rig: u32,
+    many: usize,
+    known: &mut [BaseKnown],
+    kept: &mut Kept,
+) -> Result<(), AllocError>
+    requires rate { Each (λ b. trip_rig ≡ b.net.settings.trip_rig) (map arc_value fronts.now) }
+    requires known { AreKnown kept.old.beside (map arc_value fronts.now) known.old }
+    ensures kept { OnOk result ((low : KeptOf)
+        × KeepsSome (flat_map home_of (map arc_value fronts.now)) kept.old low
+        × (kept.new ≡ keep_all low (flat_map home_of (map arc_value fronts.now)))) }
+    ensures known { OnOk result
+        (AreKnown kept.old.beside (map arc_value fronts.now) known.new) }
+{
+    let most = low_floor(alloc, known, many.saturating_mul(LOW))?;
+    keep_low_floors(alloc, fronts, trip_rig, most, known, kept)?;
+    keep_above_floors(alloc, fronts, trip_rig, known, kept)
+}
+
+// Looks at what is kept beside those taken, and says how many pairings these are.
+fn look_at_kept(alloc: Global, kept: Kept) -> Result<(Taken, usize), AllocError>
+    requires { (taken : TakenOf) × (kept.beside ≡ Some taken) }
+    ensures taken { IfOk result (λ next. (taken : TakenOf) → kept.beside ≡ Some taken
+        → next.0 ≡ looked_at taken kept.pairings) }
+    ensures found { IfOk result (λ next. next.1 ≡ length kept.pairings) }
+{
+    let (beside, pairings) = kept.into_parts(alloc)?;
+    let found = pairings.len();
+    match beside {
+        Some(mut taken) => {
+            taken.look_at(alloc, pairings)?;
+            Ok((taken, found))
+        }
+        None => unreachable!(),
+    }
+}
+
 // Looks at the least of what comes home that may still be taken, so many or all, and says how many
 // these were.
 fn take_next(
@@ -57,18 +97,8 @@ fn take_next(
         AreKnown (Some next.0) (map arc_value fronts.now) known.new) }
 {
     let mut kept = Kept::beside(alloc, many, taken);
-    let most = low_floor(alloc, known, many.saturating_mul(LOW))?;
-    keep_low_floors(alloc, fronts, trip_rig, most, known, &mut kept)?;
-    keep_above_floors(alloc, fronts, trip_rig, known, &mut kept)?;
-    let (beside, pairings) = kept.into_parts(alloc)?;
-    let found = pairings.len();
-    match beside {
-        Some(mut taken) => {
-            taken.look_at(alloc, pairings)?;
-            Ok((taken, found))
-        }
-        None => unreachable!(),
-    }
+    keep_least(alloc, fronts, trip_rig, many, known, &mut kept)?;
+    look_at_kept(alloc, kept)
 }
 
 /// Of all that comes home, by cost and walk, the first that are taken where no flight is flown by

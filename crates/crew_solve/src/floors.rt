@@ -252,10 +252,18 @@ impl Floors {
 /// begin no pairing that may still be taken. Both stay true, as less and less may be taken.
 ///
 /// A contract sees the list of the floors and that of the marks.
-#[derive(Drop)]
 pub(crate) struct BaseKnown {
     floors: Vec<Option<i64>>,
     marks: Vec<bool>,
+}
+
+impl Drop for BaseKnown {
+    fn drop(self) {
+        let Self {
+            floors: _,
+            marks: _,
+        } = self;
+    }
 }
 
 impl Model for BaseKnown {

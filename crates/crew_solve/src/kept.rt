@@ -104,12 +104,22 @@ fn bound_of(pairings: &BTreeSet<ByCost>, limit: usize) -> Option<i64>
 /// may be taken beside others.
 ///
 /// A contract sees the limit, those that are taken already, and the pairings in order.
-#[derive(Drop)]
 pub(crate) struct Kept {
     limit: usize,
     beside: Option<Taken>,
     pairings: BTreeSet<ByCost>,
     bound: Option<i64>,
+}
+
+impl Drop for Kept {
+    fn drop(self) {
+        let Self {
+            limit: _,
+            beside: _,
+            pairings: _,
+            bound: _,
+        } = self;
+    }
 }
 
 impl Model for Kept {
@@ -240,7 +250,12 @@ impl Kept {
     pub(crate) fn into_first(self) -> Option<PricedPairing>
         ensures { result ≡ slice_get self.pairings 0 }
     {
-        let Kept { mut pairings, .. } = self;
+        let Self {
+            limit: _,
+            beside: _,
+            mut pairings,
+            bound: _,
+        } = self;
         match pairings.pop_first() {
             None => None,
             Some(first) => Some(first.pairing),
@@ -251,7 +266,12 @@ impl Kept {
     pub(crate) fn into_vec(self, alloc: Global) -> Result<Vec<PricedPairing>, AllocError>
         ensures { IfOk result (λ pairings. pairings.items ≡ self.pairings) }
     {
-        let Kept { pairings, .. } = self;
+        let Self {
+            limit: _,
+            beside: _,
+            pairings,
+            bound: _,
+        } = self;
         in_order(alloc, pairings)
     }
 
@@ -263,10 +283,11 @@ impl Kept {
         ensures beside { IfOk result (λ parts. parts.0 ≡ self.beside) }
         ensures pairings { IfOk result (λ parts. parts.1.items ≡ self.pairings) }
     {
-        let Kept {
+        let Self {
+            limit: _,
             beside,
             pairings,
-            ..
+            bound: _,
         } = self;
         let pairings = in_order(alloc, pairings)?;
         Ok((beside, pairings))

@@ -1,5 +1,5 @@
 //! What an earlier solution has for a network.
-ghost use Rattle.std.specs.Prelude.{◌≡◌, IfOk, IfSome, map};
+ghost use Rattle.std.specs.Prelude.{◌≡◌, ◌++◌, ◌∷◌, [], IfOk, IfSome, OnOk, map};
 ghost use Rattle.std.specs.Arc.{arc_value};
 ghost use Rattle.crew_flights.specs.Timetable.{IsBasePrice};
 ghost use Rattle.crew_resource.specs.Members.{Member};
@@ -20,13 +20,36 @@ use std::thread::Threads;
 
 /// The fronts of an earlier network's bases, the turns of its duties, what it has alike with the
 /// network now, where the duties of that one arrive, and whether the two are one.
-#[derive(Drop)]
 pub(crate) struct Past {
     pub(crate) fronts: Vec<Arc<BaseFronts, Global>>,
     pub(crate) turns: Vec<u32>,
     pub(crate) twins: Twins,
     pub(crate) places: Vec<u32>,
     pub(crate) is_same: bool,
+}
+
+impl Drop for Past {
+    fn drop(self) {
+        let Self {
+            fronts: _,
+            turns: _,
+            twins: _,
+            places: _,
+            is_same: _,
+        } = self;
+    }
+}
+
+// Puts a base's fronts among others, shared.
+fn push_shared(
+    base: &Arc<BaseFronts, Global>,
+    all: &mut Vec<Arc<BaseFronts, Global>>,
+) -> Result<(), AllocError>
+    ensures { OnOk result (map arc_value all.new.items
+        ≡ map arc_value all.old.items ++ arc_value base.now ∷ []) }
+{
+    all.push(Arc::try_clone(base)?)?;
+    Ok(())
 }
 
 // The fronts of all bases, shared.
@@ -38,7 +61,7 @@ fn shared(
 {
     let mut all = Vec::with_capacity(alloc, fronts.len())?;
     for base in fronts {
-        all.push(Arc::try_clone(base)?)?;
+        push_shared(base, &mut all)?;
     }
     Ok(all)
 }

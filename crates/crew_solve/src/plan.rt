@@ -2,11 +2,12 @@
 ghost use Rattle.std.specs.Prelude.{◌≡◌, ◌<◌, ◌≤◌, IfOk, IfSome, length, map, true};
 ghost use Rattle.std.specs.Arc.{arc_value};
 ghost use Rattle.std.specs.FinMap as fin;
-ghost use Rattle.crew_flights.specs.Timetable.{IsSound};
+ghost use Rattle.crew_flights.specs.Timetable.{IsSound, Timetable as TimetableOf};
 ghost use Rattle.crew_net.specs.Nets.{IsNetOf};
 ghost use Rattle.crew_pairing.specs.Duties.{AreDuties};
 ghost use Rattle.crew_rules.specs.Settings.{IsChecked};
-ghost use Rattle.crew_solve.specs.Machinery.Planned.{IsPast};
+ghost use Rattle.crew_solve.specs.Machinery.Planned.{IsOver, IsPast};
+ghost use Rattle.crew_solve.specs.Machinery.Solved.{IsShowing};
 ghost use Rattle.crew_solve.specs.Plans.{IsPlanOf, IsSolutionIn, IsSweepIn};
 
 use crate::base_fronts::BaseFronts;
@@ -17,7 +18,7 @@ use crew_flights::{Code, Timetable};
 use crew_net::Net;
 use crew_pairing::Duties;
 use crew_rules::Settings;
-use crew_sweep::departure_turns;
+use crew_sweep::{Sweep, departure_turns};
 use std::alloc::{AllocError, Global};
 use std::marker::Model;
 use std::sync::Arc;
@@ -68,6 +69,20 @@ fn bases_of(alloc: Global, timetable: &Timetable) -> Result<Vec<(Code, i64)>, Al
         .collect(alloc)
 }
 
+// Duties, to be shared.
+fn shared_duties(alloc: Global, duties: Duties) -> Result<Arc<Duties, Global>, AllocError>
+    ensures { IfOk result (λ shared. arc_value shared ≡ duties) }
+{
+    Ok(Arc::new(alloc, duties)?)
+}
+
+// A network, to be shared.
+fn shared_net(alloc: Global, net: Net) -> Result<Arc<Net, Global>, AllocError>
+    ensures { IfOk result (λ shared. arc_value shared ≡ net) }
+{
+    Ok(Arc::new(alloc, net)?)
+}
+
 // The network of all legal duties.
 fn net_anew(
     alloc: Global,
@@ -80,8 +95,8 @@ fn net_anew(
     requires few { length duties ≤ 200_000 }
     ensures { IfOk result (λ net. IsNetOf settings.now timetable.now duties (arc_value net)) }
 {
-    let duties = Arc::new(alloc, duties)?;
-    Ok(Arc::new(alloc, Net::build(alloc, settings, timetable, duties)?)?)
+    let duties = shared_duties(alloc, duties)?;
+    shared_net(alloc, Net::build(alloc, settings, timetable, duties)?)
 }
 
 // The network of all legal duties, beside that of an earlier timetable under the same settings.
@@ -96,8 +111,8 @@ fn net_beside(
     ensures { IfOk result (λ net. IsNetOf earlier.now.settings timetable.now duties
         (arc_value net)) }
 {
-    let duties = Arc::new(alloc, duties)?;
-    Ok(Arc::new(alloc, earlier.next(alloc, timetable, duties)?)?)
+    let duties = shared_duties(alloc, duties)?;
+    shared_net(alloc, earlier.next(alloc, timetable, duties)?)
 }
 
 // The network of all legal duties, beside that of an earlier solution, if there is one.
@@ -150,7 +165,40 @@ fn past_of(alloc: Global, earlier: Option<&Solution>, net: &Net) -> Result<Optio
     Ok(Some(Past::of(alloc, earlier, net)?))
 }
 
+// The fronts that a sweep shows, to be shared.
+fn shown(alloc: Global, sweep: Sweep) -> Result<Arc<BaseFronts, Global>, AllocError>
+    requires { IsShowing sweep }
+    ensures { IfOk result (λ fronts. arc_value fronts ≡ sweep) }
+{
+    let fronts = BaseFronts::new(alloc, sweep)?;
+    Ok(Arc::new(alloc, fronts)?)
+}
+
 impl Plan {
+    // The plan over a network of a timetable and its bases, beside an earlier solution, if there is one.
+    fn over(
+        alloc: Global,
+        net: Arc<Net, Global>,
+        bases: Vec<(Code, i64)>,
+        earlier: Option<&Solution>,
+    ) -> Result<Plan, AllocError>
+        requires over { (t : TimetableOf) × IsOver t (arc_value net)
+            × (bases.items ≡ fin.entries t.bases) }
+        requires earlier { IfSome earlier
+            (λ e. e.now.net.settings ≡ (arc_value net).settings) }
+        ensures net { IfOk result (λ plan. plan.net ≡ arc_value net) }
+        ensures prices { IfOk result (λ plan. plan.prices ≡ bases.items) }
+    {
+        let turns = departure_turns(alloc, &net)?;
+        let past = past_of(alloc, earlier, &net)?;
+        Ok(Plan {
+            net,
+            bases,
+            turns,
+            past,
+        })
+    }
+
     /// The plan of a timetable, given its legal duties, beside an earlier solution, if there is one,
     /// whatever that is of.
     pub fn of(
@@ -169,14 +217,7 @@ impl Plan {
         let earlier = alike(earlier, settings);
         let bases = bases_of(alloc, timetable)?;
         let net = net_of(alloc, settings, timetable, duties, earlier)?;
-        let turns = departure_turns(alloc, &net)?;
-        let past = past_of(alloc, earlier, &net)?;
-        Ok(Plan {
-            net,
-            bases,
-            turns,
-            past,
-        })
+        Plan::over(alloc, net, bases, earlier)
     }
 
     /// The network.
@@ -224,8 +265,7 @@ impl Plan {
         let (base, price) = self.bases[place];
         let past = self.past.as_ref();
         let sweep = sweep_base(alloc, &self.net, &self.turns, past, base, price)?;
-        let fronts = BaseFronts::new(alloc, sweep)?;
-        Ok(Arc::new(alloc, fronts)?)
+        shown(alloc, sweep)
     }
 
     // The same in at most so many threads, this one among them.
@@ -251,8 +291,7 @@ impl Plan {
             base,
             price,
         )?;
-        let fronts = BaseFronts::new(alloc, sweep)?;
-        Ok(Arc::new(alloc, fronts)?)
+        shown(alloc, sweep)
     }
 
     /// The fronts of the base at a place, in order of code. Where the earlier solution has some of

@@ -106,15 +106,10 @@ impl Solution {
     }
 
     /// The best pairing alone, if there is one.
-    pub fn into_best(self) -> Option<PricedPairing>
+    pub fn into_best(mut self) -> Option<PricedPairing>
         ensures { result ≡ self.best }
     {
-        let Self {
-            net: _,
-            fronts: _,
-            best,
-        } = self;
-        best
+        self.best.take()
     }
 
     /// Of the pairings of all bases that the fronts show those that come first by cost and walk: as

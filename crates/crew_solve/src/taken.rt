@@ -155,12 +155,22 @@ fn walk_has_room(counts: &[u32], walk: &WalkView<'_>, share: u32) -> bool
 /// Pairings that are taken one after another, each apart from those before it.
 ///
 /// A contract sees how many of them may fly a flight, the last that was looked at, and them.
-#[derive(Drop)]
 pub(crate) struct Taken {
     share: u32,
     last: Option<PricedPairing>,
     pairings: Vec<PricedPairing>,
     counts: Vec<u32>,
+}
+
+impl Drop for Taken {
+    fn drop(self) {
+        let Self {
+            share: _,
+            last: _,
+            pairings: _,
+            counts: _,
+        } = self;
+    }
 }
 
 impl Model for Taken {
@@ -267,16 +277,25 @@ impl Taken {
         self.reaches(cost) && walk_has_room(&self.counts, walk, self.share)
     }
 
+    // Takes a pairing that flies these flights where it is apart.
+    fn offer_flying(&mut self, pairing: PricedPairing, flights: &[u32]) -> Result<(), AllocError>
+        requires flown { flights.now ≡ Apart.flown pairing.walk }
+        requires numbers { Each (λ flight. flight < 1_000_000) flights.now }
+        ensures { OnOk result (self.new ≡ Spec.offered self.old pairing) }
+    {
+        if self.have_room(flights) {
+            self.pairings.push(pairing)?;
+            count_each(&mut self.counts, flights, self.share);
+        }
+        Ok(())
+    }
+
     // Takes a pairing where it is apart.
     fn offer(&mut self, alloc: Global, pairing: PricedPairing) -> Result<(), AllocError>
         ensures { OnOk result (self.new ≡ Spec.offered self.old pairing) }
     {
         let flights = flown(alloc, &pairing.walk)?;
-        if self.have_room(&flights) {
-            self.pairings.push(pairing)?;
-            count_each(&mut self.counts, &flights, self.share);
-        }
-        Ok(())
+        self.offer_flying(pairing, &flights)
     }
 
     // Goes past the last of these pairings, if there is one.
@@ -316,7 +335,12 @@ impl Taken {
     pub(crate) fn into_first(self, limit: usize) -> Vec<PricedPairing>
         ensures { result.items ≡ take limit self.pairings }
     {
-        let Taken { mut pairings, .. } = self;
+        let Self {
+            share: _,
+            last: _,
+            mut pairings,
+            counts: _,
+        } = self;
         pairings.truncate(limit);
         pairings
     }

@@ -104,3 +104,12 @@ returns-then-is_marked-clause-floor c =
     let k = c.args.kept.now in
     let label = c.args.label.now in
     from-unasked-one k.beside _ (pairing_at b c.args.minute label) (unasked-marked k.beside b c.args.marks.now c.args.minute label c.requires.marks (sym c.is_marked.ensures ∙ c.if-is_marked.true))
+
+first-of : (m a b : ℤ) → m ≡ int_min a b → m ≤ℤ a
+first-of m a b e = grind (arith, ints)
+
+pub returns-clause-less : goal.returns-clause-less
+returns-clause-less c =
+    let next : to_z w64 (of_z w64 c.min.result) ≡ c.min.result = omega (arith, ints) in
+    let low : to_z w64 (of_z w64 c.args.floor) ≡ c.args.floor = omega (arith, ints) in
+    first-of _ _ _ (next ∙ (c.min.ensures.value ∙ ap (λ z. int_min z (to_z w64 (of_z w64 c.reduced_cost-cost.result))) low))

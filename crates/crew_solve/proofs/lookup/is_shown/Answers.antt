@@ -1,12 +1,21 @@
-use Rattle.std.proofs.Common.{◌≡◌, ◌∙◌, None, Some, ap, inl, refl, sym, true≢false}
+use Rattle.std.proofs.Common.{◌≡◌, ◌∙◌, None, Some, ap, arith, inl, refl, sym, true≢false}
+use Rattle.std.proofs.lemmas.Int.{ints}
 use Rattle.crew_anchor.specs.Stages.{anchored_board}
 use Rattle.crew_anchor.specs.declared.resource.AnchoredResource.{AnchoredResource}
-use Rattle.crew_solve.proofs.Found.{boards-to, none-boards, one-shown, shows-one}
+use Rattle.crew_solve.proofs.Found.{boards-to, none-boards, one-shown, same-pay, shows-one}
 use Rattle.crew_solve.specs.Machinery.Homes.{resource_of}
 use Rattle.crew_solve.proofs.lookup.is_shown.Goals as goal
 
 pub duty_pay_with-requires : goal.duty_pay_with-requires
 duty_pay_with-requires c = c.requires.boards c.args.label.now (inl refl)
+
+pub returns-then-duty_pay_with-wanted : goal.returns-then-duty_pay_with-wanted
+returns-then-duty_pay_with-wanted c = (
+  λ t. absurd (true≢false (sym t)),
+  λ m.
+      let pay = same-pay c.args.sweep.now c.args.duty.now c.args.rank c.args.label.now c.args.wanted.now m in
+      absurd (omega (arith, ints, c.if-duty_pay_with-wanted.true, c.duty_pay_with.ensures, pay)),
+)
 
 pub board-requires : goal.board-requires
 board-requires c = c.requires.boards c.args.label.now (inl refl)

@@ -1,5 +1,6 @@
 use Rattle.std.proofs.Common.{◌≡◌, ◌∙◌, ◌<◌, ap, arith, length, of_z, refl, subst, sym, to_z, w64}
 use Rattle.std.proofs.lemmas.Int.{ints}
+use Rattle.std.proofs.lemmas.Result.{IfOk-weaker}
 use Rattle.std.specs.Arc.{arc_value}
 use Rattle.std.specs.Prelude.{slice_get}
 use Rattle.crew_flights.specs.Timetable.{IsBasePrice}
@@ -32,8 +33,8 @@ sweep_base_by_threads-requires-clause-price g c =
     let whole : to_z w64 (of_z w64 e.1) ≡ e.1 = omega (arith, ints, fits.least, fits.most) in
     λ _ _. subst IsBasePrice (sym whole) fits
 
-pub new-requires : goal.new-requires
-new-requires g c =
+pub shown-requires : goal.shown-requires
+shown-requires g c =
     let k = c.self.invariant in
     let net = arc_value c.self.inside.net in
     let bases = c.self.inside.bases.items in
@@ -57,8 +58,5 @@ returns g c =
     let fits = k.over.sound.bases e.0 e.1 (price-at k.timetable bases c.args.place e k.priced at) in
     let whole : to_z w64 (of_z w64 e.1) ≡ e.1 = omega (arith, ints, fits.least, fits.most) in
     let swept : IsSwept net e c.in_ok-sweep.sweep = subst (λ z. IsSwept net (e.0, z) c.in_ok-sweep.sweep) whole c.in_ok-sweep.ensures in
-    let is = sym (c.in_ok-new.ensures.ok ∙ c.in_ok-fronts.ensures) in (
-      e,
-      ap (λ (p : Plan). slice_get p.prices c.args.place) (sym c.self.view_is) ∙ at,
-      subst (λ (p : Plan). IsSwept p.net e (arc_value c.in_ok-new.field-0)) c.self.view_is (subst (IsSwept net e) is swept),
-    )
+    let there = ap (λ (p : Plan). slice_get p.prices c.args.place) (sym c.self.view_is) ∙ at in
+    IfOk-weaker c.shown.result _ _ (λ fronts is. (e, there, subst (λ (p : Plan). IsSwept p.net e (arc_value fronts)) c.self.view_is (subst (IsSwept net e) (sym is) swept))) c.shown.ensures
