@@ -1,7 +1,7 @@
 -- What the first elements of a list pass, one more at a time.
 use Rattle.std.proofs.Common.{◌≡◌, ℕ, ◌+◌, ◌<◌, ◌≤◌, Bool, true, false, List, [], ◌∷◌, ◌++◌, ◌||◌, ◌⊎◌, length, get_or, map, take, inl, inr, refl, sym, ◌∙◌, ap, subst, arith, append-nil}
 use Rattle.std.specs.List.{filter, list_any}
-use Rattle.std.proofs.lemmas.List.{take_all, take_more}
+use Rattle.std.proofs.lemmas.List.{map-append, take_all, take_more}
 use Rattle.std.proofs.lemmas.List.Elements.{filter-append}
 use Rattle.std.proofs.lemmas.List.Folds.{list_any-append}
 use Rattle.std.proofs.lemmas.Bool.{cases_lt}
@@ -23,6 +23,15 @@ module _ {X : Type 0} (p : X → Bool) (xs : List X) (i : ℕ) (x : X) (within :
 
   pub filter_out : p x ≡ false → filter p (take i xs) ≡ filter p (take (i + 1) xs)
   filter_out f = sym (ap (filter p) next ∙ (filter-append p (take i xs) (x ∷ []) ∙ (ap (λ ys. filter p (take i xs) ++ ys) (rw f refl) ∙ append-nil (filter p (take i xs)))))
+
+-- what a map makes of one more
+pub mapped_more : {X Y : Type 0} (f : X → Y) (xs : List X) (i : ℕ) (x : X) (ys new : List Y) → i < length xs → x ≡ get_or xs i x
+    → ys ≡ map f (take i xs) → new ≡ ys ++ f x ∷ [] → new ≡ map f (take (i + 1) xs)
+mapped_more f xs i x ys new within is h e =
+    e ∙ (ap (λ zs. zs ++ f x ∷ []) h ∙ sym (ap (map f) (next (λ z. true) xs i x within is) ∙ map-append f (take i xs) (x ∷ [])))
+
+pub taken_more : {X : Type 0} (xs : List X) (i : ℕ) (x : X) (ys new : List X) → i < length xs → x ≡ get_or xs i x → ys ≡ take i xs → new ≡ ys ++ x ∷ [] → new ≡ take (i + 1) xs
+taken_more xs i x ys new within is h e = e ∙ (ap (λ zs. zs ++ x ∷ []) h ∙ sym (next (λ z. true) xs i x within is))
 
 or_true : (b : Bool) → (b || true) ≡ true
 or_true true = refl

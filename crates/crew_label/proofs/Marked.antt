@@ -1,5 +1,5 @@
 -- Marks, place by place.
-use Rattle.std.proofs.Common.{◌≡◌, true, Bool, ◌≤ℤ◌, ℤ, FitsSigned, to_z, of_z, w32, refl, arith}
+use Rattle.std.proofs.Common.{◌≡◌, true, Bool, ◌≤ℤ◌, ℤ, FitsSigned, to_z, of_z, w32, refl, subst, arith}
 use Rattle.std.specs.Prelude.{◌&&◌, int_le, List, [], ◌∷◌, ℕ, zero, suc}
 use Rattle.crew_forgetful.specs.Marks.{AreAtMost}
 use Rattle.crew_label.specs.Machinery.Marks.{are_at_most, are_first, mark_at}
@@ -15,8 +15,11 @@ pub le_same : (x y : ℤ) → FitsSigned w32 x → FitsSigned w32 y
     → int_le (to_z w32 (of_z w32 x)) (to_z w32 (of_z w32 y)) ≡ int_le x y
 le_same x y f g = rw (to_z-of_z w32 x f, to_z-of_z w32 y g)
 
-pub le_true : (x y : ℤ) → FitsSigned w32 x → x ≤ℤ y → int_le (to_z w32 (of_z w32 x)) y ≡ true
-le_true x y f g =
+-- what is at most a mark that was read is at most the mark
+pub le_read : (x y : ℤ) → FitsSigned w32 x → FitsSigned w32 y → x ≤ℤ to_z w32 (of_z w32 y)
+    → int_le (to_z w32 (of_z w32 x)) y ≡ true
+le_read x y f g h =
+    let k : x ≤ℤ y = subst (λ z. x ≤ℤ z) (to_z-of_z w32 y g) h in
     let e : int_le x y ≡ true = grind (arith) in
     rw (to_z-of_z w32 x f) e
 

@@ -1,9 +1,10 @@
 -- The front of labels of which those with the same sums stand together, run by run.
-use Rattle.std.proofs.Common.{◌≡◌, ℕ, zero, suc, ◌+◌, ◌-◌, ◌<◌, ◌≤◌, ◌⊎◌, Bool, true, false, List, [], ◌∷◌, ◌++◌, Some, length, get_or, map, take, drop, inl, inr, refl, sym, ◌∙◌, ap, subst, ⊎_elim, arith, length-drop, Ordering}
-use Rattle.std.specs.Prelude.{slice_get}
+use Rattle.std.proofs.Common.{◌≡◌, ℕ, zero, suc, ◌+◌, ◌-◌, ◌<◌, ◌≤◌, ◌⊎◌, Bool, true, false, List, [], ◌∷◌, ◌++◌, Some, length, get_or, map, take, drop, inl, inr, refl, sym, ◌∙◌, ap, subst, ⊎_elim, arith, append-nil, length-drop, Ordering}
+use Rattle.std.specs.Prelude.{◌==◌, slice_get}
 use Rattle.std.specs.declared.cmp.Ordering.TheVariants.{Less}
 use Rattle.std.proofs.Math.Seq.{take-add}
 use Rattle.std.proofs.lemmas.Bool.{cases_Bool, false≢true}
+use Rattle.std.proofs.lemmas.Bool.Decides.{nat_tests}
 use Rattle.std.proofs.lemmas.List.{drop-drop, map-append, take-append-drop, take_all, take_more}
 use Rattle.crew_resource.specs.Members.{Each, Member}
 use Rattle.crew_resource.proofs.Members.{Member-append, Member-append_left, Member-append_right, Member-map_out}
@@ -167,6 +168,13 @@ module _ {V : Type 0} (cmp : V → V → Ordering) (below same : V → V → Boo
       from = λ l m. m;
     };
   }
+
+  -- the front of a list is that of it and of an empty one
+  pub front-alone : (kept cut front : List (Label V)) → (length cut == 0) ≡ true → IsFrontOf cmp below trail kept front
+      → ArePoolOf below (is_same below) trail (map (shown trail) kept ++ map (shown trail) cut) front
+  front-alone kept [] front e f =
+      subst (λ (es : List (V × List ℕ)). ArePoolOf below (is_same below) trail es front) (sym (append-nil (map (shown trail) kept))) f.pool
+  front-alone kept (l ∷ ls) front e f = absurd (let k : 0 < length (l ∷ ls) = omega arith in let q : ⊥ = grind (arith, nat_tests) in q)
 
   pub front-all : (labels front : List (Label V)) (n : ℕ) → length labels ≤ n → IsFrontBefore labels n front → IsFrontOf cmp below trail labels front
   front-all labels front n h i = subst (λ (ls : List (Label V)). IsFrontOf cmp below trail ls front) (take_all n labels h) i.so_far

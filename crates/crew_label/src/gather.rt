@@ -42,8 +42,7 @@ pub(crate) fn gather<P: Placed, R: Marked<P>, T: Trails>(
     let none = [0; 16];
     let seen = see::<R>(alloc, labels, &marks, &none)?;
     let pool = gather_seen::<P, R, T>(alloc, resource, trails, rule, marked, &seen)?;
-    let labels = copy_seen(alloc, resource, &pool)?;
-    Ok(labels)
+    copy_seen(alloc, resource, &pool)
 }
 
 // The same of labels where they stand.

@@ -1,4 +1,5 @@
 use Rattle.std.proofs.Common.{to_z, of_z, w32, List, map, sym, ◌∙◌, ap, subst}
+use Rattle.std.proofs.lemmas.Result.{IfOk-weaker}
 use Rattle.crew_resource.specs.Members.{Member}
 use Rattle.crew_label.specs.Machinery.Rules.{same_by}
 use Rattle.crew_label.specs.Machinery.Seeing.{AreTold, labels_of}
@@ -21,19 +22,24 @@ gather_seen-requires-clause-told g c t =
 
 pub returns-clause-rises : goal.returns-clause-rises
 returns-clause-rises g c =
-    subst (AreRising g.R.Value.Ord.cmp) (sym (c.in_ok-labels.ensures ∙ ap (λ (ss : List (Seen g.row.R-Value.Denot)). labels_of ss) c.deref-3.ensures.value)) c.in_ok-pool.ensures.rises
+    let labels = λ (ss : List (Seen g.row.R-Value.Denot)). labels_of ss in
+    IfOk-weaker c.copy_seen.result _ _ (λ made h. subst (AreRising g.R.Value.Ord.cmp) (sym (h ∙ ap labels c.deref-3.ensures.value)) c.in_ok-pool.ensures.rises) c.copy_seen.ensures
 
 pub returns-clause-pool : goal.returns-clause-pool
 returns-clause-pool g c =
     let trail = g.T.Trails.trail c.args.trails.now in
     let same = same_by g.R.Resource.below g.R.Forgets.same_sums c.args.rule in
     let labels = λ (ss : List (Seen g.row.R-Value.Denot)). labels_of ss in
-    subst (λ (ls : List (Label g.row.R-Value.Denot)). ArePoolOf g.R.Resource.below same trail (map (shown trail) c.args.labels.now) ls) (sym (c.in_ok-labels.ensures ∙ ap labels c.deref-3.ensures.value))
-    (subst (λ (ls : List (Label g.row.R-Value.Denot)). ArePoolOf g.R.Resource.below same trail (map (shown trail) ls) (labels_of c.in_ok-pool.pool.items)) (ap labels c.deref-2.ensures.value ∙ c.in_ok-seen.ensures.labels) c.in_ok-pool.ensures.pool)
+    IfOk-weaker c.copy_seen.result _ _ (λ made h.
+    subst (λ (ls : List (Label g.row.R-Value.Denot)). ArePoolOf g.R.Resource.below same trail (map (shown trail) c.args.labels.now) ls) (sym (h ∙ ap labels c.deref-3.ensures.value))
+    (subst (λ (ls : List (Label g.row.R-Value.Denot)). ArePoolOf g.R.Resource.below same trail (map (shown trail) ls) (labels_of c.in_ok-pool.pool.items)) (ap labels c.deref-2.ensures.value ∙ c.in_ok-seen.ensures.labels) c.in_ok-pool.ensures.pool))
+    c.copy_seen.ensures
 
 pub returns-clause-from : goal.returns-clause-from
-returns-clause-from g c l m =
+returns-clause-from g c =
     let labels = λ (ss : List (Seen g.row.R-Value.Denot)). labels_of ss in
+    IfOk-weaker c.copy_seen.result _ _ (λ made h l m.
     subst (λ (ls : List (Label g.row.R-Value.Denot)). Member ls l) (ap labels c.deref-2.ensures.value ∙ c.in_ok-seen.ensures.labels)
     (labels_all c.in_ok-pool.pool.items c.deref-2.result.now c.in_ok-pool.ensures.from l
-    (subst (λ (ls : List (Label g.row.R-Value.Denot)). Member ls l) (c.in_ok-labels.ensures ∙ ap labels c.deref-3.ensures.value) m))
+    (subst (λ (ls : List (Label g.row.R-Value.Denot)). Member ls l) (h ∙ ap labels c.deref-3.ensures.value) m)))
+    c.copy_seen.ensures

@@ -10,6 +10,35 @@ use Rattle.crew_label.proofs.Several.{among_first, among_rest, from_several, poo
 use Rattle.crew_label.proofs.SeenLabels.{labels_from}
 use Rattle.crew_label.proofs.whole.+merge_pools.Goals as goal
 
+pub returns-in_default-clause-rises : goal.returns-in_default-clause-rises
+returns-in_default-clause-rises g t c =
+    IfOk-weaker c.copy_seen.result _ _ (λ made h. subst (AreRising g.R.Value.Ord.cmp) (sym h) c.requires.rises) c.copy_seen.ensures
+
+pub returns-in_default-clause-from : goal.returns-in_default-clause-from
+returns-in_default-clause-from g t c =
+    IfOk-weaker c.copy_seen.result _ _ (λ made h l m. inl (subst (λ (ls : List (Label g.row.R-Value.Denot)). Member ls l) h m)) c.copy_seen.ensures
+
+pub merge_seen-requires-clause-one_rises : goal.merge_seen-requires-clause-one_rises
+merge_seen-requires-clause-one_rises g t c = c.requires.rises
+
+pub merge_seen-requires-clause-two_rises : goal.merge_seen-requires-clause-two_rises
+merge_seen-requires-clause-two_rises g t c =
+    let labels = λ (ss : List (Seen g.row.R-Value.Denot)). labels_of ss in
+    subst (AreRising g.R.Value.Ord.cmp) (sym (ap labels c.deref-2.ensures.value ∙ (c.in_ok-seen.ensures.labels ∙ c.as_slice-labels.ensures.all))) c.as_slice-labels.ensures.rises
+
+pub merge_seen-requires-clause-one_counts : goal.merge_seen-requires-clause-one_counts
+merge_seen-requires-clause-one_counts g t c = c.requires.whole_counts
+
+pub merge_seen-requires-clause-two_counts : goal.merge_seen-requires-clause-two_counts
+merge_seen-requires-clause-two_counts g t c l m =
+    let pools = c.args.pools.now in
+    let first = c.first-item.result in
+    let pool = λ (p : Bor (List (Label g.row.R-Value.Denot))). p.now in
+    let is = several_are pool pools first c.in-len1-up.len_at_least c.first-item.is in
+    let labels = λ (ss : List (Seen g.row.R-Value.Denot)). labels_of ss in
+    c.requires.counts first.now (among_first (map pool pools) first.now (map pool (rest_of pools)) is) l
+    (subst (λ (ls : List (Label g.row.R-Value.Denot)). Member ls l) (ap labels c.deref-2.ensures.value ∙ (c.in_ok-seen.ensures.labels ∙ c.as_slice-labels.ensures.all)) m)
+
 pub merge_seen-requires-clause-told : goal.merge_seen-requires-clause-told
 merge_seen-requires-clause-told g t c k =
     let m = to_z w32 (of_z w32 c.args.moment) in
@@ -71,6 +100,9 @@ merge_pools-requires g t c κs within =
         ),
       ),
     )
+
+pub returns-clause-rises : goal.returns-clause-rises
+returns-clause-rises g t c = c.merge_pools.ensures.rises
 
 pub returns-clause-pool : goal.returns-clause-pool
 returns-clause-pool g t c =
