@@ -15,9 +15,9 @@ fn narrow(number: i64) -> i32
     number.clamp(-2_147_483_648, 2_147_483_647) as i32
 }
 
-/// The same of -1 less the number, which falls where the number rises.
+/// The nearest number of 32 bits to -1 less the number: it falls where the number rises.
 #[inline]
-fn turn(number: i64) -> i32
+fn complement(number: i64) -> i32
     ensures { result ≡ turned number }
 {
     narrow(-1 - number)
@@ -49,7 +49,7 @@ impl Marked<Duty> for LongResource {
             narrow(sums.fly),
             narrow(sums.duties),
             narrow(sums.away),
-            turn(value.rest_end.minute),
+            complement(value.rest_end.minute),
             since(history, moment, 0),
             since(history, moment, 1_440),
             since(history, moment, 2_880),

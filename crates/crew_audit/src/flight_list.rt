@@ -74,7 +74,7 @@ struct Pace {
 }
 
 // When the first and the last of some flights depart.
-fn ends_of(flights: &[Flight]) -> Span {
+fn span_of(flights: &[Flight]) -> Span {
     let mut from = i64::MAX;
     let mut end = i64::MIN;
     for flight in flights {
@@ -86,7 +86,7 @@ fn ends_of(flights: &[Flight]) -> Span {
 
 // Blocks of some flights go on by so much, and are no more than the flights.
 fn pace_of(flights: &[Flight], more: u32) -> Pace {
-    let Span { from, end } = ends_of(flights);
+    let Span { from, end } = span_of(flights);
     let many = i64::try_from(flights.len()).unwrap_or(i64::MAX).max(1);
     let step = (end.saturating_sub(from) / many).saturating_add(1);
     Pace {
@@ -133,7 +133,7 @@ fn blocks_of(alloc: Global, flights: &[Flight], pace: Pace) -> Result<Vec<Block>
     ensures { IfOk result (λ blocks. AreBlocks flights.now blocks.items) }
 {
     let mut blocks = Vec::new(alloc);
-    let Span { mut from, end } = ends_of(flights);
+    let Span { mut from, end } = span_of(flights);
     for _ in 0..flights.len() {
         if from <= end {
             let next = from.saturating_add(pace.step);

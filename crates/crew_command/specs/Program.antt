@@ -120,12 +120,12 @@ Comes words io r = ((r ≡ Err Memory) × Keeps io.before io.after)
     ⊎ ComesBy (faults_in words) (task_of words) io r
 
 -- a line goes out whole, or the writer failed after a beginning of it
-abbrev pub TellsLine : Option (List ℕ) → Option (List ℕ) → Bool → List ℕ → Type 0
-TellsLine before after failed line = Appends before after line
+abbrev pub ReportsLine : Option (List ℕ) → Option (List ℕ) → Bool → List ℕ → Type 0
+ReportsLine before after failed line = Appends before after line
     ⊎ (IsTrue failed × AppendsBeginning before after line)
 
 -- what a run tells where faults go: nothing where it is done, and else the one line of its fault;
 -- the text of a fault in the words is the parser's own
-abbrev pub Tells : Outcome → Option (List ℕ) → Option (List ℕ) → Bool → Type 0
-Tells (Ok done) before after failed = Keeps before after
-Tells (Err fault) before after failed = IfSome (line_of fault) (TellsLine before after failed)
+abbrev pub Reports : Outcome → Option (List ℕ) → Option (List ℕ) → Bool → Type 0
+Reports (Ok done) before after failed = Keeps before after
+Reports (Err fault) before after failed = IfSome (line_of fault) (ReportsLine before after failed)

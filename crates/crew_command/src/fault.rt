@@ -5,7 +5,7 @@ ghost use Rattle.std.specs.Io.KnownBytes.{Appends};
 ghost use Rattle.crew_session.specs.Streams.{bytes_held, write_failed};
 ghost use Rattle.crew_session.specs.Texts.{AppendsBeginning};
 ghost use Rattle.crew_command.specs.Faults.{bad_line, fault_of, line_of, status_of, text_of};
-ghost use Rattle.crew_command.specs.Program.{TellsLine};
+ghost use Rattle.crew_command.specs.Program.{ReportsLine};
 
 use crew_rules::BadSetting;
 use crew_session::{NotedWriter, SessionFault};
@@ -126,7 +126,7 @@ impl Fault {
     /// Writes the line of the fault, or the text of the command line's own fault as it stands. The
     /// line goes out whole, or the writer fails after a beginning of it; it takes no memory.
     pub fn tell<W: Write + Drop>(&self, writer: &mut NotedWriter<W>)
-        ensures { IfSome (line_of self.now) (TellsLine (bytes_held W.contents writer.old)
+        ensures { IfSome (line_of self.now) (ReportsLine (bytes_held W.contents writer.old)
             (bytes_held W.contents writer.new) (write_failed writer.new)) }
     {
         let _ = self.put_line(writer);

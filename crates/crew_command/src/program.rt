@@ -4,7 +4,7 @@ ghost use Rattle.std.specs.Prelude.{◌≡◌, ◌<◌, ◌≤◌, map};
 ghost use Rattle.clap.specs.Words.{kind_of};
 ghost use Rattle.crew_rules.specs.Settings.{IsChecked, check_of};
 ghost use Rattle.crew_session.specs.Streams.{bytes_held, bytes_left, read_failed, write_failed};
-ghost use Rattle.crew_command.specs.Program.{Answers, Comes, Outcome, Plays, Shows, Tells, WroteOf, status_after, streams};
+ghost use Rattle.crew_command.specs.Program.{Answers, Comes, Outcome, Plays, Shows, Reports, WroteOf, status_after, streams};
 ghost use Rattle.crew_words.specs.Words.{settings_of};
 ghost use Rattle.crew_words.specs.declared.task.Task.TheVariants.{Run};
 
@@ -200,7 +200,7 @@ pub fn command<
     ensures ends { (r : Outcome) × Comes (map S.text words.now)
         (streams (bytes_left R.remaining reader.old) (bytes_held W.contents writer.old)
         (bytes_held W.contents writer.new) (read_failed reader.new) (write_failed writer.new)) r
-        × (result ≡ status_after r) × Tells r (bytes_held F.contents faults.old)
+        × (result ≡ status_after r) × Reports r (bytes_held F.contents faults.old)
         (bytes_held F.contents faults.new) (write_failed faults.new) }
     ensures most { result ≤ 5 }
 {

@@ -27,7 +27,7 @@ const SPAN: i64 = 840;
 
 /// Earlier duties, and of each flight where its duties stand among them, where they do.
 #[derive(Drop)]
-pub(crate) struct Kept<'a> {
+pub(crate) struct EarlierDuties<'a> {
     pub(crate) duties: &'a [Duty],
     pub(crate) stands: &'a [Option<Block>],
 }
@@ -41,7 +41,7 @@ fn part_of(duties: &[Duty], block: Block) -> &[Duty]
     &duties[block.from..block.to]
 }
 
-impl<'a> Kept<'a> {
+impl<'a> EarlierDuties<'a> {
     // The duties that begin with the flight at a place, where they stand among these.
     fn at(&self, place: usize) -> Option<&'a [Duty]>
         requires { (s : Settings) × (flights : List Flight) × AreKept s flights
@@ -109,7 +109,7 @@ pub(crate) fn all_next_beside(
 fn count_from(
     alloc: Global,
     plan: &Plan<'_>,
-    kept: &Kept<'_>,
+    kept: &EarlierDuties<'_>,
     place: usize,
     so_far: usize,
 ) -> Result<usize, AllocError>
@@ -132,7 +132,7 @@ fn count_from(
 pub(crate) fn count_beside(
     alloc: Global,
     plan: &Plan<'_>,
-    kept: &Kept<'_>,
+    kept: &EarlierDuties<'_>,
 ) -> Result<Vec<usize>, AllocError>
     requires plan { IsPlan plan.now.settings.now plan.now.flights.now plan.now.slots.now
         plan.now.next.now }
@@ -167,7 +167,7 @@ fn append_from(
     alloc: Global,
     list: &mut Vec<Duty>,
     plan: &Plan<'_>,
-    kept: &Kept<'_>,
+    kept: &EarlierDuties<'_>,
     place: usize,
     count: usize,
 ) -> Result<(), AllocError>
@@ -192,7 +192,7 @@ fn append_from(
 pub(crate) fn fill_beside(
     alloc: Global,
     plan: &Plan<'_>,
-    kept: &Kept<'_>,
+    kept: &EarlierDuties<'_>,
     counts: &[usize],
     total: usize,
 ) -> Result<Vec<Duty>, AllocError>

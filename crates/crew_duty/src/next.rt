@@ -7,7 +7,7 @@ ghost use Rattle.crew_pairing.specs.Machinery.Beginnings.{AreFlights};
 ghost use Rattle.crew_pairing.specs.Machinery.Listing.{all_duties};
 ghost use Rattle.crew_duty.specs.Machinery.Kept.{AreKept, ClimbInTime};
 
-use crate::beside::{Kept, all_next_beside, count_beside, fill_beside};
+use crate::beside::{EarlierDuties, all_next_beside, count_beside, fill_beside};
 use crate::changes::changes_between;
 use crate::departures::index_of;
 use crate::duties::{held_flights, list_duties};
@@ -34,7 +34,7 @@ fn list_beside(
     settings: &Settings,
     flights: &[Flight],
     minutes: &[i64],
-    kept: &Kept<'_>,
+    kept: &EarlierDuties<'_>,
 ) -> Result<Duties, DutyFault>
     requires checked { IsChecked settings.now }
     requires flights { AreFlights flights.now }
@@ -101,7 +101,7 @@ pub fn list_next<R: Threads + Sync>(
     if count_kept(&blocks) < flights.len() / 2 {
         return list_duties(rt, alloc, settings, timetable);
     }
-    let kept = Kept {
+    let kept = EarlierDuties {
         duties: past.duties,
         stands: &blocks,
     };

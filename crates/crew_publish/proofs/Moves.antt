@@ -7,7 +7,7 @@ use Rattle.atomic_table.proofs.Lists.{at_set, at_snoc}
 use Rattle.std.specs.Arc.{arc_value}
 use Rattle.crew_version.specs.Versions.{Snapshot}
 use Rattle.crew_publish.specs.declared.shown.Shown.{Shown}
-use Rattle.crew_publish.specs.declared.shown.Face.{Face}
+use Rattle.crew_publish.specs.declared.shown.Common.{Common}
 use Rattle.crew_publish.specs.Chain.{Follows, IsChain, Ends}
 use Rattle.crew_publish.specs.Machinery.Rule.{AllBegin, Kept, Seen, list_of, Added, Opened, IsHeld}
 use Rattle.crew_publish.proofs.Chains.{prefix_self, all_longer, chain_push, ends_push, same_end}
@@ -56,16 +56,16 @@ fold_last : {S O : Type 0} (f : S → O → S) (s : S) (xs : List O) (x : O) →
 fold_last f s [] x = refl
 fold_last f s (y ∷ ys) x = fold_last f (f s y) ys x
 
-abbrev pub face : Shown → Face
-face s = record { version = arc_value s.version; opening = s.opening }
+abbrev pub common : Shown → Common
+common s = record { version = arc_value s.version; opening = s.opening }
 
 -- whatever was pending before, the last operation says what is shown
 pub shows_last : {O : Type 0} (value : O → Snapshot) (x next : Shown) (before ops : List O) (last : O) → ops ≡ before ++ last ∷ []
-    → face next ≡ fold (λ (s : Face) (a : O). record { version = value a; opening = false }) (face x) ops → (arc_value next.version ≡ value last) × (next.opening ≡ false)
+    → common next ≡ fold (λ (s : Common) (a : O). record { version = value a; opening = false }) (common x) ops → (arc_value next.version ≡ value last) × (next.opening ≡ false)
 shows_last {O = O} value x next before ops last is e =
-    let f : Face → O → Face = λ s a. record { version = value a; opening = false } in
-    let all : face next ≡ f (fold f (face x) before) last = e ∙ ap (λ os. fold f (face x) os) is ∙ fold_last f (face x) before last in
-    (ap (λ (z : Face). z.version) all, ap (λ (z : Face). z.opening) all)
+    let f : Common → O → Common = λ s a. record { version = value a; opening = false } in
+    let all : common next ≡ f (fold f (common x) before) last = e ∙ ap (λ os. fold f (common x) os) is ∙ fold_last f (common x) before last in
+    (ap (λ (z : Common). z.version) all, ap (λ (z : Common). z.opening) all)
 
 -- after a publication the seat stands for the list with what is shown at its end
 pub held_chain : (v : List (List Snapshot)) (x : Shown) → IsHeld v x → IsChain (list_of v (arc_value x.version))
@@ -87,12 +87,12 @@ pub begins : (v : Snapshot) (x : Shown) → arc_value x.version ≡ v → Kept x
 begins v x is = (v ∷ [], tt, sym is, (λ _. ap (λ (u : Snapshot). u ∷ []) (sym is)), λ seat w e. ⊎_elim (λ (none : get_elem? {A = List (List Snapshot)} [] seat ≡ some w). absurd (some-ne-none w (sym none))) (λ (same : [] ≡ w). subst (λ (u : List (List Snapshot)). AllBegin u (v ∷ [])) same tt) (at_snoc [] [] w seat e))
 
 -- the same shown again
-pub opens : (seat : ℕ) (v : List (List Snapshot)) (x y : Shown) → IsHeld v x → face y ≡ face x → TurnsAt Kept seat v x y Opened
+pub opens : (seat : ℕ) (v : List (List Snapshot)) (x y : Shown) → IsHeld v x → common y ≡ common x → TurnsAt Kept seat v x y Opened
 opens seat v x y held same views h at =
     let l = list_of v (arc_value x.version) in
     let is : l ≡ h.0 = whole v x h.0 held (h.4 seat v at) h.1 h.2 h.3 in
-    let version : arc_value y.version ≡ arc_value x.version = ap (λ (z : Face). z.version) same in
-    let opening : y.opening ≡ x.opening = ap (λ (z : Face). z.opening) same in
+    let version : arc_value y.version ≡ arc_value x.version = ap (λ (z : Common). z.version) same in
+    let opening : y.opening ≡ x.opening = ap (λ (z : Common). z.opening) same in
     let mine : AllBegin (l ∷ []) h.0 = subst (λ (m : List Snapshot). AllBegin (m ∷ []) h.0) (sym is) (prefix_self h.0, tt) in
     (l ∷ [], (h.0, h.1, subst (λ (u : Snapshot). Ends h.0 u) (sym version) h.2, (λ o. h.3 (sym opening ∙ o) ∙ ap (λ (u : Snapshot). u ∷ []) (sym version)), set_fits views seat (l ∷ []) h.0 h.4 mine), refl)
 

@@ -10,7 +10,7 @@ ghost use Rattle.crew_publish.specs.declared.fault.PairFault.TheVariants.{NoView
 use crate::fault::{PairFault, PublishFault};
 use crate::follow::follows;
 use crate::note::Note;
-use crate::shown::{Adds, Opens, Pen, Shown, Tells};
+use crate::shown::{Adds, Opens, Pen, Shown, Briefing};
 use crate::viewer::Viewer;
 use core::mem::replace_with;
 use crew_version::Version;
@@ -22,7 +22,7 @@ use std::sync::{Arc, Wait};
 const PLACES: usize = 128;
 
 // Publishes a version that follows the one shown.
-fn turn<R: Wait>(rt: &R, pen: Pen, version: Arc<Version>) -> (Pen, Result<(), AllocError>)
+fn show_next<R: Wait>(rt: &R, pen: Pen, version: Arc<Version>) -> (Pen, Result<(), AllocError>)
     requires follows { Follows (arc_value pen.desk.shown.value.version) (arc_value version) }
     requires held { IsHeld (view pen.desk.place) pen.desk.shown.value }
     ensures ok { IfOk result.1 (λ _. list_of (view result.0.desk.place)
@@ -98,7 +98,7 @@ impl<R: Wait + Drop> Publisher<R> {
         ensures same { OnErr result (self.new ≡ self.old) }
     {
         replace_with(&mut self.pen, (&self.rt, version), |pen, (rt, version)| {
-            turn(rt, pen, version)
+            show_next(rt, pen, version)
         })
     }
 
@@ -164,7 +164,7 @@ fn viewer(pen: &mut Pen) -> Result<Viewer, AllocError>
         × (pen.new.desk.shown ≡ pen.old.desk.shown) }
 {
     let mut seat = pen.factory().reader()?;
-    seat.learn::<Tells>(pen.tell::<Tells>());
+    seat.learn::<Briefing>(pen.tell::<Briefing>());
     Ok(Viewer::over(seat))
 }
 

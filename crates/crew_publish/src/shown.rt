@@ -18,13 +18,13 @@ pub struct Shown {
 }
 
 // What both copies have in common. No value of it is made.
-pub struct Face {
+pub struct Common {
     pub version: Version,
     pub opening: bool,
 }
 
 impl Absorb<Arc<Version>> for Shown {
-    type State = Face;
+    type State = Common;
 
     ghost use Rattle.std.specs.Prelude.{false};
     ghost use Rattle.std.specs.Arc.{arc_value};
@@ -84,15 +84,15 @@ impl Outcome<Shown, Known> for Opens {
 }
 
 /// A seat is told all that the writer's knows.
-pub struct Tells;
+pub struct Briefing;
 
-impl Split<Known> for Tells {
+impl Split<Known> for Briefing {
     ghost left = { λ v. v };
 
     ghost right = { λ v. v };
 }
 
-impl Join<Known> for Tells {
+impl Join<Known> for Briefing {
     ghost use Rattle.std.specs.Prelude.{◌++◌, []};
 
     ghost both = { λ v w. w ++ v };

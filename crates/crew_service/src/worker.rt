@@ -31,15 +31,15 @@ impl<G: Gate> Worker<G> {
     /// trusted, since the board judges each result by what its job holds.
     pub fn run<R: Wait>(&mut self, rt: &R, alloc: Global, shared: &Shared) -> Ended {
         for _ in rt.forever() {
-            if let Some(ended) = self.turn(rt, alloc, shared) {
+            if let Some(ended) = self.work_lot(rt, alloc, shared) {
                 return ended;
             }
         }
         unreachable!()
     }
 
-    // Works a lot out. Tells why it has ended, where it has.
-    fn turn<R: Wait>(&mut self, rt: &R, alloc: Global, shared: &Shared) -> Option<Ended> {
+    // Works out one lot of jobs. Says why the worker ends, where it does.
+    fn work_lot<R: Wait>(&mut self, rt: &R, alloc: Global, shared: &Shared) -> Option<Ended> {
         let Ok(taken) = shared.take(rt, alloc) else {
             return Some(Ended::Memory);
         };

@@ -119,7 +119,7 @@ impl<'a, R: Print> Source<'a, R> {
     }
 
     // Begins again at the end of the input, where it is to be given again.
-    fn turn(&mut self) {
+    fn begin_again(&mut self) {
         if self.rest.is_empty() && self.again > 0 {
             self.again -= 1;
             self.rest = self.input;
@@ -132,7 +132,7 @@ impl<R: Print> Read for Source<'_, R> {
         if self.left == 0 {
             return Err(io::Error::from(ErrorKind::PermissionDenied));
         }
-        self.turn();
+        self.begin_again();
         let most = self.chunk.min(self.left).min(buffer.len());
         let given = self.rest.read(&mut buffer[..most])?;
         self.left = self.left.saturating_sub(given);

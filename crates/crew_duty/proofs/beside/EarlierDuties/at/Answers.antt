@@ -3,7 +3,7 @@ use Rattle.std.specs.Prelude.{slice_get}
 use Rattle.std.proofs.lemmas.Bool.Decides.{nat_tests}
 use Rattle.std.proofs.lemmas.Option.{slice_get-get_or}
 use Rattle.crew_duty.proofs.Blocks.{kept-at}
-use Rattle.crew_duty.proofs.beside.Kept.at.Goals as goal
+use Rattle.crew_duty.proofs.beside.EarlierDuties.at.Goals as goal
 
 pub part_of-requires-clause-ordered : goal.part_of-requires-clause-ordered
 part_of-requires-clause-ordered c =

@@ -1,14 +1,14 @@
 use Rattle.std.proofs.Common.{◌≡◌, drop, fold, false, sym, subst, []}
 use Rattle.std.proofs.lemmas.Result.{MatchResult-at_ok}
-use Rattle.crew_publish.specs.declared.shown.Face.{Face}
+use Rattle.crew_publish.specs.declared.shown.Common.{Common}
 use Rattle.std.specs.Arc.{arc_value}
 use Rattle.left_right.specs.Sides.{view}
 use Rattle.crew_version.specs.Versions.{Snapshot}
 use Rattle.crew_publish.specs.Chain.{Follows}
 use Rattle.crew_publish.specs.Machinery.Rule.{Added, IsHeld}
-use Rattle.crew_publish.proofs.Moves.{adds, shows_last, held_after, face}
-use Rattle.crew_publish.proofs.publisher.turn.Goals as goal
-use Rattle.crew_publish.proofs.publisher.turn.Goals.{After-publish_as-pen, In-Ok, In-Ok-done}
+use Rattle.crew_publish.proofs.Moves.{adds, shows_last, held_after, common}
+use Rattle.crew_publish.proofs.publisher.show_next.Goals as goal
+use Rattle.crew_publish.proofs.publisher.show_next.Goals.{After-publish_as-pen, In-Ok, In-Ok-done}
 
 held_before : (g : _) (c : In-Ok g) → IsHeld (view c.append.new.self.desk.place) c.append.new.self.desk.shown.value
 held_before g c = subst (λ d. IsHeld (view d.place) d.shown.value) (sym c.append.ensures.desk) c.requires.held
@@ -27,7 +27,7 @@ shown_after g c =
     let now = c.append.new.self in
     let next = c.publish_as-pen.result.0 in
     let ops = drop now.behind now.log.items in
-    let values = MatchResult-at_ok (λ _. (face next.desk.shown.value ≡ fold (λ (s : Face) a. record { version = arc_value a; opening = false }) (face now.desk.shown.value) ops) × (drop next.behind next.log.items ≡ []))
+    let values = MatchResult-at_ok (λ _. (common next.desk.shown.value ≡ fold (λ (s : Common) a. record { version = arc_value a; opening = false }) (common now.desk.shown.value) ops) × (drop next.behind next.log.items ≡ []))
     (λ _. (next.desk.shown.value ≡ now.desk.shown.value) × (drop next.behind next.log.items ≡ ops)) c.in-Ok-done.field-0 c.in-Ok-done.is c.publish_as-pen.ensures.values in
     (shows_last arc_value now.desk.shown.value next.desk.shown.value (drop c.args.pen.behind c.args.pen.log.items) ops c.args.version c.in-Ok.ensures.pending values.0).0
 
