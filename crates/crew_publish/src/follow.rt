@@ -3,7 +3,7 @@ ghost use Rattle.std.specs.Prelude.{◌≡◌, IsTrue, ◌↔◌, slice_get};
 ghost use mathlib.Core.List.{IsPrefix};
 ghost use Rattle.crew_publish.specs.Chain.{Extends, Follows, IsSame};
 
-use crew_version::{Version, is_entry};
+use crew_version::{Version, is_same_entry};
 
 // Whether the entry at a place of both versions is one.
 fn is_same_at(earlier: &Version, later: &Version, place: usize) -> bool
@@ -11,7 +11,7 @@ fn is_same_at(earlier: &Version, later: &Version, place: usize) -> bool
         ≡ slice_get later.now.entries place) }
 {
     match (earlier.entry(place), later.entry(place)) {
-        (Some(one), Some(other)) => is_entry(&one, &other),
+        (Some(one), Some(other)) => is_same_entry(&one, &other),
         (None, None) => true,
         _ => false,
     }

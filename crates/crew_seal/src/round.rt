@@ -8,7 +8,7 @@ use crew_board::{Board, SealFault};
 use crew_flights::Entry;
 use crew_job::Ground;
 use crew_rules::Settings;
-use crew_version::{Version, is_entry};
+use crew_version::{Version, is_same_entry};
 use std::alloc::{AllocError, Global};
 use std::sync::Arc;
 
@@ -24,7 +24,7 @@ fn is_at(ground: &Ground, place: usize, entry: &Entry) -> bool
     ensures { IsTrue result → slice_get ground.now.entries place ≡ Some entry.now }
 {
     match ground.entry(place) {
-        Some(found) => is_entry(&found, entry),
+        Some(found) => is_same_entry(&found, entry),
         None => false,
     }
 }

@@ -16,6 +16,6 @@ mod search;
 mod version;
 
 pub use draft::Draft;
-pub use entry::is_entry;
+pub use entry::is_same_entry;
 pub use fault::VersionFault;
 pub use version::Version;

@@ -19,7 +19,7 @@ ghost use Rattle.crew_version.specs.Fronts.{IsFrontByKey};
 ghost use Rattle.crew_version.specs.Machinery.Kept.{IsRightEarlier};
 
 use crate::draft::Draft;
-use crate::entry::is_entry;
+use crate::entry::is_same_entry;
 use crate::fault::VersionFault;
 use crate::search::{Earlier, find_solution};
 use crew_flights::{Code, Entry, Timetable, Verdict};
@@ -74,7 +74,7 @@ fn is_same(one: Option<Entry>, other: Option<Entry>) -> bool
     ensures { IsTrue result ↔ (one ≡ other) }
 {
     match (one, other) {
-        (Some(one), Some(other)) => is_entry(&one, &other),
+        (Some(one), Some(other)) => is_same_entry(&one, &other),
         (None, None) => true,
         _ => false,
     }

@@ -17,7 +17,7 @@ use crew_publish::{View, Viewer};
 use crew_rules::Settings;
 use crew_service::{Gate, Planner, Shared};
 use crew_session::{Engine, EngineFault};
-use crew_version::{Version, is_entry};
+use crew_version::{Version, is_same_entry};
 use std::alloc::Global;
 use std::marker::Model;
 use std::sync::Wait;
@@ -106,7 +106,7 @@ fn is_at(version: &Version, place: usize, entry: &Entry) -> bool
     ensures { IsTrue result ↔ (slice_get version.now.entries place ≡ Some entry.now) }
 {
     match version.entry(place) {
-        Some(found) => is_entry(&found, entry),
+        Some(found) => is_same_entry(&found, entry),
         None => false,
     }
 }
