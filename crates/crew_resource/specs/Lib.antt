@@ -4,4 +4,5 @@ pub mod Resource
 pub mod Stages
 pub mod Labels
 pub mod Events
+pub mod Chains
 pub mod Machinery
