@@ -77,6 +77,17 @@ impl Twins {
         wide(self.arrivals[place])
     }
 
+    /// Whether an arrival of the new network stands at a place in the old one, with the same duties.
+    pub fn has_arrival_at(&self, place: usize, old: usize) -> bool
+        requires { place < length self.now.arrivals }
+        ensures { IsTrue result ↔ (slice_get self.now.arrivals place ≡ Some (Some old)) }
+    {
+        match self.arrival(place) {
+            Some(there) => there == old,
+            None => false,
+        }
+    }
+
     /// The rank in the new network of each duty of the old one that has its key there.
     pub fn ranks(&self) -> &[Option<u32>]
         ensures { result.now ≡ self.now.ranks }

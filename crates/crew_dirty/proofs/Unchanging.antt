@@ -5,8 +5,8 @@ use Rattle.std.specs.FinMap as map
 use Rattle.crew_dirty.specs.Carried.{Carried, IsCarriedOver}
 use Rattle.crew_dirty.specs.Dirty.{IsUntouched}
 use Rattle.crew_dirty.specs.Unchanged.{IsUnchanged}
-use Rattle.crew_dirty.specs.declared.standing.Standing.{Standing}
-use Rattle.crew_dirty.specs.declared.standing.Standing.TheVariants.{Same}
+use Rattle.crew_dirty.specs.declared.node_state.NodeState.{NodeState}
+use Rattle.crew_dirty.specs.declared.node_state.NodeState.TheVariants.{Same}
 use Rattle.crew_dirty.proofs.Nodes.{is-node, own-duty, untouched-at}
 use Rattle.crew_flights.specs.Timetable.{Timetable}
 use Rattle.crew_net.proofs.ArrivalPlaces.{arrives, own-arrival, ranks-in, ranks-out}
@@ -23,9 +23,9 @@ use Rattle.crew_resource.specs.Members.{Member}
 use Rattle.crew_resource.proofs.Members.{Member-at}
 
 module _ (t u : Timetable) (old new : Net) (c : Carried) (over : IsCarriedOver t u old new c) (b r : ℕ) (node : Node) (d : Duty)
-    (base : slice_get new.bases b ≡ Some node.base) (known : slice_get new.duties r ≡ Some d) (key : d.key ≡ node.key) (standing : List ℕ → ℕ → Standing) where
+    (base : slice_get new.bases b ≡ Some node.base) (known : slice_get new.duties r ≡ Some d) (key : d.key ≡ node.key) (state : List ℕ → ℕ → NodeState) where
   -- an unchanged node is untouched
-  pub is-untouched : IsUnchanged t u old new standing node → (get_or c.bases b false && get_or c.same r false) ≡ true
+  pub is-untouched : IsUnchanged t u old new state node → (get_or c.bases b false && get_or c.same r false) ≡ true
   is-untouched k =
       let one = own-duty t u old new c over b r node d base known key k.duty k.is_node in
       (untouched-at t u old new c over b r node d base known key).1 (subst (λ (e : Duty). IsUntouched old new (map.get t.bases node.base) (map.get u.bases node.base) node.base e) (sym one) k.untouched)
@@ -33,9 +33,9 @@ module _ (t u : Timetable) (old new : Net) (c : Carried) (over : IsCarriedOver t
   module _ (w : Window) (window : IsWindow (λ x. may_wait new.settings x (departure_of d)) new.arrivals w) (arrived : AreEvents arrival_of arrival_cmp new.duties new.arrivals) where
     -- whatever arrives in its window stands so
     abbrev pub AreSameIn : Type 0
-    AreSameIn = (k rank : ℕ) (x : Arrival) → w.from ≤ k → k < w.end → slice_get new.arrivals k ≡ Some x → Member (ranks_where (arrives_at x) new.duties) rank → standing node.base rank ≡ Same
+    AreSameIn = (k rank : ℕ) (x : Arrival) → w.from ≤ k → k < w.end → slice_get new.arrivals k ≡ Some x → Member (ranks_where (arrives_at x) new.duties) rank → state node.base rank ≡ Same
 
-    pub is-unchanged : (get_or c.bases b false && get_or c.same r false) ≡ true → AreSameIn → IsUnchanged t u old new standing node
+    pub is-unchanged : (get_or c.bases b false && get_or c.same r false) ≡ true → AreSameIn → IsUnchanged t u old new state node
     is-unchanged flags all = record {
       duty = d;
       is_node = is-node t u old new c over b r node d base known key;
@@ -46,7 +46,7 @@ module _ (t u : Timetable) (old new : Net) (c : Carried) (over : IsCarriedOver t
           all k.0 rank (arrival_of e) inside.0 inside.1 k.1 (ranks-in (arrives_at (arrival_of e)) new.duties rank e at (arrives (arrival_of e) e refl)));
     }
 
-    pub are-same : IsUnchanged t u old new standing node → AreSameIn
+    pub are-same : IsUnchanged t u old new state node → AreSameIn
     are-same same k rank x low high at m =
         let one = own-duty t u old new c over b r node d base known key same.duty same.is_node in
         let e = ranks-out (arrives_at x) new.duties rank m in

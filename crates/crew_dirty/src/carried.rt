@@ -4,7 +4,7 @@ ghost use Rattle.std.specs.FinMap as map;
 ghost use Rattle.crew_dirty.specs.Carried.{AreKeptFrom, IsCarriedOver, IsNextDirty};
 ghost use Rattle.crew_dirty.specs.Dirty.{IsKept, IsNetOver, IsUntouched};
 ghost use Rattle.crew_dirty.specs.Unchanged.{IsUnchanged};
-ghost use Rattle.crew_dirty.specs.declared.standing.Standing.TheVariants.{Same};
+ghost use Rattle.crew_dirty.specs.declared.node_state.NodeState.TheVariants.{Same};
 ghost use Rattle.crew_flights.specs.Timetable as TimetableSpec;
 ghost use Rattle.crew_net.specs.Events.{arrives_at};
 ghost use Rattle.crew_net.specs.Nets as Nets;
@@ -19,7 +19,7 @@ use crate::node_places::place_of;
 use crate::places::departure_places;
 use crate::reach::unreached_duties;
 use crate::same::same_duties;
-use crate::standing::{Standings, are_same};
+use crate::node_state::{NodeStates, are_same};
 use crew_carry::Twins;
 use crew_flights::{Code, Timetable};
 use crew_net::{Net, Node, Window};
@@ -152,10 +152,10 @@ impl Carried {
 
     /// Whether the node is one of the new network that isn't touched, and at each node just before
     /// it stands the front that stood there.
-    pub fn unchanged<S: Standings>(&self, net: &Net, node: &Node, standings: &S) -> bool
+    pub fn unchanged<S: NodeStates>(&self, net: &Net, node: &Node, states: &S) -> bool
         ensures { (t u : TimetableSpec.Timetable) (old : Nets.Net)
             → IsCarriedOver t u old net.now self.now
-            → (IsTrue result ↔ IsUnchanged t u old net.now (S.standing_at standings.now)
+            → (IsTrue result ↔ IsUnchanged t u old net.now (S.state_at states.now)
             node.now) }
     {
         let Some(place) = place_of(net, node) else {
@@ -170,7 +170,7 @@ impl Carried {
         if departure >= net.departures().len() {
             return false;
         }
-        are_same_before::<S>(net, net.window(departure), node.base, standings)
+        are_same_before::<S>(net, net.window(departure), node.base, states)
     }
 
     // The place of the departure of a rank.
@@ -185,16 +185,16 @@ impl Carried {
 }
 
 // Whether what arrives in a window stands at the front that stood there.
-fn are_same_before<S: Standings>(net: &Net, window: Window, base: Code, standings: &S) -> bool
+fn are_same_before<S: NodeStates>(net: &Net, window: Window, base: Code, states: &S) -> bool
     requires ordered { window.from ≤ window.end }
     requires within { window.end ≤ length net.now.arrivals }
     ensures { IsTrue result ↔ ((k rank : ℕ) (x : Arrival) → window.from ≤ k → k < window.end
         → slice_get net.now.arrivals k ≡ Some x
         → Member (ranks_where (arrives_at x) net.now.duties) rank
-        → S.standing_at standings.now base rank ≡ Same) }
+        → S.state_at states.now base rank ≡ Same) }
 {
     for arrival in window.from..window.end {
-        let same = are_same::<S>(net.arriving(arrival), base, standings);
+        let same = are_same::<S>(net.arriving(arrival), base, states);
         if !same {
             return false;
         }

@@ -13,8 +13,8 @@ mod node_places;
 mod places;
 mod reach;
 mod same;
-mod standing;
+mod node_state;
 mod windows;
 
 pub use carried::{Carried, carry};
-pub use standing::{Standing, Standings};
+pub use node_state::{NodeState, NodeStates};

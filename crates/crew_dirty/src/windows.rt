@@ -8,17 +8,6 @@ ghost use Rattle.crew_resource.specs.Members.{Member};
 use crew_carry::Twins;
 use crew_net::{Net, Window};
 
-// Whether the twin of an arrival stands at a place.
-fn stands_at(twins: &Twins, place: usize, old: usize) -> bool
-    requires { place < length twins.now.arrivals }
-    ensures { IsTrue result ↔ (slice_get twins.now.arrivals place ≡ Some (Some old)) }
-{
-    match twins.arrival(place) {
-        Some(there) => there == old,
-        None => false,
-    }
-}
-
 // Whether a window holds just the twins of what another holds, in order.
 fn holds_twins(twins: &Twins, now: Window, old: Window) -> bool
     requires ordered { now.from ≤ now.end }
@@ -30,7 +19,7 @@ fn holds_twins(twins: &Twins, now: Window, old: Window) -> bool
         return false;
     }
     for offset in 0..now.end - now.from {
-        let stands = stands_at(twins, now.from + offset, old.from + offset);
+        let stands = twins.has_arrival_at(now.from + offset, old.from + offset);
         if !stands {
             return false;
         }

@@ -10,7 +10,8 @@ use Rattle.crew_machine.specs.Rounds.{Abandons, Board, Brings, GivesBack, Opens,
 use Rattle.crew_machine.specs.declared.rounds.Brought.{Brought}
 use Rattle.crew_machine.specs.declared.rounds.Brought.TheVariants.{Stale, Again, Stored}
 use Rattle.crew_machine.specs.Steps.{Abandon, Abandoned, Act, Answered, Ask, Begin, Begun, Bring, Busy, Claim, Claimed, Give_back, Given_back, Last_version, No_round, None_ready, Not_brought, Not_done, Not_given_back, Nothing_new, Publish, Push, Pushed, Reply, Run, Seal, Sealed, State, Step, Too_large, Was_brought, Was_published, last_of, opening, seen_by, start}
-use Rattle.crew_machine.specs.Chains.{Follows, IsChain, NeverFalls, answers_to}
+use Rattle.crew_machine.specs.Chains.{Follows, NeverFalls, answers_to}
+use Rattle.crew_resource.specs.Chains.{ChainFrom, IsChain}
 use Rattle.crew_machine.specs.Machinery.Sound.{IsSound, IsStanding, IsVersion}
 use Rattle.crew_machine.specs.Machinery.Worked.{Laws}
 use Rattle.crew_machine.proofs.Cells.{Some-same}
@@ -51,20 +52,15 @@ follows_trans a b c p q = record {
 }
 
 -- one more version at the end of a chain
-chain_push : {E N F B : Type 0} (versions : List (Version E N F B)) (last v : Version E N F B) → IsChain versions → last_of versions ≡ Some last → Follows last v → IsChain (versions ++ v ∷ [])
-chain_push versions last v chain ends follows k a b first second =
-    ⊎_elim
-    (λ q.
-    ⊎_elim (λ p. chain k a b p.1 q.1) (λ p. absurd (omega (arith, p.0, q.0))) (slice_get_push_cases versions v a k first))
-    (λ q.
-    ⊎_elim
-    (λ p.
-    let i : k ≡ length versions - 1 = omega (arith, q.0) in
-    let at : last ≡ a = Some-same last a (sym ends ∙ (ap (slice_get versions) (sym i) ∙ p.1)) in
-    subst (λ z. Follows a z) q.1 (subst (λ z. Follows z v) at follows))
-    (λ p. absurd (omega (arith, p.0, q.0)))
-    (slice_get_push_cases versions v a k first))
-    (slice_get_push_cases versions v b (k + 1) second)
+chain_from_push : {E N F B : Type 0} (first : Version E N F B) (versions : List (Version E N F B)) (last v : Version E N F B) → ChainFrom Follows first versions → slice_get (first ∷ versions) (length versions) ≡ Some last → Follows last v → ChainFrom Follows first (versions ++ v ∷ [])
+chain_from_push first [] last v chain ends follows = (subst (λ z. Follows z v) (sym (Some-same first last ends)) follows, tt)
+chain_from_push first (next ∷ versions) last v chain ends follows = (chain.0, chain_from_push next versions last v chain.1 ends follows)
+
+chain_push : {E N F B : Type 0} (versions : List (Version E N F B)) (last v : Version E N F B) → IsChain Follows versions → last_of versions ≡ Some last → Follows last v → IsChain Follows (versions ++ v ∷ [])
+chain_push [] last v chain ends follows = tt
+chain_push (first ∷ versions) last v chain ends follows =
+    let at : length versions ≡ length (first ∷ versions) - 1 = omega arith in
+    chain_from_push first versions last v chain (ap (slice_get (first ∷ versions)) at ∙ ends) follows
 
 module _ {E D N I F B : Type 0} (w : World E D N I F B) (laws : Laws w) where
   -- what a new standing with the same sealed version keeps
@@ -146,7 +142,7 @@ module _ {E D N I F B : Type 0} (w : World E D N I F B) (laws : Laws w) where
   start_sound = record {
     board = record { sealed = laws.opening; number = omega arith; round = λ r e. absurd (let b : ⊥ = (cc) in b) };
     published = λ k v e. ⊎_elim (λ q. absurd (let b : ⊥ = (cc) in b)) (λ q. subst (IsVersion w) q.1 laws.opening) (slice_get_push_cases [] (opening w) v k e);
-    chain = λ k a b first second. ⊎_elim (λ q. absurd (let l : k + 1 < 0 = q.0 in omega (arith, l))) (λ q. absurd (let l : k + 1 ≡ 0 = q.0 in omega (arith, l))) (slice_get_push_cases [] (opening w) b (k + 1) second);
+    chain = tt;
     newest = (opening w, refl, inl refl);
   }
 

@@ -1,7 +1,6 @@
--- Chains of published versions, and what one reader is answered.
-use Rattle.std.specs.Prelude.{◌≡◌, ℕ, ◌+◌, ◌<◌, ◌≤◌, ◌==◌, cond, List, [], ◌∷◌, Some}
+-- How a published version follows another, and what one reader is answered.
+use Rattle.std.specs.Prelude.{ℕ, ◌<◌, ◌≤◌, ◌==◌, cond, List, [], ◌∷◌}
 use mathlib.Core.List.{IsPrefix}
-use Rattle.std.specs.List.{slice_get}
 use Rattle.crew_machine.specs.Rounds.{Version}
 use Rattle.crew_machine.specs.Steps.{Act, Ask, Answered, Reply}
 
@@ -9,11 +8,6 @@ use Rattle.crew_machine.specs.Steps.{Act, Ask, Answered, Reply}
 pub record Follows {E N F B : Type 0} (before after : Version E N F B) : Type 0 where
   pub rises : before.number < after.number
   pub begins : IsPrefix before.entries after.entries
-
--- each version follows the one before it
-abbrev pub IsChain : {E N F B : Type 0} → List (Version E N F B) → Type 0
-IsChain {E} {N} {F} {B} versions = (k : ℕ) (a b : Version E N F B) → slice_get versions k ≡ Some a
-    → slice_get versions (k + 1) ≡ Some b → Follows a b
 
 -- the places of what a reader was answered, one after another
 abbrev pub answers_to : {E N I F B : Type 0} → ℕ → List (Act E) → List (Reply E N I F B) → List ℕ

@@ -4,7 +4,8 @@ ghost use Rattle.std.specs.Prelude.{◌≡◌, ◌↔◌, ℕ, ◌+◌, ◌≤�
 ghost use Rattle.std.specs.List.{slice_get};
 ghost use mathlib.Core.List.{IsPrefix};
 ghost use Rattle.crew_flights.specs.declared.entries.Entry.{Entry};
-ghost use Rattle.crew_machine.specs.Chains.{IsChain, NeverFalls, answers_to};
+ghost use Rattle.crew_machine.specs.Chains.{Follows, NeverFalls, answers_to};
+ghost use Rattle.crew_resource.specs.Chains.{IsChain};
 ghost use Rattle.crew_machine.specs.Choices.{ChosenRun, ChosenStep};
 ghost use Rattle.crew_machine.specs.Crew.{CrewAct, CrewBoard, CrewReply, CrewRound, CrewState, CrewVersion, DutyNode, DutyWork, Entries, IsFromScratch, IsFrontOf, IsNodeOf, crew, timetable_of};
 ghost use Rattle.crew_machine.specs.Rounds.{Abandons, Brings, Claims, GivesBack, IsCarried, IsUndone, NoneReusable, Opens, Restores, Reuses, Seals, last_number, progress_of};
@@ -31,7 +32,7 @@ pub fn all_interleavings()
         → IsFrontOf s (timetable_of round.entries) n entries }
     ensures chain { (s : Settings) (acts : List CrewAct) (replies : List CrewReply)
         (state : CrewState) → IsChecked s → Run (crew s) (start (crew s)) acts replies state
-        → IsChain state.published }
+        → IsChain Follows state.published }
     ensures scratch { (s : Settings) (acts : List CrewAct) (replies : List CrewReply)
         (state : CrewState) → IsChecked s → Run (crew s) (start (crew s)) acts replies state
         → (place : ℕ) (version : CrewVersion) → slice_get state.published place ≡ Some version

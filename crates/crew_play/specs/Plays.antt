@@ -6,7 +6,8 @@ use mathlib.Core.List.{IsPrefix}
 use Rattle.crew_board.specs.Boards.{shown_version}
 use Rattle.crew_core.specs.Replies.{AreRepliesOf}
 use Rattle.crew_play.specs.declared.trace.Trace.{Trace}
-use Rattle.crew_machine.specs.Chains.{IsChain, NeverFalls, answers_to}
+use Rattle.crew_machine.specs.Chains.{Follows, NeverFalls, answers_to}
+use Rattle.crew_resource.specs.Chains.{IsChain}
 use Rattle.crew_machine.specs.Choices.{ChosenRun}
 use Rattle.crew_machine.specs.Crew.{CrewAct, CrewReply, CrewState, CrewVersion, IsFromScratch, crew}
 use Rattle.crew_machine.specs.Steps.{Answered, pushed_in, start}
@@ -25,7 +26,7 @@ pub record MeetsHeadline (s : Settings) (acts : List CrewAct) (answers : List Cr
   pub entries : (place : ℕ) (version : CrewVersion) → slice_get published place ≡ Some version
       → IsPrefix version.entries (pushed_in acts)
   -- numbers rise, and each version's entries begin with those of the one before
-  pub chain : IsChain published
+  pub chain : IsChain Follows published
   -- each answer is a published version, and no reader is answered one before its last
   pub answered : (reader place : ℕ) (version : CrewVersion)
       → Member answers (Answered reader place version)

@@ -8,7 +8,8 @@ use Rattle.std.proofs.lemmas.Bool.Decides.{nat_tests}
 use Rattle.std.proofs.lemmas.List.{take-append-drop}
 use Rattle.crew_version.specs.Versions.{Snapshot}
 use Rattle.crew_publish.specs.Views.{IsMet, IsViewOf, Watching}
-use Rattle.crew_publish.specs.Chain.{Follows, IsSame, Extends, ChainFrom, IsChain, last_or, Ends}
+use Rattle.crew_publish.specs.Chain.{Follows, IsSame, Extends, last_or, Ends}
+use Rattle.crew_resource.specs.Chains.{ChainFrom, IsChain}
 use Rattle.crew_publish.specs.Machinery.Rule.{AllBegin, seen_by}
 
 pub prefix_self : {A : Type 0} (xs : List A) → IsPrefix xs xs
@@ -22,11 +23,11 @@ pub all_longer : (ls : List (List Snapshot)) (whole : List Snapshot) (z : Snapsh
 all_longer [] whole z h = tt
 all_longer (l ∷ ls) whole z h = (prefix_longer l whole z h.0, all_longer ls whole z h.1)
 
-rises : (v : Snapshot) (vs : List Snapshot) → ChainFrom v vs → v.number + length vs ≤ (last_or v vs).number
+rises : (v : Snapshot) (vs : List Snapshot) → ChainFrom Follows v vs → v.number + length vs ≤ (last_or v vs).number
 rises v [] h = omega arith
 rises v (w ∷ ws) h = let r = rises w ws h.1 in let s : v.number < w.number = h.0.rises in omega arith
 
-chain_from_push : (v : Snapshot) (vs : List Snapshot) (z : Snapshot) → ChainFrom v vs → Follows (last_or v vs) z → ChainFrom v (vs ++ z ∷ [])
+chain_from_push : (v : Snapshot) (vs : List Snapshot) (z : Snapshot) → ChainFrom Follows v vs → Follows (last_or v vs) z → ChainFrom Follows v (vs ++ z ∷ [])
 chain_from_push v [] z h f = (f, tt)
 chain_from_push v (w ∷ ws) z h f = (h.0, chain_from_push w ws z h.1 f)
 
@@ -34,7 +35,7 @@ last_or_push : (v : Snapshot) (vs : List Snapshot) (z : Snapshot) → last_or v 
 last_or_push v [] z = refl
 last_or_push v (w ∷ ws) z = last_or_push w ws z
 
-pub chain_push : (vs : List Snapshot) (last z : Snapshot) → IsChain vs → Ends vs last → Follows last z → IsChain (vs ++ z ∷ [])
+pub chain_push : (vs : List Snapshot) (last z : Snapshot) → IsChain Follows vs → Ends vs last → Follows last z → IsChain Follows (vs ++ z ∷ [])
 chain_push [] last z h e f = tt
 chain_push (v ∷ vs) last z h e f = chain_from_push v vs z h (subst (λ (u : Snapshot). Follows u z) (sym e) f)
 
@@ -43,11 +44,11 @@ ends_push [] z = refl
 ends_push (v ∷ vs) z = last_or_push v vs z
 
 -- what follows the last of a chain is the last of the longer one
-pub view_push : (vs l : List Snapshot) (last z : Snapshot) → l ≡ vs ++ z ∷ [] → IsChain vs → Ends vs last → Follows last z → IsViewOf l z
-view_push vs l last z is h e f = (subst IsChain (sym is) (chain_push vs last z h e f), subst (λ (m : List Snapshot). Ends m z) (sym is) (ends_push vs z))
+pub view_push : (vs l : List Snapshot) (last z : Snapshot) → l ≡ vs ++ z ∷ [] → IsChain Follows vs → Ends vs last → Follows last z → IsViewOf l z
+view_push vs l last z is h e f = (subst (IsChain Follows) Follows (sym is) (chain_push vs last z h e f), subst (λ (m : List Snapshot). Ends m z) (sym is) (ends_push vs z))
 
 -- where a beginning ends as the whole does, nothing is left
-nothing_left : (v : Snapshot) (vs rest : List Snapshot) → ChainFrom v (vs ++ rest) → last_or v vs ≡ last_or v (vs ++ rest) → rest ≡ []
+nothing_left : (v : Snapshot) (vs rest : List Snapshot) → ChainFrom Follows v (vs ++ rest) → last_or v vs ≡ last_or v (vs ++ rest) → rest ≡ []
 nothing_left v [] [] h e = refl
 nothing_left v [] (r ∷ rs) h e =
     let s = rises v (r ∷ rs) h in
@@ -59,10 +60,10 @@ pub append-nil' : {A : Type 0} (xs : List A) → xs ++ [] ≡ xs
 append-nil' [] = refl
 append-nil' (x ∷ xs) = ap (λ ys. x ∷ ys) (append-nil' xs)
 
-pub same_end : (vs whole : List Snapshot) (last : Snapshot) → IsPrefix vs whole → IsChain whole → Ends vs last → Ends whole last → vs ≡ whole
+pub same_end : (vs whole : List Snapshot) (last : Snapshot) → IsPrefix vs whole → IsChain Follows whole → Ends vs last → Ends whole last → vs ≡ whole
 same_end [] whole last p h e f = absurd e
 same_end (v ∷ vs) whole last p h e f =
-    let h' : ChainFrom v (vs ++ p.0) = subst IsChain (sym p.1) h in
+    let h' : ChainFrom Follows v (vs ++ p.0) = subst (IsChain Follows) Follows (sym p.1) h in
     let f' : last_or v (vs ++ p.0) ≡ last = subst (λ (l : List Snapshot). Ends l last) (sym p.1) f in
     let none : p.0 ≡ [] = nothing_left v vs p.0 h' (e ∙ sym f') in
     sym (append-nil' (v ∷ vs)) ∙ (ap (λ (r : List Snapshot). (v ∷ vs) ++ r) (sym none) ∙ p.1)
@@ -136,11 +137,11 @@ extends_trans v s w h k =
     (λ (one : Follows v s). ⊎_elim (λ (two : IsSame s w). inr (follows_same v s w one two)) (λ (two : Follows s w). inr (follows_trans v s w one two)) k)
     h
 
-extends_last : (v : Snapshot) (vs : List Snapshot) → ChainFrom v vs → Extends v (last_or v vs)
+extends_last : (v : Snapshot) (vs : List Snapshot) → ChainFrom Follows v vs → Extends v (last_or v vs)
 extends_last v [] h = inl (refl, refl)
 extends_last v (w ∷ ws) h = extends_trans v w (last_or w ws) (inr h.0) (extends_last w ws h.1)
 
-extends_from : (v : Snapshot) (vs rest : List Snapshot) → ChainFrom v (vs ++ rest) → Extends (last_or v vs) (last_or v (vs ++ rest))
+extends_from : (v : Snapshot) (vs rest : List Snapshot) → ChainFrom Follows v (vs ++ rest) → Extends (last_or v vs) (last_or v (vs ++ rest))
 extends_from v [] rest h = extends_last v rest h
 extends_from v (w ∷ ws) rest h = extends_from w ws rest h.1
 
@@ -148,7 +149,7 @@ extends_from v (w ∷ ws) rest h = extends_from w ws rest h.1
 pub extends_beginning : (vs whole : List Snapshot) (last end : Snapshot) → IsPrefix vs whole → Ends vs last → IsViewOf whole end → Extends last end
 extends_beginning [] whole last end p e of = absurd e
 extends_beginning (v ∷ vs) whole last end p e of =
-    let chain : ChainFrom v (vs ++ p.0) = subst IsChain (sym p.1) of.0 in
+    let chain : ChainFrom Follows v (vs ++ p.0) = subst (IsChain Follows) Follows (sym p.1) of.0 in
     let ends : last_or v (vs ++ p.0) ≡ end = subst (λ (l : List Snapshot). Ends l end) (sym p.1) of.1 in
     subst (λ (w : Snapshot). Extends last w) ends (subst (λ (w : Snapshot). Extends w (last_or v (vs ++ p.0))) e (extends_from v vs p.0 chain))
 

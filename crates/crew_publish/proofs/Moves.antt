@@ -8,7 +8,8 @@ use Rattle.std.specs.Arc.{arc_value}
 use Rattle.crew_version.specs.Versions.{Snapshot}
 use Rattle.crew_publish.specs.declared.shown.Shown.{Shown}
 use Rattle.crew_publish.specs.declared.shown.Common.{Common}
-use Rattle.crew_publish.specs.Chain.{Follows, IsChain, Ends}
+use Rattle.crew_publish.specs.Chain.{Follows, Ends}
+use Rattle.crew_resource.specs.Chains.{IsChain}
 use Rattle.crew_publish.specs.Machinery.Rule.{AllBegin, Kept, Seen, list_of, Added, Opened, IsHeld}
 use Rattle.crew_publish.proofs.Chains.{prefix_self, all_longer, chain_push, ends_push, same_end}
 
@@ -29,7 +30,7 @@ looks seat v x views h at =
     (h.0 ∷ v, (h.0, h.1, h.2, h.3, set_fits views seat (h.0 ∷ v) h.0 h.4 (prefix_self h.0, begun)), (h.0, refl, h.1, h.2, begun))
 
 -- the list that the writer's seat stands for is the published list
-whole : (v : List (List Snapshot)) (x : Shown) (all : List Snapshot) → IsHeld v x → AllBegin v all → IsChain all → Ends all (arc_value x.version) → (x.opening ≡ true → all ≡ arc_value x.version ∷ []) → list_of v (arc_value x.version) ≡ all
+whole : (v : List (List Snapshot)) (x : Shown) (all : List Snapshot) → IsHeld v x → AllBegin v all → IsChain Follows all → Ends all (arc_value x.version) → (x.opening ≡ true → all ≡ arc_value x.version ∷ []) → list_of v (arc_value x.version) ≡ all
 whole [] x all held b c e o = sym (o held)
 whole (l ∷ ls) x all held b c e o = same_end l all (arc_value x.version) b.0 c held.2 e
 
@@ -68,7 +69,7 @@ shows_last {O = O} value x next before ops last is e =
     (ap (λ (z : Common). z.version) all, ap (λ (z : Common). z.opening) all)
 
 -- after a publication the seat stands for the list with what is shown at its end
-pub held_chain : (v : List (List Snapshot)) (x : Shown) → IsHeld v x → IsChain (list_of v (arc_value x.version))
+pub held_chain : (v : List (List Snapshot)) (x : Shown) → IsHeld v x → IsChain Follows (list_of v (arc_value x.version))
 held_chain [] x held = tt
 held_chain (l ∷ ls) x held = held.1
 

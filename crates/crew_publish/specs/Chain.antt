@@ -1,4 +1,4 @@
--- Chains of versions.
+-- How a version follows another, and where a list of versions ends.
 use Rattle.std.specs.Prelude.{◌≡◌, ◌<◌, ◌⊎◌, List, [], ◌∷◌}
 use mathlib.Core.List.{IsPrefix}
 use Rattle.crew_version.specs.Versions.{Snapshot}
@@ -15,16 +15,6 @@ IsSame v w = (v.number ≡ w.number) × (v.entries ≡ w.entries)
 -- w extends v: it is v, by number and entries, or it may come after v
 abbrev pub Extends : Snapshot → Snapshot → Type 0
 Extends v w = IsSame v w ⊎ Follows v w
-
--- each of these follows the one before it, the first of them v
-abbrev pub ChainFrom : Snapshot → List Snapshot → Type 0
-ChainFrom v [] = Unit {0}
-ChainFrom v (w ∷ ws) = Follows v w × ChainFrom w ws
-
--- each version of a list follows the one before it
-abbrev pub IsChain : List Snapshot → Type 0
-IsChain [] = Unit {0}
-IsChain (v ∷ vs) = ChainFrom v vs
 
 -- the last of these, or v where there is none
 abbrev pub last_or : Snapshot → List Snapshot → Snapshot

@@ -1,7 +1,8 @@
 -- What contracts see of a publisher, its notes, its viewers and their views.
 use Rattle.std.specs.Prelude.{◌≡◌, ℕ, Bool, false, List, length}
 use Rattle.crew_version.specs.Versions.{Snapshot}
-use Rattle.crew_publish.specs.Chain.{IsChain, Ends, Extends}
+use Rattle.crew_publish.specs.Chain.{Ends, Extends, Follows}
+use Rattle.crew_resource.specs.Chains.{IsChain}
 
 -- a publisher: the list of what was published, the first version first
 pub record Published : Type 0 where
@@ -27,7 +28,7 @@ pub record Watching : Type 0 where
 
 -- a version is the last of a chain
 abbrev pub IsViewOf : List Snapshot → Snapshot → Type 0
-IsViewOf list v = IsChain list × Ends list v
+IsViewOf list v = IsChain Follows list × Ends list v
 
 -- the note of the last of a list
 abbrev pub note_of : List Snapshot → Snapshot → Noted

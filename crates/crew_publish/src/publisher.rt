@@ -2,7 +2,8 @@
 ghost use Rattle.std.specs.Prelude.{◌≡◌, ◌∷◌, [], ◌++◌, All, IfErr, IfOk, OnErr, OnOk, IsTrue, ◌↔◌, drop, false, length};
 ghost use Rattle.std.specs.Arc.{arc_value};
 ghost use Rattle.left_right.specs.Sides.{view};
-ghost use Rattle.crew_publish.specs.Chain.{Ends, Follows, IsChain, IsNext};
+ghost use Rattle.crew_publish.specs.Chain.{Ends, Follows, IsNext};
+ghost use Rattle.crew_resource.specs.Chains.{IsChain};
 ghost use Rattle.crew_publish.specs.Faults.{IsPairFault, IsPublishFault, IsViewerCount};
 ghost use Rattle.crew_publish.specs.Machinery.Rule.{IsHeld, list_of, seen_by};
 ghost use Rattle.crew_publish.specs.declared.fault.PairFault.TheVariants.{NoViewer};
@@ -86,7 +87,7 @@ impl<R: Wait + Drop> Publisher<R> {
     /// The version that was published last.
     pub fn last(&self) -> &Version
         ensures last { Ends self.now.list result.now }
-        ensures chain { IsChain self.now.list }
+        ensures chain { IsChain Follows self.now.list }
     {
         &self.pen.published().version
     }
@@ -114,7 +115,7 @@ impl<R: Wait + Drop> Publisher<R> {
         ensures next { OnOk result (IsNext self.old.list (arc_value version)) }
         ensures fault { IfErr result (IsPublishFault self.old.list (arc_value version)) }
         ensures same { OnErr result (self.new ≡ self.old) }
-        ensures chain { IsChain self.new.list }
+        ensures chain { IsChain Follows self.new.list }
     {
         if !follows(self.last(), &version) {
             return Err(PublishFault::NotNext);

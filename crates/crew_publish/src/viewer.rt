@@ -3,7 +3,8 @@ ghost use Rattle.std.specs.Prelude.{◌≡◌, ◌∷◌, ◌++◌, false, IfOk,
 ghost use mathlib.Core.List.{IsPrefix};
 ghost use Rattle.std.specs.Arc.{arc_value};
 ghost use Rattle.left_right.specs.Sides.{view};
-ghost use Rattle.crew_publish.specs.Chain.{IsChain, Ends, Extends};
+ghost use Rattle.crew_publish.specs.Chain.{Ends, Extends, Follows};
+ghost use Rattle.crew_resource.specs.Chains.{IsChain};
 ghost use Rattle.crew_publish.specs.Machinery.Rule.{AllBegin, seen_by};
 ghost use Rattle.crew_publish.specs.Views.{IsMet, IsViewOf};
 
@@ -20,7 +21,7 @@ use std::sync::{Arc, Wait};
 // Looks once, and waits for nobody.
 fn look(seat: Seat) -> (Seat, Result<Arc<Version>, ViewFault>)
     ensures ok { IfOk result.1 (λ a. (l : _) × (view result.0.place ≡ l ∷ view seat.place)
-        × IsChain l × Ends l (arc_value a) × AllBegin (view seat.place) l) }
+        × IsChain Follows l × Ends l (arc_value a) × AllBegin (view seat.place) l) }
     ensures grows { (more : _) × (view result.0.place ≡ more ++ view seat.place) }
 {
     match seat.enter_as::<Sees>() {
@@ -39,7 +40,7 @@ fn look(seat: Seat) -> (Seat, Result<Arc<Version>, ViewFault>)
 // As `look`, in place.
 fn look_at(seat: &mut Seat) -> Result<Arc<Version>, ViewFault>
     ensures ok { IfOk result (λ a. (l : _) × (view seat.new.place ≡ l ∷ view seat.old.place)
-        × IsChain l × Ends l (arc_value a) × AllBegin (view seat.old.place) l) }
+        × IsChain Follows l × Ends l (arc_value a) × AllBegin (view seat.old.place) l) }
     ensures grows { (more : _) × (view seat.new.place ≡ more ++ view seat.old.place) }
 {
     replace_with(seat, (), |seat, _| look(seat))

@@ -2,18 +2,19 @@
 use Rattle.std.proofs.Common.{◌≡◌, ◌≤◌, ◌<◌, ◌+◌, ◌∙◌, ◌++◌, ℕ, List, [], ◌∷◌, length, ap, arith, refl, subst, sym}
 use Rattle.std.specs.Prelude.{slice_get}
 use mathlib.Core.List.{IsPrefix}
-use Rattle.crew_publish.specs.Chain.{ChainFrom, Ends, IsChain, last_or}
+use Rattle.crew_publish.specs.Chain.{Ends, Follows, last_or}
+use Rattle.crew_resource.specs.Chains.{ChainFrom, IsChain}
 use Rattle.crew_publish.specs.Views.{IsViewOf, Watching}
 use Rattle.crew_version.proofs.Places.{prefix-from}
 use Rattle.crew_workers.specs.Machinery.Threads.{IsNewView}
 use Rattle.crew_version.specs.Versions.{Snapshot}
 
 -- numbers don't fall in a chain
-rising : (v : Snapshot) (ws : List Snapshot) → ChainFrom v ws → v.number ≤ (last_or v ws).number
+rising : (v : Snapshot) (ws : List Snapshot) → ChainFrom Follows v ws → v.number ≤ (last_or v ws).number
 rising v [] h = omega arith
 rising v (w ∷ ws) h = let rest = rising w ws h.1 in omega (arith, h.0.rises, rest)
 
-last-first : (first v : Snapshot) (rest : List Snapshot) → ChainFrom first rest → last_or first rest ≡ v → v.number ≡ 0 → first ≡ v
+last-first : (first v : Snapshot) (rest : List Snapshot) → ChainFrom Follows first rest → last_or first rest ≡ v → v.number ≡ 0 → first ≡ v
 last-first first v [] h e none = e
 last-first first v (w ∷ ws) h e none =
     let least = rising w ws h.1 in

@@ -4,7 +4,8 @@ use Rattle.std.specs.Prelude.{◌≡◌, ◌⊎◌, ℕ, ◌<◌, ◌≤◌, Lis
 use mathlib.Core.List.{IsPrefix}
 use Rattle.std.specs.List.{slice_get}
 use Rattle.crew_resource.specs.Members.{Member}
-use Rattle.crew_machine.specs.Chains.{Follows, IsChain}
+use Rattle.crew_machine.specs.Chains.{Follows}
+use Rattle.crew_resource.specs.Chains.{IsChain}
 use Rattle.crew_machine.specs.Rounds.{Board, Round, Version, last_number}
 use Rattle.crew_machine.specs.Steps.{State, last_of, seen_by}
 use Rattle.crew_machine.specs.Worlds.{AreNodes, IsScratch, IsWorkOf, Work, World}
@@ -30,7 +31,7 @@ module _ {E D N I F B : Type 0} (w : World E D N I F B) where
   pub record IsSound (s : State E N I F B) : Type 0 where
     pub board : IsStanding s.board
     pub published : (k : ℕ) (v : Version E N F B) → slice_get s.published k ≡ Some v → IsVersion v
-    pub chain : IsChain s.published
+    pub chain : IsChain Follows s.published
     pub newest : (v : Version E N F B) × (last_of s.published ≡ Some v)
         × ((v ≡ s.board.sealed) ⊎ Follows v s.board.sealed)
 

@@ -7,7 +7,8 @@ use lib.ListN.{get_elem?}
 use Rattle.std.specs.Arc.{arc_value}
 use Rattle.crew_version.specs.Versions.{Snapshot}
 use Rattle.crew_publish.specs.declared.shown.Shown.{Shown}
-use Rattle.crew_publish.specs.Chain.{IsChain, Ends}
+use Rattle.crew_publish.specs.Chain.{Ends, Follows}
+use Rattle.crew_resource.specs.Chains.{IsChain}
 
 -- each of these lists begins the whole
 abbrev pub AllBegin : List (List Snapshot) → List Snapshot → Type 0
@@ -18,7 +19,7 @@ AllBegin (l ∷ ls) whole = IsPrefix l whole × AllBegin ls whole
 -- knows
 abbrev pub Kept : Shown → List (List (List Snapshot)) → Type 0
 Kept x views =
-    (all : List Snapshot) × IsChain all × Ends all (arc_value x.version)
+    (all : List Snapshot) × IsChain Follows all × Ends all (arc_value x.version)
     × (x.opening ≡ true → all ≡ arc_value x.version ∷ [])
     × ((seat : ℕ) (v : List (List Snapshot)) → get_elem? views seat ≡ some v → AllBegin v all)
 
@@ -26,7 +27,7 @@ Kept x views =
 -- that was known
 abbrev pub Seen : List (List Snapshot) → Shown → Shown → List (List Snapshot) → Type 0
 Seen v x y w =
-    (l : List Snapshot) × (w ≡ l ∷ v) × IsChain l × Ends l (arc_value y.version) × AllBegin v l
+    (l : List Snapshot) × (w ≡ l ∷ v) × IsChain Follows l × Ends l (arc_value y.version) × AllBegin v l
 
 -- the publisher's list, which is the version shown while it knows none
 abbrev pub list_of : List (List Snapshot) → Snapshot → List Snapshot
@@ -46,7 +47,7 @@ Added v x y w = w ≡ (list_of v (arc_value x.version) ++ arc_value y.version �
 -- what is shown
 abbrev pub IsHeld : List (List Snapshot) → Shown → Type 0
 IsHeld [] x = x.opening ≡ true
-IsHeld (l ∷ ls) x = (ls ≡ []) × IsChain l × Ends l (arc_value x.version)
+IsHeld (l ∷ ls) x = (ls ≡ []) × IsChain Follows l × Ends l (arc_value x.version)
 
 -- the same is shown again, and the writer's seat knows the list
 abbrev pub Opened : List (List Snapshot) → Shown → Shown → List (List Snapshot) → Type 0

@@ -5,23 +5,23 @@ ghost use Rattle.crew_rules.specs.Settings.{standard};
 
 use crate::slots::net_over;
 use crate::words::{code_of, count_of, key_of};
-use crew_dirty::{Carried, Standing, Standings, carry};
+use crew_dirty::{Carried, NodeState, NodeStates, carry};
 use crew_flights::{Code, Timetable};
 use crew_net::{Net, Node};
 use std::alloc::Global;
 use std::thread::Threads;
 
-// The same standing at every node.
+// The same state at every node.
 #[derive(Drop)]
 struct Everywhere {
-    standing: Standing,
+    state: NodeState,
 }
 
-impl Standings for Everywhere {
-    ghost standing_at = { λ e base rank. e.standing };
+impl NodeStates for Everywhere {
+    ghost state_at = { λ e base rank. e.state };
 
-    fn standing(&self, _base: Code, _rank: usize) -> Standing {
-        self.standing
+    fn state(&self, _base: Code, _rank: usize) -> NodeState {
+        self.state
     }
 }
 
@@ -37,7 +37,7 @@ fn write_next(carried: &Carried, net: &Net, from: usize, out: &mut String) -> Op
 fn write_unchanged(
     carried: &Carried,
     net: &Net,
-    standing: Standing,
+    state: NodeState,
     names: (&str, &str),
     out: &mut String,
 ) -> Option<()> {
@@ -45,7 +45,7 @@ fn write_unchanged(
         base: code_of(names.0)?,
         key: key_of(names.1)?,
     };
-    let holds = carried.unchanged(net, &node, &Everywhere { standing });
+    let holds = carried.unchanged(net, &node, &Everywhere { state });
     out.push_str(if holds { " yes" } else { " no" }).ok()
 }
 
@@ -54,10 +54,10 @@ fn write_as(carried: &Carried, net: &Net, words: &[&str], out: &mut String) -> O
     match *words {
         ["next", from] => write_next(carried, net, count_of(from), out),
         ["same", base, flight] => {
-            write_unchanged(carried, net, Standing::Same, (base, flight), out)
+            write_unchanged(carried, net, NodeState::Same, (base, flight), out)
         }
         ["other", base, flight] => {
-            write_unchanged(carried, net, Standing::Other, (base, flight), out)
+            write_unchanged(carried, net, NodeState::Other, (base, flight), out)
         }
         _ => None,
     }

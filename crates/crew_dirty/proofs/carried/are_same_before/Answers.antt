@@ -1,7 +1,7 @@
 use Rattle.std.proofs.Common.{◌≡◌, ◌∙◌, ℕ, List, inl, inr, sym, subst, ap, arith, refl}
 use Rattle.std.specs.Prelude.{slice_get}
 use Rattle.std.proofs.lemmas.Bool.Decides.{eqb_tells}
-use Rattle.crew_dirty.specs.declared.standing.Standing.TheVariants.{Same}
+use Rattle.crew_dirty.specs.declared.node_state.NodeState.TheVariants.{Same}
 use Rattle.crew_net.proofs.InTime.{item-at}
 use Rattle.crew_resource.specs.Members.{Member}
 use Rattle.crew_dirty.proofs.carried.are_same_before.Goals as goal
@@ -20,7 +20,7 @@ returns-then-not-same g c = (
 
 pub loop-arrival-preserved : goal.loop-arrival-preserved
 loop-arrival-preserved g c = λ k rank x low high at m.
-    elim (eqb_tells k c.loop-arrival.arrival) as (λ _. g.S.Standings.standing_at c.args.standings.now c.args.base rank ≡ Same) [
+    elim (eqb_tells k c.loop-arrival.arrival) as (λ _. g.S.NodeStates.state_at c.args.states.now c.args.base rank ≡ Same) [
       | inl e ↦
           let here = ap (slice_get c.args.net.now.arrivals) (sym e.1) ∙ at in
           c.are_same-same.ensures.0 c.if-not-same.false rank (subst (λ (rs : List ℕ). Member rs rank) (sym (c.arriving.ensures x here)) m)

@@ -1,6 +1,6 @@
 use Rattle.std.proofs.Common.{◌≡◌, ◌≤◌, ◌<◌, ℕ, Some}
 use Rattle.std.specs.Prelude.{slice_get}
-use Rattle.crew_dirty.specs.declared.standing.Standing.TheVariants.{Same}
+use Rattle.crew_dirty.specs.declared.node_state.NodeState.TheVariants.{Same}
 use Rattle.crew_net.specs.Events.{arrives_at}
 use Rattle.crew_net.specs.Ranks.{ranks_where}
 use Rattle.crew_pairing.specs.declared.events.Arrival.{Arrival}
@@ -11,4 +11,4 @@ use Rattle.crew_dirty.proofs.carried.are_same_before.Given as goal
 abbrev pub invariant-loop-arrival : goal.invariant-loop-arrival
 invariant-loop-arrival g l =
     (k rank : ℕ) (x : Arrival) → l.fn.window.from ≤ k → k < l.arrival → slice_get l.net.arrivals k ≡ Some x
-    → Member (ranks_where (arrives_at x) l.net.duties) rank → g.S.Standings.standing_at l.standings l.base rank ≡ Same
+    → Member (ranks_where (arrives_at x) l.net.duties) rank → g.S.NodeStates.state_at l.states l.base rank ≡ Same

@@ -20,7 +20,7 @@ returns-then-not-untouched g c = λ t u old over.
       λ k.
           absurd
           (not-both c.is_untouched_at-untouched.result
-          (flags ∙ is-untouched t u old net own over at_node.base at_node.rank node known.is_rank.0 known.is_base known.is_rank.2 known.is_rank.1.key (g.S.Standings.standing_at c.args.standings.now) k)
+          (flags ∙ is-untouched t u old net own over at_node.base at_node.rank node known.is_rank.0 known.is_base known.is_rank.2 known.is_rank.1.key (g.S.NodeStates.state_at c.args.states.now) k)
           c.if-not-untouched.true),
     )
 
@@ -63,9 +63,9 @@ returns g c = λ t u old over.
     let place = c.departure-departure.ensures in
     let at : slice_get net.departures c.departure-departure.result ≡ Some (departure_of d) = ap (slice_get net.departures) place ∙ over.leaves at_node.rank d known.is_rank.2 in
     let window = c.window.ensures (departure_of d) at in
-    let standing = g.S.Standings.standing_at c.args.standings.now in
+    let state = g.S.NodeStates.state_at c.args.states.now in
     let flags : (get_or own.bases at_node.base false && get_or own.same at_node.rank false) ≡ true =
     sym c.is_untouched_at-untouched.ensures.flags ∙ c.if-not-untouched.false in (
-      λ e. is-unchanged t u old net own over at_node.base at_node.rank node d known.is_base known.is_rank.2 known.is_rank.1.key standing c.window.result window c.arrivals-arrivals.ensures.exact flags (c.are_same_before.ensures.0 e),
-      λ k. c.are_same_before.ensures.1 (are-same t u old net own over at_node.base at_node.rank node d known.is_base known.is_rank.2 known.is_rank.1.key standing c.window.result window c.arrivals-arrivals.ensures.exact k),
+      λ e. is-unchanged t u old net own over at_node.base at_node.rank node d known.is_base known.is_rank.2 known.is_rank.1.key state c.window.result window c.arrivals-arrivals.ensures.exact flags (c.are_same_before.ensures.0 e),
+      λ k. c.are_same_before.ensures.1 (are-same t u old net own over at_node.base at_node.rank node d known.is_base known.is_rank.2 known.is_rank.1.key state c.window.result window c.arrivals-arrivals.ensures.exact k),
     )

@@ -1,14 +1,14 @@
 //! What a round has at a node.
 ghost use Rattle.std.specs.Prelude.{◌≡◌, ◌↔◌, ℕ, IsTrue, List};
-ghost use Rattle.crew_dirty.specs.declared.standing.Standing.{Standing};
-ghost use Rattle.crew_dirty.specs.declared.standing.Standing.TheVariants.{Same};
+ghost use Rattle.crew_dirty.specs.declared.node_state.NodeState.{NodeState};
+ghost use Rattle.crew_dirty.specs.declared.node_state.NodeState.TheVariants.{Same};
 ghost use Rattle.crew_resource.specs.Members.{Member};
 
 use crew_flights::Code;
 
 /// What a round has at a node, beside an earlier version.
 #[derive(Clone, Copy, Debug, PartialEq, Eq)]
-pub enum Standing {
+pub enum NodeState {
     /// It isn't worked out.
     Undone,
     /// It is worked out, and equals the version's front.
@@ -18,31 +18,31 @@ pub enum Standing {
 }
 
 /// What a round has at each node.
-pub trait Standings {
-    ghost standing_at: { Self → List ℕ → ℕ → Standing };
+pub trait NodeStates {
+    ghost state_at: { Self → List ℕ → ℕ → NodeState };
 
     /// What it has at the node of a base and a rank.
-    fn standing(&self, base: Code, rank: usize) -> Standing
-        ensures { result ≡ standing_at self.now base rank };
+    fn state(&self, base: Code, rank: usize) -> NodeState
+        ensures { result ≡ state_at self.now base rank };
 }
 
 // Whether it equals the version's front.
-fn is_same(standing: Standing) -> bool
-    ensures { IsTrue result ↔ (standing ≡ Same) }
+fn is_same(state: NodeState) -> bool
+    ensures { IsTrue result ↔ (state ≡ Same) }
 {
-    match standing {
-        Standing::Same => true,
-        Standing::Undone | Standing::Other => false,
+    match state {
+        NodeState::Same => true,
+        NodeState::Undone | NodeState::Other => false,
     }
 }
 
 /// Whether it is so at all nodes of a base and some ranks.
-pub(crate) fn are_same<S: Standings>(ranks: &[u32], base: Code, standings: &S) -> bool
+pub(crate) fn are_same<S: NodeStates>(ranks: &[u32], base: Code, states: &S) -> bool
     ensures { IsTrue result ↔ ((rank : ℕ) → Member ranks.now rank
-        → S.standing_at standings.now base rank ≡ Same) }
+        → S.state_at states.now base rank ≡ Same) }
 {
     for rank in ranks {
-        let same = is_same(standings.standing(base, *rank as usize));
+        let same = is_same(states.state(base, *rank as usize));
         if !same {
             return false;
         }
