@@ -5,8 +5,8 @@ use Rattle.crew_pairing.specs.declared.events.Departure.{Departure}
 use Rattle.crew_dirty.proofs.Sames.{HavePlaces, places-all, places-more}
 use Rattle.crew_dirty.proofs.places.departure_places.Goals as goal
 
-pub put-requires : goal.put-requires
-put-requires c rank m =
+pub write_at-requires : goal.write_at-requires
+write_at-requires c rank m =
     let net = c.args.net.now in
     let k = c.loop-departure.departure in
     let within : k < length net.departures = subst (λ (xs : List Departure). k < length xs) c.departures-departure-end.ensures.events c.loop-departure-test.true in
@@ -20,16 +20,16 @@ pub loop-departure-preserved : goal.loop-departure-preserved
 loop-departure-preserved c =
     let net = c.args.net.now in
     let k = c.loop-departure.departure in
-    let now = c.put.new.places in
+    let now = c.write_at.new.places in
     let was = c.loop-departure.places.items in
     let within : k < length net.departures = subst (λ (xs : List Departure). k < length xs) c.departures-departure-end.ensures.events c.loop-departure-test.true in
     let g = item-at net.departures k within in
     let value = c.deref_mut.ensures.value in
-    let long : length now ≡ length net.duties = c.put.ensures.long ∙ (ap length value ∙ c.loop-departure.invariant.0) in
-    let len : length now ≡ c.loop-departure.places.len = c.put.ensures.long ∙ c.deref_mut.ensures.len in
+    let long : length now ≡ length net.duties = c.write_at.ensures.long ∙ (ap length value ∙ c.loop-departure.invariant.0) in
+    let len : length now ≡ c.loop-departure.places.len = c.write_at.ensures.long ∙ c.deref_mut.ensures.len in
     let whole : take c.loop-departure.places.len (now ++ drop (length now) was) ≡ now = ap (λ (n : ℕ). take n (now ++ drop (length now) was)) (sym len) ∙ take-append_seam now (drop (length now) was) in
-    let next : HavePlaces net (k + 1) now = places-more net k g.0 g.1 c.leaving.result.now (c.leaving.ensures g.0 g.1) was now c.put.ensures.there
-    (λ rank out. c.put.ensures.elsewhere rank out ∙ ap (λ (ps : List ℕ). get_or ps rank 0) value)
+    let next : HavePlaces net (k + 1) now = places-more net k g.0 g.1 c.leaving.result.now (c.leaving.ensures g.0 g.1) was now c.write_at.ensures.there
+    (λ rank out. c.write_at.ensures.elsewhere rank out ∙ ap (λ (ps : List ℕ). get_or ps rank 0) value)
     c.loop-departure.invariant.1 in
     subst (λ (ps : List ℕ). (length ps ≡ length net.duties) × HavePlaces net (k + 1) ps) (sym whole) (long, next)
 
