@@ -7,7 +7,7 @@ ghost use Rattle.crew_resource.specs.Machinery.SumStages.{sum_staged, sum_shifts
 ghost use Rattle.crew_forgetful.specs.Forgetful.{Forgetful};
 ghost use Rattle.crew_forgetful.specs.Machinery.Sums.{is_same, shifts_forgetful, both_forgetful};
 
-use crew_resource::{Both, Count, Placed, Staged, StagedAmount, Sum};
+use crew_resource::{Amount, Both, Count, Placed, Staged, Sum};
 
 /// A resource in stages that tells which part of its values is never forgotten.
 ///
@@ -32,14 +32,13 @@ fn is_same_number(a: i64, b: i64) -> bool
     a <= b && b <= a
 }
 
-impl<P: Placed, A: StagedAmount<P>> Forgets<P> for Sum<A> {
+impl<P: Placed, A: Amount<Item = P>> Forgets<P> for Sum<A> {
     ghost same_sums = { is_same int_le };
 
     ghost forgets = { λ s. shifts_forgetful _ _ _ _ _ _ _ _ _ sum_order
-        (sum_staged (A.first_of s.amount) (A.next_of s.amount) (A.cap_of s.amount) P.arrives
-        P.leaves (A.idle_amount s.amount) (A.wait_amount s.amount) (A.own_amount s.amount)
-        (A.amounts s.amount).starts (A.amounts s.amount).goes_on)
-        (sum_shifts (A.wait_amount s.amount) (A.own_amount s.amount) (A.cap_of s.amount)) };
+        (sum_staged (A.cap_of s.amount) P.arrives P.leaves (A.idle_of s.amount)
+        (A.wait_of s.amount) (A.own_of s.amount))
+        (sum_shifts (A.wait_of s.amount) (A.own_of s.amount) (A.cap_of s.amount)) };
 
     #[inline]
     fn has_same_sums(&self, a: &i64, b: &i64) -> bool {

@@ -59,19 +59,13 @@ pub record BoundLaws {V I X G : Type 0} (is_sound : I → Type 0) (may_begin : G
       → can_wait v x g
   pub boards : (n : ℕ) (v : V) (i : I) → is_sound i → fits (suc n) → ready n v → can_board v i
 
--- an amount of two stages: what each adds lies within a share, and its calls may be made
+-- an amount that is added in stages: what each adds lies within a share
 pub record AmountLaws {I X G : Type 0} (is_sound : I → Type 0) (may_begin : G → Type 0)
-    (may_follow : X → G → Type 0) (arrives : I → X) (leaves : I → G)
-    (first : I → ℤ) (next : I → I → ℤ) (can_first : I → Type 0) (can_next : I → I → Type 0)
-    (idle : G → ℤ) (wait : X → G → ℤ) (own : I → ℤ) (share : ℕ) : Type 0 where
-  pub starts : (i : I) → first i ≡ idle (leaves i) +ℤ own i
-  pub goes_on : (last i : I) → next last i ≡ wait (arrives last) (leaves i) +ℤ own i
+    (may_follow : X → G → Type 0) (idle : G → ℤ) (wait : X → G → ℤ) (own : I → ℤ)
+    (share : ℕ) : Type 0 where
   pub idle_share : (g : G) → may_begin g → LiesWithin share (idle g)
   pub wait_share : (x : X) (g : G) → may_follow x g → LiesWithin share (wait x g)
   pub own_share : (i : I) → is_sound i → LiesWithin share (own i)
-  pub first_call : (i : I) → is_sound i → may_begin (leaves i) → can_first i
-  pub next_call : (last i : I) → is_sound last → is_sound i
-      → may_follow (arrives last) (leaves i) → can_next last i
 
 -- each stage of a sum adds a number, and the cap is looked at on boarding
 abbrev pub shifted : {X G : Type 0} → (X → G → ℤ) → ℤ → X → G → ℤ

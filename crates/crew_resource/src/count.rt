@@ -50,7 +50,7 @@ impl<I> Resource for Count<I> {
 
     ghost can_start = { λ _ _. Unit {0} };
 
-    ghost can_extend = { λ _ value _ _. Unit {0} × FitsSigned w64 (value +ℤ pos 1) };
+    ghost can_extend = { λ _ value _ _. FitsSigned w64 (value +ℤ pos 1) };
 
     ghost order = { sum_order };
 
@@ -113,7 +113,7 @@ impl<P: Placed> Staged<P> for Count<P> {
 
     ghost can_idle = { λ _ g. P.may_begin g };
 
-    ghost can_wait = { λ _ value x g. P.may_follow x g × FitsSigned w64 (value +ℤ pos 0) };
+    ghost can_wait = { λ _ _ x g. P.may_follow x g };
 
     ghost can_board = { λ _ value i. P.is_sound i × FitsSigned w64 (value +ℤ pos 1) };
 

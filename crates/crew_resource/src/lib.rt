@@ -20,5 +20,5 @@ pub use both::Both;
 pub use count::Count;
 pub use resource::{Cost, Resource};
 pub use staged::{Placed, Staged};
-pub use sum::{Amount, StagedAmount, Sum};
+pub use sum::{Amount, Sum};
 pub use uses::{extend_ordered, extend_staged, is_same, start_staged};

@@ -1,5 +1,5 @@
 -- Sums over many duties fit, the value tells the number of duties, and what it costs.
-use Rattle.std.proofs.Common.{◌≡◌, ℕ, ◌+◌, ◌*◌, ◌≤◌, Bool, true, false, ◌&&◌, List, [], ◌∷◌, length, Some, ℤ, pos, negsuc, ◌-ℤ◌, ◌*ℤ◌, int_le, sym, ◌∙◌, ap, arith}
+use Rattle.std.proofs.Common.{◌≡◌, ℕ, ◌+◌, ◌*◌, ◌≤◌, Bool, true, false, ◌&&◌, List, [], ◌∷◌, length, Some, ℤ, pos, negsuc, ◌+ℤ◌, ◌-ℤ◌, ◌*ℤ◌, ◌≤ℤ◌, int_le, sym, ◌∙◌, ap, arith}
 use Rattle.std.specs.Prelude.{unsigned_abs, max}
 use Rattle.std.specs.Int.{int_max}
 use Rattle.std.specs.List.{list_all}
@@ -11,14 +11,14 @@ use Rattle.std.proofs.lemmas.Option.{cond_some}
 use Rattle.crew_pairing.specs.Legality.{total}
 use Rattle.crew_pairing.specs.Events.{IsSound, MayFollow, arrival_of, departure_of}
 use Rattle.crew_pairing.specs.declared.duty.Duty.{Duty}
-use Rattle.crew_resource.specs.Machinery.Sum.{is_within, sum_of, beginnings, NeverFalls}
+use Rattle.crew_resource.specs.Machinery.Sum.{is_within, sum_of, beginnings, first_adds, next_adds, NeverFalls}
 use Rattle.crew_resource.specs.Machinery.Count.{count_grade}
 use Rattle.crew_resource.specs.Machinery.SumStages.{sum_fits}
 use Rattle.crew_resource.proofs.Caps.{whole_test}
 use Rattle.crew_rules.specs.Settings.{IsChecked}
 use Rattle.crew_rules.specs.declared.settings.Settings.{Settings}
 use Rattle.crew_vector.specs.Machinery.Along.{GoesOn, IsLine}
-use Rattle.crew_vector.specs.Machinery.Amounts.{fdp_first, fdp_next, fly_first, fly_next, away_first, away_next}
+use Rattle.crew_vector.specs.Machinery.Amounts.{away_own, away_wait}
 use Rattle.crew_pairing.specs.Vectors.{reduced_cost, prices, cost_of, vector_of}
 use Rattle.crew_pairing.specs.Pairings.{is_within_caps, minutes_away}
 use Rattle.crew_vector.specs.Values.{stays_within_caps, value_of}
@@ -73,19 +73,15 @@ few s ds h =
     int-test m n h = grind (arith, ints)
 
 -- nothing that is capped falls along a line of duties
-fdp-never : (x : Duty) (ys : List Duty) → GoesOn IsSound MayFollow arrival_of departure_of x ys → NeverFalls fdp_next x ys
-fdp-never x [] h = tt
-fdp-never x (y ∷ ys) h = (omega (arith, ints, h.0.fdp), fdp-never y ys h.2)
-
-fly-never : (x : Duty) (ys : List Duty) → GoesOn IsSound MayFollow arrival_of departure_of x ys → NeverFalls fly_next x ys
-fly-never x [] h = tt
-fly-never x (y ∷ ys) h = (omega (arith, ints, h.0.fly), fly-never y ys h.2)
+own-never : (f : Duty → ℤ) → ((d : Duty) → IsSound d → pos 0 ≤ℤ f d) → (x : Duty) (ys : List Duty) → GoesOn IsSound MayFollow arrival_of departure_of x ys → NeverFalls (λ _ d. pos 0 +ℤ f d) x ys
+own-never f least x [] h = tt
+own-never f least x (y ∷ ys) h = (omega (arith, ints, least y h.0), own-never f least y ys h.2)
 
 count-never : (x : Duty) (ys : List Duty) → NeverFalls (λ _ _. pos 1) x ys
 count-never x [] = tt
 count-never x (y ∷ ys) = (omega (arith, ints), count-never y ys)
 
-away-never : (x : Duty) (ys : List Duty) → GoesOn IsSound MayFollow arrival_of departure_of x ys → NeverFalls away_next x ys
+away-never : (x : Duty) (ys : List Duty) → GoesOn IsSound MayFollow arrival_of departure_of x ys → NeverFalls (next_adds arrival_of departure_of away_wait away_own) x ys
 away-never x [] h = tt
 away-never x (y ∷ ys) h = (omega (arith, ints, h.0.elapsed, h.1.rest), away-never y ys h.2)
 
@@ -95,6 +91,10 @@ capped-whole first next f cap same x ys h =
     sym (same-all (λ ds. is_within (Some (pos cap)) (sum_of first next ds)) (λ ds. int_le (f ds) (pos cap)) (λ ds. ap (λ z. int_le z (pos cap)) (same ds)) (beginnings (x ∷ ys)))
     ∙ (whole_test first next (Some (pos cap)) x ys h ∙ ap (λ z. int_le z (pos cap)) (same (x ∷ ys)))
 
+own-capped : (f : Duty → ℤ) (cap : ℕ) → ((d : Duty) → IsSound d → pos 0 ≤ℤ f d) → (x : Duty) (ys : List Duty) → GoesOn IsSound MayFollow arrival_of departure_of x ys
+    → list_all (λ ds. int_le (total f ds) (pos cap)) (beginnings (x ∷ ys)) ≡ int_le (total f (x ∷ ys)) (pos cap)
+own-capped f cap least x ys h = capped-whole (λ d. pos 0 +ℤ f d) (λ _ d. pos 0 +ℤ f d) (total f) cap (sum-total f) x ys (own-never f least x ys h)
+
 regroup : (a b c d p q r t : Bool) → a ≡ p → b ≡ q → c ≡ r → d ≡ t → (a && b) && (c && d) ≡ (p && (q && (r && t)))
 regroup a b c d true q r t e f g h = ap (λ z. (z && b) && (c && d)) e ∙ (ap (λ z. z && (c && d)) f ∙ (ap (λ z. q && (z && d)) g ∙ ap (λ z. q && (r && z)) h))
 regroup a b c d false q r t e f g h = ap (λ z. (z && b) && (c && d)) e
@@ -103,10 +103,10 @@ pub caps-of-whole : (s : Settings) (x : Duty) (ys : List Duty) → IsLine (x ∷
 caps-of-whole s x ys h =
     sym (caps-together s (beginnings (x ∷ ys)))
     ∙ regroup _ _ _ _ _ _ _ _
-    (capped-whole fdp_first fdp_next (λ ds. total (λ d. d.fdp) ds) s.fdp_cap (sum-total (λ d. d.fdp)) x ys (fdp-never x ys h.1))
-    (capped-whole fly_first fly_next (λ ds. total (λ d. d.fly) ds) s.fly_cap (sum-total (λ d. d.fly)) x ys (fly-never x ys h.1))
+    (own-capped (λ d. d.fdp) s.fdp_cap (λ d sound. sound.fdp) x ys h.1)
+    (own-capped (λ d. d.fly) s.fly_cap (λ d sound. sound.fly) x ys h.1)
     (capped-whole (λ _. pos 1) (λ _ _. pos 1) (λ ds. pos (length ds)) s.max_duties sum-count x ys (count-never x ys))
-    (capped-whole away_first away_next minutes_away s.away_cap sum-away x ys (away-never x ys h.1))
+    (capped-whole (first_adds departure_of (λ _. pos 0) away_own) (next_adds arrival_of departure_of away_wait away_own) minutes_away s.away_cap sum-away x ys (away-never x ys h.1))
 
 abbrev pub grade : PairingVector → ℕ
 grade v = max (max 0 (max 0 0)) (max (max 0 0) (max (count_grade v.duties) 0))

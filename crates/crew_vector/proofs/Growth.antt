@@ -3,11 +3,12 @@ use Rattle.std.proofs.Common.{◌≡◌, Bool, true, ◌&&◌, cond, [], ◌∷�
 use Rattle.std.specs.Option.{option_map}
 use Rattle.std.proofs.lemmas.Int.{ints}
 use Rattle.std.proofs.lemmas.Option.{cond_some}
+use Rattle.crew_pairing.specs.Events.{arrival_of, departure_of}
 use Rattle.crew_pairing.specs.Pairings.{is_within_caps}
 use Rattle.crew_pairing.specs.declared.duty.Duty.{Duty}
 use Rattle.crew_resource.specs.Machinery.Both.{both}
 use Rattle.crew_rules.specs.declared.settings.Settings.{Settings}
-use Rattle.crew_vector.specs.Machinery.Amounts.{pay_next, rig_next, guarantee_next, fdp_next, fly_next, away_next}
+use Rattle.crew_vector.specs.Machinery.Amounts.{away_own, away_wait, guarantee_own, pay_own, rig_own, rig_wait}
 use Rattle.crew_pairing.specs.Vectors.{vector_of}
 use Rattle.crew_vector.specs.Locals.{grown, is_vector_within_caps}
 use Rattle.crew_vector.specs.Machinery.Numbers.{Numbers, named}
@@ -33,8 +34,8 @@ joined-away a x y z = omega (arith, ints)
 
 abbrev raised : Settings → Duty → Duty → PairingVector → Numbers
 raised s e d u = (
-  (u.duty_pay +ℤ pay_next e d, (u.trip_rig +ℤ rig_next s.trip_rig e d, u.guarantee +ℤ guarantee_next s.guarantee e d)),
-  ((u.fdp +ℤ fdp_next e d, u.fly +ℤ fly_next e d), (u.duties +ℤ pos 1, u.away +ℤ away_next e d)),
+  (u.duty_pay +ℤ (pos 0 +ℤ pay_own d), (u.trip_rig +ℤ (rig_wait s.trip_rig (arrival_of e) (departure_of d) +ℤ rig_own s.trip_rig d), u.guarantee +ℤ (pos 0 +ℤ guarantee_own s.guarantee d))),
+  ((u.fdp +ℤ (pos 0 +ℤ d.fdp), u.fly +ℤ (pos 0 +ℤ d.fly)), (u.duties +ℤ pos 1, u.away +ℤ (away_wait (arrival_of e) (departure_of d) +ℤ away_own d))),
 )
 
 raised-grown : (s : Settings) (e d : Duty) (u : PairingVector) → named (raised s e d u) ≡ grown s e d u

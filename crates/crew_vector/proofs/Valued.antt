@@ -1,16 +1,18 @@
 -- The value that the parts side by side give to a list is its vector, and none exactly where a beginning passes a cap.
 use Rattle.std.proofs.Common.{◌≡◌, ℕ, suc, Bool, true, false, ◌&&◌, cond, List, [], ◌∷◌, length, Option, Some, None, ℤ, pos, ◌+ℤ◌, ◌-ℤ◌, ◌*ℤ◌, int_le, refl, ◌∙◌, ap, arith}
+use Rattle.std.specs.Prelude.{neg_ℤ}
 use Rattle.std.specs.List.{list_all}
 use Rattle.std.specs.Option.{option_map}
 use Rattle.std.proofs.Math.IntN.{*ℤ-zero}
 use Rattle.std.proofs.lemmas.Int.{ints}
+use Rattle.crew_pairing.specs.Events.{arrival_of, departure_of}
 use Rattle.crew_pairing.specs.Legality.{total}
 use Rattle.crew_pairing.specs.declared.duty.Duty.{Duty}
 use Rattle.crew_resource.specs.Machinery.Both.{both}
-use Rattle.crew_resource.specs.Machinery.Sum.{is_within, rises, sum_of, beginnings, capped_sum}
+use Rattle.crew_resource.specs.Machinery.Sum.{is_within, rises, sum_of, beginnings, capped_sum, first_adds, next_adds}
 use Rattle.crew_resource.proofs.SignedProducts.{joined}
 use Rattle.crew_rules.specs.declared.settings.Settings.{Settings}
-use Rattle.crew_vector.specs.Machinery.Amounts.{pay_first, pay_next, rig_first, rig_next, guarantee_first, guarantee_next, fdp_first, fdp_next, fly_first, fly_next, away_first, away_next}
+use Rattle.crew_vector.specs.Machinery.Amounts.{away_own, away_wait, guarantee_own, pay_own, rig_own, rig_wait}
 use Rattle.crew_pairing.specs.Pairings.{is_within_caps, last_duty, minutes_away}
 use Rattle.crew_vector.specs.Machinery.Numbers.{Numbers, named, numbers_of}
 use Rattle.crew_vector.specs.Machinery.VectorResources.{vector_resource}
@@ -35,19 +37,19 @@ pub sum-count : (ds : List Duty) → sum_of (λ _. pos 1) (λ _ _. pos 1) ds ≡
 sum-count [] = refl
 sum-count (x ∷ ys) = omega (arith, ints, rises-count x ys)
 
-rises-away : (x : Duty) (ys : List Duty) → rises away_next x ys ≡ (last_duty x ys).release -ℤ x.release
+rises-away : (x : Duty) (ys : List Duty) → rises (next_adds arrival_of departure_of away_wait away_own) x ys ≡ (last_duty x ys).release -ℤ x.release
 rises-away x [] = omega (arith, ints)
 rises-away x (y ∷ ys) = omega (arith, ints, rises-away y ys)
 
-pub sum-away : (ds : List Duty) → sum_of away_first away_next ds ≡ minutes_away ds
+pub sum-away : (ds : List Duty) → sum_of (first_adds departure_of (λ _. pos 0) away_own) (next_adds arrival_of departure_of away_wait away_own) ds ≡ minutes_away ds
 sum-away [] = refl
 sum-away (x ∷ ys) = omega (arith, ints, rises-away x ys)
 
-rises-pay : (x : Duty) (ys : List Duty) → rises pay_next x ys ≡ total (λ d. d.pay) ys -ℤ total (λ d. d.price) ys
+rises-pay : (x : Duty) (ys : List Duty) → rises (λ _ d. pos 0 +ℤ pay_own d) x ys ≡ total (λ d. d.pay) ys -ℤ total (λ d. d.price) ys
 rises-pay x [] = refl
 rises-pay x (y ∷ ys) = omega (arith, ints, rises-pay y ys)
 
-sum-pay : (s : Settings) (b : ℤ) (x : Duty) (ys : List Duty) → sum_of (pay_first b) pay_next (x ∷ ys) ≡ (vector_of s b (x ∷ ys)).duty_pay
+sum-pay : (s : Settings) (b : ℤ) (x : Duty) (ys : List Duty) → sum_of (λ d. neg_ℤ b +ℤ pay_own d) (λ _ d. pos 0 +ℤ pay_own d) (x ∷ ys) ≡ (vector_of s b (x ∷ ys)).duty_pay
 sum-pay s b x ys = omega (arith, ints, rises-pay x ys)
 
 none-away : (r a : ℤ) → pos 0 ≡ r *ℤ (a -ℤ a) -ℤ pos 0
@@ -59,22 +61,22 @@ none-away r a =
 pub stretch : (r a b c p : ℤ) → r *ℤ (b -ℤ a) +ℤ (r *ℤ (c -ℤ b) -ℤ p) ≡ r *ℤ (c -ℤ a) -ℤ p
 stretch r a b c p = omega (arith, ints, joined r a b c (pos 0) p)
 
-rises-rig : (r : ℕ) (x : Duty) (ys : List Duty) → rises (rig_next r) x ys ≡ pos r *ℤ ((last_duty x ys).release -ℤ x.release) -ℤ total (λ d. d.price) ys
+rises-rig : (r : ℕ) (x : Duty) (ys : List Duty) → rises (next_adds arrival_of departure_of (rig_wait r) (rig_own r)) x ys ≡ pos r *ℤ ((last_duty x ys).release -ℤ x.release) -ℤ total (λ d. d.price) ys
 rises-rig r x [] = none-away (pos r) x.release
 rises-rig r x (y ∷ ys) =
     omega (arith, ints, rises-rig r y ys, stretch (pos r) x.release y.report y.release y.price, joined (pos r) x.release y.release (last_duty y ys).release y.price (total (λ d. d.price) ys))
 
-sum-rig : (s : Settings) (b : ℤ) (x : Duty) (ys : List Duty) → sum_of (rig_first s.trip_rig b) (rig_next s.trip_rig) (x ∷ ys) ≡ (vector_of s b (x ∷ ys)).trip_rig
+sum-rig : (s : Settings) (b : ℤ) (x : Duty) (ys : List Duty) → sum_of (λ d. neg_ℤ b +ℤ rig_own s.trip_rig d) (next_adds arrival_of departure_of (rig_wait s.trip_rig) (rig_own s.trip_rig)) (x ∷ ys) ≡ (vector_of s b (x ∷ ys)).trip_rig
 sum-rig s b x ys = omega (arith, ints, rises-rig s.trip_rig x ys, joined (pos s.trip_rig) x.report x.release (last_duty x ys).release x.price (total (λ d. d.price) ys))
 
 one-more : (p n : ℕ) → pos p *ℤ pos (suc n) ≡ pos p +ℤ pos p *ℤ pos n
 one-more p n = omega (arith, ints)
 
-rises-guarantee : (p : ℕ) (x : Duty) (ys : List Duty) → rises (guarantee_next p) x ys ≡ pos p *ℤ pos (length ys) -ℤ total (λ d. d.price) ys
+rises-guarantee : (p : ℕ) (x : Duty) (ys : List Duty) → rises (λ _ d. pos 0 +ℤ guarantee_own p d) x ys ≡ pos p *ℤ pos (length ys) -ℤ total (λ d. d.price) ys
 rises-guarantee p x [] = omega (arith, ints)
 rises-guarantee p x (y ∷ ys) = omega (arith, ints, rises-guarantee p y ys, one-more p (length ys))
 
-sum-guarantee : (s : Settings) (b : ℤ) (x : Duty) (ys : List Duty) → sum_of (guarantee_first s.guarantee b) (guarantee_next s.guarantee) (x ∷ ys) ≡ (vector_of s b (x ∷ ys)).guarantee
+sum-guarantee : (s : Settings) (b : ℤ) (x : Duty) (ys : List Duty) → sum_of (λ d. neg_ℤ b +ℤ guarantee_own s.guarantee d) (λ _ d. pos 0 +ℤ guarantee_own s.guarantee d) (x ∷ ys) ≡ (vector_of s b (x ∷ ys)).guarantee
 sum-guarantee s b x ys = omega (arith, ints, rises-guarantee s.guarantee x ys, one-more s.guarantee (length ys))
 
 -- parts without a cap, and parts with one
@@ -148,15 +150,15 @@ composed-value s b (x ∷ ys) =
     let fly = list_all (λ ds. int_le (total (λ d. d.fly) ds) (pos s.fly_cap)) bs in
     let count = list_all (λ ds. int_le (pos (length ds)) (pos s.max_duties)) bs in
     let away = list_all (λ ds. int_le (minutes_away ds) (pos s.away_cap)) bs in
-    let pays = free (pay_first b) pay_next x ys ∙ ap Some (sum-pay s b x ys) in
-    let rigs = free (rig_first s.trip_rig b) (rig_next s.trip_rig) x ys ∙ ap Some (sum-rig s b x ys) in
-    let guarantees = free (guarantee_first s.guarantee b) (guarantee_next s.guarantee) x ys ∙ ap Some (sum-guarantee s b x ys) in
+    let pays = free (λ d. neg_ℤ b +ℤ pay_own d) (λ _ d. pos 0 +ℤ pay_own d) x ys ∙ ap Some (sum-pay s b x ys) in
+    let rigs = free (λ d. neg_ℤ b +ℤ rig_own s.trip_rig d) (next_adds arrival_of departure_of (rig_wait s.trip_rig) (rig_own s.trip_rig)) x ys ∙ ap Some (sum-rig s b x ys) in
+    let guarantees = free (λ d. neg_ℤ b +ℤ guarantee_own s.guarantee d) (λ _ d. pos 0 +ℤ guarantee_own s.guarantee d) x ys ∙ ap Some (sum-guarantee s b x ys) in
     let money = both-is _ _ _ _ pays (both-is _ _ _ _ rigs guarantees) in
     let minutes =
-    both-is _ _ _ _ (capped fdp_first fdp_next (λ ds. total (λ d. d.fdp) ds) s.fdp_cap (sum-total (λ d. d.fdp)) x ys) (capped fly_first fly_next (λ ds. total (λ d. d.fly) ds) s.fly_cap (sum-total (λ d. d.fly)) x ys)
+    both-is _ _ _ _ (capped (λ d. pos 0 +ℤ d.fdp) (λ _ d. pos 0 +ℤ d.fdp) (λ ds. total (λ d. d.fdp) ds) s.fdp_cap (sum-total (λ d. d.fdp)) x ys) (capped (λ d. pos 0 +ℤ d.fly) (λ _ d. pos 0 +ℤ d.fly) (λ ds. total (λ d. d.fly) ds) s.fly_cap (sum-total (λ d. d.fly)) x ys)
     ∙ both-capped fdp fly p.fdp p.fly in
     let spans =
-    both-is _ _ _ _ (capped (λ _. pos 1) (λ _ _. pos 1) (λ ds. pos (length ds)) s.max_duties sum-count x ys) (capped away_first away_next minutes_away s.away_cap sum-away x ys)
+    both-is _ _ _ _ (capped (λ _. pos 1) (λ _ _. pos 1) (λ ds. pos (length ds)) s.max_duties sum-count x ys) (capped (first_adds departure_of (λ _. pos 0) away_own) (next_adds arrival_of departure_of away_wait away_own) minutes_away s.away_cap sum-away x ys)
     ∙ both-capped count away p.duties p.away in
     let limits = both-is _ _ _ _ minutes spans ∙ both-capped (fdp && fly) (count && away) (p.fdp, p.fly) (p.duties, p.away) in
     ap (option_map named) (both-is _ _ _ _ money limits ∙ both-free ((fdp && fly) && (count && away)) (p.duty_pay, (p.trip_rig, p.guarantee)) ((p.fdp, p.fly), (p.duties, p.away)))

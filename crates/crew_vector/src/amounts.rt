@@ -1,10 +1,10 @@
 //! What each duty adds to a part, and what a rest before it adds.
-ghost use Rattle.std.specs.Prelude.{◌≡◌, ◌+◌, ◌*◌, ◌≤ℤ◌, ◌+ℤ◌, ◌-ℤ◌, ◌*ℤ◌, neg_ℤ, ℤ, pos, negsuc, Some, None, unsigned_abs, refl};
-ghost use Rattle.crew_pairing.specs.Events.{IsSound, arrival_of, departure_of};
+ghost use Rattle.std.specs.Prelude.{◌≡◌, ◌+◌, ◌*◌, ◌≤ℤ◌, ◌-ℤ◌, ◌*ℤ◌, neg_ℤ, pos, negsuc, Some, None, unsigned_abs};
+ghost use Rattle.crew_pairing.specs.Events.{IsSound};
 ghost use Rattle.crew_vector.specs.Machinery.Amounts as Spec;
 
 use crew_pairing::{Arrival, Departure, Duty};
-use crew_resource::{Amount, StagedAmount};
+use crew_resource::Amount;
 
 /// The minutes from one instant to another.
 #[inline]
@@ -52,17 +52,6 @@ fn elapsed_less_price(rate: u32, duty: &Duty) -> i64
     points - duty.price
 }
 
-/// So many points for each minute of the rest between two duties.
-#[inline]
-fn rest(rate: u32, last: &Duty, duty: &Duty) -> i64
-    requires { Spec.CanFollow last.now duty.now }
-    ensures value { result ≡ Spec.rig_wait rate (arrival_of last.now) (departure_of duty.now) }
-    ensures least { pos 0 ≤ℤ result }
-    ensures most { result ≤ℤ pos 42_949_672_960_000 }
-{
-    rated(rate, i64::from(last.release), i64::from(duty.report))
-}
-
 /// The duties' pays, less prices.
 #[derive(Clone, Copy)]
 pub struct DutyPay {
@@ -72,42 +61,17 @@ pub struct DutyPay {
 impl Amount for DutyPay {
     type Item = Duty;
 
-    ghost first_of = { λ a d. Spec.pay_first a.base_price d };
+    ghost idle_of = { λ a _. neg_ℤ a.base_price };
 
-    ghost next_of = { λ _. Spec.pay_next };
+    ghost wait_of = { λ _ _ _. pos 0 };
+
+    ghost own_of = { λ _. Spec.pay_own };
 
     ghost cap_of = { λ _. None };
 
-    ghost can_first = { λ _ d. IsSound d };
-
-    ghost can_next = { λ _ _ d. IsSound d };
-
-    #[inline]
-    fn first(&self, duty: &Duty) -> i64 {
-        i64::from(duty.pay) - duty.price - i64::from(self.base_price)
-    }
-
-    #[inline]
-    fn next(&self, _last: &Duty, next: &Duty) -> i64 {
-        i64::from(next.pay) - next.price
-    }
-
-    #[inline]
-    fn cap(&self) -> Option<i64> {
-        None
-    }
-}
-
-impl StagedAmount<Duty> for DutyPay {
-    ghost idle_amount = { λ a _. neg_ℤ a.base_price };
-
-    ghost wait_amount = { λ _ _ _. pos 0 };
-
-    ghost own_amount = { λ _. Spec.pay_own };
-
     ghost share = { λ a. unsigned_abs a.base_price + 8_000_020_000 };
 
-    ghost amounts = { λ a. Spec.pay_laws a.base_price };
+    ghost shares = { λ a. Spec.pay_laws a.base_price };
 
     #[inline]
     fn idle(&self, _departure: &Departure) -> i64 {
@@ -123,6 +87,11 @@ impl StagedAmount<Duty> for DutyPay {
     fn own(&self, duty: &Duty) -> i64 {
         i64::from(duty.pay) - duty.price
     }
+
+    #[inline]
+    fn cap(&self) -> Option<i64> {
+        None
+    }
 }
 
 /// The trip rig for each minute away, less prices.
@@ -135,42 +104,17 @@ pub struct TripRig {
 impl Amount for TripRig {
     type Item = Duty;
 
-    ghost first_of = { λ a d. Spec.rig_first a.rate a.base_price d };
+    ghost idle_of = { λ a _. neg_ℤ a.base_price };
 
-    ghost next_of = { λ a last d. Spec.rig_next a.rate last d };
+    ghost wait_of = { λ a x g. Spec.rig_wait a.rate x g };
+
+    ghost own_of = { λ a d. Spec.rig_own a.rate d };
 
     ghost cap_of = { λ _. None };
 
-    ghost can_first = { λ _ d. IsSound d };
-
-    ghost can_next = { λ _. Spec.CanFollow };
-
-    #[inline]
-    fn first(&self, duty: &Duty) -> i64 {
-        elapsed_less_price(self.rate, duty) - i64::from(self.base_price)
-    }
-
-    #[inline]
-    fn next(&self, last: &Duty, duty: &Duty) -> i64 {
-        rest(self.rate, last, duty) + elapsed_less_price(self.rate, duty)
-    }
-
-    #[inline]
-    fn cap(&self) -> Option<i64> {
-        None
-    }
-}
-
-impl StagedAmount<Duty> for TripRig {
-    ghost idle_amount = { λ a _. neg_ℤ a.base_price };
-
-    ghost wait_amount = { λ a x g. Spec.rig_wait a.rate x g };
-
-    ghost own_amount = { λ a d. Spec.rig_own a.rate d };
-
     ghost share = { λ a. a.rate * 10_000 + unsigned_abs a.base_price + 8_000_000_000 };
 
-    ghost amounts = { λ a. Spec.rig_laws a.rate a.base_price };
+    ghost shares = { λ a. Spec.rig_laws a.rate a.base_price };
 
     #[inline]
     fn idle(&self, _departure: &Departure) -> i64 {
@@ -186,6 +130,11 @@ impl StagedAmount<Duty> for TripRig {
     fn own(&self, duty: &Duty) -> i64 {
         elapsed_less_price(self.rate, duty)
     }
+
+    #[inline]
+    fn cap(&self) -> Option<i64> {
+        None
+    }
 }
 
 /// The guarantee for each duty, less prices.
@@ -198,42 +147,17 @@ pub struct Guarantee {
 impl Amount for Guarantee {
     type Item = Duty;
 
-    ghost first_of = { λ a d. Spec.guarantee_first a.points a.base_price d };
+    ghost idle_of = { λ a _. neg_ℤ a.base_price };
 
-    ghost next_of = { λ a last d. Spec.guarantee_next a.points last d };
+    ghost wait_of = { λ _ _ _. pos 0 };
+
+    ghost own_of = { λ a d. Spec.guarantee_own a.points d };
 
     ghost cap_of = { λ _. None };
 
-    ghost can_first = { λ _ d. IsSound d };
-
-    ghost can_next = { λ _ _ d. IsSound d };
-
-    #[inline]
-    fn first(&self, duty: &Duty) -> i64 {
-        i64::from(self.points) - duty.price - i64::from(self.base_price)
-    }
-
-    #[inline]
-    fn next(&self, _last: &Duty, next: &Duty) -> i64 {
-        i64::from(self.points) - next.price
-    }
-
-    #[inline]
-    fn cap(&self) -> Option<i64> {
-        None
-    }
-}
-
-impl StagedAmount<Duty> for Guarantee {
-    ghost idle_amount = { λ a _. neg_ℤ a.base_price };
-
-    ghost wait_amount = { λ _ _ _. pos 0 };
-
-    ghost own_amount = { λ a d. Spec.guarantee_own a.points d };
-
     ghost share = { λ a. a.points + unsigned_abs a.base_price + 8_000_000_000 };
 
-    ghost amounts = { λ a. Spec.guarantee_laws a.points a.base_price };
+    ghost shares = { λ a. Spec.guarantee_laws a.points a.base_price };
 
     #[inline]
     fn idle(&self, _departure: &Departure) -> i64 {
@@ -249,6 +173,11 @@ impl StagedAmount<Duty> for Guarantee {
     fn own(&self, duty: &Duty) -> i64 {
         i64::from(self.points) - duty.price
     }
+
+    #[inline]
+    fn cap(&self) -> Option<i64> {
+        None
+    }
 }
 
 /// Flight duty minutes.
@@ -260,38 +189,17 @@ pub struct DutyMinutes {
 impl Amount for DutyMinutes {
     type Item = Duty;
 
-    ghost first_of = { λ _. Spec.fdp_first };
+    ghost idle_of = { λ _ _. pos 0 };
 
-    ghost next_of = { λ _. Spec.fdp_next };
+    ghost wait_of = { λ _ _ _. pos 0 };
+
+    ghost own_of = { λ _ d. d.fdp };
 
     ghost cap_of = { λ a. Some (pos a.cap) };
 
-    #[inline]
-    fn first(&self, duty: &Duty) -> i64 {
-        i64::from(duty.fdp)
-    }
-
-    #[inline]
-    fn next(&self, _last: &Duty, duty: &Duty) -> i64 {
-        i64::from(duty.fdp)
-    }
-
-    #[inline]
-    fn cap(&self) -> Option<i64> {
-        Some(i64::from(self.cap))
-    }
-}
-
-impl StagedAmount<Duty> for DutyMinutes {
-    ghost idle_amount = { λ _ _. pos 0 };
-
-    ghost wait_amount = { λ _ _ _. pos 0 };
-
-    ghost own_amount = { λ _ d. d.fdp };
-
     ghost share = { λ _. 840 };
 
-    ghost amounts = { λ _. Spec.fdp_laws };
+    ghost shares = { λ _. Spec.fdp_laws };
 
     #[inline]
     fn idle(&self, _departure: &Departure) -> i64 {
@@ -306,6 +214,11 @@ impl StagedAmount<Duty> for DutyMinutes {
     #[inline]
     fn own(&self, duty: &Duty) -> i64 {
         i64::from(duty.fdp)
+    }
+
+    #[inline]
+    fn cap(&self) -> Option<i64> {
+        Some(i64::from(self.cap))
     }
 }
 
@@ -318,38 +231,17 @@ pub struct FlightMinutes {
 impl Amount for FlightMinutes {
     type Item = Duty;
 
-    ghost first_of = { λ _. Spec.fly_first };
+    ghost idle_of = { λ _ _. pos 0 };
 
-    ghost next_of = { λ _. Spec.fly_next };
+    ghost wait_of = { λ _ _ _. pos 0 };
+
+    ghost own_of = { λ _ d. d.fly };
 
     ghost cap_of = { λ a. Some (pos a.cap) };
 
-    #[inline]
-    fn first(&self, duty: &Duty) -> i64 {
-        i64::from(duty.fly)
-    }
-
-    #[inline]
-    fn next(&self, _last: &Duty, duty: &Duty) -> i64 {
-        i64::from(duty.fly)
-    }
-
-    #[inline]
-    fn cap(&self) -> Option<i64> {
-        Some(i64::from(self.cap))
-    }
-}
-
-impl StagedAmount<Duty> for FlightMinutes {
-    ghost idle_amount = { λ _ _. pos 0 };
-
-    ghost wait_amount = { λ _ _ _. pos 0 };
-
-    ghost own_amount = { λ _ d. d.fly };
-
     ghost share = { λ _. 540 };
 
-    ghost amounts = { λ _. Spec.fly_laws };
+    ghost shares = { λ _. Spec.fly_laws };
 
     #[inline]
     fn idle(&self, _departure: &Departure) -> i64 {
@@ -365,6 +257,11 @@ impl StagedAmount<Duty> for FlightMinutes {
     fn own(&self, duty: &Duty) -> i64 {
         i64::from(duty.fly)
     }
+
+    #[inline]
+    fn cap(&self) -> Option<i64> {
+        Some(i64::from(self.cap))
+    }
 }
 
 /// Minutes away, from the first report to the last release.
@@ -376,43 +273,17 @@ pub struct MinutesAway {
 impl Amount for MinutesAway {
     type Item = Duty;
 
-    ghost first_of = { λ _. Spec.away_first };
+    ghost idle_of = { λ _ _. pos 0 };
 
-    ghost next_of = { λ _. Spec.away_next };
+    ghost wait_of = { λ _. Spec.away_wait };
+
+    ghost own_of = { λ _. Spec.away_own };
 
     ghost cap_of = { λ a. Some (pos a.cap) };
 
-    ghost can_first = { λ _ d. IsSound d };
-
-    ghost can_next = { λ _. Spec.CanFollow };
-
-    #[inline]
-    fn first(&self, duty: &Duty) -> i64 {
-        i64::from(duty.release) - i64::from(duty.report)
-    }
-
-    #[inline]
-    fn next(&self, last: &Duty, duty: &Duty) -> i64 {
-        (i64::from(duty.report) - i64::from(last.release))
-            + (i64::from(duty.release) - i64::from(duty.report))
-    }
-
-    #[inline]
-    fn cap(&self) -> Option<i64> {
-        Some(i64::from(self.cap))
-    }
-}
-
-impl StagedAmount<Duty> for MinutesAway {
-    ghost idle_amount = { λ _ _. pos 0 };
-
-    ghost wait_amount = { λ _ x g. g.report -ℤ x.release };
-
-    ghost own_amount = { λ _ d. d.release -ℤ d.report };
-
     ghost share = { λ _. 8_280 };
 
-    ghost amounts = { λ _. Spec.away_laws };
+    ghost shares = { λ _. Spec.away_laws };
 
     #[inline]
     fn idle(&self, _departure: &Departure) -> i64 {
@@ -427,5 +298,10 @@ impl StagedAmount<Duty> for MinutesAway {
     #[inline]
     fn own(&self, duty: &Duty) -> i64 {
         i64::from(duty.release) - i64::from(duty.report)
+    }
+
+    #[inline]
+    fn cap(&self) -> Option<i64> {
+        Some(i64::from(self.cap))
     }
 }

@@ -13,7 +13,7 @@ ghost use Rattle.crew_vector.specs.Machinery.VectorLaws.{vector_bounds, vector_c
 
 use crate::amounts::{DutyMinutes, DutyPay, FlightMinutes, Guarantee, MinutesAway, TripRig};
 use crew_pairing::{Arrival, Departure, Duty, PairingVector};
-use crew_resource::{Amount, Both, Count, Resource, Staged, StagedAmount, Sum};
+use crew_resource::{Amount, Both, Count, Placed, Resource, Staged, Sum};
 use crew_rules::Settings;
 use std::alloc::AllocError;
 
@@ -153,16 +153,8 @@ impl Resource for VectorResource {
 
     #[inline]
     fn start(&self, duty: &Duty) -> Result<Option<PairingVector>, AllocError> {
-        let first = PairingVector {
-            duty_pay: self.duty_pay().first(duty),
-            trip_rig: self.rig().first(duty),
-            guarantee: self.guaranteed().first(duty),
-            fdp: i64::from(duty.fdp),
-            fly: i64::from(duty.fly),
-            duties: 1,
-            away: self.minutes_away().first(duty),
-        };
-        Ok(self.within(first))
+        let empty = self.idle(&duty.departure());
+        Ok(self.board(&empty, duty))
     }
 
     #[inline]
@@ -172,16 +164,8 @@ impl Resource for VectorResource {
         last: &Duty,
         next: &Duty,
     ) -> Result<Option<PairingVector>, AllocError> {
-        let longer = PairingVector {
-            duty_pay: value.duty_pay + self.duty_pay().next(last, next),
-            trip_rig: value.trip_rig + self.rig().next(last, next),
-            guarantee: value.guarantee + self.guaranteed().next(last, next),
-            fdp: value.fdp + i64::from(next.fdp),
-            fly: value.fly + i64::from(next.fly),
-            duties: value.duties + 1,
-            away: value.away + self.minutes_away().next(last, next),
-        };
-        Ok(self.within(longer))
+        let waited = self.wait(value, &last.arrival(), &next.departure());
+        Ok(self.board(&waited, next))
     }
 
     #[inline]

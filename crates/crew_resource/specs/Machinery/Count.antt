@@ -1,7 +1,7 @@
 -- The number of items of a list, and its laws.
 use Rattle.std.specs.Prelude.{◌≡◌, ℕ, min, Option, Some, ℤ, pos, negsuc, ◌+ℤ◌, int_le, FitsSigned}
 use Rattle.std.specs.Int.{w64}
-use Rattle.std.proofs.Common.{refl, sym, arith}
+use Rattle.std.proofs.Common.{refl, sym, subst, arith}
 use Rattle.std.proofs.lemmas.Int.{ints}
 use Rattle.crew_resource.specs.Resource.{GradesOrder}
 use Rattle.crew_resource.specs.Machinery.Sum.{capped}
@@ -22,8 +22,8 @@ pub count_staged : {I X G : Type 0} (most : ℕ) (arrives : I → X) (leaves : I
     → StagedLaws (λ _. capped (Some (pos most)) (pos 1))
     (λ v _ _. capped (Some (pos most)) (v +ℤ pos 1)) int_le arrives leaves (λ _. pos 0)
     (shifted (λ _ _. pos 0)) (boarded (Some (pos most)) (λ _. pos 1))
-count_staged most arrives leaves = sum_staged (λ _. pos 1) (λ _ _. pos 1) (Some (pos most))
-    arrives leaves (λ _. pos 0) (λ _ _. pos 0) (λ _. pos 1) (λ i. refl) (λ last i. refl)
+count_staged most arrives leaves = sum_staged (Some (pos most)) arrives leaves (λ _. pos 0)
+    (λ _ _. pos 0) (λ _. pos 1)
 
 pub count_counting : {I X G : Type 0} (most m : ℕ) → ◌≡◌ {A = Option ℕ} (Some most) (Some m)
     → CountingLaws {I = I} {X = X} {G = G} (λ v. v) m (λ _. pos 0) (shifted (λ _ _. pos 0))
@@ -44,20 +44,27 @@ pub count_bounds : {I X G : Type 0} (most : ℕ) (is_sound : I → Type 0) (may_
     (may_follow : X → G → Type 0) (arrives : I → X) (leaves : I → G)
     → BoundLaws is_sound may_begin may_follow arrives leaves (λ _. pos 0) (shifted (λ _ _. pos 0))
     (boarded (Some (pos most)) (λ _. pos 1))
-    (λ _. Unit {0}) (λ v _ _. Unit {0} × FitsSigned w64 (v +ℤ pos 1)) may_begin
-    (λ v x g. may_follow x g × FitsSigned w64 (v +ℤ pos 0))
+    (λ _. Unit {0}) (λ v _ _. FitsSigned w64 (v +ℤ pos 1)) may_begin
+    (λ _ x g. may_follow x g)
     (λ v i. is_sound i × FitsSigned w64 (v +ℤ pos 1))
     (sum_fits 1) (sum_ready 1) (sum_arrived 1)
 count_bounds most is_sound may_begin may_follow arrives leaves =
-    sum_bounds is_sound may_begin may_follow arrives leaves (λ _. pos 1) (λ _ _. pos 1)
-    (λ _. Unit {0}) (λ _ _. Unit {0}) (Some (pos most)) (λ _. pos 0) (λ _ _. pos 0)
-    (λ _. pos 1) 1
+    let b = sum_bounds is_sound may_begin may_follow arrives leaves (Some (pos most)) (λ _. pos 0)
+    (λ _ _. pos 0) (λ _. pos 1) 1
     record {
-      starts = λ i. refl;
-      goes_on = λ last i. refl;
       idle_share = λ g b. record { least = omega (arith, ints); most = omega (arith, ints) };
       wait_share = λ x g f. record { least = omega (arith, ints); most = omega (arith, ints) };
       own_share = λ i s. record { least = omega (arith, ints); most = omega (arith, ints) };
-      first_call = λ i s b. tt;
-      next_call = λ last i s t f. tt;
+    } in record {
+      idle_ready = b.idle_ready;
+      wait_ready = b.wait_ready;
+      board_arrived = b.board_arrived;
+      fewer = b.fewer;
+      starts = λ i s m f. tt;
+      extends = λ n v last i s t f h a.
+          let none : v +ℤ pos 0 ≡ v = omega (arith, ints) in
+          subst (λ z. FitsSigned w64 (z +ℤ pos 1)) none (b.extends n v last i s t f h a).1.1;
+      idles = b.idles;
+      waits = λ n v x g f h a. f;
+      boards = b.boards;
     }

@@ -11,6 +11,14 @@ is_within (Some cap) total = int_le total cap
 abbrev pub capped : Option ℤ → ℤ → Option ℤ
 capped cap total = cond (is_within cap total) (Some total) None
 
+-- what an item adds that is added in stages: the first of a list, over what stands before it
+abbrev pub first_adds : {I G : Type 0} → (I → G) → (G → ℤ) → (I → ℤ) → I → ℤ
+first_adds leaves idle own item = idle (leaves item) +ℤ own item
+
+-- and one after another, with the wait between them
+abbrev pub next_adds : {I X G : Type 0} → (I → X) → (I → G) → (X → G → ℤ) → (I → ℤ) → I → I → ℤ
+next_adds arrives leaves wait own last item = wait (arrives last) (leaves item) +ℤ own item
+
 -- what the items after the first add
 abbrev pub rises : {I : Type 0} → (I → I → ℤ) → I → List I → ℤ
 rises next last [] = pos 0

@@ -7,7 +7,7 @@ use Rattle.std.proofs.Math.Nat.{suc-mul, mul-le-mul_right}
 use Rattle.std.proofs.lemmas.Bool.{cases_Bool}
 use Rattle.std.proofs.lemmas.Int.{ints}
 use Rattle.std.proofs.lemmas.Cmp.{int_ranked}
-use Rattle.crew_resource.specs.Machinery.Sum.{is_within, capped, LiesWithin}
+use Rattle.crew_resource.specs.Machinery.Sum.{is_within, capped, first_adds, next_adds, LiesWithin}
 use Rattle.crew_resource.specs.Machinery.SumLaws.{within_lower}
 use Rattle.crew_resource.specs.Stages.{StagedLaws, ShiftLaws, CountingLaws, BoundLaws, AmountLaws, shifted, boarded}
 
@@ -36,16 +36,15 @@ cmp_shift a b d =
 regroup : (v w b : ℤ) → v +ℤ (w +ℤ b) ≡ (v +ℤ w) +ℤ b
 regroup v w b = omega (arith, ints)
 
-pub sum_staged : {I X G : Type 0} (first : I → ℤ) (next : I → I → ℤ) (cap : Option ℤ)
-    (arrives : I → X) (leaves : I → G) (idle : G → ℤ) (wait : X → G → ℤ) (own : I → ℤ)
-    → ((i : I) → first i ≡ idle (leaves i) +ℤ own i)
-    → ((last i : I) → next last i ≡ wait (arrives last) (leaves i) +ℤ own i)
-    → StagedLaws (λ i. capped cap (first i)) (λ v last i. capped cap (v +ℤ next last i)) int_le
-    arrives leaves idle (shifted wait) (boarded cap own)
-sum_staged first next cap arrives leaves idle wait own starts goes_on = record {
-  opening = λ i. ap (capped cap) (starts i);
+pub sum_staged : {I X G : Type 0} (cap : Option ℤ) (arrives : I → X) (leaves : I → G)
+    (idle : G → ℤ) (wait : X → G → ℤ) (own : I → ℤ)
+    → StagedLaws (λ i. capped cap (first_adds leaves idle own i))
+    (λ v last i. capped cap (v +ℤ next_adds arrives leaves wait own last i)) int_le arrives
+    leaves idle (shifted wait) (boarded cap own)
+sum_staged cap arrives leaves idle wait own = record {
+  opening = λ i. refl;
   extension = λ v last i. ap (capped cap)
-      (ap (λ z. v +ℤ z) (goes_on last i) ∙ regroup v (wait (arrives last) (leaves i)) (own i));
+      (regroup v (wait (arrives last) (leaves i)) (own i));
   wait_monotone = λ a b x g h. grind (arith, ints);
   board_monotone = λ a b c i h e.
       let k = capped_is cap (b +ℤ own i) c e in
@@ -105,53 +104,57 @@ added r s a b p q =
     let l = p.least in let m = p.most in let o = q.least in let n = q.most in
     record { least = omega (arith, ints); most = omega (arith, ints) }
 
+-- in a list of one item more each stage's sum fits
+wait_fits : (share n : ℕ) (v w : ℤ) → sum_fits share (suc n) → sum_arrived share n v
+    → LiesWithin share w → FitsSigned w64 (v +ℤ w)
+wait_fits share n v w h a p =
+    let m = suc-mul n (2 * share) in
+    fitting (n * (2 * share) + share) (v +ℤ w) (added (n * (2 * share)) share v w a p)
+    (omega (arith, m, h))
+
+board_fits : (share n : ℕ) (v w : ℤ) → sum_fits share (suc n) → sum_ready share n v
+    → LiesWithin share w → FitsSigned w64 (v +ℤ w)
+board_fits share n v w h r p =
+    let m = suc-mul n (2 * share) in
+    fitting (n * (2 * share) + share + share) (v +ℤ w)
+    (added (n * (2 * share) + share) share v w r p) (omega (arith, m, h))
+
+none_ready : (share : ℕ) (v : ℤ) → LiesWithin share v → sum_ready share 0 v
+none_ready share v p = subst (λ r. LiesWithin r v) (omega arith) p
+
 pub sum_bounds : {I X G : Type 0} (is_sound : I → Type 0) (may_begin : G → Type 0)
-    (may_follow : X → G → Type 0) (arrives : I → X) (leaves : I → G)
-    (first : I → ℤ) (next : I → I → ℤ) (can_first : I → Type 0) (can_next : I → I → Type 0)
-    (cap : Option ℤ) (idle : G → ℤ) (wait : X → G → ℤ) (own : I → ℤ) (share : ℕ)
-    → AmountLaws is_sound may_begin may_follow arrives leaves first next can_first can_next idle
-    wait own share
+    (may_follow : X → G → Type 0) (arrives : I → X) (leaves : I → G) (cap : Option ℤ)
+    (idle : G → ℤ) (wait : X → G → ℤ) (own : I → ℤ) (share : ℕ)
+    → AmountLaws is_sound may_begin may_follow idle wait own share
     → BoundLaws is_sound may_begin may_follow arrives leaves idle (shifted wait) (boarded cap own)
-    can_first (λ v last i. can_next last i × FitsSigned w64 (v +ℤ next last i)) may_begin
+    (λ i. may_begin (leaves i) × (is_sound i × FitsSigned w64 (idle (leaves i) +ℤ own i)))
+    (λ v last i. (may_follow (arrives last) (leaves i)
+    × FitsSigned w64 (v +ℤ wait (arrives last) (leaves i)))
+    × (is_sound i × FitsSigned w64 ((v +ℤ wait (arrives last) (leaves i)) +ℤ own i))) may_begin
     (λ v x g. may_follow x g × FitsSigned w64 (v +ℤ wait x g))
     (λ v i. is_sound i × FitsSigned w64 (v +ℤ own i))
     (sum_fits share) (sum_ready share) (sum_arrived share)
-sum_bounds is_sound may_begin may_follow arrives leaves first next can_first can_next cap idle
-    wait own share laws = record {
-      idle_ready = λ g b. subst (λ r. LiesWithin r (idle g)) (omega arith) (laws.idle_share g b);
-      wait_ready = λ n v x g f a. added (n * (2 * share)) share v (wait x g) a (laws.wait_share x g f);
-      board_arrived = λ n v z i s r e.
-          let k = (capped_is cap (v +ℤ own i) z e).1 in
-          let t = added (n * (2 * share) + share) share v (own i) r (laws.own_share i s) in
-          let m = suc-mul n (2 * share) in
-          subst (λ z. LiesWithin (suc n * (2 * share)) z) k
-          (subst (λ r. LiesWithin r (v +ℤ own i)) (omega (arith, m)) t);
-      fewer = λ n k h f. let m = mul-le-mul_right (2 * share) h in omega (arith, m, f);
-      starts = λ i s b f. laws.first_call i s b;
-      extends = λ n v last i s t f h a.
-          let m = suc-mul n (2 * share) in
-          let both = added share share (wait (arrives last) (leaves i)) (own i)
-          (laws.wait_share (arrives last) (leaves i) f) (laws.own_share i t) in
-          let total = added (n * (2 * share)) (share + share) v
-          (wait (arrives last) (leaves i) +ℤ own i) a both in (
-            laws.next_call last i s t f,
-            subst (λ z. FitsSigned w64 (v +ℤ z))
-                (sym (laws.goes_on last i)) (fitting (n * (2 * share) + (share + share))
-                (v +ℤ (wait (arrives last) (leaves i) +ℤ own i)) total (omega (arith, m, h))),
-          );
-      idles = λ g b f. b;
-      waits = λ n v x g f h a.
-          let m = suc-mul n (2 * share) in (
-            f,
-            fitting (n * (2 * share) + share) (v +ℤ wait x g)
-                (added (n * (2 * share)) share v (wait x g) a (laws.wait_share x g f))
-                (omega (arith, m, h)),
-          );
-      boards = λ n v i s h r.
-          let m = suc-mul n (2 * share) in (
-            s,
-            fitting (n * (2 * share) + share + share) (v +ℤ own i)
-                (added (n * (2 * share) + share) share v (own i) r (laws.own_share i s))
-                (omega (arith, m, h)),
-          );
-    }
+sum_bounds is_sound may_begin may_follow arrives leaves cap idle wait own share laws = record {
+  idle_ready = λ g b. none_ready share (idle g) (laws.idle_share g b);
+  wait_ready = λ n v x g f a. added (n * (2 * share)) share v (wait x g) a (laws.wait_share x g f);
+  board_arrived = λ n v z i s r e.
+      let k = (capped_is cap (v +ℤ own i) z e).1 in
+      let t = added (n * (2 * share) + share) share v (own i) r (laws.own_share i s) in
+      let m = suc-mul n (2 * share) in
+      subst (λ z. LiesWithin (suc n * (2 * share)) z) k
+      (subst (λ r. LiesWithin r (v +ℤ own i)) (omega (arith, m)) t);
+  fewer = λ n k h f. let m = mul-le-mul_right (2 * share) h in omega (arith, m, f);
+  starts = λ i s b f.
+      let ready = none_ready share (idle (leaves i)) (laws.idle_share (leaves i) b) in
+      (b, (s, board_fits share 0 (idle (leaves i)) (own i) f ready (laws.own_share i s)));
+  extends = λ n v last i s t f h a.
+      let w = wait (arrives last) (leaves i) in
+      let p = laws.wait_share (arrives last) (leaves i) f in
+      let ready = added (n * (2 * share)) share v w a p in (
+        (f, wait_fits share n v w h a p),
+        (t, board_fits share n (v +ℤ w) (own i) h ready (laws.own_share i t)),
+      );
+  idles = λ g b f. b;
+  waits = λ n v x g f h a. (f, wait_fits share n v (wait x g) h a (laws.wait_share x g f));
+  boards = λ n v i s h r. (s, board_fits share n v (own i) h r (laws.own_share i s));
+}

@@ -1,53 +1,16 @@
--- What the parts side by side give: of a first duty, of a step, of a list, and of each stage.
-use Rattle.std.specs.Prelude.{ℕ, ◌+◌, ◌*◌, pos, ◌+ℤ◌, ◌-ℤ◌, neg_ℤ, unsigned_abs, List, Option, Some, None}
+-- What the parts side by side give: of each stage, of a first duty, of a step, and of a list.
+use Rattle.std.specs.Prelude.{ℕ, ◌+◌, ◌*◌, ℤ, pos, ◌+ℤ◌, neg_ℤ, unsigned_abs, List, Option, Some, None}
+use Rattle.crew_pairing.specs.Events.{arrival_of, departure_of}
 use Rattle.crew_pairing.specs.declared.duty.Duty.{Duty}
 use Rattle.crew_pairing.specs.declared.events.Arrival.{Arrival}
 use Rattle.crew_pairing.specs.declared.events.Departure.{Departure}
 use Rattle.crew_resource.specs.Machinery.Both.{both, both_board, both_extend, both_wait}
 use Rattle.crew_resource.specs.Stages.{boarded, shifted}
-use Rattle.crew_resource.specs.Machinery.Sum.{capped, capped_sum}
+use Rattle.crew_resource.specs.Machinery.Sum.{capped, capped_sum, first_adds, next_adds}
 use Rattle.crew_resource.specs.Machinery.SumStages.{sum_fits}
-use Rattle.crew_vector.specs.Machinery.Amounts.{away_first, away_next, fdp_first, fdp_next, fly_first, fly_next, guarantee_first, guarantee_next, guarantee_own, pay_first, pay_next, pay_own, rig_first, rig_next, rig_own, rig_wait}
+use Rattle.crew_vector.specs.Machinery.Amounts.{away_own, away_wait, guarantee_own, pay_own, rig_own, rig_wait}
 use Rattle.crew_vector.specs.Machinery.Numbers.{Numbers}
 use Rattle.crew_vector.specs.declared.resource.VectorResource.{VectorResource}
-
-abbrev pub opened : VectorResource → Duty → Option Numbers
-opened r d =
-    both
-    (both (capped None (pay_first r.base_price d))
-    (both (capped None (rig_first r.trip_rig r.base_price d))
-    (capped None (guarantee_first r.guarantee r.base_price d))))
-    (both
-    (both (capped (Some (pos r.fdp_cap)) (fdp_first d))
-    (capped (Some (pos r.fly_cap)) (fly_first d)))
-    (both (capped (Some (pos r.max_duties)) (pos 1))
-    (capped (Some (pos r.away_cap)) (away_first d))))
-
-abbrev pub stepped : VectorResource → Numbers → Duty → Duty → Option Numbers
-stepped r =
-    both_extend
-    (both_extend (λ v e d. capped None (v +ℤ pay_next e d))
-    (both_extend (λ v e d. capped None (v +ℤ rig_next r.trip_rig e d))
-    (λ v e d. capped None (v +ℤ guarantee_next r.guarantee e d))))
-    (both_extend
-    (both_extend (λ v e d. capped (Some (pos r.fdp_cap)) (v +ℤ fdp_next e d))
-    (λ v e d. capped (Some (pos r.fly_cap)) (v +ℤ fly_next e d)))
-    (both_extend (λ v _ _. capped (Some (pos r.max_duties)) (v +ℤ pos 1))
-    (λ v e d. capped (Some (pos r.away_cap)) (v +ℤ away_next e d))))
-
-abbrev pub summed : VectorResource → List Duty → Option Numbers
-summed r ds =
-    both
-    (both
-    (capped_sum (pay_first r.base_price) pay_next None ds)
-    (both (capped_sum (rig_first r.trip_rig r.base_price) (rig_next r.trip_rig) None ds)
-    (capped_sum (guarantee_first r.guarantee r.base_price) (guarantee_next r.guarantee) None
-    ds)))
-    (both
-    (both (capped_sum fdp_first fdp_next (Some (pos r.fdp_cap)) ds)
-    (capped_sum fly_first fly_next (Some (pos r.fly_cap)) ds))
-    (both (capped_sum (λ _. pos 1) (λ _ _. pos 1) (Some (pos r.max_duties)) ds)
-    (capped_sum away_first away_next (Some (pos r.away_cap)) ds)))
 
 abbrev pub idle : VectorResource → Departure → Numbers
 idle r g = (
@@ -61,7 +24,7 @@ waited r =
     (both_wait (shifted (λ _ _. pos 0))
     (both_wait (shifted (rig_wait r.trip_rig)) (shifted (λ _ _. pos 0))))
     (both_wait (both_wait (shifted (λ _ _. pos 0)) (shifted (λ _ _. pos 0)))
-    (both_wait (shifted (λ _ _. pos 0)) (shifted (λ x g. g.report -ℤ x.release))))
+    (both_wait (shifted (λ _ _. pos 0)) (shifted away_wait)))
 
 abbrev pub aboard : VectorResource → Numbers → Duty → Option Numbers
 aboard r =
@@ -72,7 +35,45 @@ aboard r =
     (both_board (boarded (Some (pos r.fdp_cap)) (λ d. d.fdp))
     (boarded (Some (pos r.fly_cap)) (λ d. d.fly)))
     (both_board (boarded (Some (pos r.max_duties)) (λ _. pos 1))
-    (boarded (Some (pos r.away_cap)) (λ d. d.release -ℤ d.report))))
+    (boarded (Some (pos r.away_cap)) away_own)))
+
+abbrev pub opened : VectorResource → Duty → Option Numbers
+opened r d = aboard r (idle r (departure_of d)) d
+
+-- a part one duty on
+abbrev on : Option ℤ → (Arrival → Departure → ℤ) → (Duty → ℤ) → ℤ → Duty → Duty → Option ℤ
+on cap wait own v e d = capped cap (v +ℤ next_adds arrival_of departure_of wait own e d)
+
+abbrev pub stepped : VectorResource → Numbers → Duty → Duty → Option Numbers
+stepped r =
+    both_extend
+    (both_extend (on None (λ _ _. pos 0) pay_own)
+    (both_extend (on None (rig_wait r.trip_rig) (rig_own r.trip_rig))
+    (on None (λ _ _. pos 0) (guarantee_own r.guarantee))))
+    (both_extend
+    (both_extend (on (Some (pos r.fdp_cap)) (λ _ _. pos 0) (λ d. d.fdp))
+    (on (Some (pos r.fly_cap)) (λ _ _. pos 0) (λ d. d.fly)))
+    (both_extend (λ v _ _. capped (Some (pos r.max_duties)) (v +ℤ pos 1))
+    (on (Some (pos r.away_cap)) away_wait away_own)))
+
+-- a part along a list
+abbrev along : Option ℤ → (Departure → ℤ) → (Arrival → Departure → ℤ) → (Duty → ℤ) → List Duty
+    → Option ℤ
+along cap idle wait own = capped_sum (first_adds departure_of idle own)
+    (next_adds arrival_of departure_of wait own) cap
+
+abbrev pub summed : VectorResource → List Duty → Option Numbers
+summed r ds =
+    both
+    (both (along None (λ _. neg_ℤ r.base_price) (λ _ _. pos 0) pay_own ds)
+    (both
+    (along None (λ _. neg_ℤ r.base_price) (rig_wait r.trip_rig) (rig_own r.trip_rig) ds)
+    (along None (λ _. neg_ℤ r.base_price) (λ _ _. pos 0) (guarantee_own r.guarantee) ds)))
+    (both
+    (both (along (Some (pos r.fdp_cap)) (λ _. pos 0) (λ _ _. pos 0) (λ d. d.fdp) ds)
+    (along (Some (pos r.fly_cap)) (λ _. pos 0) (λ _ _. pos 0) (λ d. d.fly) ds))
+    (both (capped_sum (λ _. pos 1) (λ _ _. pos 1) (Some (pos r.max_duties)) ds)
+    (along (Some (pos r.away_cap)) (λ _. pos 0) away_wait away_own ds)))
 
 -- sums over so many duties fit
 abbrev pub fits_in : VectorResource → ℕ → Type 0

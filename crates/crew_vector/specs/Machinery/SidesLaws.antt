@@ -1,5 +1,5 @@
 -- The laws of the parts side by side.
-use Rattle.std.specs.Prelude.{Bool, ◌&&◌, int_le, pos, ◌-ℤ◌, neg_ℤ, Some, None, refl}
+use Rattle.std.specs.Prelude.{Bool, ◌&&◌, int_le, ℤ, pos, ◌+ℤ◌, neg_ℤ, Option, Some, None}
 use Rattle.std.specs.Ordering.{int_cmp, ordering_then}
 use Rattle.std.specs.declared.cmp.Ordering.{Ordering}
 use Rattle.crew_pairing.specs.Events.{arrival_of, departure_of}
@@ -11,9 +11,10 @@ use Rattle.crew_resource.specs.Machinery.BothStages.{both_shifts, both_staged}
 use Rattle.crew_resource.specs.Machinery.Count.{count_staged}
 use Rattle.crew_resource.specs.Resource.{OrderLaws, StepLaws}
 use Rattle.crew_resource.specs.Stages.{ShiftLaws, StagedLaws}
+use Rattle.crew_resource.specs.Machinery.Sum.{capped, capped_sum, first_adds, next_adds}
 use Rattle.crew_resource.specs.Machinery.SumLaws.{sum_order, sum_steps}
 use Rattle.crew_resource.specs.Machinery.SumStages.{sum_shifts, sum_staged}
-use Rattle.crew_vector.specs.Machinery.Amounts.{away_first, away_next, fdp_first, fdp_next, fly_first, fly_next, guarantee_first, guarantee_next, guarantee_own, pay_first, pay_next, pay_own, rig_first, rig_next, rig_own, rig_wait}
+use Rattle.crew_vector.specs.Machinery.Amounts.{away_own, away_wait, guarantee_own, pay_own, rig_own, rig_wait}
 use Rattle.crew_vector.specs.Machinery.Numbers.{Numbers}
 use Rattle.crew_vector.specs.Machinery.Sides.{aboard, idle, opened, stepped, summed, waited}
 use Rattle.crew_vector.specs.declared.resource.VectorResource.{VectorResource}
@@ -37,18 +38,29 @@ sides_order = both_order _ _ _ _
     (both_order _ _ _ _ (both_order _ _ _ _ sum_order sum_order)
     (both_order _ _ _ _ sum_order sum_order))
 
+-- the steps of a part that is added in stages
+part_steps : (cap : Option ℤ) (idle : Departure → ℤ) (wait : Arrival → Departure → ℤ)
+    (own : Duty → ℤ)
+    → StepLaws (λ d. capped cap (first_adds departure_of idle own d))
+    (λ v e d. capped cap (v +ℤ next_adds arrival_of departure_of wait own e d)) int_le
+    (capped_sum (first_adds departure_of idle own) (next_adds arrival_of departure_of wait own)
+    cap)
+part_steps cap idle wait own = sum_steps (first_adds departure_of idle own)
+    (next_adds arrival_of departure_of wait own) cap
+
 pub sides_steps : (r : VectorResource) → StepLaws (opened r) (stepped r) sides_at_most (summed r)
 sides_steps r =
     both_steps _ _ _ _ _ _ _ _
-    (both_steps _ _ _ _ _ _ _ _ (sum_steps (pay_first r.base_price) pay_next None)
-    (both_steps _ _ _ _ _ _ _ _ (sum_steps (rig_first r.trip_rig r.base_price)
-    (rig_next r.trip_rig) None) (sum_steps (guarantee_first r.guarantee r.base_price)
-    (guarantee_next r.guarantee) None)))
+    (both_steps _ _ _ _ _ _ _ _ (part_steps None (λ _. neg_ℤ r.base_price) (λ _ _. pos 0) pay_own)
     (both_steps _ _ _ _ _ _ _ _
-    (both_steps _ _ _ _ _ _ _ _ (sum_steps fdp_first fdp_next (Some (pos r.fdp_cap)))
-    (sum_steps fly_first fly_next (Some (pos r.fly_cap))))
+    (part_steps None (λ _. neg_ℤ r.base_price) (rig_wait r.trip_rig) (rig_own r.trip_rig))
+    (part_steps None (λ _. neg_ℤ r.base_price) (λ _ _. pos 0) (guarantee_own r.guarantee))))
+    (both_steps _ _ _ _ _ _ _ _
+    (both_steps _ _ _ _ _ _ _ _
+    (part_steps (Some (pos r.fdp_cap)) (λ _. pos 0) (λ _ _. pos 0) (λ d. d.fdp))
+    (part_steps (Some (pos r.fly_cap)) (λ _. pos 0) (λ _ _. pos 0) (λ d. d.fly)))
     (both_steps _ _ _ _ _ _ _ _ (sum_steps (λ _. pos 1) (λ _ _. pos 1) (Some (pos r.max_duties)))
-    (sum_steps away_first away_next (Some (pos r.away_cap)))))
+    (part_steps (Some (pos r.away_cap)) (λ _. pos 0) away_wait away_own)))
 
 pub sides_staged : (r : VectorResource)
     → StagedLaws (opened r) (stepped r) sides_at_most arrival_of departure_of (idle r) (waited r)
@@ -56,25 +68,21 @@ pub sides_staged : (r : VectorResource)
 sides_staged r =
     both_staged _ _ _ _ _ _ _ _ _ _ _ _ _ _
     (both_staged _ _ _ _ _ _ _ _ _ _ _ _ _ _
-    (sum_staged (pay_first r.base_price) pay_next None arrival_of departure_of
-    (λ _. neg_ℤ r.base_price) (λ _ _. pos 0) pay_own (λ d. refl) (λ e d. refl))
+    (sum_staged None arrival_of departure_of (λ _. neg_ℤ r.base_price) (λ _ _. pos 0) pay_own)
     (both_staged _ _ _ _ _ _ _ _ _ _ _ _ _ _
-    (sum_staged (rig_first r.trip_rig r.base_price) (rig_next r.trip_rig) None arrival_of
-    departure_of (λ _. neg_ℤ r.base_price) (rig_wait r.trip_rig) (rig_own r.trip_rig)
-    (λ d. refl) (λ e d. refl))
-    (sum_staged (guarantee_first r.guarantee r.base_price) (guarantee_next r.guarantee) None
-    arrival_of departure_of (λ _. neg_ℤ r.base_price) (λ _ _. pos 0)
-    (guarantee_own r.guarantee) (λ d. refl) (λ e d. refl))))
+    (sum_staged None arrival_of departure_of (λ _. neg_ℤ r.base_price) (rig_wait r.trip_rig)
+    (rig_own r.trip_rig))
+    (sum_staged None arrival_of departure_of (λ _. neg_ℤ r.base_price) (λ _ _. pos 0)
+    (guarantee_own r.guarantee))))
     (both_staged _ _ _ _ _ _ _ _ _ _ _ _ _ _
     (both_staged _ _ _ _ _ _ _ _ _ _ _ _ _ _
-    (sum_staged fdp_first fdp_next (Some (pos r.fdp_cap)) arrival_of departure_of (λ _. pos 0)
-    (λ _ _. pos 0) (λ d. d.fdp) (λ d. refl) (λ e d. refl))
-    (sum_staged fly_first fly_next (Some (pos r.fly_cap)) arrival_of departure_of (λ _. pos 0)
-    (λ _ _. pos 0) (λ d. d.fly) (λ d. refl) (λ e d. refl)))
+    (sum_staged (Some (pos r.fdp_cap)) arrival_of departure_of (λ _. pos 0) (λ _ _. pos 0)
+    (λ d. d.fdp))
+    (sum_staged (Some (pos r.fly_cap)) arrival_of departure_of (λ _. pos 0) (λ _ _. pos 0)
+    (λ d. d.fly)))
     (both_staged _ _ _ _ _ _ _ _ _ _ _ _ _ _
     (count_staged r.max_duties arrival_of departure_of)
-    (sum_staged away_first away_next (Some (pos r.away_cap)) arrival_of departure_of (λ _. pos 0)
-    (λ x g. g.report -ℤ x.release) (λ d. d.release -ℤ d.report) (λ d. refl) (λ e d. refl))))
+    (sum_staged (Some (pos r.away_cap)) arrival_of departure_of (λ _. pos 0) away_wait away_own)))
 
 pub sides_shifts : (r : VectorResource) → ShiftLaws sides_cmp sides_at_most (waited r) (aboard r)
 sides_shifts r =
@@ -91,5 +99,4 @@ sides_shifts r =
     (Some (pos r.fly_cap))))
     (both_shifts _ _ _ _ _ _ _ _ (sum_shifts {X = Arrival} {G = Departure} (λ _ _. pos 0)
     (λ (_ : Duty). pos 1) (Some (pos r.max_duties)))
-    (sum_shifts {X = Arrival} {G = Departure} (λ x g. g.report -ℤ x.release)
-    (λ (d : Duty). d.release -ℤ d.report) (Some (pos r.away_cap)))))
+    (sum_shifts {X = Arrival} {G = Departure} away_wait away_own (Some (pos r.away_cap)))))

@@ -16,7 +16,7 @@ use Rattle.crew_resource.specs.Resource.{GradesOrder, StepLaws}
 use Rattle.crew_resource.specs.Stages.{BoundLaws, CountingLaws, ShiftLaws, StagedLaws, boarded}
 use Rattle.crew_resource.specs.Machinery.SumLaws.{no_grades}
 use Rattle.crew_resource.specs.Machinery.SumStages.{capped_is, sum_arrived, sum_bounds, sum_ready}
-use Rattle.crew_vector.specs.Machinery.Amounts.{CanFollow, away_first, away_laws, away_next, fdp_first, fdp_laws, fdp_next, fly_first, fly_laws, fly_next, guarantee_first, guarantee_laws, guarantee_next, guarantee_own, pay_first, pay_laws, pay_next, pay_own, rig_first, rig_laws, rig_next, rig_own, rig_wait}
+use Rattle.crew_vector.specs.Machinery.Amounts.{away_laws, away_own, away_wait, fdp_laws, fly_laws, guarantee_laws, guarantee_own, pay_laws, pay_own, rig_laws, rig_own, rig_wait}
 use Rattle.crew_vector.specs.Dominance.{is_at_most}
 use Rattle.crew_vector.specs.Fronts.{vector_cmp}
 use Rattle.crew_vector.specs.Machinery.Named.{named_bounds, named_shifts, named_staged, named_steps, unnamed}
@@ -68,7 +68,7 @@ board_minutes r = both_board (boarded (Some (pos r.fdp_cap)) (λ d. d.fdp))
 
 abbrev board_span : VectorResource → ℤ × ℤ → Duty → Option (ℤ × ℤ)
 board_span r = both_board (boarded (Some (pos r.max_duties)) (λ _. pos 1))
-    (boarded (Some (pos r.away_cap)) (λ d. d.release -ℤ d.report))
+    (boarded (Some (pos r.away_cap)) away_own)
 
 -- boarding counts one duty more, up to the most
 one_boarded : (r : VectorResource) (v z : PairingVector) (d : Duty)
@@ -81,7 +81,7 @@ one_boarded r v z d e =
     (unnamed (aboard r n d) z e) in
     let b = both_parts (board_minutes r n.1.0 d) (board_span r n.1.1 d) m.1 a.1 in
     let c = both_parts (boarded (Some (pos r.max_duties)) (λ (_ : Duty). pos 1) v.duties d)
-    (boarded (Some (pos r.away_cap)) (λ (d : Duty). d.release -ℤ d.report) v.away d) m.1.1 b.1
+    (boarded (Some (pos r.away_cap)) away_own v.away d) m.1.1 b.1
     in
     capped_is (Some (pos r.max_duties)) (v.duties +ℤ pos 1) z.duties c.0
 
@@ -111,35 +111,45 @@ vector_counting r m e =
     (λ v x g. named (waited r (numbers_of v) x g))
     (λ v d. option_map named (aboard r (numbers_of v) d))) same (counting r)
 
--- a call's sums fit
-abbrev can_start : Duty → Type 0
-can_start d = (IsSound d × (IsSound d × IsSound d))
-    × ((Unit {0} × Unit {0}) × (Unit {0} × IsSound d))
+-- a call's sums fit: of a part at the first duty, and at a next one
+abbrev Begins : Duty → ℤ → Type 0
+Begins d sum = Unit {0} × (IsSound d × FitsSigned w64 sum)
+
+abbrev GoesOn : Duty → Duty → ℤ → ℤ → Type 0
+GoesOn e d waited own = (MayFollow (arrival_of e) (departure_of d) × FitsSigned w64 waited)
+    × (IsSound d × FitsSigned w64 (waited +ℤ own))
+
+abbrev can_start : VectorResource → Duty → Type 0
+can_start r d =
+    (Begins d (neg_ℤ r.base_price +ℤ pay_own d)
+    × (Begins d (neg_ℤ r.base_price +ℤ rig_own r.trip_rig d)
+    × Begins d (neg_ℤ r.base_price +ℤ guarantee_own r.guarantee d)))
+    × ((Begins d (pos 0 +ℤ d.fdp) × Begins d (pos 0 +ℤ d.fly))
+    × (Unit {0} × Begins d (pos 0 +ℤ away_own d)))
 
 abbrev can_extend : VectorResource → Numbers → Duty → Duty → Type 0
 can_extend r n e d =
-    ((IsSound d × FitsSigned w64 (n.0.0 +ℤ pay_next e d))
-    × ((CanFollow e d × FitsSigned w64 (n.0.1.0 +ℤ rig_next r.trip_rig e d))
-    × (IsSound d × FitsSigned w64 (n.0.1.1 +ℤ guarantee_next r.guarantee e d))))
-    × (((Unit {0} × FitsSigned w64 (n.1.0.0 +ℤ fdp_next e d))
-    × (Unit {0} × FitsSigned w64 (n.1.0.1 +ℤ fly_next e d)))
-    × ((Unit {0} × FitsSigned w64 (n.1.1.0 +ℤ pos 1))
-    × (CanFollow e d × FitsSigned w64 (n.1.1.1 +ℤ away_next e d))))
+    (GoesOn e d (n.0.0 +ℤ pos 0) (pay_own d)
+    × (GoesOn e d (n.0.1.0 +ℤ rig_wait r.trip_rig (arrival_of e) (departure_of d))
+    (rig_own r.trip_rig d) × GoesOn e d (n.0.1.1 +ℤ pos 0) (guarantee_own r.guarantee d)))
+    × ((GoesOn e d (n.1.0.0 +ℤ pos 0) d.fdp × GoesOn e d (n.1.0.1 +ℤ pos 0) d.fly)
+    × (FitsSigned w64 (n.1.1.0 +ℤ pos 1)
+    × GoesOn e d (n.1.1.1 +ℤ away_wait (arrival_of e) (departure_of d)) (away_own d)))
 
 abbrev can_idle : Departure → Type 0
 can_idle g = (Unit {0} × (Unit {0} × Unit {0})) × ((Unit {0} × Unit {0}) × (Unit {0} × Unit {0}))
 
-abbrev can_wait : VectorResource → Numbers → Arrival → Departure → Type 0
+abbrev pub can_wait : VectorResource → Numbers → Arrival → Departure → Type 0
 can_wait r n x g =
     ((MayFollow x g × FitsSigned w64 (n.0.0 +ℤ pos 0))
     × ((MayFollow x g × FitsSigned w64 (n.0.1.0 +ℤ rig_wait r.trip_rig x g))
     × (MayFollow x g × FitsSigned w64 (n.0.1.1 +ℤ pos 0))))
     × (((MayFollow x g × FitsSigned w64 (n.1.0.0 +ℤ pos 0))
     × (MayFollow x g × FitsSigned w64 (n.1.0.1 +ℤ pos 0)))
-    × ((MayFollow x g × FitsSigned w64 (n.1.1.0 +ℤ pos 0))
-    × (MayFollow x g × FitsSigned w64 (n.1.1.1 +ℤ (g.report -ℤ x.release)))))
+    × (MayFollow x g
+    × (MayFollow x g × FitsSigned w64 (n.1.1.1 +ℤ away_wait x g))))
 
-abbrev can_board : VectorResource → Numbers → Duty → Type 0
+abbrev pub can_board : VectorResource → Numbers → Duty → Type 0
 can_board r n d =
     ((IsSound d × FitsSigned w64 (n.0.0 +ℤ pay_own d))
     × ((IsSound d × FitsSigned w64 (n.0.1.0 +ℤ rig_own r.trip_rig d))
@@ -147,7 +157,7 @@ can_board r n d =
     × (((IsSound d × FitsSigned w64 (n.1.0.0 +ℤ d.fdp))
     × (IsSound d × FitsSigned w64 (n.1.0.1 +ℤ d.fly)))
     × ((IsSound d × FitsSigned w64 (n.1.1.0 +ℤ pos 1))
-    × (IsSound d × FitsSigned w64 (n.1.1.1 +ℤ (d.release -ℤ d.report)))))
+    × (IsSound d × FitsSigned w64 (n.1.1.1 +ℤ away_own d))))
 
 abbrev ready : VectorResource → ℕ → Numbers → Type 0
 ready r n v =
@@ -167,47 +177,42 @@ arrived r n v =
 
 sides_bounds : (r : VectorResource)
     → BoundLaws IsSound (λ _. Unit {0}) MayFollow arrival_of departure_of (idle r) (waited r)
-    (aboard r) can_start (can_extend r) can_idle (can_wait r) (can_board r) (fits_in r)
+    (aboard r) (can_start r) (can_extend r) can_idle (can_wait r) (can_board r) (fits_in r)
     (ready r) (arrived r)
 sides_bounds r =
     both_bounds _ _ _ _ _ _ _ _ _ _ _ _ _ _ _ _ _ _ _ _ _ _ _ _ _ _ _
     (both_bounds _ _ _ _ _ _ _ _ _ _ _ _ _ _ _ _ _ _ _ _ _ _ _ _ _ _ _
-    (sum_bounds IsSound (λ _. Unit {0}) MayFollow arrival_of departure_of (pay_first r.base_price)
-    pay_next IsSound (λ _. IsSound) None (λ _. neg_ℤ r.base_price) (λ _ _. pos 0) pay_own
+    (sum_bounds IsSound (λ _. Unit {0}) MayFollow arrival_of departure_of None
+    (λ _. neg_ℤ r.base_price) (λ _ _. pos 0) pay_own
     (unsigned_abs r.base_price + 8_000_020_000) (pay_laws r.base_price))
     (both_bounds _ _ _ _ _ _ _ _ _ _ _ _ _ _ _ _ _ _ _ _ _ _ _ _ _ _ _
-    (sum_bounds IsSound (λ _. Unit {0}) MayFollow arrival_of departure_of
-    (rig_first r.trip_rig r.base_price) (rig_next r.trip_rig) IsSound CanFollow None
+    (sum_bounds IsSound (λ _. Unit {0}) MayFollow arrival_of departure_of None
     (λ _. neg_ℤ r.base_price) (rig_wait r.trip_rig) (rig_own r.trip_rig)
     (r.trip_rig * 10_000 + unsigned_abs r.base_price + 8_000_000_000)
     (rig_laws r.trip_rig r.base_price))
-    (sum_bounds IsSound (λ _. Unit {0}) MayFollow arrival_of departure_of
-    (guarantee_first r.guarantee r.base_price) (guarantee_next r.guarantee) IsSound
-    (λ _. IsSound) None (λ _. neg_ℤ r.base_price) (λ _ _. pos 0) (guarantee_own r.guarantee)
+    (sum_bounds IsSound (λ _. Unit {0}) MayFollow arrival_of departure_of None
+    (λ _. neg_ℤ r.base_price) (λ _ _. pos 0) (guarantee_own r.guarantee)
     (r.guarantee + unsigned_abs r.base_price + 8_000_000_000)
     (guarantee_laws r.guarantee r.base_price))))
     (both_bounds _ _ _ _ _ _ _ _ _ _ _ _ _ _ _ _ _ _ _ _ _ _ _ _ _ _ _
     (both_bounds _ _ _ _ _ _ _ _ _ _ _ _ _ _ _ _ _ _ _ _ _ _ _ _ _ _ _
-    (sum_bounds IsSound (λ _. Unit {0}) MayFollow arrival_of departure_of fdp_first fdp_next
-    (λ _. Unit {0}) (λ _ _. Unit {0}) (Some (pos r.fdp_cap)) (λ _. pos 0) (λ _ _. pos 0)
-    (λ d. d.fdp) 840 fdp_laws)
-    (sum_bounds IsSound (λ _. Unit {0}) MayFollow arrival_of departure_of fly_first fly_next
-    (λ _. Unit {0}) (λ _ _. Unit {0}) (Some (pos r.fly_cap)) (λ _. pos 0) (λ _ _. pos 0)
-    (λ d. d.fly) 540 fly_laws))
+    (sum_bounds IsSound (λ _. Unit {0}) MayFollow arrival_of departure_of
+    (Some (pos r.fdp_cap)) (λ _. pos 0) (λ _ _. pos 0) (λ d. d.fdp) 840 fdp_laws)
+    (sum_bounds IsSound (λ _. Unit {0}) MayFollow arrival_of departure_of
+    (Some (pos r.fly_cap)) (λ _. pos 0) (λ _ _. pos 0) (λ d. d.fly) 540 fly_laws))
     (both_bounds _ _ _ _ _ _ _ _ _ _ _ _ _ _ _ _ _ _ _ _ _ _ _ _ _ _ _
     (count_bounds r.max_duties IsSound (λ _. Unit {0}) MayFollow arrival_of departure_of)
-    (sum_bounds IsSound (λ _. Unit {0}) MayFollow arrival_of departure_of away_first away_next
-    IsSound CanFollow (Some (pos r.away_cap)) (λ _. pos 0) (λ x g. g.report -ℤ x.release)
-    (λ d. d.release -ℤ d.report) 8_280 away_laws)))
+    (sum_bounds IsSound (λ _. Unit {0}) MayFollow arrival_of departure_of
+    (Some (pos r.away_cap)) (λ _. pos 0) away_wait away_own 8_280 away_laws)))
 
 pub vector_bounds : (r : VectorResource)
     → BoundLaws IsSound (λ _. Unit {0}) MayFollow arrival_of departure_of (λ g. named (idle r g))
     (λ v x g. named (waited r (numbers_of v) x g))
     (λ v d. option_map named (aboard r (numbers_of v) d))
-    can_start (λ v. can_extend r (numbers_of v)) can_idle (λ v. can_wait r (numbers_of v))
+    (can_start r) (λ v. can_extend r (numbers_of v)) can_idle (λ v. can_wait r (numbers_of v))
     (λ v. can_board r (numbers_of v)) (fits_in r) (λ n v. ready r n (numbers_of v))
     (λ n v. arrived r n (numbers_of v))
 vector_bounds r =
     named_bounds IsSound (λ _. Unit {0}) MayFollow arrival_of departure_of (idle r) (waited r)
-    (aboard r) can_start (can_extend r) can_idle (can_wait r) (can_board r) (fits_in r)
+    (aboard r) (can_start r) (can_extend r) can_idle (can_wait r) (can_board r) (fits_in r)
     (ready r) (arrived r) (sides_bounds r)

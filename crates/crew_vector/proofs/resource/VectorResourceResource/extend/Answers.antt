@@ -1,21 +1,36 @@
-use Rattle.std.proofs.Common.{◌≡◌, ℤ, pos, ◌+ℤ◌, ◌∙◌, ap, sym, subst, arith, rules}
-use Rattle.std.proofs.lemmas.Int.{ints}
+use Rattle.std.proofs.Common.{◌≡◌, pos, ◌+ℤ◌, ◌∙◌, sym, ap, subst, arith, rules}
 use Rattle.std.specs.Prelude.{FitsSigned}
 use Rattle.std.specs.Int.{w64}
-use Rattle.crew_vector.specs.Machinery.Amounts.{away_next, fdp_next, fly_next, guarantee_next, pay_next, rig_next}
-use Rattle.crew_vector.specs.Machinery.Numbers.{Numbers, named}
-use Rattle.crew_vector.specs.Machinery.VectorResources.{within_caps}
-use Rattle.crew_vector.proofs.Capped.{capped-parts}
+use Rattle.std.specs.Option.{option_map}
+use Rattle.std.proofs.lemmas.Int.{ints}
+use Rattle.crew_pairing.specs.Events.{arrival_of, departure_of}
+use Rattle.crew_vector.specs.Machinery.Numbers.{named, numbers_of}
+use Rattle.crew_vector.specs.Machinery.Sides.{aboard, waited}
+use Rattle.crew_vector.specs.Machinery.VectorLaws.{can_board, can_wait, vector_staged}
 use Rattle.crew_vector.proofs.resource.VectorResourceResource.extend.Goals as goal
 
-pub overflow_add-longer-5 : goal.overflow_add-longer-5
-overflow_add-longer-5 c =
+pub wait-waited-requires : goal.wait-waited-requires
+wait-waited-requires c =
+    let r = c.args.self.now in
+    let v = c.args.value.now in
+    let e = c.args.last.now in
+    let q = c.requires in
+    subst (λ x. can_wait r (numbers_of v) x c.departure.result) (sym c.arrival.ensures)
+    (subst (λ g. can_wait r (numbers_of v) (arrival_of e) g) (sym c.departure.ensures)
+    ((q.0.0.0, (q.0.1.0.0, q.0.1.1.0)), ((q.1.0.0.0, q.1.0.1.0), (q.0.0.0.0, q.1.1.1.0))))
+
+pub board-requires : goal.board-requires
+board-requires c =
+    let r = c.args.self.now in
     let v = c.args.value.now in
     let e = c.args.last.now in
     let d = c.args.next.now in
-    let fly : fly_next e d ≡ d.fly = omega (arith, ints) in
-    let room : FitsSigned w64 (v.fly +ℤ d.fly) = subst (λ z. FitsSigned w64 (v.fly +ℤ z)) fly c.requires.1.0.1.1 in
-    search rules
+    let q = c.requires in
+    let none : v.duties ≡ v.duties +ℤ pos 0 = omega (arith, ints) in
+    let more = subst (λ z. FitsSigned w64 (z +ℤ pos 1)) none q.1.1.0 in
+    let is : c.wait-waited.result ≡ named (waited r (numbers_of v) (arrival_of e) (departure_of d)) = search rules in
+    subst (λ v. can_board r (numbers_of v) d) (sym is)
+    ((q.0.0.1, (q.0.1.0.1, q.0.1.1.1)), ((q.1.0.0.1, q.1.0.1.1), ((q.0.0.1.0, more), q.1.1.1.1)))
 
 pub returns : goal.returns
 returns c =
@@ -23,11 +38,5 @@ returns c =
     let v = c.args.value.now in
     let e = c.args.last.now in
     let d = c.args.next.now in
-    let parts : ℤ → ℤ → Numbers = λ fdp fly. (
-      (v.duty_pay +ℤ pay_next e d, (v.trip_rig +ℤ rig_next r.trip_rig e d, v.guarantee +ℤ guarantee_next r.guarantee e d)),
-      ((v.fdp +ℤ fdp, v.fly +ℤ fly), (v.duties +ℤ pos 1, v.away +ℤ away_next e d)),
-    ) in
-    let fdp : d.fdp ≡ fdp_next e d = omega (arith, ints) in
-    let fly : d.fly ≡ fly_next e d = omega (arith, ints) in
-    let is : c.within.result ≡ within_caps r (named (parts d.fdp d.fly)) = search rules in
-    is ∙ (ap (λ z. within_caps r (named (parts z d.fly))) fdp ∙ (ap (λ z. within_caps r (named (parts (fdp_next e d) z))) fly ∙ capped-parts r (parts (fdp_next e d) (fly_next e d))))
+    let is : c.wait-waited.result ≡ named (waited r (numbers_of v) (arrival_of e) (departure_of d)) = search rules in
+    c.board.ensures ∙ (ap (λ v. option_map named (aboard r (numbers_of v) d)) is ∙ sym ((vector_staged r).extension v e d))
