@@ -18,9 +18,9 @@ boarding board None rank labels = []
 boarding board (Some item) rank labels =
     flat_map (λ l. labelled (board l.0 item) (l.1 ++ rank ∷ [])) labels
 
--- what boards the items of some ranks, each from the pool whose place its turn is
+-- what boards the items of some ranks, each from the pool at its position
 abbrev pub boarded : {I V : Type 0} → List (List ℕ) → (V → I → Option V) → List I → List ℕ
     → List (List (V × LabelWalk)) → List ℕ → List (V × List ℕ)
-boarded walks board items turns pools ranks =
+boarded walks board items positions pools ranks =
     flat_map (λ rank. boarding board (slice_get items rank) rank
-    (map (shown walks) (get_or pools (get_or turns rank 0) []))) ranks
+    (map (shown walks) (get_or pools (get_or positions rank 0) []))) ranks

@@ -12,7 +12,7 @@ use crew_resource::{Placed, Staged};
 use std::alloc::{AllocError, Global};
 
 /// The pool of an arrival, from the labels that board the items of some ranks, each from the pool
-/// of its departure: `turns` has the place of that pool, by rank. It has exactly the undominated
+/// of its departure: `positions` has the place of that pool, by rank. It has exactly the undominated
 /// of these labels, each vector with its least walk, whatever the order of the ranks; it takes the
 /// least time where ranks come first whose labels are at most those of the others.
 pub fn arrival_pool<P: Placed, R: Staged<P> + Marked>(
@@ -21,30 +21,30 @@ pub fn arrival_pool<P: Placed, R: Staged<P> + Marked>(
     room: &mut Workspace<R>,
     pools: &Pools<R>,
     items: &[P],
-    turns: &[u32],
+    positions: &[u32],
     ranks: &[u32],
     walks: &Walks,
 ) -> Result<Pool<R>, AllocError>
     requires shift { R.is_shift resource.now }
     requires counting { (most : ℕ) × (R.most resource.now ≡ Some most) }
     requires few { length items.now < 4_294_967_295 }
-    requires turns { length turns.now ≡ length items.now }
+    requires positions { length positions.now ≡ length items.now }
     requires within { (rank : ℕ) → Member ranks.now rank
-        → (rank < length items.now) × (get_or turns.now rank 0 < length pools.now) }
+        → (rank < length items.now) × (get_or positions.now rank 0 < length pools.now) }
     requires can { (labels : List (R.Value × LabelWalk)) (l : R.Value × LabelWalk) (item : P)
         → Member pools.now labels → Member labels l → Member items.now item
         → R.can_board resource.now l.0 item }
     requires whole { (labels : List (R.Value × LabelWalk)) → Member pools.now labels
         → AreCounted (R.count_of resource.now) walks.now true labels }
     ensures local { IfOk result (λ pool. IsPoolOf R.below (boarded walks.now
-        (R.boards resource.now) items.now turns.now pools.now ranks.now)
+        (R.boards resource.now) items.now positions.now pools.now ranks.now)
         (map (shown walks.now) pool)) }
     ensures counts { IfOk result (AreCounted (R.count_of resource.now) walks.now false) }
 {
     let mut pool = GrowingPool::new(alloc);
     for rank in ranks {
         let item = &items[*rank as usize];
-        let from = pools.get(turns[*rank as usize] as usize);
+        let from = pools.get(positions[*rank as usize] as usize);
         absorb_boarding(resource, &mut pool, room, from, item, *rank, walks)?;
     }
     Ok(pool.into_pool())

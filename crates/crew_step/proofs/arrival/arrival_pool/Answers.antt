@@ -22,11 +22,11 @@ bounds-items-rank g c =
     let ranks = c.args.ranks.now in
     (c.requires.within (get_or ranks c.loop-rank.rank-index 0) (Member-get ranks c.loop-rank.rank-index 0 c.loop-rank-test.true)).0
 
-pub bounds-turns-rank : goal.bounds-turns-rank
-bounds-turns-rank g c =
+pub bounds-positions-rank : goal.bounds-positions-rank
+bounds-positions-rank g c =
     let ranks = c.args.ranks.now in
     let within = (c.requires.within (get_or ranks c.loop-rank.rank-index 0) (Member-get ranks c.loop-rank.rank-index 0 c.loop-rank-test.true)).0 in
-    omega (arith, within, c.requires.turns)
+    omega (arith, within, c.requires.positions)
 
 pub get-from-requires : goal.get-from-requires
 get-from-requires g c =
@@ -47,7 +47,7 @@ absorb_boarding-requires-clause-can g c l m =
     let item = c.index-items-rank.result in
     let from = c.get-from.result.now in
     c.requires.can from l item
-    (subst (Member c.args.pools.now) (sym c.get-from.ensures) (Member-get c.args.pools.now (get_or c.args.turns.now rank 0) [] within.1)) m
+    (subst (Member c.args.pools.now) (sym c.get-from.ensures) (Member-get c.args.pools.now (get_or c.args.positions.now rank 0) [] within.1)) m
     (Member-get_or c.args.items.now rank item within.0 (sym c.index-items-rank.is))
 
 pub absorb_boarding-requires-clause-list_counts : goal.absorb_boarding-requires-clause-list_counts
@@ -56,7 +56,7 @@ absorb_boarding-requires-clause-list_counts g c =
     let rank = get_or ranks c.loop-rank.rank-index 0 in
     let within = c.requires.within rank (Member-get ranks c.loop-rank.rank-index 0 c.loop-rank-test.true) in
     let from = c.get-from.result.now in
-    c.requires.whole from (subst (Member c.args.pools.now) (sym c.get-from.ensures) (Member-get c.args.pools.now (get_or c.args.turns.now rank 0) [] within.1))
+    c.requires.whole from (subst (Member c.args.pools.now) (sym c.get-from.ensures) (Member-get c.args.pools.now (get_or c.args.positions.now rank 0) [] within.1))
 
 pub loop-rank-init : goal.loop-rank-init
 loop-rank-init g c =
@@ -76,20 +76,20 @@ loop-rank-preserved g c =
     let i = c.loop-rank.rank-index in
     let rank = get_or ranks i 0 in
     let within = c.requires.within rank (Member-get ranks i 0 c.loop-rank-test.true) in
-    let turn = get_or c.args.turns.now rank 0 in
+    let position = get_or c.args.positions.now rank 0 in
     let item = c.index-items-rank.result in
     let from = c.get-from.result.now in
     let board = g.R.Staged.boards c.args.resource.now in
     let now = c.absorb_boarding.new.pool in
-    let one : ℕ → List (V × List ℕ) = λ r. boarding board (slice_get c.args.items.now r) r (map (shown {V = V} ws) (get_or c.args.pools.now (get_or c.args.turns.now r 0) [])) in
-    let before : List (V × List ℕ) = boarded {V = V} ws board c.args.items.now c.args.turns.now c.args.pools.now (take i ranks) in
+    let one : ℕ → List (V × List ℕ) = λ r. boarding board (slice_get c.args.items.now r) r (map (shown {V = V} ws) (get_or c.args.pools.now (get_or c.args.positions.now r 0) [])) in
+    let before : List (V × List ℕ) = boarded {V = V} ws board c.args.items.now c.args.positions.now c.args.pools.now (take i ranks) in
     let known = item-at c.args.items.now rank item within.0 c.index-items-rank.is in
     let labels : List (V × LabelWalk) → List (V × List ℕ) = map (shown {V = V} ws) in
-    let there : get_or c.args.pools.now turn [] ≡ from = sym c.get-from.ensures in
+    let there : get_or c.args.pools.now position [] ≡ from = sym c.get-from.ensures in
     let brings : boarding board (Some item) rank (labels from) ≡ one rank =
     sym (ap (λ o. boarding board o rank (labels from)) known) ∙ sym (ap (λ (es : List (V × LabelWalk)). boarding board (slice_get c.args.items.now rank) rank (labels es)) there) in
     let step = c.in_ok-absorb_boarding.ensures.local before c.loop-rank.invariant.0 in
-    let more : before ++ one rank ≡ boarded {V = V} ws board c.args.items.now c.args.turns.now c.args.pools.now (take (i + 1) ranks) =
+    let more : before ++ one rank ≡ boarded {V = V} ws board c.args.items.now c.args.positions.now c.args.pools.now (take (i + 1) ranks) =
     flat-more one [] ranks i rank (slice_get-get_or ranks i 0 c.loop-rank-test.true) in (
       subst (λ (es : List (V × List ℕ)). IsPoolOf below es (labels now)) more
           (subst (λ (es : List (V × List ℕ)). IsPoolOf below (before ++ es) (labels now)) brings step),
@@ -100,7 +100,7 @@ pub returns-clause-local : goal.returns-clause-local
 returns-clause-local g c =
     let V = g.row.R-Value.Denot in
     let ws = c.args.walks.now in
-    let brought = boarded {V = V} ws (g.R.Staged.boards c.args.resource.now) c.args.items.now c.args.turns.now c.args.pools.now in
+    let brought = boarded {V = V} ws (g.R.Staged.boards c.args.resource.now) c.args.items.now c.args.positions.now c.args.pools.now in
     let all = take_all c.loop-rank.rank-index c.args.ranks.now (omega arith) in
     subst (λ (es : List (V × LabelWalk)). IsPoolOf g.R.Resource.below (brought c.args.ranks.now) (map (shown {V = V} ws) es)) (sym c.into_pool.ensures)
     (subst (λ (ranks : List ℕ). IsPoolOf g.R.Resource.below (brought ranks) (map (shown {V = V} ws) c.loop-rank.pool)) all c.loop-rank.invariant.0)
