@@ -70,7 +70,7 @@ Passing {X} p i xs n = (k : ℕ) × (x : X) × (n ≡ i + k) × (slice_get xs k 
 later : {X : Type 0} (p : X → Bool) (i : ℕ) (z : X) (zs : List X) (n : ℕ) → Passing p (suc i) zs n → Passing p i (z ∷ zs) n
 later p i z zs n r = let e = r.2 in (suc r.0, r.1, omega (arith, e), r.3, r.4)
 
-places-out : {X : Type 0} (p : X → Bool) (i : ℕ) (xs : List X) (n : ℕ) → Member (places_from i p xs) n → Passing p i xs n
+pub places-out : {X : Type 0} (p : X → Bool) (i : ℕ) (xs : List X) (n : ℕ) → Member (places_from i p xs) n → Passing p i xs n
 places-out p i [] n m = absurd m
 places-out {X} p i (z ∷ zs) n m = by (λ k. later p i z zs n (places-out p (suc i) zs n k)) (p z) refl m
   where

@@ -19,6 +19,10 @@ pub mod BaseOrder
 pub mod NodeList
 pub mod ByReport
 pub mod ArrivalPlaces
+pub mod Slices
+pub mod Numbers
+pub mod Orders
+pub mod DutyPositions
 pub mod InWindow
 pub mod Raised
 pub mod Longest

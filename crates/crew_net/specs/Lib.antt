@@ -3,4 +3,5 @@ pub mod Events
 pub mod Nets
 pub mod Layers
 pub mod Ranks
+pub mod Positions
 pub mod Machinery

@@ -2,6 +2,7 @@
 pub mod Held
 pub mod Made
 pub mod Moments
+pub mod Numbered
 pub mod Raised
 pub mod Runs
 pub mod Ranking

@@ -6,19 +6,19 @@
 //! what doesn't depend on the base is kept once.
 #![tactic(auto)]
 
+mod by_rank;
 mod events;
 pub mod laws;
 mod layers;
 mod net;
 mod node;
 mod ranks;
-mod reached;
 mod runs;
 mod timeline;
 mod window;
 mod windows;
 
+pub use by_rank::{arrival_places, departure_positions, write_at};
 pub use net::Net;
 pub use node::Node;
-pub use reached::arrival_places;
 pub use window::Window;

@@ -18,11 +18,11 @@ ghost use Rattle.crew_pairing.specs.declared.events.Departure.{Departure};
 ghost use Rattle.crew_resource.specs.Members.{Member};
 ghost use Rattle.crew_rules.specs.Settings.{IsChecked};
 
+use crate::by_rank::{arrival_places, write_at};
 use crate::events::{Events, events_of, have_same_events};
 use crate::layers::{greatest, raise};
 use crate::node::Node;
 use crate::ranks::rank_of;
-use crate::reached::{arrival_places, put};
 use crate::timeline::Timeline;
 use crate::window::Window;
 use crate::windows::{following, waiting};
@@ -327,7 +327,7 @@ impl Net {
         for departure in self.by_report() {
             let departure = *departure as usize;
             let layer = greatest(&next, self.window(departure));
-            put(&mut layers, self.leaving(departure), layer);
+            write_at(&mut layers, self.leaving(departure), layer);
             raise(&mut next, &places, self.leaving(departure), layer + 1);
         }
         Ok(layers)

@@ -72,8 +72,8 @@ leaving-requires-in-loop-departure c =
     let t = subst IsTimed c.self.view_is (is-timed n.settings n.bases.items n.duties.value n.events.value.leave n.events.value.arrive n.events.value.departures.items n.events.value.arrivals.items n.events.value.by_report.items c.self.invariant) in
     place-within net c.by_report-departure-items.result.now c.by_report-departure-items.ensures.places c.loop-departure.departure-index c.loop-departure-test.true t.timed.ordered
 
-pub put-requires : goal.put-requires
-put-requires c = λ rank m.
+pub write_at-requires : goal.write_at-requires
+write_at-requires c = λ rank m.
     let net = c.args.self.now in
     let n = c.self.inside in
     let t = subst IsTimed c.self.view_is (is-timed n.settings n.bases.items n.duties.value n.events.value.leave n.events.value.arrive n.events.value.departures.items n.events.value.arrivals.items n.events.value.by_report.items c.self.invariant) in
@@ -159,11 +159,11 @@ loop-departure-preserved c =
     let ranks = c.leaving.result.now in
     let ranks-are = c.leaving.ensures g.0 g.1 in
     let again : c.leaving-in-loop-departure.result.now ≡ ranks = c.leaving-in-loop-departure.ensures g.0 g.1 ∙ sym ranks-are in
-    let layers' = c.put.new.places in
+    let layers' = c.write_at.new.places in
     let next' = c.raise.new.next in
     let was = c.deref_mut.ensures.value in
     let next-was = c.deref_mut-in-loop-departure.ensures.value in
-    let long : length layers' ≡ length layers = c.put.ensures.long ∙ ap length was in
+    let long : length layers' ≡ length layers = c.write_at.ensures.long ∙ ap length was in
     let next-long : length next' ≡ length next = c.raise.ensures.long ∙ ap length next-was in
     let raised : Raised ranks places (layer + 1) next next' =
     subst (λ (rs : List ℕ). Raised rs places (layer + 1) next next') again
@@ -171,10 +171,10 @@ loop-departure-preserved c =
     (subst (λ (ns : List ℕ). Raised c.leaving-in-loop-departure.result.now c.deref-in-loop-departure-2.result.now (layer + 1) ns next') next-was
     (c.raise.ensures.kept, c.raise.ensures.there, c.raise.ensures.from))) in
     let more = laid-more net t.timed i p g.0 at g.1 w (c.window.ensures g.0 g.1) layers next c.loop-departure.invariant layer most tied
-    places c.in_ok-places.ensures ranks ranks-are layers' next' long c.put.ensures.there
-    (λ rank out. c.put.ensures.elsewhere rank out ∙ ap (λ (ns : List ℕ). get_or ns rank 0) was)
+    places c.in_ok-places.ensures ranks ranks-are layers' next' long c.write_at.ensures.there
+    (λ rank out. c.write_at.ensures.elsewhere rank out ∙ ap (λ (ns : List ℕ). get_or ns rank 0) was)
     next-long raised.0 raised.1 raised.2 in
-    subst (λ (ns : List ℕ). AreLaid net (i + 1) ns (take c.loop-departure.next.len (next' ++ drop (length next') next))) (sym (whole layers' layers c.loop-departure.layers.len (c.put.ensures.long ∙ c.deref_mut.ensures.len)))
+    subst (λ (ns : List ℕ). AreLaid net (i + 1) ns (take c.loop-departure.next.len (next' ++ drop (length next') next))) (sym (whole layers' layers c.loop-departure.layers.len (c.write_at.ensures.long ∙ c.deref_mut.ensures.len)))
     (subst (λ (ns : List ℕ). AreLaid net (i + 1) layers' ns) (sym (whole next' next c.loop-departure.next.len (c.raise.ensures.long ∙ c.deref_mut-in-loop-departure.ensures.len))) more)
 
 pub returns : goal.returns

@@ -2,7 +2,7 @@ use Rattle.std.proofs.Common.{◌<◌, ◌∙◌, arith, get_or, length}
 use Rattle.std.proofs.lemmas.List.{length-set}
 use Rattle.crew_resource.proofs.Members.{Member-get}
 use Rattle.crew_net.proofs.ArrivalPlaces.{put-elsewhere, put-there}
-use Rattle.crew_net.proofs.reached.put.Goals as goal
+use Rattle.crew_net.proofs.by_rank.write_at.Goals as goal
 
 pub bounds-places-rank : goal.bounds-places-rank
 bounds-places-rank c =

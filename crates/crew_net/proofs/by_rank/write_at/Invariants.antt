@@ -1,6 +1,6 @@
 use Rattle.std.proofs.Common.{◌≡◌, ℕ, get_or, length, take}
 use Rattle.crew_resource.specs.Members.{Member}
-use Rattle.crew_net.proofs.reached.put.Given as goal
+use Rattle.crew_net.proofs.by_rank.write_at.Given as goal
 
 -- the ranks so far have the place
 abbrev pub invariant-loop-rank : goal.invariant-loop-rank
