@@ -5,6 +5,7 @@ use Rattle.crew_label.specs.Boarding.{LeadInto}
 use Rattle.crew_label.specs.Tables.{Tabled}
 use Rattle.crew_label.specs.declared.label.Label.{Label}
 use Rattle.crew_label.specs.declared.label.Link.{Link}
+use Rattle.crew_net.proofs.Slices.{member-got, same-within}
 use Rattle.crew_resource.specs.Members.{Member}
 use Rattle.crew_resource.proofs.Members.{Member-get_or}
 use Rattle.crew_pass.specs.Machinery.Held.{AreHeld, leads_of, trail_of}
@@ -12,7 +13,6 @@ use Rattle.crew_pass.specs.Machinery.Passing.{IsClean, IsLinked}
 use Rattle.crew_pass.specs.Machinery.Terms.{Terms}
 use Rattle.crew_pass.proofs.Departures.{appended, walk-stays}
 use Rattle.crew_pass.proofs.Rested.{clean-stays}
-use Rattle.crew_pass.proofs.Slices.{member-got, same-within}
 use Rattle.std.proofs.lemmas.List.{get_or_append_left}
 
 module _ {V : Type 0} (w : Terms V) (t t' : Tabled V)
@@ -31,12 +31,12 @@ module _ {V : Type 0} (w : Terms V) (t t' : Tabled V)
       }
 
   -- those before it
-  pub linked-still : (turn : ℕ) → ((labels : List (Label V)) → Member t.pools labels → AreHeld w w.ready t labels) → IsLinked w t turn → IsLinked w t' turn
-  linked-still turn all linked =
+  pub linked-still : (position : ℕ) → ((labels : List (Label V)) → Member t.pools labels → AreHeld w w.ready t labels) → IsLinked w t position → IsLinked w t' position
+  linked-still position all linked =
       let was = linked.within in
-      let labels = get_or t.pools turn [] in
-      let held = all labels (Member-get_or t.pools turn labels was (same-within t.pools turn labels [] was)) in
-      let same : get_or t'.pools turn [] ≡ labels = ap (λ ps. get_or ps turn []) pools-is ∙ get_or_append_left t.pools (pool ∷ []) [] turn was in
+      let labels = get_or t.pools position [] in
+      let held = all labels (Member-get_or t.pools position labels was (same-within t.pools position labels [] was)) in
+      let same : get_or t'.pools position [] ≡ labels = ap (λ ps. get_or ps position []) pools-is ∙ get_or_append_left t.pools (pool ∷ []) [] position was in
       let longer = (appended t.pools t'.pools pool pools-is).0 in
       record {
         within = omega (arith, was, longer);

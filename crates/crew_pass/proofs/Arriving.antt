@@ -13,7 +13,12 @@ use Rattle.crew_label.specs.declared.label.Label.{Label}
 use Rattle.crew_label.specs.declared.label.Link.{Link}
 use Rattle.crew_net.specs.Events.{AreEvents, arrives_at, departure_cmp}
 use Rattle.crew_net.specs.Nets.{AreByReport, Net}
+use Rattle.crew_net.specs.Positions.{in_order}
 use Rattle.crew_net.specs.Ranks.{ranks_where}
+use Rattle.crew_net.proofs.ArrivalPlaces.{ranks-in, ranks-out}
+use Rattle.crew_net.proofs.Numbers.{arrival-itself, get-within, same-arrival}
+use Rattle.crew_net.proofs.Orders.{in-order-at, in-order-long}
+use Rattle.crew_net.proofs.Slices.{set-long, stands}
 use Rattle.crew_pairing.specs.Events.{arrival_of, departure_of}
 use Rattle.crew_pairing.specs.declared.events.Arrival.{Arrival}
 use Rattle.crew_pairing.specs.declared.events.Departure.{Departure}
@@ -21,13 +26,9 @@ use Rattle.crew_pool.proofs.MergeLemmas.{Member-set_out}
 use Rattle.crew_resource.specs.Members.{Member}
 use Rattle.crew_resource.proofs.Members.{Member-append, Member-append_left, Member-append_right}
 use Rattle.crew_pass.specs.Machinery.Held.{AreHeld, trail_of}
-use Rattle.crew_pass.specs.Machinery.Numbered.{in_order}
 use Rattle.crew_pass.specs.Machinery.Passing.{AreCollected, AreGathered, AreKept, AreRestedOf, Arrives, IsArrivedAt, IsClean, IsDue, IsNotDue, IsRested, IsUnderWay, Waits}
 use Rattle.crew_pass.specs.Machinery.Terms.{Terms}
 use Rattle.crew_pass.proofs.Collected.{one-pool-more}
-use Rattle.crew_pass.proofs.Numbers.{arrival-itself, get-within, same-arrival}
-use Rattle.crew_pass.proofs.Orders.{in-order-at, in-order-long}
-use Rattle.crew_pass.proofs.Slices.{ranks-in, ranks-out, set-long, stands}
 
 module _ {V : Type 0} (w : Terms V) (t : Tabled V) (fronts : List (List (Label V))) where
   -- an entry of the front of one of the first so many of these duties
@@ -169,7 +170,7 @@ module _ {V : Type 0} (w : Terms V) (t : Tabled V) (fronts : List (List (Label V
 
       way-more : Way after upto
       way-more = record {
-        turned = way.turned;
+        leaves = way.leaves;
         held_long = set-long held place pool ∙ way.held_long;
         pooled = λ i g h at.
             let c = way.pooled i g h at in
@@ -237,7 +238,7 @@ module _ {V : Type 0} (w : Terms V) (t : Tabled V) (fronts : List (List (Label V
   all-put held pools place all rises late so =
       let way = so.0 in
       record {
-        turned = way.turned;
+        leaves = way.leaves;
         held_long = way.held_long;
         pooled = way.pooled;
         early = λ i g x h at waits. less-most x.release upto first (way.early i g x h at waits) rises;
@@ -264,21 +265,21 @@ left-next {A} items rest more place x d left is =
 
 module _ (net : Net) (departs : AreEvents departure_of departure_cmp net.duties net.departures) (ordered : AreByReport net.departures net.by_report) where
   -- later departures report no earlier
-  pub later-reports : (turn : ℕ) (first : ℤ) → turn < length net.by_report → ((g : Departure) → slice_get (in_order net) turn ≡ Some g → first ≡ g.report)
-      → (i : ℕ) (g : Departure) → turn ≤ i → slice_get (in_order net) i ≡ Some g → first ≤ℤ g.report
-  later-reports turn first within exact i g after here =
-      let f = first-at turn within in
-      let a = in-order-at net departs ordered turn f.0 f.1 in
+  pub later-reports : (position : ℕ) (first : ℤ) → position < length net.by_report → ((g : Departure) → slice_get (in_order net) position ≡ Some g → first ≡ g.report)
+      → (i : ℕ) (g : Departure) → position ≤ i → slice_get (in_order net) i ≡ Some g → first ≤ℤ g.report
+  later-reports position first within exact i g after here =
+      let f = first-at position within in
+      let a = in-order-at net departs ordered position f.0 f.1 in
       let b = in-order-at net departs ordered i g here in
-      subst (λ (m : ℤ). m ≤ℤ g.report) (sym (exact f.0 f.1)) (ordered.rising turn i a.0 b.0 f.0 g after a.1 b.1 a.2 b.2)
+      subst (λ (m : ℤ). m ≤ℤ g.report) (sym (exact f.0 f.1)) (ordered.rising position i a.0 b.0 f.0 g after a.1 b.1 a.2 b.2)
     where
-      first-at : (turn : ℕ) → turn < length net.by_report → (g : Departure) × (slice_get (in_order net) turn ≡ Some g)
-      first-at turn h = let long = in-order-long net departs ordered in stands (in_order net) turn (omega (arith, h, long))
+      first-at : (position : ℕ) → position < length net.by_report → (g : Departure) × (slice_get (in_order net) position ≡ Some g)
+      first-at position h = let long = in-order-long net departs ordered in stands (in_order net) position (omega (arith, h, long))
 
   -- the next departure reports no earlier than up to which arrivals are made
-  pub no-sooner : (turn : ℕ) (first upto : ℤ) → turn < length net.by_report → ((g : Departure) → slice_get (in_order net) turn ≡ Some g → first ≡ g.report)
-      → ((g : Departure) → slice_get (in_order net) turn ≡ Some g → upto ≤ℤ g.report) → upto ≤ℤ first
-  no-sooner turn first upto within exact late =
+  pub no-sooner : (position : ℕ) (first upto : ℤ) → position < length net.by_report → ((g : Departure) → slice_get (in_order net) position ≡ Some g → first ≡ g.report)
+      → ((g : Departure) → slice_get (in_order net) position ≡ Some g → upto ≤ℤ g.report) → upto ≤ℤ first
+  no-sooner position first upto within exact late =
       let long = in-order-long net departs ordered in
-      let f = stands (in_order net) turn (omega (arith, within, long)) in
+      let f = stands (in_order net) position (omega (arith, within, long)) in
       subst (λ (m : ℤ). upto ≤ℤ m) (sym (exact f.0 f.1)) (late f.0 f.1)

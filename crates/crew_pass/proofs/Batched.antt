@@ -6,13 +6,13 @@ use Rattle.std.proofs.lemmas.Int.{ints}
 use Rattle.crew_net.specs.Events.{AreEvents, departure_cmp}
 use Rattle.crew_net.specs.Machinery.Moments.{IsReal}
 use Rattle.crew_net.specs.Nets.{AreByReport, Net}
+use Rattle.crew_net.specs.Positions.{in_order}
+use Rattle.crew_net.proofs.Orders.{in-order-at, in-order-long}
+use Rattle.crew_net.proofs.Slices.{stands}
 use Rattle.crew_pairing.specs.Events.{departure_of, may_wait}
 use Rattle.crew_pairing.specs.declared.events.Arrival.{Arrival}
 use Rattle.crew_pairing.specs.declared.events.Departure.{Departure}
-use Rattle.crew_pass.specs.Machinery.Numbered.{in_order}
 use Rattle.crew_pass.specs.Machinery.Passing.{IsClose}
-use Rattle.crew_pass.proofs.Orders.{in-order-at, in-order-long}
-use Rattle.crew_pass.proofs.Slices.{stands}
 
 -- the first so many departures report less than the least rest after a first report
 abbrev pub AreClose : Net → ℤ → ℕ → Type 0
@@ -34,8 +34,8 @@ pub rested-before : (upto report release : ℤ) → (report -ℤ upto) ≤ℤ po
 rested-before upto report release p q = grind (arith, ints)
 
 -- so of a departure that is close
-pub close-early : (net : Net) (upto : ℤ) (turn : ℕ) (g : Departure) → IsClose net upto turn → slice_get (in_order net) turn ≡ Some g → (x : Arrival) → may_wait net.settings x g ≡ true → x.release <ℤ upto
-close-early net upto turn g close at x waits =
+pub close-early : (net : Net) (upto : ℤ) (position : ℕ) (g : Departure) → IsClose net upto position → slice_get (in_order net) position ≡ Some g → (x : Arrival) → may_wait net.settings x g ≡ true → x.release <ℤ upto
+close-early net upto position g close at x waits =
     let rest = and_parts _ _ (and_parts _ _ waits).1 in
     rested-before upto g.report x.release (close g at).1 rest.0
 
@@ -47,11 +47,11 @@ module _ (net : Net) (departs : AreEvents departure_of departure_cmp net.duties 
       let b = in-order-at net departs ordered j h there in
       ordered.rising i j a.0 b.0 g h before a.1 b.1 a.2 b.2
 
-  -- a departure stands at each turn
-  stands-at : (turn : ℕ) → turn < length net.by_report → (g : Departure) × (slice_get (in_order net) turn ≡ Some g)
-  stands-at turn h =
+  -- a departure stands at each position
+  stands-at : (position : ℕ) → position < length net.by_report → (g : Departure) × (slice_get (in_order net) position ≡ Some g)
+  stands-at position h =
       let long = in-order-long net departs ordered in
-      stands (in_order net) turn (omega (arith, h, long))
+      stands (in_order net) position (omega (arith, h, long))
 
   -- the departures up to a first one
   pub close-first : (from : ℕ) (first : ℤ) → from < length net.by_report → ((g : Departure) → slice_get (in_order net) from ≡ Some g → first ≡ g.report) → AreClose net first (from + 1)
@@ -62,12 +62,12 @@ module _ (net : Net) (departs : AreEvents departure_of departure_cmp net.duties 
       soon g.report first (subst (λ m. g.report ≤ℤ m) (sym e) r)
 
   -- each of them is close to the first
-  pub close-turn : (from many : ℕ) (first : ℤ) → from < length net.by_report → ((g : Departure) → slice_get (in_order net) from ≡ Some g → first ≡ g.report) → AreClose net first many
-      → (turn : ℕ) → from ≤ turn → turn < many → IsClose net first turn
-  close-turn from many first within exact close turn after before g here =
+  pub close-position : (from many : ℕ) (first : ℤ) → from < length net.by_report → ((g : Departure) → slice_get (in_order net) from ≡ Some g → first ≡ g.report) → AreClose net first many
+      → (position : ℕ) → from ≤ position → position < many → IsClose net first position
+  close-position from many first within exact close position after before g here =
       let f = stands-at from within in
-      let r = rising from turn f.0 g after f.1 here in
-      (subst (λ m. m ≤ℤ g.report) (sym (exact f.0 f.1)) r, close turn g before here)
+      let r = rising from position f.0 g after f.1 here in
+      (subst (λ m. m ≤ℤ g.report) (sym (exact f.0 f.1)) r, close position g before here)
 
   -- no later departure reports before one
   pub later : (from : ℕ) (g : Departure) → slice_get (in_order net) from ≡ Some g → (i : ℕ) (h : Departure) → from ≤ i → slice_get (in_order net) i ≡ Some h → g.report ≤ℤ h.report

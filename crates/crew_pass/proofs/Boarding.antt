@@ -10,7 +10,12 @@ use Rattle.crew_label.specs.Walks.{shown}
 use Rattle.crew_label.specs.declared.label.Label.{Label}
 use Rattle.crew_net.specs.Events.{leaves_at}
 use Rattle.crew_net.specs.Nets.{Net}
+use Rattle.crew_net.specs.Positions.{departure_at, in_order}
 use Rattle.crew_net.specs.Ranks.{places_from, ranks_where}
+use Rattle.crew_net.proofs.ArrivalPlaces.{places-out, ranks-in, ranks-out}
+use Rattle.crew_net.proofs.Numbers.{departure-itself, same-departure}
+use Rattle.crew_net.proofs.Orders.{in-order-distinct, in-order-of}
+use Rattle.crew_net.proofs.Slices.{get-at, map-get, member-got, some-same}
 use Rattle.crew_pairing.specs.Events.{departure_of}
 use Rattle.crew_pairing.specs.declared.duty.Duty.{Duty}
 use Rattle.crew_pairing.specs.declared.events.Departure.{Departure}
@@ -18,13 +23,9 @@ use Rattle.crew_resource.specs.Members.{Each, Member}
 use Rattle.crew_resource.proofs.Members.{Member-append, Member-get}
 use Rattle.crew_label.proofs.RisingLists.{each-member}
 use Rattle.crew_pass.specs.Machinery.Held.{AreHeld, trail_of}
-use Rattle.crew_pass.specs.Machinery.Numbered.{departure_at, in_order}
 use Rattle.crew_pass.specs.Machinery.Passing.{AreFront, AreMade, IsMade, IsPassable, IsUnderWay, ranks_at}
 use Rattle.crew_pass.specs.Machinery.Terms.{Terms}
 use Rattle.crew_pass.proofs.Fronts.{done-same, front-more}
-use Rattle.crew_pass.proofs.Numbers.{departure-itself, same-departure}
-use Rattle.crew_pass.proofs.Orders.{in-order-distinct, in-order-of}
-use Rattle.crew_pass.proofs.Slices.{get-at, map-get, member-got, places-out, ranks-in, ranks-out, some-same}
 
 Rises : List ℕ → Type 0
 Rises [] = Unit {0}
@@ -39,7 +40,7 @@ unfolding Rises
 places-rise at p [] = tt
 places-rise at p (x ∷ xs) =
     let rest = places-rise (suc at) p xs in
-    let first = each-all (λ n. at < n) (places_from (suc at) p xs) (λ n m. let k = places-out (suc at) p xs n m in let e = k.1 in omega (arith, e)) in
+    let first = each-all (λ n. at < n) (places_from (suc at) p xs) (λ n m. let k = places-out p (suc at) xs n m in let e = k.2 in omega (arith, e)) in
     elim (p x) as (λ b. Rises (cond b (at ∷ places_from (suc at) p xs) (places_from (suc at) p xs))) [ true ↦ (first, rest) | false ↦ rest ]
 
 rising-apart : (xs : List ℕ) → Rises xs → (i : ℕ) → i < length xs → Member (take i xs) (get_or xs i 0) → ⊥
@@ -52,44 +53,44 @@ rising-apart (x ∷ xs) h (suc i) l (inl e) =
     omega (arith, less, e)
 rising-apart (x ∷ xs) h (suc i) l (inr m) = rising-apart xs h.1 i (omega (arith, l)) m
 
-module _ {V : Type 0} (w : Terms V) (passable : IsPassable w.net w.turns) (turn place : ℕ) (g : Departure) (at : slice_get w.net.by_report turn ≡ Some place) (there : slice_get w.net.departures place ≡ Some g)
+module _ {V : Type 0} (w : Terms V) (passable : IsPassable w.net w.positions) (position place : ℕ) (g : Departure) (at : slice_get w.net.by_report position ≡ Some place) (there : slice_get w.net.departures place ≡ Some g)
     (ranks : List ℕ) (is : ranks ≡ ranks_where (leaves_at g) w.net.duties) where
-  here : slice_get (in_order w.net) turn ≡ Some g
-  here = in-order-of w.net passable.departs passable.ordered turn place g at there
+  here : slice_get (in_order w.net) position ≡ Some g
+  here = in-order-of w.net passable.departs passable.ordered position place g at there
 
-  leaves : (q : ℕ) → Member ranks q → (d : Duty) × (slice_get w.net.duties q ≡ Some d) × (get_or w.turns q 0 ≡ turn) × (g ≡ departure_of d)
+  leaves : (q : ℕ) → Member ranks q → (d : Duty) × (slice_get w.net.duties q ≡ Some d) × (get_or w.positions q 0 ≡ position) × (g ≡ departure_of d)
   leaves q m =
       let d = ranks-out (leaves_at g) w.net.duties q (subst (λ (rs : List ℕ). Member rs q) is m) in
       let same : g ≡ departure_of d.0 = same-departure g (departure_of d.0) d.2 in
-      (d.0, d.1, in-order-distinct w.net passable.departs passable.ordered (get_or w.turns q 0) turn (departure_of d.0) (passable.are_turns.exact q d.0 d.1) (here ∙ ap Some same), same)
+      (d.0, d.1, in-order-distinct w.net passable.departs passable.ordered (get_or w.positions q 0) position (departure_of d.0) (passable.are_positions.exact q d.0 d.1) (here ∙ ap Some same), same)
 
-  pub rank-known : (i : ℕ) → i < length ranks → (d : Duty) × (slice_get w.net.duties (get_or ranks i 0) ≡ Some d) × (get_or w.turns (get_or ranks i 0) 0 ≡ turn) × (g ≡ departure_of d)
+  pub rank-known : (i : ℕ) → i < length ranks → (d : Duty) × (slice_get w.net.duties (get_or ranks i 0) ≡ Some d) × (get_or w.positions (get_or ranks i 0) 0 ≡ position) × (g ≡ departure_of d)
   rank-known i h = leaves (get_or ranks i 0) (Member-get ranks i 0 h)
 
   module _ (t : Tabled V) (held : List (List (Label V))) (upto : ℤ) where
     abbrev pub So : ℕ → ℕ → Type 0
-    So i q = (get_or w.turns q 0 < turn) ⊎ Member (take i ranks) q
+    So i q = (get_or w.positions q 0 < position) ⊎ Member (take i ranks) q
 
     abbrev pub Passed : List (List (Label V)) → (ℕ → Type 0) → Type 0
     Passed fronts Done = IsUnderWay w t fronts held upto Done
 
-    pub none-boarded : (fronts : List (List (Label V))) → Passed fronts (λ q. get_or w.turns q 0 < turn) → Passed fronts (So 0)
-    none-boarded fronts way = done-same w t fronts held upto (λ q. get_or w.turns q 0 < turn) (So 0) (λ q d known. ⊎_elim (λ h. h) (λ m. absurd m)) way
+    pub none-boarded : (fronts : List (List (Label V))) → Passed fronts (λ q. get_or w.positions q 0 < position) → Passed fronts (So 0)
+    none-boarded fronts way = done-same w t fronts held upto (λ q. get_or w.positions q 0 < position) (So 0) (λ q d known. ⊎_elim (λ h. h) (λ m. absurd m)) way
 
     new : (i : ℕ) → i < length ranks → So i (get_or ranks i 0) → ⊥
     new i h = ⊎_elim
         (λ l. let k = (rank-known i h).2 in omega (arith, l, k))
         (λ m. rising-apart ranks (subst (λ (rs : List ℕ). Rises rs) (sym is) (places-rise 0 (leaves_at g) w.net.duties)) i h m)
 
-    pub one-boarded : (i : ℕ) → i < length ranks → upto ≤ℤ g.report → (fronts now : List (List (Label V))) (front pool : List (Label V)) → get_or t.pools turn [] ≡ pool → Passed fronts (So i)
+    pub one-boarded : (i : ℕ) → i < length ranks → upto ≤ℤ g.report → (fronts now : List (List (Label V))) (front pool : List (Label V)) → get_or t.pools position [] ≡ pool → Passed fronts (So i)
         → now ≡ set fronts (get_or ranks i 0) front
         → IsMade w t pool (get_or ranks i 0) front
         → Passed now (So (i + 1))
     one-boarded i h late fronts now front pool pooled way is-now made =
         let rank = get_or ranks i 0 in
         let d = rank-known i h in
-        let turn-is : get_or w.turns rank 0 ≡ turn = d.2 in
-        let own : get_or t.pools (get_or w.turns rank 0) [] ≡ pool = ap (λ n. get_or t.pools n []) turn-is ∙ pooled in
+        let position-is : get_or w.positions rank 0 ≡ position = d.2 in
+        let own : get_or t.pools (get_or w.positions rank 0) [] ≡ pool = ap (λ n. get_or t.pools n []) position-is ∙ pooled in
         let reports : upto ≤ℤ d.0.report = subst (λ (z : Departure). upto ≤ℤ z.report) d.3 late in
         let more = take_more ranks i 0 h in
         subst (λ (fs : List (List (Label V))). Passed fs (So (i + 1))) (sym is-now)
@@ -100,25 +101,25 @@ module _ {V : Type 0} (w : Terms V) (passable : IsPassable w.net w.turns) (turn 
         (front-more w t fronts held upto (So i) way rank d.0 d.1 (passable.sound d.0 (member-got w.net.duties rank d.0 d.1)) reports (new i h) front
         (subst (λ (ls : List (Label V)). AreFront w (trail_of t) d.0 rank ls front) (sym own) (made.local d.0 d.1)) made.itself made.held))
 
-    pub all-boarded : (i : ℕ) (fronts : List (List (Label V))) → length ranks ≤ i → Passed fronts (So i) → Passed fronts (λ q. get_or w.turns q 0 < turn + 1)
+    pub all-boarded : (i : ℕ) (fronts : List (List (Label V))) → length ranks ≤ i → Passed fronts (So i) → Passed fronts (λ q. get_or w.positions q 0 < position + 1)
     all-boarded i fronts all way =
         let whole = take_all i ranks all in
-        done-same w t fronts held upto (So i) (λ q. get_or w.turns q 0 < turn + 1)
+        done-same w t fronts held upto (So i) (λ q. get_or w.positions q 0 < position + 1)
         (λ q d known l. ⊎_elim {C = So i q}
         (λ same.
-        let is-at : get_or w.turns q 0 ≡ turn = same.1 in
-        let equal : g ≡ departure_of d = some-same (slice_get (in_order w.net) turn) g (departure_of d) here (ap (slice_get (in_order w.net)) (sym is-at) ∙ passable.are_turns.exact q d known) in
+        let is-at : get_or w.positions q 0 ≡ position = same.1 in
+        let equal : g ≡ departure_of d = some-same (slice_get (in_order w.net) position) g (departure_of d) here (ap (slice_get (in_order w.net)) (sym is-at) ∙ passable.are_positions.exact q d known) in
         let passes = subst (λ (z : Departure). leaves_at z d ≡ true) (sym equal) (departure-itself (departure_of d)) in
         inr (subst (λ (rs : List ℕ). Member rs q) (sym whole) (subst (λ (rs : List ℕ). Member rs q) (sym is) (ranks-in (leaves_at g) w.net.duties q d known passes))))
         (λ ne. let k = ne.1 in inl (omega (arith, k, l)))
-        (eqb_tells (get_or w.turns q 0) turn))
+        (eqb_tells (get_or w.positions q 0) position))
         way
 
--- the ranks of the duties that leave at a turn are those of its departure
-pub ranks-at : (net : Net) (turn place : ℕ) (g : Departure) → slice_get net.by_report turn ≡ Some place → slice_get net.departures place ≡ Some g → ranks_where (leaves_at g) net.duties ≡ ranks_at net turn
-ranks-at net turn place g at there =
+-- the ranks of the duties that leave at a position are those of its departure
+pub ranks-at : (net : Net) (position place : ℕ) (g : Departure) → slice_get net.by_report position ≡ Some place → slice_get net.departures place ≡ Some g → ranks_where (leaves_at g) net.duties ≡ ranks_at net position
+ranks-at net position place g at there =
     ap (λ (z : Departure). ranks_where (leaves_at z) net.duties)
-    (sym (ap (λ (p : ℕ). departure_at net.departures p) (get-at net.by_report turn place 0 at) ∙ get-at net.departures place g (record { airport = []; report = pos 0 }) there))
+    (sym (ap (λ (p : ℕ). departure_at net.departures p) (get-at net.by_report position place 0 at) ∙ get-at net.departures place g (record { airport = []; report = pos 0 }) there))
 
 -- a front that is made, by its place
 pub made-here : {V A : Type 0} (w : Terms V) (t : Tabled V) (pool : List (Label V)) (value : A → List (Label V)) (arcs : List A) (ranks others : List ℕ)

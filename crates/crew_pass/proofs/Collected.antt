@@ -9,6 +9,7 @@ use Rattle.crew_label.specs.declared.label.Label.{Label}
 use Rattle.crew_label.specs.declared.label.Link.{Link}
 use Rattle.crew_net.specs.Events.{IsWindow}
 use Rattle.crew_net.specs.declared.window.Window.{Window}
+use Rattle.crew_net.proofs.Slices.{some-same}
 use Rattle.crew_pairing.specs.Events.{may_wait}
 use Rattle.crew_pairing.specs.declared.events.Arrival.{Arrival}
 use Rattle.crew_pairing.specs.declared.events.Departure.{Departure}
@@ -16,7 +17,6 @@ use Rattle.crew_resource.specs.Members.{Member}
 use Rattle.crew_resource.proofs.Members.{Member-append, Member-append_left, Member-append_right, Member-map_in, Member-map_out}
 use Rattle.crew_pass.specs.Machinery.Passing.{AreCollected, AreGathered, Idles, Waits, WaitsUpTo, waited_entries}
 use Rattle.crew_pass.specs.Machinery.Terms.{Terms}
-use Rattle.crew_pass.proofs.Slices.{some-same}
 
 module _ {V : Type 0} (below same : V → V → Bool) (trail : Link → List ℕ) where
   -- the pools of some candidates, and one more

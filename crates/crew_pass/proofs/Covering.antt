@@ -12,6 +12,11 @@ use Rattle.crew_label.specs.Walks.{ranks_at_most, shown}
 use Rattle.crew_label.specs.declared.label.Label.{Label}
 use Rattle.crew_label.specs.declared.label.Link.{Link}
 use Rattle.crew_label.proofs.RisingLists.{each-append}
+use Rattle.crew_net.specs.Machinery.Numbered.{arrival_place, departure_place}
+use Rattle.crew_net.specs.Positions.{in_order}
+use Rattle.crew_net.proofs.Numbers.{arrival-at, at-arrival, at-departure, get-within, held-within, place-arrival}
+use Rattle.crew_net.proofs.Orders.{arrivals-distinct, in-order-distinct, in-order-long, leaves-in}
+use Rattle.crew_net.proofs.Slices.{member-got, member-place, past-none}
 use Rattle.crew_pairing.specs.Events.{arrival_of, departure_of, may_wait}
 use Rattle.crew_pairing.specs.Keys.{walk_at_most}
 use Rattle.crew_pairing.specs.Legs.{Leg}
@@ -25,19 +30,15 @@ use Rattle.crew_resource.specs.Labels.{IsLocal}
 use Rattle.crew_resource.specs.Members.{Each, Member}
 use Rattle.crew_resource.proofs.Members.{Member-flat_map_out, Member-map_in, Member-map_out}
 use Rattle.crew_pass.specs.Machinery.Held.{AreHeld, trail_of}
-use Rattle.crew_pass.specs.Machinery.Numbered.{arrival_place, departure_place, in_order}
 use Rattle.crew_pass.specs.Machinery.Passing.{Arrives, HasPassed, IsPassable, Waits, boarding}
 use Rattle.crew_pass.specs.Machinery.Terms.{Terms}
 use Rattle.crew_pass.specs.Passes.{IsCoveredBy}
 use Rattle.crew_pass.proofs.Departures.{at-held}
 use Rattle.crew_pass.proofs.Keyed.{boards-keyed, covers-keyed, duty_place, keyed, keys, rank-place}
 use Rattle.crew_pass.proofs.Labels.{labelled-out}
-use Rattle.crew_pass.proofs.Numbers.{arrival-at, at-arrival, at-departure, get-within, held-within, place-arrival}
-use Rattle.crew_pass.proofs.Orders.{arrivals-distinct, in-order-distinct, in-order-long, leaves-in}
-use Rattle.crew_pass.proofs.Slices.{member-got, member-place, past-none}
 use Rattle.crew_pass.proofs.Waiting.{covering}
 
-module _ {V : Type 0} (w : Terms V) (passable : IsPassable w.net w.turns)
+module _ {V : Type 0} (w : Terms V) (passable : IsPassable w.net w.positions)
     (t : Tabled V) (fronts held : List (List (Label V))) (upto : ℤ) (passed : HasPassed w t fronts held upto) where
   abbrev trail : Link → List ℕ
   trail = trail_of t
@@ -67,21 +68,21 @@ module _ {V : Type 0} (w : Terms V) (passable : IsPassable w.net w.turns)
   abbrev front-of : Duty → List (V × List (List Leg))
   front-of d = by (shows fronts (duty_place w.net.duties d))
 
-  all-turns : length (in_order w.net) ≡ length t.pools
-  all-turns = in-order-long w.net passable.departs passable.ordered ∙ sym passed.all
+  all-positions : length (in_order w.net) ≡ length t.pools
+  all-positions = in-order-long w.net passable.departs passable.ordered ∙ sym passed.all
 
-  turn-within : (rank : ℕ) (d : Duty) → slice_get w.net.duties rank ≡ Some d → get_or w.turns rank 0 < length t.pools
-  turn-within rank d known = subst (λ m. get_or w.turns rank 0 < m) all-turns (get-within (in_order w.net) (get_or w.turns rank 0) (departure_of d) (passable.are_turns.exact rank d known))
+  position-within : (rank : ℕ) (d : Duty) → slice_get w.net.duties rank ≡ Some d → get_or w.positions rank 0 < length t.pools
+  position-within rank d known = subst (λ m. get_or w.positions rank 0 < m) all-positions (get-within (in_order w.net) (get_or w.positions rank 0) (departure_of d) (passable.are_positions.exact rank d known))
 
   leaves-at : (d : Duty) → Member w.net.duties d → slice_get (in_order w.net) (departure_place (in_order w.net) (departure_of d)) ≡ Some (departure_of d)
   leaves-at d known = at-departure (in_order w.net) (departure_of d) (leaves-in w.net passable.departs passable.ordered d known)
 
   place-within : (d : Duty) → Member w.net.duties d → departure_place (in_order w.net) (departure_of d) < length t.pools
-  place-within d known = subst (λ m. departure_place (in_order w.net) (departure_of d) < m) all-turns (get-within (in_order w.net) (departure_place (in_order w.net) (departure_of d)) (departure_of d) (leaves-at d known))
+  place-within d known = subst (λ m. departure_place (in_order w.net) (departure_of d) < m) all-positions (get-within (in_order w.net) (departure_place (in_order w.net) (departure_of d)) (departure_of d) (leaves-at d known))
 
-  turn-is : (rank : ℕ) (d : Duty) → slice_get w.net.duties rank ≡ Some d → departure_place (in_order w.net) (departure_of d) ≡ get_or w.turns rank 0
-  turn-is rank d known = in-order-distinct w.net passable.departs passable.ordered (departure_place (in_order w.net) (departure_of d)) (get_or w.turns rank 0) (departure_of d)
-      (leaves-at d (member-got w.net.duties rank d known)) (passable.are_turns.exact rank d known)
+  position-is : (rank : ℕ) (d : Duty) → slice_get w.net.duties rank ≡ Some d → departure_place (in_order w.net) (departure_of d) ≡ get_or w.positions rank 0
+  position-is rank d known = in-order-distinct w.net passable.departs passable.ordered (departure_place (in_order w.net) (departure_of d)) (get_or w.positions rank 0) (departure_of d)
+      (leaves-at d (member-got w.net.duties rank d known)) (passable.are_positions.exact rank d known)
 
   place-is : (x : Arrival) (p : ℕ) → slice_get w.net.arrivals p ≡ Some x → arrival_place w.net.arrivals x ≡ p
   place-is x p h = place-arrival w.net.arrivals x p (arrivals-distinct w.net passable.arrives) h
@@ -175,26 +176,26 @@ module _ {V : Type 0} (w : Terms V) (passable : IsPassable w.net w.turns)
     arrived-covers d known waits =
         by-place (passed.way.early (departure_place (in_order w.net) (departure_of d)) (departure_of d) x (place-within d known) (leaves-at d known) waits) (slice_get w.net.arrivals (arrival_place w.net.arrivals x)) refl
 
-  boarded-ranked : (rank : ℕ) (d : Duty) → slice_get w.net.duties rank ≡ Some d → (e : V × List ℕ) → Member (boarding w d rank (shows t.pools (get_or w.turns rank 0))) e → Each (λ r. r < n) e.1
+  boarded-ranked : (rank : ℕ) (d : Duty) → slice_get w.net.duties rank ≡ Some d → (e : V × List ℕ) → Member (boarding w d rank (shows t.pools (get_or w.positions rank 0))) e → Each (λ r. r < n) e.1
   boarded-ranked rank d known e m =
       let boards = λ (z : V × List ℕ). labelled (w.board z.0 d) (z.1 ++ rank ∷ []) in
-      let s = Member-flat_map_out boards (shows t.pools (get_or w.turns rank 0)) e m in
+      let s = Member-flat_map_out boards (shows t.pools (get_or w.positions rank 0)) e m in
       let k = labelled-out (w.board s.0.0 d) (s.0.1 ++ rank ∷ []) e s.2 in
       subst (λ (z : List ℕ). Each (λ r. r < n) z) (sym k.1)
-      (each-append (λ r. r < n) s.0.1 rank (ranked-in t.pools w.ready passed.way.pools_ready (get_or w.turns rank 0) s.0.0 s.0.1 s.1) (get-within w.net.duties rank d known))
+      (each-append (λ r. r < n) s.0.1 rank (ranked-in t.pools w.ready passed.way.pools_ready (get_or w.positions rank 0) s.0.0 s.0.1 s.1) (get-within w.net.duties rank d known))
 
   filtered-by : (rank : ℕ) (d : Duty) → slice_get w.net.duties rank ≡ Some d → IsLocal w.below walk_at_most (Shown over (pool-of (departure_of d)) d) (front-of d)
   filtered-by rank d known =
-      let local = passed.way.filtered rank d known (turn-within rank d known) in
-      let turn = get_or w.turns rank 0 in
-      let pool = shows t.pools turn in
+      let local = passed.way.filtered rank d known (position-within rank d known) in
+      let position = get_or w.positions rank 0 in
+      let pool = shows t.pools position in
       let by-keys = pool_of_rising w.below w.net.duties (boarding w d rank pool) (shows fronts rank) passable.rise (boarded-ranked rank d known) local in
       let view = boards-keyed w.net.duties passable.rise (λ v. w.board v d) rank d known pool in
       let own = subst (λ (es : List (V × List (List Leg))). IsLocal w.below walk_at_most (λ v k. Member es (v, k)) (by (shows fronts rank))) view by-keys in
-      let there = subst (λ m. IsLocal w.below walk_at_most (Shown over (by (shows t.pools m)) d) (by (shows fronts rank))) (sym (turn-is rank d known)) own in
+      let there = subst (λ m. IsLocal w.below walk_at_most (Shown over (by (shows t.pools m)) d) (by (shows fronts rank))) (sym (position-is rank d known)) own in
       subst (λ m. IsLocal w.below walk_at_most (Shown over (pool-of (departure_of d)) d) (by (shows fronts m))) (sym (rank-place w.net.duties passable.rise rank d known)) there
 
-  pub covered-by : IsCoveredBy w.below w.same over (record { net = w.net; turns = t.leaves; pools = t.pools; fronts = fronts })
+  pub covered-by : IsCoveredBy w.below w.same over (record { net = w.net; positions = t.leaves; pools = t.pools; fronts = fronts })
   covered-by = record {
     pools = pool-of;
     arrivals = arrived-at;

@@ -9,6 +9,8 @@ use Rattle.crew_label.specs.Tables.{Tabled}
 use Rattle.crew_label.specs.Walks.{Leads, ranks_at_most, shown, walk_of}
 use Rattle.crew_label.specs.declared.label.Label.{Label}
 use Rattle.crew_label.specs.declared.label.Link.{Link}
+use Rattle.crew_net.specs.Positions.{in_order}
+use Rattle.crew_net.proofs.Slices.{some-same}
 use Rattle.crew_pairing.specs.Events.{may_wait}
 use Rattle.crew_pairing.specs.declared.events.Arrival.{Arrival}
 use Rattle.crew_pairing.specs.declared.events.Departure.{Departure}
@@ -16,10 +18,8 @@ use Rattle.crew_resource.specs.Labels.{IsLocal}
 use Rattle.crew_resource.specs.Members.{Member}
 use Rattle.crew_resource.proofs.Members.{Member-append}
 use Rattle.crew_pass.specs.Machinery.Held.{AreHeld, IsEntry, leads_of, trail_of}
-use Rattle.crew_pass.specs.Machinery.Numbered.{in_order}
 use Rattle.crew_pass.specs.Machinery.Passing.{AreCovering, IsUnderWay, Waits, boarding}
 use Rattle.crew_pass.specs.Machinery.Terms.{Terms}
-use Rattle.crew_pass.proofs.Slices.{some-same}
 
 -- what each list of labels has, what stands at a place has
 pub at-held : {V : Type 0} (w : Terms V) (Bound : ℕ → V → Type 0) (t : Tabled V) (lists : List (List (Label V)))
@@ -81,7 +81,7 @@ module _ {V : Type 0} (t t' : Tabled V) (stays : (link : Link) → leads_of t li
           (u.0, u.1, subst (λ (es : List (V × List ℕ)). Member es (u.0, u.1)) (sym same) u.2, u.3);
     }
 
-    module _ (reached : (q : ℕ) → Done q → get_or w.turns q 0 < length t.pools) (pool : List (Label V)) (leaves-is : t'.leaves ≡ t.leaves) (pools-is : t'.pools ≡ t.pools ++ pool ∷ []) where
+    module _ (reached : (q : ℕ) → Done q → get_or w.positions q 0 < length t.pools) (pool : List (Label V)) (leaves-is : t'.leaves ≡ t.leaves) (pools-is : t'.pools ≡ t.pools ++ pool ∷ []) where
       pub longer : length t'.pools ≡ length t.pools + 1
       longer = ap length pools-is ∙ length-append t.pools (pool ∷ [])
 
@@ -100,7 +100,7 @@ module _ {V : Type 0} (t t' : Tabled V) (stays : (link : Link) → leads_of t li
           → AreCovering w (trail_of t) (Waits w (trail_of t) held g) pool → AreHeld w w.ready t pool
           → IsUnderWay w t' fronts held upto Done
       departure-more g at soon covers pool-held = record {
-        turned = leaves-is ∙ way.turned;
+        leaves = leaves-is ∙ way.leaves;
         held_long = way.held_long;
         pooled = λ i h l at-i. ⊎_elim {C = AreCovering w (trail_of t') (Waits w (trail_of t') held h) (get_or t'.pools i [])}
             (λ s.
@@ -134,8 +134,8 @@ module _ {V : Type 0} (t t' : Tabled V) (stays : (link : Link) → leads_of t li
             };
         filtered = λ q d known done.
             let was = reached q done in
-            subst (λ (es : List (V × List ℕ)). IsLocal w.below ranks_at_most (λ v k. Member (boarding w d q (map (shown (trail_of t')) (get_or t'.pools (get_or w.turns q 0) []))) (v, k)) es) (sym (front-at q))
-            (subst (λ (es : List (V × List ℕ)). IsLocal w.below ranks_at_most (λ v k. Member (boarding w d q es) (v, k)) (map (shown (trail_of t)) (get_or fronts q []))) (sym (pool-at (get_or w.turns q 0) was))
+            subst (λ (es : List (V × List ℕ)). IsLocal w.below ranks_at_most (λ v k. Member (boarding w d q (map (shown (trail_of t')) (get_or t'.pools (get_or w.positions q 0) []))) (v, k)) es) (sym (front-at q))
+            (subst (λ (es : List (V × List ℕ)). IsLocal w.below ranks_at_most (λ v k. Member (boarding w d q es) (v, k)) (map (shown (trail_of t)) (get_or fronts q []))) (sym (pool-at (get_or w.positions q 0) was))
             (way.filtered q d known done));
         pools_ready = λ labels m. ⊎_elim {C = AreHeld w w.ready t' labels}
             (λ k. held-still w w.ready labels (way.pools_ready labels k))
@@ -155,7 +155,7 @@ module _ {V : Type 0} (t t' : Tabled V) (stays : (link : Link) → leads_of t li
 
 -- before the first departure
 module _ {V : Type 0} (w : Terms V) (t : Tabled V) (fronts held : List (List (Label V))) (upto : ℤ)
-    (leaves-is : t.leaves ≡ w.turns) (pools-is : t.pools ≡ []) (fronts-long : length fronts ≡ length w.net.duties) (held-long : length held ≡ length w.net.arrivals)
+    (leaves-is : t.leaves ≡ w.positions) (pools-is : t.pools ≡ []) (fronts-long : length fronts ≡ length w.net.duties) (held-long : length held ≡ length w.net.arrivals)
     (fronts-empty : (labels : List (Label V)) → Member fronts labels → labels ≡ []) (held-empty : (labels : List (Label V)) → Member held labels → labels ≡ [])
     (after : (i : ℕ) (g : Departure) → slice_get (in_order w.net) i ≡ Some g → upto ≤ℤ g.report) where
   nothing : (Bound : ℕ → V → Type 0) (labels : List (Label V)) → labels ≡ [] → AreHeld w Bound t labels
@@ -172,9 +172,9 @@ module _ {V : Type 0} (w : Terms V) (t : Tabled V) (fronts held : List (List (La
   no-entries : IsPool w.below w.same ranks_at_most (λ v k. Member {X = V × List ℕ} [] (v, k)) []
   no-entries = record { among = λ v k m. absurd m; covers = λ v k m. absurd m; alone = λ v k x y m. absurd m }
 
-  pub none-passed : IsUnderWay w t fronts held upto (λ q. get_or w.turns q 0 < length t.pools)
+  pub none-passed : IsUnderWay w t fronts held upto (λ q. get_or w.positions q 0 < length t.pools)
   none-passed = record {
-    turned = leaves-is;
+    leaves = leaves-is;
     held_long = held-long;
     pooled = λ i g h at. absurd (omega (arith, h, no-pools));
     early = λ i g x h at. absurd (omega (arith, h, no-pools));

@@ -9,6 +9,8 @@ use Rattle.crew_label.specs.Tables.{Tabled}
 use Rattle.crew_label.specs.Walks.{shown}
 use Rattle.crew_label.specs.declared.label.Label.{Label}
 use Rattle.crew_label.specs.declared.label.Link.{Link}
+use Rattle.crew_net.proofs.Numbers.{get-within}
+use Rattle.crew_net.proofs.Slices.{set-long, some-same}
 use Rattle.crew_pairing.specs.Events.{IsSound, arrival_of}
 use Rattle.crew_pairing.specs.declared.duty.Duty.{Duty}
 use Rattle.crew_pairing.specs.declared.events.Arrival.{Arrival}
@@ -17,8 +19,6 @@ use Rattle.crew_resource.specs.Members.{Member}
 use Rattle.crew_pass.specs.Machinery.Held.{AreHeld, trail_of}
 use Rattle.crew_pass.specs.Machinery.Passing.{AreFront, Arrives, IsUnderWay}
 use Rattle.crew_pass.specs.Machinery.Terms.{Terms}
-use Rattle.crew_pass.proofs.Numbers.{get-within}
-use Rattle.crew_pass.proofs.Slices.{set-long, some-same}
 
 -- a release that isn't before a report isn't before what that is no earlier than
 unreleased : (upto report release : ℤ) → upto ≤ℤ report → pos 0 ≤ℤ (release -ℤ report) → release <ℤ upto → ⊥
@@ -32,7 +32,7 @@ module _ {V : Type 0} (w : Terms V) where
   pub done-same : (t : Tabled V) (fronts held : List (List (Label V))) (upto : ℤ) (D E : ℕ → Type 0) → ((rank : ℕ) (d : Duty) → slice_get w.net.duties rank ≡ Some d → E rank → D rank) → Way t fronts held upto D
       → Way t fronts held upto E
   done-same t fronts held upto D E from way = record {
-    turned = way.turned;
+    leaves = way.leaves;
     held_long = way.held_long;
     pooled = way.pooled;
     early = way.early;
@@ -84,10 +84,10 @@ module _ {V : Type 0} (w : Terms V) where
     arrives-back x before v k c = (c.0, c.1, c.2, c.3, subst (λ (ls : List (Label V)). Member (map (shown trail) ls) (v, k)) (other-front c.0 (elsewhere x before c.0 c.1 c.2 c.3)) c.4)
 
     -- the front of a duty more
-    pub front-more : AreFront w trail d rank (get_or t.pools (get_or w.turns rank 0) []) front → ArePoolOf w.below w.same trail (map (shown trail) front) front
+    pub front-more : AreFront w trail d rank (get_or t.pools (get_or w.positions rank 0) []) front → ArePoolOf w.below w.same trail (map (shown trail) front) front
         → AreHeld w w.arrived t front → Way t now held upto Next
     front-more local itself held-front = record {
-      turned = way.turned;
+      leaves = way.leaves;
       held_long = way.held_long;
       pooled = way.pooled;
       early = way.early;
@@ -100,12 +100,12 @@ module _ {V : Type 0} (w : Terms V) where
             among = λ v k m. arrives-there x before v k (g.among v k m);
             every = λ v k c. g.every v k (arrives-back x before v k c);
           };
-      filtered = λ q e at. ⊎_elim {C = AreFront w trail e q (get_or t.pools (get_or w.turns q 0) []) (get_or now q [])}
-          (λ done. subst (λ (ls : List (Label V)). AreFront w trail e q (get_or t.pools (get_or w.turns q 0) []) ls) (sym (other-front q (not-new q done))) (way.filtered q e at done))
+      filtered = λ q e at. ⊎_elim {C = AreFront w trail e q (get_or t.pools (get_or w.positions q 0) []) (get_or now q [])}
+          (λ done. subst (λ (ls : List (Label V)). AreFront w trail e q (get_or t.pools (get_or w.positions q 0) []) ls) (sym (other-front q (not-new q done))) (way.filtered q e at done))
           (λ same.
-          subst (λ (ls : List (Label V)). AreFront w trail e q (get_or t.pools (get_or w.turns q 0) []) ls) (sym (here-front q same))
-          (subst (λ n. AreFront w trail e n (get_or t.pools (get_or w.turns n 0) []) front) (sym same)
-          (subst (λ (z : Duty). AreFront w trail z rank (get_or t.pools (get_or w.turns rank 0) []) front) (sym (the-duty q e at same)) local)));
+          subst (λ (ls : List (Label V)). AreFront w trail e q (get_or t.pools (get_or w.positions q 0) []) ls) (sym (here-front q same))
+          (subst (λ n. AreFront w trail e n (get_or t.pools (get_or w.positions n 0) []) front) (sym same)
+          (subst (λ (z : Duty). AreFront w trail z rank (get_or t.pools (get_or w.positions rank 0) []) front) (sym (the-duty q e at same)) local)));
       pools_ready = way.pools_ready;
       held_arrived = way.held_arrived;
       held_clean = way.held_clean;

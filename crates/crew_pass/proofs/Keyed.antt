@@ -10,6 +10,8 @@ use Rattle.std.proofs.lemmas.List.{map-append}
 use Rattle.crew_forgetful.specs.Forgetful.{Covers}
 use Rattle.crew_label.specs.Walks.{ranks_at_most}
 use Rattle.crew_label.proofs.RisingLists.{each-member}
+use Rattle.crew_net.specs.Machinery.Numbered.{place_of}
+use Rattle.crew_net.proofs.Slices.{member-got}
 use Rattle.crew_pairing.specs.Duties.{RiseByKey}
 use Rattle.crew_pairing.specs.Keys.{key_cmp, key_total, walk_at_most}
 use Rattle.crew_pairing.specs.Legs.{Leg}
@@ -19,8 +21,6 @@ use Rattle.crew_pool.proofs.RankLemmas.{walks_by_key}
 use Rattle.crew_resource.specs.Events.{labelled}
 use Rattle.crew_resource.specs.Members.{Each, Member}
 use Rattle.crew_resource.proofs.Members.{Member-map_in, Member-map_out}
-use Rattle.crew_pass.specs.Machinery.Numbered.{place_of}
-use Rattle.crew_pass.proofs.Slices.{member-got}
 
 -- the rank of the first duty with the key
 abbrev pub duty_place : List Duty → Duty → ℕ

@@ -10,13 +10,13 @@ use Rattle.crew_label.specs.Walks.{shown, walk_of}
 use Rattle.crew_label.specs.declared.label.Label.{Label}
 use Rattle.crew_label.specs.declared.label.Link.{Link}
 use Rattle.crew_label.proofs.RisingLists.{each-append}
+use Rattle.crew_net.proofs.Slices.{some-same}
 use Rattle.crew_resource.specs.Events.{labelled}
 use Rattle.crew_resource.specs.Members.{Each, Member}
 use Rattle.crew_resource.proofs.Members.{Member-flat_map_out, Member-map_in, Member-map_out}
 use Rattle.crew_pass.specs.Machinery.Held.{AreHeld, IsEntry, IsHeld, leads_of, trail_of}
 use Rattle.crew_pass.specs.Machinery.Passing.{waited_entries}
 use Rattle.crew_pass.specs.Machinery.Terms.{Terms}
-use Rattle.crew_pass.proofs.Slices.{some-same}
 
 module _ {V : Type 0} (w : Terms V) (t : Tabled V) where
   pub counted : (Bound : ℕ → V → Type 0) (labels : List (Label V)) → AreHeld w Bound t labels → AreCounted w.count (leads_of t) (trail_of t) labels

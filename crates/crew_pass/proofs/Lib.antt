@@ -1,7 +1,3 @@
-pub mod Numbers
-pub mod Slices
-pub mod Orders
-pub mod DutyTurns
 pub mod Labels
 pub mod Waiting
 pub mod Collected

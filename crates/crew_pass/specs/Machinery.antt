@@ -1,5 +1,4 @@
 -- What code needs, and no definition rests on.
-pub mod Numbered
 pub mod Terms
 pub mod Held
 pub mod Passing

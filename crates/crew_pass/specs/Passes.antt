@@ -30,17 +30,17 @@ pub record CountsDuties {V : Type 0} (same : V → V → Bool) (count : V → �
   pub has_most : most ≡ Some limit
   pub fit : (n : ℕ) → n ≤ limit + 1 → fits n
 
--- the network, the turn of each duty's departure by rank, the pool of each departure in order of
+-- the network, the position of each duty's departure by rank, the pool of each departure in order of
 -- report, and the front of each duty by rank
 pub record BasePass (V : Type 0) : Type 0 where
   pub net : Net
-  pub turns : List ℕ
+  pub positions : List ℕ
   pub pools : List (List (Label V))
   pub fronts : List (List (Label V))
 
 -- the entries of the front of a duty, their walks by rank
 abbrev pub entries : {V : Type 0} → BasePass V → ℕ → List (V × List ℕ)
-entries p rank = map (shown (trail_in p.turns p.pools)) (get_or p.fronts rank [])
+entries p rank = map (shown (trail_in p.positions p.pools)) (get_or p.fronts rank [])
 
 -- and by key
 abbrev pub keyed_entries : {V : Type 0} → BasePass V → ℕ → List (V × List (List Leg))
@@ -60,9 +60,9 @@ pub record IsCoveredBy {V : Type 0} (le same : V → V → Bool)
 pub record AreTold {V : Type 0} (p : BasePass V) : Type 0 where
   pub long : length p.fronts ≡ length p.net.duties
   pub leading : (labels : List (Label V)) (l : Label V) → Member p.fronts labels → Member labels l
-      → Leads (leads_in p.turns p.pools) l.before
+      → Leads (leads_in p.positions p.pools) l.before
   pub ranked : (labels : List (Label V)) (l : Label V) → Member p.fronts labels → Member labels l
-      → Each (λ rank. rank < length p.net.duties) (walk_of (trail_in p.turns p.pools) l.before)
+      → Each (λ rank. rank < length p.net.duties) (walk_of (trail_in p.positions p.pools) l.before)
 
 -- each legal duty of a timetable has a rank, and the fronts show the duty's front there
 abbrev pub ShowsFronts : Settings → ℕ → Timetable → List ℕ → ℤ → BasePass LongValue → Type 0

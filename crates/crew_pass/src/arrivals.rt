@@ -2,10 +2,10 @@
 ghost use Rattle.std.specs.Prelude.{◌≡◌, ◌<◌, ◌≤◌, ◌≤ℤ◌, ◌<ℤ◌, ℕ, FitsSigned, Some, MatchOption, IfOk, OnOk, length, map, set, slice_get, slice_index_or, vec_len};
 ghost use Rattle.std.specs.Arc.{arc_value};
 ghost use Rattle.std.specs.Int.{w64};
+ghost use Rattle.crew_net.specs.Positions.{in_order};
 ghost use Rattle.crew_pairing.specs.declared.events.Arrival.{Arrival};
 ghost use Rattle.crew_pairing.specs.declared.events.Departure.{Departure};
 ghost use Rattle.crew_pass.specs.Machinery.Held.{HaveArrived, trail_of};
-ghost use Rattle.crew_pass.specs.Machinery.Numbered.{in_order};
 ghost use Rattle.crew_pass.specs.Machinery.Passing.{AreGathered, AreKept, AreTerms, Arrives, IsArrivalMade, IsArrivedAt, IsFound};
 ghost use Rattle.crew_pass.specs.Machinery.Terms.{terms};
 
@@ -234,29 +234,30 @@ fn put_arrivals<R: Lapses<Duty>>(
     Ok(())
 }
 
-/// Makes the pools of the arrivals that are released before the departure at the next turn reports, and
-/// what rests there go by, where they aren't made already.
+/// Makes the pools of the arrivals that are released before the departure at the next position reports,
+/// and what rests there go by, where they aren't made already.
 pub(crate) fn arrive<R: Lapses<Duty>>(
     alloc: Global,
     ground: &Ground<R>,
     table: &Table<R>,
     found: &mut Found<R>,
-    turn: usize,
+    position: usize,
 ) -> Result<(), AllocError>
     requires terms { AreTerms
         (terms R.Lapses.own R.Staged.own R.Forgets.own R.Resource.own ground.now) }
-    requires turn { turn < length ground.now.net.now.by_report }
-    requires next { turn ≡ length table.now.pools }
+    requires position { position < length ground.now.net.now.by_report }
+    requires next { position ≡ length table.now.pools }
     requires found { IsFound
         (terms R.Lapses.own R.Staged.own R.Forgets.own R.Resource.own ground.now) table.now
         found.old (length table.now.pools) }
-    ensures upto { OnOk result ((g : Departure) → slice_get (in_order ground.now.net.now) turn ≡ Some g
+    ensures upto { OnOk result ((g : Departure)
+        → slice_get (in_order ground.now.net.now) position ≡ Some g
         → found.new.upto ≡ g.report) }
     ensures found { OnOk result (IsFound
         (terms R.Lapses.own R.Staged.own R.Forgets.own R.Resource.own ground.now) table.now
         found.new (length table.now.pools)) }
 {
-    let first = report_at(ground, turn);
+    let first = report_at(ground, position);
     let fronts = found.fronts.as_slice();
     let made = arrivals_in_turn(alloc, ground, table, fronts, found.upto, first)?;
     put_arrivals(ground, table, found, first, made)
@@ -270,24 +271,25 @@ pub(crate) fn arrive_by_threads<T: Threads + Sync, R: Lapses<Duty> + Sync>(
     ground: &Ground<R>,
     table: &Table<R>,
     found: &mut Found<R>,
-    turn: usize,
+    position: usize,
 ) -> Result<(), AllocError>
 where
     R::Value: Send + Sync,
     requires terms { AreTerms
         (terms R.Lapses.own R.Staged.own R.Forgets.own R.Resource.own ground.now) }
-    requires turn { turn < length ground.now.net.now.by_report }
-    requires next { turn ≡ length table.now.pools }
+    requires position { position < length ground.now.net.now.by_report }
+    requires next { position ≡ length table.now.pools }
     requires found { IsFound
         (terms R.Lapses.own R.Staged.own R.Forgets.own R.Resource.own ground.now) table.now
         found.old (length table.now.pools) }
-    ensures upto { OnOk result ((g : Departure) → slice_get (in_order ground.now.net.now) turn ≡ Some g
+    ensures upto { OnOk result ((g : Departure)
+        → slice_get (in_order ground.now.net.now) position ≡ Some g
         → found.new.upto ≡ g.report) }
     ensures found { OnOk result (IsFound
         (terms R.Lapses.own R.Staged.own R.Forgets.own R.Resource.own ground.now) table.now
         found.new (length table.now.pools)) }
 {
-    let first = report_at(ground, turn);
+    let first = report_at(ground, position);
     let fronts = found.fronts.as_slice();
     let made = arrivals_at_once(rt, alloc, threads, ground, table, fronts, found.upto, first)?;
     put_arrivals(ground, table, found, first, made)

@@ -27,7 +27,7 @@ type Pools<R> = Vec<Result<Arc<Pool<R>, Global>, AllocError>>;
 // The fronts of some departures' duties, or want of memory.
 type Fronts<R> = Vec<Result<Vec<Arc<Pool<R>, Global>>, AllocError>>;
 
-// The pools of the departures from a turn on, up to another.
+// The pools of the departures from a position on, up to another.
 fn pools_at_once<T: Threads + Sync, R: Lapses<Duty> + Sync>(
     rt: &T,
     alloc: Global,
@@ -43,7 +43,7 @@ where
     R::Value: Send + Sync,
     requires terms { AreTerms
         (terms R.Lapses.own R.Staged.own R.Forgets.own R.Resource.own ground.now) }
-    requires turns { (from ≤ end) × (end ≤ length ground.now.net.now.by_report) }
+    requires positions { (from ≤ end) × (end ≤ length ground.now.net.now.by_report) }
     requires sources { AreSources
         (terms R.Lapses.own R.Staged.own R.Forgets.own R.Resource.own ground.now) table.now
         arrivals.now rested.now }
@@ -65,7 +65,8 @@ where
     map_claimed(rt, alloc, threads, end - from, &part)
 }
 
-// The fronts of the duties of the departures from a turn on, up to another, whose pools the table has.
+// The fronts of the duties of the departures from a position on, up to another, whose pools the table
+// has.
 fn fronts_at_once<T: Threads + Sync, R: Lapses<Duty> + Sync>(
     rt: &T,
     alloc: Global,
@@ -79,12 +80,13 @@ where
     R::Value: Send + Sync,
     requires terms { AreTerms
         (terms R.Lapses.own R.Staged.own R.Forgets.own R.Resource.own ground.now) }
-    requires turns { from ≤ end }
-    requires turned { table.now.leaves ≡ ground.now.turns.now }
+    requires positions { from ≤ end }
+    requires leaves { table.now.leaves ≡ ground.now.positions.now }
     requires ready { (labels : List (Label R.Value)) → Member table.now.pools labels → AreReady
         (terms R.Lapses.own R.Staged.own R.Forgets.own R.Resource.own ground.now) table.now labels }
-    requires boardable { (turn : ℕ) → from ≤ turn → turn < end → IsBoardable
-        (terms R.Lapses.own R.Staged.own R.Forgets.own R.Resource.own ground.now) table.now (turn) }
+    requires boardable { (position : ℕ) → from ≤ position → position < end → IsBoardable
+        (terms R.Lapses.own R.Staged.own R.Forgets.own R.Resource.own ground.now) table.now
+        position }
     ensures long { IfOk result (λ fronts. vec_len fronts ≡ end - from) }
     ensures each { IfOk result (λ fronts. (i : ℕ) (d : _) → i < end - from → IfOk
         (slice_index_or fronts.items i d) (λ made. AreMade
@@ -95,8 +97,8 @@ where
     let part = |at: usize| -> Result<Vec<Arc<Pool<R>, Global>>, AllocError>
         requires { (from + at < 2 ^ 64) × AreTerms
             (terms R.Lapses.own R.Staged.own R.Forgets.own R.Resource.own ground.now)
-            × (table.now.leaves ≡ ground.now.turns.now) × ((labels : List (Label R.Value)) → Member
-            table.now.pools labels → AreReady
+            × (table.now.leaves ≡ ground.now.positions.now) × ((labels : List (Label R.Value))
+            → Member table.now.pools labels → AreReady
             (terms R.Lapses.own R.Staged.own R.Forgets.own R.Resource.own ground.now) table.now
             labels) × (IsBoardable
             (terms R.Lapses.own R.Staged.own R.Forgets.own R.Resource.own ground.now) table.now
@@ -109,7 +111,7 @@ where
     map_claimed(rt, alloc, threads, end - from, &part)
 }
 
-// Puts the pools of the departures from a turn on into the table.
+// Puts the pools of the departures from a position on into the table.
 fn add_pools<R: Lapses<Duty>>(
     ground: &Ground<R>,
     table: &mut Table<R>,
@@ -120,9 +122,9 @@ fn add_pools<R: Lapses<Duty>>(
     requires terms { AreTerms
         (terms R.Lapses.own R.Staged.own R.Forgets.own R.Resource.own ground.now) }
     requires from { length table.old.pools ≡ from }
-    requires turns { from + length pools.now ≤ length ground.now.net.now.by_report }
-    requires close { (turn : ℕ) → from ≤ turn → turn < from + length pools.now
-        → IsClose ground.now.net.now found.now.upto turn }
+    requires positions { from + length pools.now ≤ length ground.now.net.now.by_report }
+    requires close { (position : ℕ) → from ≤ position → position < from + length pools.now
+        → IsClose ground.now.net.now found.now.upto position }
     requires found { IsFound
         (terms R.Lapses.own R.Staged.own R.Forgets.own R.Resource.own ground.now) table.old
         found.now from }
@@ -133,9 +135,10 @@ fn add_pools<R: Lapses<Duty>>(
     ensures found { OnOk result (IsFound
         (terms R.Lapses.own R.Staged.own R.Forgets.own R.Resource.own ground.now) table.new
         found.now from) }
-    ensures linked { OnOk result ((turn : ℕ) → from ≤ turn → turn < from + length pools.now
-        → IsLinked (terms R.Lapses.own R.Staged.own R.Forgets.own R.Resource.own ground.now)
-        table.new turn) }
+    ensures linked { OnOk result ((position : ℕ) → from ≤ position
+        → position < from + length pools.now → IsLinked
+        (terms R.Lapses.own R.Staged.own R.Forgets.own R.Resource.own ground.now) table.new
+        position) }
 {
     for pool in pools {
         let Ok(pool) = pool else {
@@ -147,7 +150,7 @@ fn add_pools<R: Lapses<Duty>>(
     Ok(())
 }
 
-// Keeps the fronts of the departures from a turn on, one after another.
+// Keeps the fronts of the departures from a position on, one after another.
 fn keep_all<R: Lapses<Duty>>(
     ground: &Ground<R>,
     table: &Table<R>,
@@ -157,10 +160,10 @@ fn keep_all<R: Lapses<Duty>>(
 ) -> Result<(), AllocError>
     requires terms { AreTerms
         (terms R.Lapses.own R.Staged.own R.Forgets.own R.Resource.own ground.now) }
-    requires turns { from + length fronts.now ≤ length ground.now.net.now.by_report }
+    requires positions { from + length fronts.now ≤ length ground.now.net.now.by_report }
     requires few { from + length fronts.now < 2 ^ 64 }
-    requires close { (turn : ℕ) → from ≤ turn → turn < from + length fronts.now
-        → IsClose ground.now.net.now found.old.upto turn }
+    requires close { (position : ℕ) → from ≤ position → position < from + length fronts.now
+        → IsClose ground.now.net.now found.old.upto position }
     requires made { (i : ℕ) (d : _) → i < length fronts.now → IfOk (slice_index_or fronts.now i d)
         (λ made. AreMade (terms R.Lapses.own R.Staged.own R.Forgets.own R.Resource.own ground.now)
         table.now (get_or table.now.pools (from + i) []) (ranks_at ground.now.net.now (from + i))
@@ -182,8 +185,8 @@ fn keep_all<R: Lapses<Duty>>(
     Ok(())
 }
 
-// The pass goes on by the departures up to a turn, none of which waits on another's duties: their
-// pools, of arrivals that have theirs, and the fronts of their duties.
+// The pass goes on by the departures up to a position, none of which waits on another's duties:
+// their pools, of arrivals that have theirs, and the fronts of their duties.
 fn pass_batch<T: Threads + Sync, R: Lapses<Duty> + Sync>(
     rt: &T,
     alloc: Global,
@@ -198,9 +201,9 @@ where
     requires terms { AreTerms
         (terms R.Lapses.own R.Staged.own R.Forgets.own R.Resource.own ground.now) }
     requires more { length table.old.pools < end }
-    requires turns { end ≤ length ground.now.net.now.by_report }
-    requires close { (turn : ℕ) → length table.old.pools ≤ turn → turn < end
-        → IsClose ground.now.net.now found.old.upto turn }
+    requires positions { end ≤ length ground.now.net.now.by_report }
+    requires close { (position : ℕ) → length table.old.pools ≤ position → position < end
+        → IsClose ground.now.net.now found.old.upto position }
     requires found { IsFound
         (terms R.Lapses.own R.Staged.own R.Forgets.own R.Resource.own ground.now) table.old
         found.old (length table.old.pools) }

@@ -50,29 +50,30 @@ fn duty_front<R: Lapses<Duty>>(
     front_aboard::<Duty, R, Table<R>>(alloc, ground.resource, table, pool, duty, rank)
 }
 
-/// The fronts of the duties that leave at a turn, whose pool the table has.
+/// The fronts of the duties that leave at a position, whose pool the table has.
 pub(crate) fn duty_fronts<R: Lapses<Duty>>(
     alloc: Global,
     ground: &Ground<R>,
     table: &Table<R>,
-    turn: usize,
+    position: usize,
 ) -> Result<Vec<Arc<Pool<R>, Global>>, AllocError>
     requires terms { AreTerms
         (terms R.Lapses.own R.Staged.own R.Forgets.own R.Resource.own ground.now) }
-    requires turned { table.now.leaves ≡ ground.now.turns.now }
+    requires leaves { table.now.leaves ≡ ground.now.positions.now }
     requires ready { (labels : List (Label R.Value)) → Member table.now.pools labels → AreReady
         (terms R.Lapses.own R.Staged.own R.Forgets.own R.Resource.own ground.now) table.now labels }
     requires boardable { IsBoardable
-        (terms R.Lapses.own R.Staged.own R.Forgets.own R.Resource.own ground.now) table.now turn }
+        (terms R.Lapses.own R.Staged.own R.Forgets.own R.Resource.own ground.now) table.now
+        position }
     ensures { IfOk result (λ fronts. AreMade
         (terms R.Lapses.own R.Staged.own R.Forgets.own R.Resource.own ground.now) table.now
-        (get_or table.now.pools turn []) (ranks_at ground.now.net.now turn)
+        (get_or table.now.pools position []) (ranks_at ground.now.net.now position)
         (map arc_value fronts.items)) }
 {
-    let Some(pool) = table.get(turn) else {
+    let Some(pool) = table.get(position) else {
         unreachable!();
     };
-    let place = ground.net.by_report()[turn] as usize;
+    let place = ground.net.by_report()[position] as usize;
     let ranks = ground.net.leaving(place);
     let mut fronts = Vec::new(alloc);
     for rank in ranks {
@@ -83,31 +84,31 @@ pub(crate) fn duty_fronts<R: Lapses<Duty>>(
     Ok(fronts)
 }
 
-/// Keeps the fronts of the duties that leave at a turn.
+/// Keeps the fronts of the duties that leave at a position.
 pub(crate) fn keep_fronts<R: Lapses<Duty>>(
     ground: &Ground<R>,
     table: &Table<R>,
     found: &mut Found<R>,
-    turn: usize,
+    position: usize,
     fronts: &[Arc<Pool<R>, Global>],
 ) -> Result<(), AllocError>
     requires terms { AreTerms
         (terms R.Lapses.own R.Staged.own R.Forgets.own R.Resource.own ground.now) }
-    requires turn { turn < length ground.now.net.now.by_report }
-    requires close { IsClose ground.now.net.now found.old.upto turn }
+    requires position { position < length ground.now.net.now.by_report }
+    requires close { IsClose ground.now.net.now found.old.upto position }
     requires made { AreMade
         (terms R.Lapses.own R.Staged.own R.Forgets.own R.Resource.own ground.now) table.now
-        (get_or table.now.pools turn []) (ranks_at ground.now.net.now turn)
+        (get_or table.now.pools position []) (ranks_at ground.now.net.now position)
         (map arc_value fronts.now) }
     requires found { IsFound
         (terms R.Lapses.own R.Staged.own R.Forgets.own R.Resource.own ground.now) table.now
-        found.old turn }
+        found.old position }
     ensures found { OnOk result (IsFound
         (terms R.Lapses.own R.Staged.own R.Forgets.own R.Resource.own ground.now) table.now
-        found.new (turn + 1)) }
+        found.new (position + 1)) }
     ensures upto { OnOk result (found.new.upto ≡ found.old.upto) }
 {
-    let place = ground.net.by_report()[turn] as usize;
+    let place = ground.net.by_report()[position] as usize;
     let ranks = ground.net.leaving(place);
     for (at, rank) in ranks.iter().enumerate() {
         let front = Arc::try_clone(&fronts[at])?;

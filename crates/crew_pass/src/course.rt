@@ -1,40 +1,44 @@
 //! What the passes of all bases go by.
 ghost use Rattle.std.specs.Prelude.{◌≡◌, IfOk};
 ghost use Rattle.std.specs.Arc.{arc_value};
-ghost use Rattle.crew_pass.specs.Machinery.Numbered.{AreTurns};
+ghost use Rattle.crew_net.specs.Positions.{ArePositions};
 ghost use Rattle.crew_pass.specs.Machinery.Passing.{IsCharted};
 
-use crate::turns::departure_turns;
-use crew_net::Net;
+use crew_net::{Net, departure_positions};
 use std::alloc::{AllocError, Global};
 use std::marker::Model;
 use std::sync::Arc;
 
-/// What the passes of all bases go by: a network, and by rank the turn of each duty's departure, in
-/// order of report. It owns what it goes by, so it can be kept, and be shared by threads.
+/// What the passes of all bases go by: a network, and by rank the position of each duty's departure,
+/// which is its place among all departures in order of report. It owns what it goes by, so it can be
+/// kept, and be shared by threads.
 ///
 /// A contract sees the network.
 pub struct Course {
     net: Arc<Net, Global>,
-    turns: Arc<Vec<u32>, Global>,
+    positions: Arc<Vec<u32>, Global>,
 }
 
 impl Drop for Course {
     fn drop(self) {
-        let Self { net: _, turns: _ } = self;
+        let Self {
+            net: _,
+            positions: _,
+        } = self;
     }
 }
 
 impl Model for Course {
     ghost use Rattle.crew_net.specs.Nets as Spec;
-    ghost use Rattle.crew_pass.specs.Machinery.Numbered.{AreTurns};
+    ghost use Rattle.crew_net.specs.Positions.{ArePositions};
     ghost use Rattle.crew_pass.specs.Machinery.Passing.{IsCharted};
 
     ghost Value = { Spec.Net };
 
     ghost view = { λ c. c.net.value };
 
-    ghost invariant = { λ c. IsCharted c.net.value × AreTurns c.net.value c.turns.value.items };
+    ghost invariant = { λ c. IsCharted c.net.value
+        × ArePositions c.net.value c.positions.value.items };
 }
 
 // What a network has of its events, its duties and its settings.
@@ -54,9 +58,9 @@ impl Course {
         ensures { IfOk result (λ course. course ≡ arc_value net) }
     {
         chart(&net);
-        let turns = departure_turns(alloc, &net)?;
-        let turns = Arc::new(alloc, turns)?;
-        Ok(Course { net, turns })
+        let positions = departure_positions(alloc, &net)?;
+        let positions = Arc::new(alloc, positions)?;
+        Ok(Course { net, positions })
     }
 
     /// The network.
@@ -67,10 +71,10 @@ impl Course {
         &self.net
     }
 
-    /// The turn of each duty's departure, by rank.
-    pub(crate) fn turns(&self) -> &Arc<Vec<u32>, Global>
-        ensures { AreTurns self.now (arc_value result.now).items }
+    /// The position of each duty's departure, by rank.
+    pub(crate) fn positions(&self) -> &Arc<Vec<u32>, Global>
+        ensures { ArePositions self.now (arc_value result.now).items }
     {
-        &self.turns
+        &self.positions
     }
 }

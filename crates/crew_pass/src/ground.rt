@@ -9,12 +9,12 @@ use crew_resource::Resource;
 use std::alloc::Global;
 use std::sync::Arc;
 
-/// What a pass of one base goes by: a network, by rank the turn of each duty's departure, the resource
-/// of the base's lists, and the base.
+/// What a pass of one base goes by: a network, by rank the position of each duty's departure, the
+/// resource of the base's lists, and the base.
 #[derive(Drop)]
 pub(crate) struct Ground<'a, 'r, R> {
     pub(crate) net: &'a Net,
-    pub(crate) turns: &'a [u32],
+    pub(crate) positions: &'a [u32],
     pub(crate) resource: &'r R,
     pub(crate) base: Code,
 }

@@ -24,7 +24,6 @@ mod ground;
 pub mod laws;
 mod long;
 mod passing;
-mod turns;
 mod waits;
 
 pub use base_fronts::BaseFronts;

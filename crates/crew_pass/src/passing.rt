@@ -5,11 +5,11 @@ ghost use Rattle.crew_answers.specs.Schedules.{schedule_of};
 ghost use Rattle.crew_forgetful.specs.Sweeps.{network_of};
 ghost use Rattle.crew_label.specs.declared.label.Label.{Label};
 ghost use Rattle.crew_net.specs.Machinery.Moments.{IsReal};
+ghost use Rattle.crew_net.specs.Positions.{in_order};
 ghost use Rattle.crew_pairing.specs.Events.{IsSound, arrival_of, departure_of};
 ghost use Rattle.crew_pairing.specs.declared.duty.Duty.{Duty};
 ghost use Rattle.crew_pairing.specs.declared.events.Departure.{Departure};
 ghost use Rattle.crew_resource.specs.Members.{Member};
-ghost use Rattle.crew_pass.specs.Machinery.Numbered.{in_order};
 ghost use Rattle.crew_pass.specs.Machinery.Passing.{AreTerms, HasPassed, IsClose, IsFound, IsPassable};
 ghost use Rattle.crew_pass.specs.Machinery.Terms.{terms};
 ghost use Rattle.crew_pass.specs.Passes.{CountsDuties, IsCoveredBy};
@@ -107,11 +107,18 @@ fn pass_one<R: Lapses<Duty>>(
         (terms R.Lapses.own R.Staged.own R.Forgets.own R.Resource.own ground.now) table.new
         found.new (length table.new.pools)) }
 {
-    let turn = table.len();
-    let pool = pool_at(alloc, ground, table, &found.arrivals, &found.rested, turn)?;
+    let position = table.len();
+    let pool = pool_at(
+        alloc,
+        ground,
+        table,
+        &found.arrivals,
+        &found.rested,
+        position,
+    )?;
     table.add(pool)?;
-    let fronts = duty_fronts(alloc, ground, table, turn)?;
-    keep_fronts(ground, table, found, turn, &fronts)?;
+    let fronts = duty_fronts(alloc, ground, table, position)?;
+    keep_fronts(ground, table, found, position, &fronts)?;
     Ok(())
 }
 
@@ -133,14 +140,14 @@ fn pass_next_one<R: Lapses<Duty>>(
         (terms R.Lapses.own R.Staged.own R.Forgets.own R.Resource.own ground.now) table.new
         found.new (length table.new.pools)) }
 {
-    let turn = table.len();
-    arrive(alloc, ground, table, found, turn)?;
+    let position = table.len();
+    arrive(alloc, ground, table, found, position)?;
     pass_one(alloc, ground, table, found)
 }
 
 // A minute at which no departure has reported yet.
 fn first_minute<R: Resource>(ground: &Ground<R>) -> i64
-    requires passable { IsPassable ground.now.net.now ground.now.turns.now }
+    requires passable { IsPassable ground.now.net.now ground.now.positions.now }
     ensures least { (i : ℕ) (g : Departure) → slice_get (in_order ground.now.net.now) i ≡ Some g
         → result ≤ℤ g.report }
     ensures real { IsReal result }
@@ -158,7 +165,7 @@ fn found_none<R: Lapses<Duty>>(
     ground: &Ground<R>,
     table: &Table<R>,
 ) -> Result<Found<R>, AllocError>
-    requires none { table.now ≡ record { leaves = ground.now.turns.now; pools = [] } }
+    requires none { table.now ≡ record { leaves = ground.now.positions.now; pools = [] } }
     requires terms { AreTerms
         (terms R.Lapses.own R.Staged.own R.Forgets.own R.Resource.own ground.now) }
     ensures { IfOk result (λ found. IsFound
@@ -177,7 +184,7 @@ pub(crate) fn pass_all<R: Lapses<Duty>>(
     ground: &Ground<R>,
     mut table: Table<R>,
 ) -> Result<(Table<R>, Found<R>), AllocError>
-    requires none { table ≡ record { leaves = ground.now.turns.now; pools = [] } }
+    requires none { table ≡ record { leaves = ground.now.positions.now; pools = [] } }
     requires terms { AreTerms
         (terms R.Lapses.own R.Staged.own R.Forgets.own R.Resource.own ground.now) }
     ensures { IfOk result (λ passed. HasPassed
@@ -203,7 +210,7 @@ pub(crate) fn pass_all_by_threads<T: Threads + Sync, R: Lapses<Duty> + Sync>(
 ) -> Result<(Table<R>, Found<R>), AllocError>
 where
     R::Value: Send + Sync,
-    requires none { table ≡ record { leaves = ground.now.turns.now; pools = [] } }
+    requires none { table ≡ record { leaves = ground.now.positions.now; pools = [] } }
     requires terms { AreTerms
         (terms R.Lapses.own R.Staged.own R.Forgets.own R.Resource.own ground.now) }
     ensures { IfOk result (λ passed. HasPassed
@@ -238,12 +245,12 @@ pub fn pass<R: Lapses<Duty>>(
         (R.idle_of resource.now) (R.waited resource.now) (R.boards resource.now))) }
 {
     let net = course.net();
-    let turns = course.turns();
+    let positions = course.positions();
     let shared = Arc::try_clone(net)?;
-    let table = Table::new(alloc, Arc::try_clone(turns)?);
+    let table = Table::new(alloc, Arc::try_clone(positions)?);
     let ground = Ground {
         net,
-        turns: turns.as_slice(),
+        positions: positions.as_slice(),
         resource,
         base,
     };
@@ -272,12 +279,12 @@ where
         (R.idle_of resource.now) (R.waited resource.now) (R.boards resource.now))) }
 {
     let net = course.net();
-    let turns = course.turns();
+    let positions = course.positions();
     let shared = Arc::try_clone(net)?;
-    let table = Table::new(alloc, Arc::try_clone(turns)?);
+    let table = Table::new(alloc, Arc::try_clone(positions)?);
     let ground = Ground {
         net,
-        turns: turns.as_slice(),
+        positions: positions.as_slice(),
         resource,
         base,
     };

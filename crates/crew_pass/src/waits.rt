@@ -200,26 +200,26 @@ pub(crate) fn rested_pool<R: Lapses<Duty>>(
     Ok(rested)
 }
 
-/// A pool of the departure at a turn, shared.
+/// A pool of the departure at a position, shared.
 pub(crate) fn pool_at<R: Lapses<Duty>>(
     alloc: Global,
     ground: &Ground<R>,
     table: &Table<R>,
     arrivals: &[Pool<R>],
     rested: &[Pool<R>],
-    turn: usize,
+    position: usize,
 ) -> Result<Arc<Pool<R>, Global>, AllocError>
     requires terms { AreTerms
         (terms R.Lapses.own R.Staged.own R.Forgets.own R.Resource.own ground.now) }
-    requires turn { turn < length ground.now.net.now.by_report }
+    requires position { position < length ground.now.net.now.by_report }
     requires sources { AreSources
         (terms R.Lapses.own R.Staged.own R.Forgets.own R.Resource.own ground.now) table.now
         arrivals.now rested.now }
     ensures { IfOk result (λ pool. IsPoolAt
         (terms R.Lapses.own R.Staged.own R.Forgets.own R.Resource.own ground.now) table.now
-        arrivals.now turn (arc_value pool)) }
+        arrivals.now position (arc_value pool)) }
 {
-    let place = ground.net.by_report()[turn] as usize;
+    let place = ground.net.by_report()[position] as usize;
     let pool = departure_pool(alloc, ground, table, arrivals, rested, place)?;
     let pool = Arc::new(alloc, pool)?;
     Ok(pool)

@@ -13,6 +13,7 @@ use Rattle.crew_label.specs.declared.label.Label.{Label}
 use Rattle.crew_label.specs.declared.label.Link.{Link}
 use Rattle.crew_net.specs.Events.{AreEvents, arrival_cmp, departure_cmp, leaves_at}
 use Rattle.crew_net.specs.Nets.{AreByReport, Net}
+use Rattle.crew_net.specs.Positions.{ArePositions, departure_at, in_order}
 use Rattle.crew_net.specs.Ranks.{ranks_where}
 use Rattle.crew_pairing.specs.Duties.{RiseByKey}
 use Rattle.crew_pairing.specs.Events.{IsSound, arrival_of, departure_of, may_wait}
@@ -23,7 +24,6 @@ use Rattle.crew_resource.specs.Events.{labelled}
 use Rattle.crew_resource.specs.Labels.{IsLocal}
 use Rattle.crew_resource.specs.Members.{Member}
 use Rattle.crew_pass.specs.Machinery.Held.{AreReady, HaveArrived, leads_of, trail_of}
-use Rattle.crew_pass.specs.Machinery.Numbered.{AreTurns, departure_at, in_order}
 use Rattle.crew_pass.specs.Machinery.Terms.{Terms}
 use Rattle.crew_pass.specs.Passes.{CountsDuties}
 use Rattle.crew_pass.specs.declared.arrivals.Arrived.{Arrived}
@@ -38,8 +38,8 @@ pub record IsCharted (net : Net) : Type 0 where
   pub few : length net.duties ≤ 200_000
   pub rests : net.settings.max_rest ≤ 8_280
 
--- a network over which a pass may go, and the turns of its duties
-pub record IsPassable (net : Net) (turns : List ℕ) : Type 0 where
+-- a network over which a pass may go, and the positions of its duties' departures
+pub record IsPassable (net : Net) (positions : List ℕ) : Type 0 where
   pub departs : AreEvents departure_of departure_cmp net.duties net.departures
   pub arrives : AreEvents arrival_of arrival_cmp net.duties net.arrivals
   pub ordered : AreByReport net.departures net.by_report
@@ -47,11 +47,11 @@ pub record IsPassable (net : Net) (turns : List ℕ) : Type 0 where
   pub few : length net.duties ≤ 200_000
   pub sound : (d : Duty) → Member net.duties d → IsSound d
   pub rests : net.settings.max_rest ≤ 8_280
-  pub are_turns : AreTurns net turns
+  pub are_positions : ArePositions net positions
 
 -- terms by which a pass may go: such a network, and a resource that counts duties
 pub record AreTerms {V : Type 0} (w : Terms V) : Type 0 where
-  pub passable : IsPassable w.net w.turns
+  pub passable : IsPassable w.net w.positions
   pub counts : CountsDuties w.same w.count w.most w.fits
 
 -- labels that cover candidates
@@ -133,7 +133,7 @@ pub record AreKept {V : Type 0} (w : Terms V) (t : Tabled V) (fronts : List (Lis
 -- pools of the arrivals that are released before a minute, which all these departures wait on
 pub record IsUnderWay {V : Type 0} (w : Terms V) (t : Tabled V)
     (fronts held : List (List (Label V))) (upto : ℤ) (Done : ℕ → Type 0) : Type 0 where
-  pub turned : t.leaves ≡ w.turns
+  pub leaves : t.leaves ≡ w.positions
   pub held_long : length held ≡ length w.net.arrivals
   pub pooled : (i : ℕ) (g : Departure) → i < length t.pools → slice_get (in_order w.net) i ≡ Some g
       → AreCovering w (trail_of t) (Waits w (trail_of t) held g) (get_or t.pools i [])
@@ -146,36 +146,36 @@ pub record IsUnderWay {V : Type 0} (w : Terms V) (t : Tabled V)
       → x.release <ℤ upto
       → AreGathered w (trail_of t) (Arrives w.net (trail_of t) fronts x) (get_or held place [])
   pub filtered : (rank : ℕ) (d : Duty) → slice_get w.net.duties rank ≡ Some d → Done rank
-      → AreFront w (trail_of t) d rank (get_or t.pools (get_or w.turns rank 0) [])
+      → AreFront w (trail_of t) d rank (get_or t.pools (get_or w.positions rank 0) [])
       (get_or fronts rank [])
   pub pools_ready : (labels : List (Label V)) → Member t.pools labels → AreReady w t labels
   pub held_arrived : (labels : List (Label V)) → Member held labels → HaveArrived w t labels
   pub held_clean : (labels : List (Label V)) → Member held labels → IsClean w (trail_of t) labels
   pub kept : AreKept w t fronts
 
--- and the fronts of the duties of the departures up to a turn
+-- and the fronts of the duties of the departures up to a position
 abbrev pub IsUpTo : {V : Type 0} → Terms V → Tabled V → List (List (Label V))
     → List (List (Label V)) → ℤ → ℕ → Type 0
-IsUpTo w t fronts held upto turn =
-    IsUnderWay w t fronts held upto (λ rank. get_or w.turns rank 0 < turn)
+IsUpTo w t fronts held upto position =
+    IsUnderWay w t fronts held upto (λ rank. get_or w.positions rank 0 < position)
 
--- the departure at a turn reports at a minute or later, and less than the least rest after it
+-- the departure at a position reports at a minute or later, and less than the least rest after it
 abbrev pub IsClose : Net → ℤ → ℕ → Type 0
-IsClose net upto turn = (g : Departure) → slice_get (in_order net) turn ≡ Some g
+IsClose net upto position = (g : Departure) → slice_get (in_order net) position ≡ Some g
     → (upto ≤ℤ g.report) × ((g.report -ℤ upto) ≤ℤ pos 599)
 
--- the pool of the departure at a turn is in the table, and links of its duties lead to it
-pub record IsLinked {V : Type 0} (w : Terms V) (t : Tabled V) (turn : ℕ) : Type 0 where
-  pub within : turn < length t.pools
+-- the pool of the departure at a position is in the table, and links of its duties lead to it
+pub record IsLinked {V : Type 0} (w : Terms V) (t : Tabled V) (position : ℕ) : Type 0 where
+  pub within : position < length t.pools
   pub clean : (listed : List (V × List ℕ))
-      × ArePoolOf w.below w.same (trail_of t) listed (get_or t.pools turn [])
-  pub into : (rank : ℕ) → slice_get t.leaves rank ≡ Some turn
-      → LeadInto (leads_of t) (trail_of t) rank (get_or t.pools turn [])
+      × ArePoolOf w.below w.same (trail_of t) listed (get_or t.pools position [])
+  pub into : (rank : ℕ) → slice_get t.leaves rank ≡ Some position
+      → LeadInto (leads_of t) (trail_of t) rank (get_or t.pools position [])
 
 -- and it is one of the network
-pub record IsBoardable {V : Type 0} (w : Terms V) (t : Tabled V) (turn : ℕ) : Type 0 where
-  pub ordered : turn < length w.net.by_report
-  pub linked : IsLinked w t turn
+pub record IsBoardable {V : Type 0} (w : Terms V) (t : Tabled V) (position : ℕ) : Type 0 where
+  pub ordered : position < length w.net.by_report
+  pub linked : IsLinked w t position
 
 -- the front of a duty that boards from a pool, which may be kept
 pub record IsMade {V : Type 0} (w : Terms V) (t : Tabled V) (pool : List (Label V)) (rank : ℕ)
@@ -192,10 +192,10 @@ pub record AreMade {V : Type 0} (w : Terms V) (t : Tabled V) (pool : List (Label
   pub each : (i : ℕ) → i < length ranks
       → IsMade w t pool (get_or ranks i 0) (get_or fronts i [])
 
--- the ranks of the duties that leave at a turn
+-- the ranks of the duties that leave at a position
 abbrev pub ranks_at : Net → ℕ → List ℕ
-ranks_at net turn = ranks_where
-    (leaves_at (departure_at net.departures (get_or net.by_report turn 0))) net.duties
+ranks_at net position = ranks_where
+    (leaves_at (departure_at net.departures (get_or net.by_report position 0))) net.duties
 
 -- all departures are passed
 pub record HasPassed {V : Type 0} (w : Terms V) (t : Tabled V)
@@ -218,9 +218,9 @@ pub record AreRestedOf {V : Type 0} (w : Terms V) (t : Tabled V)
   pub each : (place : ℕ) → IsRested w t (get_or held place []) (get_or pools place [])
 
 -- what a pass has found after some departures: where it stands, and what rests go by
-pub record IsFound {R V : Type 0} (w : Terms V) (t : Tabled V) (found : Found R V Duty) (turn : ℕ)
+pub record IsFound {R V : Type 0} (w : Terms V) (t : Tabled V) (found : Found R V Duty) (position : ℕ)
     : Type 0 where
-  pub way : IsUpTo w t (map arc_value found.fronts.items) found.arrivals.items found.upto turn
+  pub way : IsUpTo w t (map arc_value found.fronts.items) found.arrivals.items found.upto position
   pub rested : AreRestedOf w t found.arrivals.items found.rested.items
 
 -- pools that are those of candidates, which all together can be listed
@@ -266,10 +266,10 @@ pub record AreSources {V : Type 0} (w : Terms V) (t : Tabled V)
   pub clean : (labels : List (Label V)) → Member arrivals labels → IsClean w (trail_of t) labels
   pub rested : AreRestedOf w t arrivals pools
 
--- a pool of the departure at a turn
+-- a pool of the departure at a position
 pub record IsPoolAt {V : Type 0} (w : Terms V) (t : Tabled V) (arrivals : List (List (Label V)))
-    (turn : ℕ) (pool : List (Label V)) : Type 0 where
-  pub covers : (g : Departure) → slice_get (in_order w.net) turn ≡ Some g
+    (position : ℕ) (pool : List (Label V)) : Type 0 where
+  pub covers : (g : Departure) → slice_get (in_order w.net) position ≡ Some g
       → AreCovering w (trail_of t) (Waits w (trail_of t) arrivals g) pool
   pub held : AreReady w t pool
   pub clean : IsClean w (trail_of t) pool

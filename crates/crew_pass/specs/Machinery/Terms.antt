@@ -11,7 +11,7 @@ use Rattle.crew_resource.specs.declared.Staged as Staged
 use Rattle.crew_pass.specs.declared.ground.Ground.{Ground}
 
 -- how labels are compared, what becomes of their values, and within which bounds these lie; a
--- network, the base, and the turn of each duty's departure by rank
+-- network, the base, and the position of each duty's departure by rank
 pub record Terms (V : Type 0) : Type 1 where
   pub below : V → V → Bool
   pub same : V → V → Bool
@@ -26,7 +26,7 @@ pub record Terms (V : Type 0) : Type 1 where
   pub fits : ℕ → Type 0
   pub net : Net
   pub base : List ℕ
-  pub turns : List ℕ
+  pub positions : List ℕ
 
 -- the terms of a resource, over a network
 abbrev pub terms_of : {R V : Type 0} → Lapses.Ghosts R Duty V Arrival Departure
@@ -46,7 +46,7 @@ terms_of lapses staged forgets resource r network from by_rank = record {
   fits = staged.fits r;
   net = network;
   base = from;
-  turns = by_rank;
+  positions = by_rank;
 }
 
 -- those that a pass goes by
@@ -54,4 +54,4 @@ abbrev pub terms : {R V : Type 0} → Lapses.Ghosts R Duty V Arrival Departure
     → Staged.Ghosts R Duty V Arrival Departure → Forgets.Ghosts R Duty V Arrival Departure
     → Resource.Ghosts R V Duty → Ground R → Terms V
 terms lapses staged forgets resource g =
-    terms_of lapses staged forgets resource g.resource.now g.net.now g.base g.turns.now
+    terms_of lapses staged forgets resource g.resource.now g.net.now g.base g.positions.now

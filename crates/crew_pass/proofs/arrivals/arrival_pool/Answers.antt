@@ -6,6 +6,9 @@ use Rattle.std.proofs.lemmas.Result.{IfOk-weaker}
 use Rattle.crew_label.specs.Pools.{ArePoolsOf}
 use Rattle.crew_label.specs.declared.pool.Pool.{Pool}
 use Rattle.crew_net.specs.Events.{arrives_at}
+use Rattle.crew_net.proofs.ArrivalPlaces.{ranks-out}
+use Rattle.crew_net.proofs.Numbers.{get-within}
+use Rattle.crew_net.proofs.Slices.{get-at, item-in, map-get, member-got, stands}
 use Rattle.crew_pairing.specs.declared.duty.Duty.{Duty}
 use Rattle.crew_pairing.specs.declared.events.Arrival.{Arrival}
 use Rattle.crew_resource.specs.Members.{Member}
@@ -13,8 +16,6 @@ use Rattle.crew_resource.proofs.Members.{Member-get}
 use Rattle.crew_pass.specs.Machinery.Held.{trail_of}
 use Rattle.crew_pass.specs.Machinery.Terms.{terms}
 use Rattle.crew_pass.proofs.Arriving.{all-gathered, none-collected, one-collected}
-use Rattle.crew_pass.proofs.Numbers.{get-within}
-use Rattle.crew_pass.proofs.Slices.{get-at, item-in, map-get, member-got, ranks-out, stands}
 use Rattle.crew_pass.proofs.arrivals.arrival_pool.Goals as goal
 
 pub loop-rank-init : goal.loop-rank-init

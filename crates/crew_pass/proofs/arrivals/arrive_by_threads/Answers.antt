@@ -9,8 +9,8 @@ put_arrivals-requires-clause-rises g c =
     let first = c.report_at-first.result in
     let read = whole first c.report_at-first.ensures.real in
     let next = c.requires.next in
-    no-sooner c.args.ground.now.net.now p.departs p.ordered c.args.turn (to_z w64 (of_z w64 first)) c.args.found.now.upto c.requires.turn (λ g' h. read ∙ c.report_at-first.ensures.exact g' h)
-    (λ g' h. c.requires.found.way.late c.args.turn g' (omega (arith, next)) h)
+    no-sooner c.args.ground.now.net.now p.departs p.ordered c.args.position (to_z w64 (of_z w64 first)) c.args.found.now.upto c.requires.position (λ g' h. read ∙ c.report_at-first.ensures.exact g' h)
+    (λ g' h. c.requires.found.way.late c.args.position g' (omega (arith, next)) h)
 
 pub put_arrivals-requires-clause-late : goal.put_arrivals-requires-clause-late
 put_arrivals-requires-clause-late g c =
@@ -18,5 +18,5 @@ put_arrivals-requires-clause-late g c =
     let first = c.report_at-first.result in
     let read = whole first c.report_at-first.ensures.real in
     let next = c.requires.next in
-    λ i g' h at. later-reports c.args.ground.now.net.now p.departs p.ordered c.args.turn (to_z w64 (of_z w64 first)) c.requires.turn (λ g'' k. read ∙ c.report_at-first.ensures.exact g'' k)
+    λ i g' h at. later-reports c.args.ground.now.net.now p.departs p.ordered c.args.position (to_z w64 (of_z w64 first)) c.requires.position (λ g'' k. read ∙ c.report_at-first.ensures.exact g'' k)
     i g' (omega (arith, next, h)) at

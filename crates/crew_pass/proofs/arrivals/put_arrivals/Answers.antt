@@ -6,9 +6,9 @@ use Rattle.std.specs.declared.alloc.AllocError.{AllocError}
 use Rattle.std.specs.declared.sync.Arc.{Arc}
 use Rattle.std.specs.declared.result.Result.{Result}
 use Rattle.crew_label.specs.declared.pool.Pool.{Pool}
+use Rattle.crew_net.specs.Positions.{in_order}
 use Rattle.crew_pairing.specs.declared.duty.Duty.{Duty}
 use Rattle.crew_pairing.specs.declared.events.Departure.{Departure}
-use Rattle.crew_pass.specs.Machinery.Numbered.{in_order}
 use Rattle.crew_pass.specs.Machinery.Passing.{IsArrivedAt, IsDue, IsNotDue, IsUnderWay}
 use Rattle.crew_pass.specs.Machinery.Terms.{terms}
 use Rattle.crew_pass.specs.declared.arrivals.Arrived.{Arrived}
@@ -41,7 +41,7 @@ loop-made-preserved g c =
       c.put_arrived.ensures.upto ∙ i.1,
       omega (arith, counted, fewer),
       left.1,
-      put-more w t fronts upto first (λ q. get_or c.args.ground.now.turns.now q 0 < length t.pools)
+      put-more w t fronts upto first (λ q. get_or c.args.ground.now.positions.now q 0 < length t.pools)
           c.loop-made.found.arrivals.items c.loop-made.found.rested.items place within i.4 c.in_ok-made.field-0 (λ a. a.pool) (λ a. a.rested) _ _
           c.put_arrived.new.found.arrivals.items c.put_arrived.new.found.rested.items (subst (λ (m : ℤ). Made m c.in_ok-made.field-0) (sym read) made)
           (ap (λ (v : Vec (Pool g.row.R.Denot g.row.R-Value.Denot Duty) Global). v.items)) (ap (λ (v : Vec (Pool g.row.R.Denot g.row.R-Value.Denot Duty) Global). v.items))
@@ -54,7 +54,7 @@ returns-clause-found g c =
     let w = terms g.R.Lapses g.R.Staged g.R.Forgets g.R.Resource c.args.ground.now in
     let value = arc_value {X = Pool g.row.R.Denot g.row.R-Value.Denot Duty} {Z = Global} in
     let t = c.args.table.now in
-    let turns = c.args.ground.now.turns.now in
+    let positions = c.args.ground.now.positions.now in
     let held = c.loop-made.found.arrivals.items in
     let i = c.loop-made.invariant in
     let counted = i.2 in
@@ -63,8 +63,8 @@ returns-clause-found g c =
     let upto = c.args.found.now.upto in
     let first = to_z w64 (of_z w64 c.args.first) in
     let read : first ≡ c.args.first = to_z-of_z w64 c.args.first c.ranges.first in
-    let Way = λ (m : ℤ) (fs : Vec (Arc (Pool g.row.R.Denot g.row.R-Value.Denot Duty) Global) Global). IsUnderWay w t (map value fs.items) held m (λ q. get_or turns q 0 < length t.pools) in
+    let Way = λ (m : ℤ) (fs : Vec (Arc (Pool g.row.R.Denot g.row.R-Value.Denot Duty) Global) Global). IsUnderWay w t (map value fs.items) held m (λ q. get_or positions q 0 < length t.pools) in
     let Late = λ (m : ℤ). (k : ℕ) (d : Departure) → length t.pools ≤ k → slice_get (in_order net) k ≡ Some d → m ≤ℤ d.report in
-    let way = all-put w t (map value c.args.found.now.fronts.items) upto first (λ q. get_or turns q 0 < length t.pools)
+    let way = all-put w t (map value c.args.found.now.fronts.items) upto first (λ q. get_or positions q 0 < length t.pools)
     held c.loop-made.found.rested.items c.loop-made.place (omega (arith, counted, end, whole)) (subst (λ (m : ℤ). upto ≤ℤ m) (sym read) c.requires.rises) (subst Late (sym read) c.requires.late) i.4 in
     record { way = subst (λ (fs : Vec (Arc (Pool g.row.R.Denot g.row.R-Value.Denot Duty) Global) Global). Way first fs) (sym i.0) way; rested = i.4.1 }

@@ -9,5 +9,5 @@ abbrev pub invariant-loop-made : goal.invariant-loop-made
 invariant-loop-made g l =
     (l.found.fronts ≡ l.initial.found.fronts) × (l.found.upto ≡ l.initial.found.upto)
     × (l.place + l.made-iterator.rest.len ≡ vec_len l.fn.arrivals) × AreLeft l.fn.arrivals.items l.place l.made-iterator.rest.items
-    × PutSo (terms g.R.Lapses g.R.Staged g.R.Forgets g.R.Resource l.ground) l.table (map arc_value l.initial.found.fronts.items) l.initial.found.upto l.first (λ rank. get_or l.ground.turns.now rank 0 < length l.table.pools)
+    × PutSo (terms g.R.Lapses g.R.Staged g.R.Forgets g.R.Resource l.ground) l.table (map arc_value l.initial.found.fronts.items) l.initial.found.upto l.first (λ rank. get_or l.ground.positions.now rank 0 < length l.table.pools)
     l.found.arrivals.items l.found.rested.items l.place

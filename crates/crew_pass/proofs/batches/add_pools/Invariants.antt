@@ -11,4 +11,4 @@ invariant-loop-pool g l =
     (length l.table.pools ≡ l.from + l.pool-index)
     × ((link : Link) → leads_of l.initial.table link ≡ true → (leads_of l.table link ≡ true) × (trail_of l.table link ≡ trail_of l.initial.table link))
     × IsFound (terms g.R.Lapses g.R.Staged g.R.Forgets g.R.Resource l.ground) l.table l.found l.from
-    × ((turn : ℕ) → l.from ≤ turn → turn < l.from + l.pool-index → IsLinked (terms g.R.Lapses g.R.Staged g.R.Forgets g.R.Resource l.ground) l.table turn)
+    × ((position : ℕ) → l.from ≤ position → position < l.from + l.pool-index → IsLinked (terms g.R.Lapses g.R.Staged g.R.Forgets g.R.Resource l.ground) l.table position)

@@ -12,8 +12,8 @@ loop-at-init g c =
 pub keep_fronts-requires-clause-close : goal.keep_fronts-requires-clause-close
 keep_fronts-requires-clause-close g c =
     let test = c.loop-at-test.true in
-    let turn = c.args.from + c.loop-at.at in
-    subst (λ (u : ℤ). IsClose c.args.ground.now.net.now u turn) (sym c.loop-at.invariant.1) (c.requires.close turn (omega (arith)) (omega (arith, test)))
+    let position = c.args.from + c.loop-at.at in
+    subst (λ (u : ℤ). IsClose c.args.ground.now.net.now u position) (sym c.loop-at.invariant.1) (c.requires.close position (omega (arith)) (omega (arith, test)))
 
 pub loop-at-preserved : goal.loop-at-preserved
 loop-at-preserved g c =

@@ -5,14 +5,14 @@ use Rattle.crew_pass.specs.Machinery.Terms.{terms}
 use Rattle.crew_pass.proofs.batches.pass_batch.Goals as goal
 
 pub add_pools-requires-clause-close : goal.add_pools-requires-clause-close
-add_pools-requires-clause-close g c turn low high =
+add_pools-requires-clause-close g c position low high =
     let len = c.len-from.ensures in
     let more = c.requires.more in
     let many = c.as_slice.ensures.len in
     let each = c.in_ok-pools.ensures.long in
     let first : c.len-from.result < c.args.end = omega (arith, len, more) in
     let counted : length c.as_slice.result.now ≡ c.args.end - c.len-from.result = many ∙ each in
-    c.requires.close turn (omega (arith, low, len)) (omega (arith, high, counted, first))
+    c.requires.close position (omega (arith, low, len)) (omega (arith, high, counted, first))
 
 pub add_pools-requires-clause-found : goal.add_pools-requires-clause-found
 add_pools-requires-clause-found g c =
@@ -20,27 +20,27 @@ add_pools-requires-clause-found g c =
     subst (λ (n : ℕ). IsFound w c.args.table.now c.args.found.now n) (sym c.len-from.ensures) c.requires.found
 
 pub fronts_at_once-requires-clause-boardable : goal.fronts_at_once-requires-clause-boardable
-fronts_at_once-requires-clause-boardable g c κs out turn low before =
+fronts_at_once-requires-clause-boardable g c κs out position low before =
     let from = c.len-from.result in
     let len = c.len-from.ensures in
     let more = c.requires.more in
-    let most = c.requires.turns in
+    let most = c.requires.positions in
     let many = c.as_slice.ensures.len in
     let each = c.in_ok-pools.ensures.long in
     let first : from < c.args.end = omega (arith, len, more) in
     let counted : length c.as_slice.result.now ≡ c.args.end - from = many ∙ each in
     record {
       ordered = omega (arith, before, most);
-      linked = c.in_ok-add_pools.ensures.linked turn low (omega (arith, before, counted, first));
+      linked = c.in_ok-add_pools.ensures.linked position low (omega (arith, before, counted, first));
     }
 
 pub keep_all-requires-clause-close : goal.keep_all-requires-clause-close
-keep_all-requires-clause-close g c turn low high =
+keep_all-requires-clause-close g c position low high =
     let len = c.len-from.ensures in
     let more = c.requires.more in
     let made = c.as_slice-2.ensures.len ∙ c.in_ok-fronts.ensures.long in
     let first : c.len-from.result < c.args.end = omega (arith, len, more) in
-    c.requires.close turn (omega (arith, low, len)) (omega (arith, high, made, first))
+    c.requires.close position (omega (arith, low, len)) (omega (arith, high, made, first))
 
 pub returns-clause-found : goal.returns-clause-found
 returns-clause-found g c =

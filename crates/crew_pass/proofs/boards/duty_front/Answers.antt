@@ -5,6 +5,7 @@ use Rattle.crew_label.specs.Boarding.{boarded_from}
 use Rattle.crew_label.specs.Walks.{ranks_at_most, shown}
 use Rattle.crew_label.specs.declared.label.Label.{Label}
 use Rattle.crew_label.proofs.Boarded.{boarded_counted, boarded_entries}
+use Rattle.crew_net.proofs.Slices.{item-in, member-got, some-same}
 use Rattle.crew_pairing.specs.declared.duty.Duty.{Duty}
 use Rattle.crew_resource.specs.Labels.{IsLocal}
 use Rattle.crew_resource.specs.Members.{Member}
@@ -12,7 +13,6 @@ use Rattle.crew_pass.specs.Machinery.Held.{leads_of, trail_of}
 use Rattle.crew_pass.specs.Machinery.Passing.{boarding}
 use Rattle.crew_pass.specs.Machinery.Terms.{terms}
 use Rattle.crew_pass.proofs.Labels.{boarded-held, counted}
-use Rattle.crew_pass.proofs.Slices.{item-in, member-got, some-same}
 use Rattle.crew_pass.proofs.boards.duty_front.Goals as goal
 
 pub front_aboard-requires-clause-sound : goal.front_aboard-requires-clause-sound

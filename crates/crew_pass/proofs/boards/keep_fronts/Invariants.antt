@@ -9,6 +9,6 @@ use Rattle.crew_pass.proofs.boards.keep_fronts.Given as goal
 abbrev pub invariant-loop-at : goal.invariant-loop-at
 invariant-loop-at g l =
     IsUnderWay (terms g.R.Lapses g.R.Staged g.R.Forgets g.R.Resource l.ground) l.table (map arc_value l.found.fronts.items) l.found.arrivals.items l.found.upto
-    (λ rank. (get_or l.ground.turns.now rank 0 < l.turn) ⊎ Member (take l.at l.ranks) rank)
+    (λ rank. (get_or l.ground.positions.now rank 0 < l.position) ⊎ Member (take l.at l.ranks) rank)
     × AreRestedOf (terms g.R.Lapses g.R.Staged g.R.Forgets g.R.Resource l.ground) l.table l.found.arrivals.items l.found.rested.items
     × (l.found.upto ≡ l.initial.found.upto)

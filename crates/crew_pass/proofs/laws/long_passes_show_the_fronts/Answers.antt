@@ -4,10 +4,10 @@ use Rattle.crew_answers.specs.Fronts.{IsFrontAt}
 use Rattle.crew_answers.specs.Shown.{long_resource, shown_entries}
 use Rattle.crew_answers.specs.declared.value.LongValue.{LongValue}
 use Rattle.crew_net.specs.Nets.{Net}
+use Rattle.crew_net.proofs.Slices.{member-place}
 use Rattle.crew_pairing.specs.Legs.{Leg}
 use Rattle.crew_resource.specs.Members.{Member}
 use Rattle.crew_pass.proofs.Alike.{covered-alike}
-use Rattle.crew_pass.proofs.Slices.{member-place}
 use Rattle.crew_pass.proofs.laws.long_passes_show_the_fronts.Goals as goal
 
 pub returns-clause-counts : goal.returns-clause-counts

@@ -1,10 +1,10 @@
 use Rattle.std.proofs.Common.{◌∙◌, ℤ, length, ap, subst, sym, arith}
 use Rattle.std.specs.Prelude.{◌≤ℤ◌}
-use Rattle.crew_pass.specs.Machinery.Numbered.{in_order}
+use Rattle.crew_net.specs.Positions.{in_order}
+use Rattle.crew_net.proofs.Numbers.{get-within}
+use Rattle.crew_net.proofs.Orders.{in-order-long}
+use Rattle.crew_net.proofs.Slices.{stands}
 use Rattle.crew_pass.proofs.Batched.{later, whole}
-use Rattle.crew_pass.proofs.Numbers.{get-within}
-use Rattle.crew_pass.proofs.Orders.{in-order-long}
-use Rattle.crew_pass.proofs.Slices.{stands}
 use Rattle.crew_pass.proofs.passing.first_minute.Goals as goal
 
 pub returns-then-count-lt1-clause-least : goal.returns-then-count-lt1-clause-least

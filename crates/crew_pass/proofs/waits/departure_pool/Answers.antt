@@ -3,12 +3,12 @@ use Rattle.std.specs.Prelude.{slice_get}
 use Rattle.std.proofs.lemmas.Result.{IfOk-weaker}
 use Rattle.crew_label.specs.Pools.{ArePoolsOf}
 use Rattle.crew_label.specs.declared.label.Label.{Label}
+use Rattle.crew_net.proofs.Slices.{item-in, some-same}
 use Rattle.crew_pairing.specs.declared.events.Departure.{Departure}
 use Rattle.crew_pass.specs.Machinery.Held.{trail_of}
 use Rattle.crew_pass.specs.Machinery.Passing.{AreCovering, Waits}
 use Rattle.crew_pass.specs.Machinery.Terms.{terms}
 use Rattle.crew_pass.proofs.Collected.{all-gathered}
-use Rattle.crew_pass.proofs.Slices.{item-in, some-same}
 use Rattle.crew_pass.proofs.Waiting.{covering}
 use Rattle.crew_pass.proofs.waits.departure_pool.Goals as goal
 

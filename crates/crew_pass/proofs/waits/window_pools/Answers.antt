@@ -4,6 +4,7 @@ use Rattle.crew_flights.specs.Codes.{code_cmp}
 use Rattle.crew_label.specs.Pools.{ArePoolOf}
 use Rattle.crew_label.specs.Walks.{shown}
 use Rattle.crew_label.specs.declared.label.Label.{Label}
+use Rattle.crew_net.proofs.Slices.{get-at, item-in}
 use Rattle.crew_resource.specs.Members.{Member}
 use Rattle.crew_resource.proofs.Members.{Member-get_or}
 use Rattle.crew_resource.proofs.Values.{below_order}
@@ -11,7 +12,6 @@ use Rattle.crew_pass.specs.Machinery.Held.{AreHeld, trail_of}
 use Rattle.crew_pass.specs.Machinery.Passing.{AreCollected, AreGathered, Idles, IsRested, WaitsUpTo, waited_entries}
 use Rattle.crew_pass.specs.Machinery.Terms.{terms}
 use Rattle.crew_pass.proofs.Collected.{arrival-collected, none-collected, one-collected, one-list-more, window-collected}
-use Rattle.crew_pass.proofs.Slices.{get-at, item-in}
 use Rattle.crew_pass.proofs.Waiting.{follows, idle-gathered, idle-held}
 use Rattle.crew_pass.proofs.waits.window_pools.Goals as goal
 
