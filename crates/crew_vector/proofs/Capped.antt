@@ -1,5 +1,5 @@
 -- Parts that pass no cap side by side are a vector that passes none.
-use Rattle.std.proofs.Common.{◌≡◌, Bool, true, false, ◌&&◌, cond, int_le, Option, Some, None, pos, refl}
+use Rattle.std.proofs.Common.{◌≡◌, Bool, true, false, ◌&&◌, cond, int_le, Some, None, pos, refl}
 use Rattle.std.specs.Option.{option_map}
 use Rattle.crew_resource.specs.Machinery.Both.{both}
 use Rattle.crew_resource.specs.Machinery.Sum.{capped}
