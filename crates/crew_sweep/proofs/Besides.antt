@@ -9,7 +9,7 @@ use Rattle.crew_step.specs.Walks.{HasGrown}
 use Rattle.crew_sweep.specs.Machinery.Beside.{IsBeside, StandsBeside}
 use Rattle.crew_sweep.specs.Machinery.Grounds.{IsGround, Stands}
 use Rattle.crew_sweep.specs.Machinery.Passing.{IsPassing}
-use Rattle.crew_sweep.specs.Machinery.Renewing.{IsEarlier, IsKeptPool, IsRenewing}
+use Rattle.crew_sweep.specs.Machinery.Renewing.{IsEarlierPass, IsKeptPool, IsRenewing}
 use Rattle.crew_sweep.specs.Machinery.Slides.{AreUnderWay}
 use Rattle.crew_sweep.specs.Sweeps.{BaseSweep}
 use Rattle.crew_sweep.specs.declared.earlier.Earlier.{Earlier}
@@ -57,13 +57,13 @@ module _ (e : Earlier) (g : Ground) (ground : IsGround g) (beside : IsBeside e g
     old = e.sweep.now
 
     abbrev ByBase : List ℕ → Type 0
-    ByBase base = IsEarlier old g.net.now e.twins.now e.turns.now base g.resource → IsPassing g.net.now base g.resource p.passed.walks p.passed.pools made held
+    ByBase base = IsEarlierPass old g.net.now e.twins.now e.positions.now base g.resource → IsPassing g.net.now base g.resource p.passed.walks p.passed.pools made held
         → IsPassing g.net.now base g.resource after (p.passed.pools ++ pool ∷ []) made held × IsRenewing old g.net.now after (p.passed.pools ++ pool ∷ []) changed
 
     by-old : ByBase old.base
     by-old earlier passing = (
-      steps.passing-kept old g.net.now e.twins.now e.turns.now g.resource earlier g.turns.now ground.passable p.passed.walks after grown p.passed.pools changed place at pool kept made held passing marks,
-      steps.renewing-kept old g.net.now e.twins.now e.turns.now g.resource earlier g.turns.now ground.passable p.passed.walks after grown p.passed.pools changed place at pool kept made held passing marks,
+      steps.passing-kept old g.net.now e.twins.now e.positions.now g.resource earlier g.positions.now ground.passable p.passed.walks after grown p.passed.pools changed place at pool kept made held passing marks,
+      steps.renewing-kept old g.net.now e.twins.now e.positions.now g.resource earlier g.positions.now ground.passable p.passed.walks after grown p.passed.pools changed place at pool kept made held passing marks,
     )
 
     both : ByBase g.base

@@ -5,7 +5,12 @@ use Rattle.crew_anchor.specs.Stages.{anchored_resource}
 use Rattle.crew_anchor.specs.Sweeps.{anchored_network, shown_labels}
 use Rattle.crew_anchor.specs.declared.resource.AnchoredResource.{AnchoredResource}
 use Rattle.crew_flights.specs.Timetable.{IsSound, Timetable}
+use Rattle.crew_net.specs.Machinery.Numbered.{departure_place}
 use Rattle.crew_net.specs.Nets.{Net}
+use Rattle.crew_net.specs.Positions.{in_order}
+use Rattle.crew_net.proofs.Numbers.{at-departure, get-within}
+use Rattle.crew_net.proofs.Orders.{arrivals-distinct, in-order-long, leaves-in}
+use Rattle.crew_net.proofs.Slices.{map-or}
 use Rattle.crew_pairing.specs.Duties.{AreDuties}
 use Rattle.crew_pairing.specs.Events.{departure_of}
 use Rattle.crew_pairing.specs.Legs.{Leg}
@@ -19,14 +24,11 @@ use Rattle.crew_rules.specs.Settings.{IsChecked}
 use Rattle.crew_rules.specs.declared.settings.Settings.{Settings}
 use Rattle.crew_sweep.specs.Machinery.Grounds.{IsLeft}
 use Rattle.crew_sweep.specs.Machinery.Kept.{IsKept, sparing_of}
-use Rattle.crew_sweep.specs.Machinery.Numbered.{AreLocal, departure_place}
+use Rattle.crew_sweep.specs.Machinery.Numbered.{AreLocal}
 use Rattle.crew_sweep.specs.Machinery.Passing.{AreLabels, HasPassed, IsPassable, passed_network}
 use Rattle.crew_sweep.specs.declared.passed.Passed.{Passed}
-use Rattle.crew_sweep.specs.Sweeps.{BaseSweep, ShowsFronts, in_order, keyed}
+use Rattle.crew_sweep.specs.Sweeps.{BaseSweep, IsSwept, ShowsFronts, keyed}
 use Rattle.crew_sweep.proofs.Fronts.{swept-fronts}
-use Rattle.crew_sweep.proofs.Numbers.{at-departure, get-within}
-use Rattle.crew_sweep.proofs.Orders.{arrivals-distinct, in-order-long, leaves-in}
-use Rattle.crew_sweep.proofs.Slices.{map-or}
 use Rattle.crew_vector.specs.Fronts.{IsFrontAt}
 
 abbrev Labels : Type 0
@@ -42,7 +44,7 @@ lesser r most = record r { max_duties = most }
 abbrev pub made : Net → List ℕ → ℤ → List (List ℕ) → List Labels → BaseSweep
 made net base price walks pools = record { net = net; base = base; price = price; walks = walks; pools = pools }
 
-module _ (net : Net) (turns : List ℕ) (passable : IsPassable net turns) (base : List ℕ) (price : ℤ) (most : ℕ) (few : most ≤ 12) (less : most + 1 ≡ net.settings.max_duties)
+module _ (net : Net) (positions : List ℕ) (passable : IsPassable net positions) (base : List ℕ) (price : ℤ) (most : ℕ) (few : most ≤ 12) (less : most + 1 ≡ net.settings.max_duties)
     (fits : (n : ℕ) → n ≤ 100_000 → fits_in (anchored_resource net.settings price) n) (walks : List (List ℕ)) (pools : List Labels)
     (passed : HasPassed net base (lesser (anchored_resource net.settings price) most) walks pools) where
   less-by : most ≡ net.settings.max_duties - 1
@@ -115,8 +117,8 @@ module _ (net : Net) (checked : IsChecked net.settings) (price : ℤ) (full : An
 
   -- what a pass has left
   module _ (base : List ℕ) (passed : Passed) (left : IsLeft net base full passed) where
-    passable : IsPassable net left.own.turns.now
-    passable = subst (λ (n : Net). IsPassable n left.own.turns.now) left.own_net left.is_ground.passable
+    passable : IsPassable net left.own.positions.now
+    passable = subst (λ (n : Net). IsPassable n left.own.positions.now) left.own_net left.is_ground.passable
 
     through : HasPassed net base (lesser (anchored_resource net.settings price) most-less) passed.walks passed.pools
     through =
@@ -126,7 +128,16 @@ module _ (net : Net) (checked : IsChecked net.settings) (price : ℤ) (full : An
 
     pub all-kept : IsKept (made net base price passed.walks passed.pools) full
     all-kept = subst (IsKept (made net base price passed.walks passed.pools)) (sym full-is)
-        (kept net left.own.turns.now passable base price most-less few-less (one-less net.settings.max_duties checked.max_duties) full-fits passed.walks passed.pools through)
+        (kept net left.own.positions.now passable base price most-less few-less (one-less net.settings.max_duties checked.max_duties) full-fits passed.walks passed.pools through)
 
     pub all-right : (t : Timetable) → IsSound t → AreDuties net.settings t net.duties → ShowsFronts t (made net base price passed.walks passed.pools)
-    all-right = right net left.own.turns.now passable base price most-less few-less (one-less net.settings.max_duties checked.max_duties) full-fits passed.walks passed.pools through checked
+    all-right = right net left.own.positions.now passable base price most-less few-less (one-less net.settings.max_duties checked.max_duties) full-fits passed.walks passed.pools through checked
+
+-- what a pass over a network leaves is the sweep of its base at its price
+pub swept-as : (net : Net) (base own : List ℕ) (price at : ℤ) (walks : List (List ℕ)) (pools : List (List (PairingVector × LabelWalk))) (b : BaseSweep) → b ≡ record { net = net; base = base; price = price; walks = walks; pools = pools } → base ≡ own → price ≡ at
+    → ((t : Timetable) → IsSound t → AreDuties net.settings t net.duties → ShowsFronts t b) → IsSwept net (own, at) b
+swept-as net base own price at walks pools b is same-base same-price right = record {
+  net = ap (λ (s : BaseSweep). s.net) is;
+  base = λ i. (((ap (λ (s : BaseSweep). s.base) is) ∙ same-base) i, ((ap (λ (s : BaseSweep). s.price) is) ∙ same-price) i);
+  right = right;
+}

@@ -10,6 +10,8 @@ use Rattle.crew_anchor.specs.Stages.{anchored_board, anchored_resource, flown, i
 use Rattle.crew_anchor.specs.Sweeps.{anchored_network, shown_labels}
 use Rattle.crew_anchor.specs.declared.resource.AnchoredResource.{AnchoredResource}
 use Rattle.crew_anchor.proofs.Sweeping.{to-spare}
+use Rattle.crew_net.specs.Machinery.Numbered.{AreDistinct, arrival_place, departure_place}
+use Rattle.crew_net.proofs.Numbers.{arrival-at, at-arrival, at-departure, get-within, place-arrival}
 use Rattle.crew_pairing.specs.Events.{arrival_of, departure_of, may_wait}
 use Rattle.crew_flights.specs.Timetable.{IsSound, Timetable}
 use Rattle.crew_pairing.specs.Duties.{AreDuties, flights_of}
@@ -36,8 +38,7 @@ use Rattle.crew_vector.proofs.Orders.{walk-either, walk-order}
 use Rattle.crew_vector.proofs.Paths.{legal-in-range}
 use Rattle.crew_vector.proofs.Pooled.{left-before}
 use Rattle.crew_vector.proofs.Steps.{vector-order}
-use Rattle.crew_sweep.specs.Machinery.Numbered.{AreDistinct, arrival_place, departure_place, idle_at, numbered, window_at}
-use Rattle.crew_sweep.proofs.Numbers.{arrival-at, at-arrival, at-departure, get-within, place-arrival}
+use Rattle.crew_sweep.specs.Machinery.Numbered.{idle_at, numbered, window_at}
 
 abbrev Labelled : Type 0
 Labelled = List (PairingVector × List (List Leg))

@@ -5,7 +5,10 @@ use Rattle.crew_anchor.specs.Machinery.Bounds.{is_ready}
 use Rattle.crew_anchor.specs.declared.resource.AnchoredResource.{AnchoredResource}
 use Rattle.crew_net.specs.Events.{IsWindow}
 use Rattle.crew_net.specs.Nets.{Net}
+use Rattle.crew_net.specs.Positions.{in_order}
 use Rattle.crew_net.specs.declared.window.Window.{Window}
+use Rattle.crew_net.proofs.Numbers.{get-within}
+use Rattle.crew_net.proofs.Slices.{get-at, listed-at, map-get, map-got, member-got, part-in, part-out}
 use Rattle.crew_pairing.specs.Duties.{RiseByKey}
 use Rattle.crew_pairing.specs.Events.{may_wait}
 use Rattle.crew_pairing.specs.Keys.{walk_at_most}
@@ -24,11 +27,9 @@ use Rattle.crew_resource.proofs.Members.{Member-append, Member-append_left, Memb
 use Rattle.crew_step.specs.Pools.{waiting}
 use Rattle.crew_sweep.specs.Machinery.Numbered.{idle_at, window_at}
 use Rattle.crew_sweep.specs.Machinery.Passing.{AreLabels, IsLabel, passed_network}
-use Rattle.crew_sweep.specs.Sweeps.{in_order, keyed}
+use Rattle.crew_sweep.specs.Sweeps.{keyed}
 use Rattle.crew_sweep.proofs.Fronts.{local-same}
-use Rattle.crew_sweep.proofs.Numbers.{get-within}
 use Rattle.crew_sweep.proofs.Shown.{by_rank, keyed-in, keyed-out}
-use Rattle.crew_sweep.proofs.Slices.{get-at, listed-at, map-get, map-got, member-got, part-in, part-out}
 use Rattle.crew_vector.specs.Dominance.{is_at_most}
 
 abbrev Labels : Type 0

@@ -3,6 +3,7 @@ use Rattle.std.proofs.Common.{◌≡◌, ◌<◌, ◌≤◌, ◌+◌, ◌⊎◌,
 use Rattle.std.specs.Prelude.{IfOk, Result, Ok, Err, slice_get}
 use Rattle.std.proofs.lemmas.Bool.{false≢true}
 use Rattle.crew_carry.specs.Twins.{Twins}
+use Rattle.crew_net.proofs.Slices.{get-at, listed-at, member-got}
 use Rattle.crew_pairing.specs.declared.vector.PairingVector.{PairingVector}
 use Rattle.crew_pool.specs.Counted.{AreCounted}
 use Rattle.crew_pool.specs.LabelWalks.{IsPoolOf, ranks_at_most, shown}
@@ -16,7 +17,6 @@ use Rattle.crew_sweep.specs.Machinery.Mending.{Changed, IsChangedPart, is_unchan
 use Rattle.crew_sweep.specs.Machinery.Parts.{AreHeld}
 use Rattle.crew_sweep.proofs.Fronts.{local-same}
 use Rattle.crew_sweep.proofs.Parts.{joined-local, own}
-use Rattle.crew_sweep.proofs.Slices.{get-at, listed-at, member-got}
 use Rattle.crew_vector.specs.Dominance.{is_at_most}
 
 abbrev Labels : Type 0

@@ -4,7 +4,9 @@ use Rattle.std.specs.Prelude.{slice_get}
 use Rattle.std.proofs.lemmas.List.{length-map, map-append}
 use Rattle.crew_anchor.specs.Machinery.Bounds.{is_ready}
 use Rattle.crew_anchor.specs.declared.resource.AnchoredResource.{AnchoredResource}
+use Rattle.crew_net.specs.Machinery.Numbered.{arrival_place, departure_place}
 use Rattle.crew_net.specs.Nets.{Net}
+use Rattle.crew_net.specs.Positions.{in_order}
 use Rattle.crew_pairing.specs.Events.{arrival_of, departure_of}
 use Rattle.crew_pairing.specs.Keys.{walk_at_most}
 use Rattle.crew_pairing.specs.Legs.{Leg}
@@ -20,11 +22,11 @@ use Rattle.crew_resource.specs.Members.{Member}
 use Rattle.crew_resource.proofs.Loop.{swept_with}
 use Rattle.crew_resource.proofs.Members.{Member-append, Member-map_in, Member-map_out}
 use Rattle.crew_step.specs.Walks.{HasGrown}
-use Rattle.crew_sweep.specs.Machinery.Numbered.{arrival_place, departure_place, window_at}
+use Rattle.crew_sweep.specs.Machinery.Numbered.{window_at}
 use Rattle.crew_sweep.specs.Machinery.Passing.{AreLabels, IsLabel, IsMade, IsPassable, IsPassing, passed_network}
-use Rattle.crew_sweep.specs.Sweeps.{in_order, keyed}
+use Rattle.crew_sweep.specs.Sweeps.{keyed}
 use Rattle.crew_sweep.proofs.Fronts.{waits}
-use Rattle.crew_sweep.proofs.Orders.{sealed-at}
+use Rattle.crew_sweep.proofs.Before.{sealed-at}
 use Rattle.crew_sweep.proofs.Shown.{by_rank, passing-grown}
 use Rattle.crew_vector.specs.Dominance.{is_at_most}
 use Rattle.crew_vector.proofs.Orders.{walk-order}
@@ -50,7 +52,7 @@ carried-labels r olds news from to old now same ranked labels l m =
       ready = subst (λ n. is_ready r n l.0) long (subst (λ v. is_ready r (length back.0.1) v) value label.ready);
     }
 
-module _ (net : Net) (turns : List ℕ) (passable : IsPassable net turns) (base : List ℕ) (r : AnchoredResource) where
+module _ (net : Net) (positions : List ℕ) (passable : IsPassable net positions) (base : List ℕ) (r : AnchoredResource) where
   abbrev Num : Network Duty PairingVector (List (List Leg)) ℕ ℕ
   Num = passed_network net base r
 

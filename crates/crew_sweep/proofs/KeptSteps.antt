@@ -4,7 +4,12 @@ use Rattle.std.specs.Prelude.{IfOk, IfSome, Result, Ok, Err, slice_get}
 use Rattle.std.proofs.lemmas.List.{length-map}
 use Rattle.crew_anchor.specs.declared.resource.AnchoredResource.{AnchoredResource}
 use Rattle.crew_carry.specs.Twins.{AreRankTwins, AreTwins, Twins}
+use Rattle.crew_net.specs.Machinery.Numbered.{departure_place}
 use Rattle.crew_net.specs.Nets.{Net}
+use Rattle.crew_net.specs.Positions.{in_order}
+use Rattle.crew_net.proofs.Numbers.{get-within, place-departure}
+use Rattle.crew_net.proofs.Orders.{in-order-distinct, in-order-of}
+use Rattle.crew_net.proofs.Slices.{at-within, member-got}
 use Rattle.crew_pairing.specs.Events.{arrival_of, departure_of, may_wait}
 use Rattle.crew_pairing.specs.Keys.{walk_at_most}
 use Rattle.crew_pairing.specs.Legs.{Leg}
@@ -19,15 +24,12 @@ use Rattle.crew_resource.specs.Labels.{IsLocal}
 use Rattle.crew_resource.specs.Members.{Member}
 use Rattle.crew_step.specs.Walks.{HasGrown}
 use Rattle.crew_sweep.specs.Machinery.Kept.{keyed_pools}
-use Rattle.crew_sweep.specs.Machinery.Numbered.{AreLocal, departure_place}
+use Rattle.crew_sweep.specs.Machinery.Numbered.{AreLocal}
 use Rattle.crew_sweep.specs.Machinery.Passing.{AreLabels, IsPassable, IsPassing, passed_network}
-use Rattle.crew_sweep.specs.Machinery.Renewing.{HaveSame, IsEarlier, IsKeptPool, IsLaid, IsRenewing}
-use Rattle.crew_sweep.specs.Sweeps.{BaseSweep, in_order, keyed}
+use Rattle.crew_sweep.specs.Machinery.Renewing.{HaveSame, IsEarlierPass, IsKeptPool, IsLaid, IsRenewing}
+use Rattle.crew_sweep.specs.Sweeps.{BaseSweep, keyed}
 use Rattle.crew_sweep.proofs.Keepings as keepings
-use Rattle.crew_sweep.proofs.Numbers.{get-within, place-departure}
-use Rattle.crew_sweep.proofs.Orders.{in-order-distinct, in-order-of}
 use Rattle.crew_sweep.proofs.Renewed as renewed
-use Rattle.crew_sweep.proofs.Slices.{at-within, member-got}
 use Rattle.crew_vector.specs.Dominance.{is_at_most}
 
 abbrev Labels : Type 0
@@ -42,32 +44,32 @@ pool-by-key net walks [] i = refl
 pool-by-key net walks (p ∷ ps) zero = refl
 pool-by-key net walks (p ∷ ps) (suc i) = pool-by-key net walks ps i
 
-pub turn-within : (net : Net) (turn : ℕ) (g : Departure) → slice_get (in_order net) turn ≡ Some g → turn < length net.by_report
-turn-within net turn g at = subst (λ n. turn < n) (length-map net.by_report _) (get-within (in_order net) turn g at)
+pub position-within : (net : Net) (position : ℕ) (g : Departure) → slice_get (in_order net) position ≡ Some g → position < length net.by_report
+position-within net position g at = subst (λ n. position < n) (length-map net.by_report _) (get-within (in_order net) position g at)
 
-pub laid-of : (net : Net) (turns : List ℕ) → IsPassable net turns → IsLaid net
-laid-of net turns p = record { departs = p.departs; arrives = p.arrives; ordered = p.ordered }
+pub laid-of : (net : Net) (positions : List ℕ) → IsPassable net positions → IsLaid net
+laid-of net positions p = record { departs = p.departs; arrives = p.arrives; ordered = p.ordered }
 
-module _ (old : BaseSweep) (net : Net) (t : Twins) (old-turns : List ℕ) (r : AnchoredResource) (earlier : IsEarlier old net t old-turns old.base r) (turns : List ℕ) (passable : IsPassable net turns)
+module _ (old : BaseSweep) (net : Net) (t : Twins) (old-positions : List ℕ) (r : AnchoredResource) (earlier : IsEarlierPass old net t old-positions old.base r) (positions : List ℕ) (passable : IsPassable net positions)
     (before after : List (List ℕ)) (grown : HasGrown before after) (pools : List Labels) (changed : List Bool)
     (place : ℕ) (at-place : slice_get net.by_report (length pools) ≡ Some place) (pool : Labels) (kept : IsKeptPool old net t changed after place pool) where
   abbrev i : ℕ
   i = length pools
 
   abbrev j : ℕ
-  j = kept.turn
+  j = kept.position
 
   abbrev g : Departure
   g = kept.stands.event
 
   laid : IsLaid net
-  laid = laid-of net turns passable
+  laid = laid-of net positions passable
 
   at : slice_get (in_order net) i ≡ Some g
   at = in-order-of net passable.departs passable.ordered i place g at-place kept.stands.at
 
   within : j < length old.pools
-  within = subst (λ n. j < n) (sym earlier.long) (turn-within old.net j g kept.stands.old_at)
+  within = subst (λ n. j < n) (sym earlier.long) (position-within old.net j g kept.stands.old_at)
 
   labels-are : keyed net after pool ≡ get_or (keyed_pools old) j []
   labels-are = kept.has.labels ∙ sym (pool-by-key old.net old.walks old.pools j)
@@ -85,7 +87,7 @@ module _ (old : BaseSweep) (net : Net) (t : Twins) (old-turns : List ℕ) (r : A
     still = renewed.renewing-grown old net before after pools changed grown passing.whole renewing
 
     sealed : (e : Duty) → Member net.duties e → may_wait net.settings (arrival_of e) g ≡ true → departure_place (in_order net) (departure_of e) < length pools
-    sealed e m waits = keepings.left-before net turns passable old.base r i e m (renewed.may-wait net laid i g at e m ∙ waits)
+    sealed e m waits = keepings.left-before net positions passable old.base r i e m (renewed.may-wait net laid i g at e m ∙ waits)
 
     local : IsLocal is_at_most walk_at_most (FromFronts (passed_network net old.base r) (Views (passed_network net old.base r) (map (keyed net after) pools)) i) (keyed net after pool)
     local = renewed.kept-local old net earlier.settings earlier.laid laid r after pools i j g at kept.stands.old_at
@@ -94,7 +96,7 @@ module _ (old : BaseSweep) (net : Net) (t : Twins) (old-turns : List ℕ) (r : A
         local-before within (keyed net after pool) labels-are
 
     pub passing-kept : IsPassing net old.base r after (pools ++ pool ∷ []) made held
-    passing-kept = keepings.passing-with net turns passable old.base r before after grown pools made held passing pool local kept.has.counts labels
+    passing-kept = keepings.passing-with net positions passable old.base r before after grown pools made held passing pool local kept.has.counts labels
 
     own : HaveSame (keyed net after pool) (get_or (keyed_pools old) (departure_place (in_order old.net) g) [])
     own =
@@ -106,15 +108,15 @@ module _ (old : BaseSweep) (net : Net) (t : Twins) (old-turns : List ℕ) (r : A
     renewing-kept = renewed.renewing-more old net laid after pools changed changed still refl (λ p h. h) pool g at (λ p h d m is leaves. own)
 
 -- pools that are alike have the same labels
-pub alike-is : (old : BaseSweep) (net : Net) (t : Twins) (twins : AreTwins old.net net t) (laid : IsLaid old.net) (walks : List (List ℕ)) (place turn : ℕ) → slice_get (in_order old.net) turn ≡ slice_get net.departures place → (pool : Labels)
+pub alike-is : (old : BaseSweep) (net : Net) (t : Twins) (twins : AreTwins old.net net t) (laid : IsLaid old.net) (walks : List (List ℕ)) (place position : ℕ) → slice_get (in_order old.net) position ≡ slice_get net.departures place → (pool : Labels)
     → ((olds news : List Duty) → AreRankTwins olds news t.ranks → (e : PairingVector × List (List Leg))
-    → (Member (by_key olds (map (shown old.walks) (get_or old.pools turn []))) e → Member (by_key news (map (shown walks) pool)) e)
-    × (Member (by_key news (map (shown walks) pool)) e → Member (by_key olds (map (shown old.walks) (get_or old.pools turn []))) e))
+    → (Member (by_key olds (map (shown old.walks) (get_or old.pools position []))) e → Member (by_key news (map (shown walks) pool)) e)
+    × (Member (by_key news (map (shown walks) pool)) e → Member (by_key olds (map (shown old.walks) (get_or old.pools position []))) e))
     → (g : Departure) → slice_get net.departures place ≡ Some g → HaveSame (keyed net walks pool) (get_or (keyed_pools old) (departure_place (in_order old.net) g) [])
-alike-is old net t twins laid walks place turn at pool alike g here l =
+alike-is old net t twins laid walks place position at pool alike g here l =
     let k = alike old.net.duties net.duties twins.ranks l in
-    let there : departure_place (in_order old.net) g ≡ turn = place-departure (in_order old.net) g turn (in-order-distinct old.net laid.departs laid.ordered) (at ∙ here) in
-    let same : get_or (keyed_pools old) (departure_place (in_order old.net) g) [] ≡ keyed old.net old.walks (get_or old.pools turn []) = ap (λ n. get_or (keyed_pools old) n []) there ∙ pool-by-key old.net old.walks old.pools turn in
+    let there : departure_place (in_order old.net) g ≡ position = place-departure (in_order old.net) g position (in-order-distinct old.net laid.departs laid.ordered) (at ∙ here) in
+    let same : get_or (keyed_pools old) (departure_place (in_order old.net) g) [] ≡ keyed old.net old.walks (get_or old.pools position []) = ap (λ n. get_or (keyed_pools old) n []) there ∙ pool-by-key old.net old.walks old.pools position in
     (λ m. subst (λ (ls : Shown). Member ls l) (sym same) (k.1 m), λ m. k.0 (subst (λ (ls : Shown). Member ls l) same m))
 
 -- two pools have the same labels by key

@@ -5,6 +5,7 @@ use Rattle.std.proofs.lemmas.Grind.{get_or-set_at}
 use Rattle.std.proofs.lemmas.List.{get_or-set_other}
 use Rattle.crew_anchor.specs.declared.resource.AnchoredResource.{AnchoredResource}
 use Rattle.crew_net.specs.Nets.{Net}
+use Rattle.crew_net.proofs.Slices.{set-long}
 use Rattle.crew_pairing.specs.Keys.{walk_at_most}
 use Rattle.crew_pairing.specs.Legs.{Leg}
 use Rattle.crew_pairing.specs.declared.duty.Duty.{Duty}
@@ -20,7 +21,6 @@ use Rattle.crew_sweep.specs.Machinery.Slides.{AreUnderWay, CoverAny}
 use Rattle.crew_sweep.specs.Sweeps.{keyed}
 use Rattle.crew_sweep.specs.declared.slides.Slides.{Slides}
 use Rattle.crew_sweep.proofs.Making.{each-set, set-other}
-use Rattle.crew_sweep.proofs.Slices.{set-long}
 use Rattle.crew_sweep.proofs.Slidings.{sliding-framed}
 use Rattle.crew_vector.specs.Dominance.{is_at_most}
 

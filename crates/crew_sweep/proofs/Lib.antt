@@ -1,8 +1,6 @@
-pub mod Numbers
 pub mod Fronts
 pub mod Keeping
-pub mod Slices
-pub mod Orders
+pub mod Before
 pub mod Shown
 pub mod Gathered
 pub mod Parts
@@ -11,7 +9,6 @@ pub mod Steps
 pub mod Passable
 pub mod Ends
 pub mod Slidings
-pub mod DutyTurns
 pub mod Renewed
 pub mod Keepings
 pub mod KeptSteps

@@ -6,7 +6,12 @@ use Rattle.std.proofs.lemmas.List.{append_assoc}
 use Rattle.crew_anchor.specs.declared.resource.AnchoredResource.{AnchoredResource}
 use Rattle.crew_net.specs.Events.{arrives_at}
 use Rattle.crew_net.specs.Nets.{Net}
+use Rattle.crew_net.specs.Positions.{in_order}
 use Rattle.crew_net.specs.Ranks.{ranks_where}
+use Rattle.crew_net.proofs.ArrivalPlaces.{ranks-in, ranks-out}
+use Rattle.crew_net.proofs.Numbers.{arrival-itself, at-arrival, get-within, place-departure}
+use Rattle.crew_net.proofs.Orders.{in-order-distinct, place-within}
+use Rattle.crew_net.proofs.Slices.{at-within, member-place, some-same, stands}
 use Rattle.crew_pairing.specs.Events.{arrival_of, departure_of}
 use Rattle.crew_pairing.specs.declared.duty.Duty.{Duty}
 use Rattle.crew_pairing.specs.declared.events.Arrival.{Arrival}
@@ -14,14 +19,10 @@ use Rattle.crew_pairing.specs.declared.vector.PairingVector.{PairingVector}
 use Rattle.crew_pool.specs.declared.label_walk.LabelWalk.{LabelWalk}
 use Rattle.crew_resource.specs.Members.{Each, Member}
 use Rattle.crew_sweep.specs.Machinery.Passing.{HaveStayed, IsArrivalPool, IsMade, IsPassable, IsPassing, IsSealed}
-use Rattle.crew_sweep.specs.Sweeps.{in_order}
 use Rattle.crew_sweep.proofs.Making as making
-use Rattle.crew_sweep.proofs.Numbers.{arrival-itself, at-arrival, get-within, place-departure}
-use Rattle.crew_sweep.proofs.Orders.{in-order-distinct, place-within}
-use Rattle.crew_sweep.proofs.Slices.{at-within, member-place, ranks-in, ranks-out, some-same}
 use Rattle.crew_sweep.specs.Machinery.Slides.{AreUnderWay}
 use Rattle.crew_sweep.specs.declared.slides.Slides.{Slides}
-use Rattle.crew_sweep.proofs.Slidings.{sliding-stayed, stands, stayed-itself}
+use Rattle.crew_sweep.proofs.Slidings.{sliding-stayed, stayed-itself}
 
 abbrev Labels : Type 0
 Labels = List (PairingVector × LabelWalk)
@@ -50,27 +51,27 @@ made-or-not made place = told (get_or made place false)
     told true = inl refl
     told false = inr (λ e. true≢false (sym e))
 
-module _ (net : Net) (turns : List ℕ) (passable : IsPassable net turns) where
-  -- the departure at a turn stands in the network
-  pub stands-at : (turn : ℕ) → turn < length net.by_report → get_or net.by_report turn 0 < length net.departures
-  stands-at turn within = place-within net passable.departs passable.ordered turn (get_or net.by_report turn 0) (at-within net.by_report turn 0 within)
+module _ (net : Net) (positions : List ℕ) (passable : IsPassable net positions) where
+  -- the departure at a position stands in the network
+  pub stands-at : (position : ℕ) → position < length net.by_report → get_or net.by_report position 0 < length net.departures
+  stands-at position within = place-within net passable.departs passable.ordered position (get_or net.by_report position 0) (at-within net.by_report position 0 within)
 
-  -- the duties of a test have turns
-  pub rank-within : (p : Duty → Bool) (rank : ℕ) → Member (ranks_where p net.duties) rank → rank < length turns
+  -- the departures of the duties of a test have positions
+  pub rank-within : (p : Duty → Bool) (rank : ℕ) → Member (ranks_where p net.duties) rank → rank < length positions
   rank-within p rank m =
       let d = ranks-out p net.duties rank m in
       let within = get-within net.duties rank d.0 d.1 in
-      let long = passable.are_turns.long in
+      let long = passable.are_positions.long in
       omega (arith, within, long)
 
   -- where all duties that arrive have left, nothing more will arrive
-  pub sealed-by : (place : ℕ) (a : Arrival) → slice_get net.arrivals place ≡ Some a → (passed : ℕ) → ((rank : ℕ) → Member (ranks_where (arrives_at a) net.duties) rank → get_or turns rank 0 < passed) → IsSealed net passed place
+  pub sealed-by : (place : ℕ) (a : Arrival) → slice_get net.arrivals place ≡ Some a → (passed : ℕ) → ((rank : ℕ) → Member (ranks_where (arrives_at a) net.duties) rank → get_or positions rank 0 < passed) → IsSealed net passed place
   sealed-by place a at passed left d m there =
       let reached = at-arrival net.arrivals (arrival_of d) (passable.arrives.every d m) in
       let same = some-same (slice_get net.arrivals place) a (arrival_of d) at (ap (slice_get net.arrivals) (sym there) ∙ reached) in
       let arrives = subst (λ (z : Arrival). arrives_at z d ≡ true) (sym same) (arrival-itself (arrival_of d)) in
       let rank = member-place net.duties d m in
-      let leaves = place-departure (in_order net) (departure_of d) (get_or turns rank.0 0) (in-order-distinct net passable.departs passable.ordered) (passable.are_turns.exact rank.0 d rank.1) in
+      let leaves = place-departure (in_order net) (departure_of d) (get_or positions rank.0 0) (in-order-distinct net passable.departs passable.ordered) (passable.are_positions.exact rank.0 d rank.1) in
       subst (λ n. n < passed) (sym leaves) (left rank.0 (ranks-in (arrives_at a) net.duties rank.0 d rank.1 arrives))
 
 -- a pool at a place that has none, beside what is made
@@ -83,14 +84,14 @@ module _ (made : List Bool) (held : List Labels) (place : ℕ) (pool : Labels) (
       (subst (λ (hs : List Labels). HaveStayed made held (set made place true) hs) (sym k.1) (making.made-stays made held place within pool not)))
       (made-or-not made place)
 
-  pub passing-put : (net : Net) (turns : List ℕ) → IsPassable net turns → (r : AnchoredResource) (walks : List (List ℕ)) (pools : List Labels) → place < length net.arrivals → IsSealed net (length pools) place
-      → IsArrivalPool net turns r walks pools place pool → (base : List ℕ) → IsPassing net base r walks pools made held → IsPassing net base r walks pools made' held'
-  passing-put net turns passable r walks pools within sealed is base passing =
+  pub passing-put : (net : Net) (positions : List ℕ) → IsPassable net positions → (r : AnchoredResource) (walks : List (List ℕ)) (pools : List Labels) → place < length net.arrivals → IsSealed net (length pools) place
+      → IsArrivalPool net positions r walks pools place pool → (base : List ℕ) → IsPassing net base r walks pools made held → IsPassing net base r walks pools made' held'
+  passing-put net positions passable r walks pools within sealed is base passing =
       let a = stands net.arrivals place within in
       ⊎_elim {C = IsPassing net base r walks pools made' held'}
       (λ was. let k = kept was in subst (λ (bs : List Bool). IsPassing net base r walks pools bs held') (sym k.0) (subst (λ (hs : List Labels). IsPassing net base r walks pools made hs) (sym k.1) passing))
       (λ not. let k = put not in subst (λ (bs : List Bool). IsPassing net base r walks pools bs held') (sym k.0) (subst (λ (hs : List Labels). IsPassing net base r walks pools (set made place true) hs) (sym k.1)
-      (making.passing-made net turns passable base r walks pools made held passing place a.0 a.1 sealed is.ranks (is.all a.0 a.1) pool is.local is.counts not)))
+      (making.passing-made net positions passable base r walks pools made held passing place a.0 a.1 sealed is.ranks (is.all a.0 a.1) pool is.local is.counts not)))
       (made-or-not made place)
 
 -- slides over what has stayed

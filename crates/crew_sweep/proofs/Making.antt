@@ -14,8 +14,14 @@ use Rattle.crew_anchor.specs.Machinery.Bounds.{is_ready}
 use Rattle.crew_anchor.specs.Stages.{anchored_board, flown, is_within_caps_at}
 use Rattle.crew_anchor.specs.declared.resource.AnchoredResource.{AnchoredResource}
 use Rattle.crew_net.specs.Events.{arrives_at}
+use Rattle.crew_net.specs.Machinery.Numbered.{arrival_place, departure_place}
 use Rattle.crew_net.specs.Nets.{Net}
+use Rattle.crew_net.specs.Positions.{in_order}
 use Rattle.crew_net.specs.Ranks.{ranks_where}
+use Rattle.crew_net.proofs.ArrivalPlaces.{ranks-in, ranks-out}
+use Rattle.crew_net.proofs.Numbers.{arrival-itself, at-arrival, get-within, place-arrival, place-departure, same-arrival}
+use Rattle.crew_net.proofs.Orders.{arrivals-distinct, in-order-distinct}
+use Rattle.crew_net.proofs.Slices.{at-within, item-in, map-or, member-got, member-place, set-long, some-same}
 use Rattle.crew_pairing.specs.Events.{IsSound, arrival_of, departure_of}
 use Rattle.crew_pairing.specs.Keys.{walk_at_most}
 use Rattle.crew_pairing.specs.Legs.{Leg}
@@ -36,16 +42,12 @@ use Rattle.crew_resource.proofs.Members.{Member-flat_map_in, Member-flat_map_out
 use Rattle.crew_resource.proofs.Loop.{swept_made}
 use Rattle.crew_resource.proofs.Pools.{view_in, view_out}
 use Rattle.crew_step.specs.Pools.{boarded, boarding}
-use Rattle.crew_sweep.specs.Machinery.Numbered.{arrival_place, departure_place}
 use Rattle.crew_sweep.specs.Machinery.Passing.{AreLabels, HaveStayed, IsLabel, IsMade, IsPassable, IsPassing, IsSealed, passed_network}
-use Rattle.crew_sweep.specs.Sweeps.{in_order, keyed}
+use Rattle.crew_sweep.specs.Sweeps.{keyed}
 use Rattle.crew_sweep.proofs.Fronts.{local-same}
 use Rattle.crew_sweep.proofs.Gathered.{labelled-in, labelled-out}
-use Rattle.crew_sweep.proofs.Numbers.{arrival-itself, at-arrival, get-within, place-arrival, place-departure, same-arrival}
-use Rattle.crew_sweep.proofs.Orders.{arrivals-distinct, in-order-distinct}
 use Rattle.crew_sweep.proofs.Parts.{own}
 use Rattle.crew_sweep.proofs.Shown.{by_rank, key-of, keyed-in, keyed-out}
-use Rattle.crew_sweep.proofs.Slices.{at-within, item-in, map-or, member-got, member-place, ranks-in, ranks-out, set-long, some-same}
 use Rattle.crew_vector.specs.Dominance.{is_at_most}
 
 abbrev Labels : Type 0
@@ -128,7 +130,7 @@ made-stays made held place marked labels unmade p m = ⊎_elim {C = IsMade (set 
     (eqb_tells place p)
 
 -- an arrival that nothing more will reach, and the ranks of the duties that arrive there in any order
-module _ (net : Net) (turns : List ℕ) (passable : IsPassable net turns) (base : List ℕ) (r : AnchoredResource) (walks : List (List ℕ)) (pools : List Labels) (made : List Bool) (held : List Labels)
+module _ (net : Net) (positions : List ℕ) (passable : IsPassable net positions) (base : List ℕ) (r : AnchoredResource) (walks : List (List ℕ)) (pools : List Labels) (made : List Bool) (held : List Labels)
     (passing : IsPassing net base r walks pools made held) (place : ℕ) (a : Arrival) (at : slice_get net.arrivals place ≡ Some a) (sealed : IsSealed net (length pools) place)
     (ranks : List ℕ) (all : IsPermutation (ranks_where (arrives_at a) net.duties) ranks) where
   abbrev Num : Network Duty PairingVector (List (List Leg)) ℕ ℕ
@@ -138,13 +140,13 @@ module _ (net : Net) (turns : List ℕ) (passable : IsPassable net turns) (base 
   shown-pools = map (keyed net walks) pools
 
   abbrev pub bringing : List Ranked
-  bringing = boarded walks (anchored_board r) net.duties turns pools ranks
+  bringing = boarded walks (anchored_board r) net.duties positions pools ranks
 
   abbrev from-pool : ℕ → Labels
-  from-pool rank = get_or pools (get_or turns rank 0) []
+  from-pool rank = get_or pools (get_or positions rank 0) []
 
-  leaves-at : (rank : ℕ) (d : Duty) → slice_get net.duties rank ≡ Some d → departure_place (in_order net) (departure_of d) ≡ get_or turns rank 0
-  leaves-at rank d h = place-departure (in_order net) (departure_of d) (get_or turns rank 0) (in-order-distinct net passable.departs passable.ordered) (passable.are_turns.exact rank d h)
+  leaves-at : (rank : ℕ) (d : Duty) → slice_get net.duties rank ≡ Some d → departure_place (in_order net) (departure_of d) ≡ get_or positions rank 0
+  leaves-at rank d h = place-departure (in_order net) (departure_of d) (get_or positions rank 0) (in-order-distinct net passable.departs passable.ordered) (passable.are_positions.exact rank d h)
 
   arrives-there : (d : Duty) → arrives_at a d ≡ true → arrival_place net.arrivals (arrival_of d) ≡ place
   arrives-there d h = ap (arrival_place net.arrivals) (sym (same-arrival a (arrival_of d) h)) ∙ place-arrival net.arrivals a place (arrivals-distinct net passable.arrives) at
@@ -159,16 +161,16 @@ module _ (net : Net) (turns : List ℕ) (passable : IsPassable net turns) (base 
   rank-of rank m = ranks-out (arrives_at a) net.duties rank (Member-permuted ranks (ranks_where (arrives_at a) net.duties) (IsPermutation-sym _ _ all) rank m)
 
   -- the pool of its departure is there
-  turn-by : (rank : ℕ) (d : Duty) → slice_get net.duties rank ≡ Some d → arrives_at a d ≡ true → get_or turns rank 0 < length pools
-  turn-by rank d h t = subst (λ n. n < length pools) (leaves-at rank d h) (sealed d (member-got net.duties rank d h) (arrives-there d t))
+  position-by : (rank : ℕ) (d : Duty) → slice_get net.duties rank ≡ Some d → arrives_at a d ≡ true → get_or positions rank 0 < length pools
+  position-by rank d h t = subst (λ n. n < length pools) (leaves-at rank d h) (sealed d (member-got net.duties rank d h) (arrives-there d t))
 
-  pub ranks-within : (rank : ℕ) → Member ranks rank → (rank < length net.duties) × (get_or turns rank 0 < length pools)
+  pub ranks-within : (rank : ℕ) → Member ranks rank → (rank < length net.duties) × (get_or positions rank 0 < length pools)
   ranks-within rank m =
       let d = rank-of rank m in
-      (get-within net.duties rank d.0 d.1, turn-by rank d.0 d.1 d.2)
+      (get-within net.duties rank d.0 d.1, position-by rank d.0 d.1 d.2)
 
   same-pool : (rank : ℕ) (d : Duty) → slice_get net.duties rank ≡ Some d → arrives_at a d ≡ true → get_or shown-pools (departure_place (in_order net) (departure_of d)) [] ≡ keyed net walks (from-pool rank)
-  same-pool rank d h t = ap (λ n. get_or shown-pools n []) (leaves-at rank d h) ∙ map-or (keyed net walks) pools (get_or turns rank 0) (turn-by rank d h t)
+  same-pool rank d h t = ap (λ n. get_or shown-pools n []) (leaves-at rank d h) ∙ map-or (keyed net walks) pools (get_or positions rank 0) (position-by rank d h t)
 
   -- what a rank brings
   brought-out : (e : Ranked) → Member bringing e → (rank : ℕ) × (d : Duty) × (slice_get net.duties rank ≡ Some d) × (arrives_at a d ≡ true)
@@ -218,7 +220,7 @@ module _ (net : Net) (turns : List ℕ) (passable : IsPassable net turns) (base 
   cand-label e m =
       let q = brought-out e m in
       let pool = from-pool q.0 in
-      let known : Member pools pool = member-got pools (get_or turns q.0 0) pool (at-within pools (get_or turns q.0 0) [] (turn-by q.0 q.1 q.2 q.3)) in
+      let known : Member pools pool = member-got pools (get_or positions q.0 0) pool (at-within pools (get_or positions q.0 0) [] (position-by q.0 q.1 q.2 q.3)) in
       let s = Member-map_out (shown walks) pool q.4 q.5 in
       let l = subst (IsLabel r (length net.duties)) s.2 (passing.pooled pool known s.0 s.1) in
       let c : q.4.0.duties ≡ pos (length q.4.1) = subst (λ (z : Ranked). z.0.duties ≡ pos (length z.1)) s.2 (passing.whole pool known s.0 s.1).counts in

@@ -5,16 +5,17 @@ use Rattle.std.proofs.lemmas.Bool.Decides.{eqb_tells}
 use Rattle.std.proofs.lemmas.Grind.{get_or-set_at}
 use Rattle.std.proofs.lemmas.List.{get_or-set_other, take_more}
 use Rattle.crew_net.specs.Events.{leaves_at}
+use Rattle.crew_net.specs.Machinery.Numbered.{arrival_place}
 use Rattle.crew_net.specs.Nets.{AreArrivalPlaces, Net}
 use Rattle.crew_net.specs.Ranks.{ranks_where}
+use Rattle.crew_net.proofs.ArrivalPlaces.{ranks-in, ranks-out}
+use Rattle.crew_net.proofs.Numbers.{departure-itself, get-within, place-arrival}
+use Rattle.crew_net.proofs.Orders.{arrivals-distinct}
+use Rattle.crew_net.proofs.Slices.{member-place}
 use Rattle.crew_pairing.specs.Events.{arrival_of, departure_of}
 use Rattle.crew_pairing.specs.declared.duty.Duty.{Duty}
 use Rattle.crew_pairing.specs.declared.events.Departure.{Departure}
-use Rattle.crew_sweep.specs.Machinery.Numbered.{arrival_place}
 use Rattle.crew_sweep.specs.Machinery.Renewing.{IsLaid}
-use Rattle.crew_sweep.proofs.Numbers.{departure-itself, get-within, place-arrival}
-use Rattle.crew_sweep.proofs.Orders.{arrivals-distinct}
-use Rattle.crew_sweep.proofs.Slices.{member-place, ranks-in, ranks-out}
 use Rattle.crew_resource.specs.Members.{Member}
 use Rattle.crew_resource.proofs.Members.{Member-append}
 

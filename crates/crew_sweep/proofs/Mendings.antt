@@ -17,7 +17,7 @@ use Rattle.crew_sweep.specs.Machinery.Beside.{IsBeside}
 use Rattle.crew_sweep.specs.Machinery.Grounds.{IsGround, Stands}
 use Rattle.crew_sweep.specs.Machinery.Mending.{AreSound, IsFresh, IsMended, IsNextPool, IsOldPool}
 use Rattle.crew_sweep.specs.Machinery.Passing.{IsPassing}
-use Rattle.crew_sweep.specs.Machinery.Renewing.{IsEarlier, IsRenewing}
+use Rattle.crew_sweep.specs.Machinery.Renewing.{IsEarlierPass, IsRenewing}
 use Rattle.crew_sweep.specs.Sweeps.{BaseSweep}
 use Rattle.crew_sweep.specs.declared.earlier.Earlier.{Earlier}
 use Rattle.crew_sweep.specs.declared.ground.Ground.{Ground}
@@ -34,7 +34,7 @@ pub old-pool-grown : (old : BaseSweep) (net : Net) (before after : List (List �
 old-pool-grown old net before after grown place pool was =
     let count = λ (v : PairingVector). v.duties in
     record {
-      turn = was.turn;
+      position = was.position;
       at = was.at;
       has = record {
         labels = keyed-grown before after grown net true pool was.has.counts ∙ was.has.labels;
@@ -56,18 +56,18 @@ module _ (e : Earlier) (g : Ground) (ground : IsGround g) (beside : IsBeside e g
   walks = p.passed.walks
 
   there : (d : Departure) × (slice_get g.net.now.departures place ≡ Some d)
-  there = let d = passable-proofs.departs-at g.net.now g.turns.now ground.passable (length p.passed.pools) place at in (d.0, d.1)
+  there = let d = passable-proofs.departs-at g.net.now g.positions.now ground.passable (length p.passed.pools) place at in (d.0, d.1)
 
   abbrev Within : List ℕ → Type 0
-  Within base = IsEarlier old g.net.now e.twins.now e.turns.now base g.resource → IsPassing g.net.now base g.resource walks p.passed.pools p.arrivals.made.items p.arrivals.pools.items
+  Within base = IsEarlierPass old g.net.now e.twins.now e.positions.now base g.resource → IsPassing g.net.now base g.resource walks p.passed.pools p.arrivals.made.items p.arrivals.pools.items
       → (l : PairingVector × LabelWalk) → Member result l → (rank : ℕ) → Member (walk_at walks l.1.walk) rank → (rank < length e.places.now) × (get_or e.places.now rank 0 < length changed)
 
   pub walks-within : (l : PairingVector × LabelWalk) → Member result l → (rank : ℕ) → Member (walk_at walks l.1.walk) rank → (rank < length e.places.now) × (get_or e.places.now rank 0 < length changed)
-  walks-within = subst Within (sym beside.earlier.own_base) (λ earlier passing. mends.walks-within old g.net.now e.twins.now e.turns.now g.resource earlier g.turns.now ground.passable walks p.passed.pools p.arrivals.made.items p.arrivals.pools.items passing changed marks e.places.now beside.places place at there.0 there.1 before was w (window there.0 there.1) fresh newly result mended) beside.earlier stands.pools
+  walks-within = subst Within (sym beside.earlier.own_base) (λ earlier passing. mends.walks-within old g.net.now e.twins.now e.positions.now g.resource earlier g.positions.now ground.passable walks p.passed.pools p.arrivals.made.items p.arrivals.pools.items passing changed marks e.places.now beside.places place at there.0 there.1 before was w (window there.0 there.1) fresh newly result mended) beside.earlier stands.pools
 
   abbrev ByBase : List ℕ → Type 0
-  ByBase base = IsEarlier old g.net.now e.twins.now e.turns.now base g.resource → IsPassing g.net.now base g.resource walks p.passed.pools p.arrivals.made.items p.arrivals.pools.items
+  ByBase base = IsEarlierPass old g.net.now e.twins.now e.positions.now base g.resource → IsPassing g.net.now base g.resource walks p.passed.pools p.arrivals.made.items p.arrivals.pools.items
       → IsNextPool g.net.now base g.resource walks p.passed.pools result
 
   pub next-pool : (added : ℕ) → ((l : PairingVector × LabelWalk) → Member before l → l.1.walk < added) → AreSound e.twins.now changed e.places.now walks added result → IsNextPool g.net.now g.base g.resource walks p.passed.pools result
-  next-pool added standing sound = subst ByBase (sym beside.earlier.own_base) (λ earlier passing. mends.next-pool old g.net.now e.twins.now e.turns.now g.resource earlier g.turns.now ground.passable walks p.passed.pools p.arrivals.made.items p.arrivals.pools.items passing changed marks e.places.now beside.places place at there.0 there.1 before was w (window there.0 there.1) fresh newly result mended added standing sound) beside.earlier stands.pools
+  next-pool added standing sound = subst ByBase (sym beside.earlier.own_base) (λ earlier passing. mends.next-pool old g.net.now e.twins.now e.positions.now g.resource earlier g.positions.now ground.passable walks p.passed.pools p.arrivals.made.items p.arrivals.pools.items passing changed marks e.places.now beside.places place at there.0 there.1 before was w (window there.0 there.1) fresh newly result mended added standing sound) beside.earlier stands.pools

@@ -14,8 +14,13 @@ use Rattle.crew_carry.specs.Twins.{HaveSameArriving, Twins}
 use Rattle.crew_carry.proofs.Arriving.{rises}
 use Rattle.crew_carry.proofs.Ties.{key-tie}
 use Rattle.crew_net.specs.Events.{IsWindow}
+use Rattle.crew_net.specs.Machinery.Numbered.{arrival_place, departure_place}
 use Rattle.crew_net.specs.Nets.{AreArrivalPlaces, Net}
+use Rattle.crew_net.specs.Positions.{in_order}
 use Rattle.crew_net.specs.declared.window.Window.{Window}
+use Rattle.crew_net.proofs.Numbers.{at-arrival, get-within, place-arrival}
+use Rattle.crew_net.proofs.Orders.{arrivals-distinct, in-order-of}
+use Rattle.crew_net.proofs.Slices.{at-within, get-at, listed-at, map-got, map-or, member-got, member-place, some-same}
 use Rattle.crew_pairing.specs.Duties.{RiseByKey}
 use Rattle.crew_pairing.specs.Events.{arrival_of, departure_of, may_wait}
 use Rattle.crew_pairing.specs.Keys.{key_cmp, key_total, walk_at_most, walk_cmp}
@@ -37,17 +42,14 @@ use Rattle.crew_resource.proofs.Members.{Member-append, Member-append_left, Memb
 use Rattle.crew_resource.proofs.Pools.{view_out}
 use Rattle.crew_sweep.specs.Machinery.Kept.{keyed_pools}
 use Rattle.crew_sweep.specs.Machinery.Mending.{AreSound, IsFresh, IsMended, IsNextPool, IsOldPool, ends_unchanged, is_unchanged}
-use Rattle.crew_sweep.specs.Machinery.Numbered.{AreLocal, arrival_place, departure_place, idle_at}
+use Rattle.crew_sweep.specs.Machinery.Numbered.{AreLocal, idle_at}
 use Rattle.crew_sweep.specs.Machinery.Passing.{AreLabels, IsLabel, IsPassable, IsPassing, passed_network}
-use Rattle.crew_sweep.specs.Machinery.Renewing.{HasSameLabels, IsEarlier, IsLaid, IsRenewing}
-use Rattle.crew_sweep.specs.Sweeps.{BaseSweep, in_order, keyed}
+use Rattle.crew_sweep.specs.Machinery.Renewing.{HasSameLabels, IsEarlierPass, IsLaid, IsRenewing}
+use Rattle.crew_sweep.specs.Sweeps.{BaseSweep, keyed}
 use Rattle.crew_sweep.proofs.Keepings as keepings
-use Rattle.crew_sweep.proofs.KeptSteps.{laid-of, pool-by-key, turn-within}
-use Rattle.crew_sweep.proofs.Numbers.{at-arrival, get-within, place-arrival}
-use Rattle.crew_sweep.proofs.Orders.{arrivals-distinct, in-order-of}
+use Rattle.crew_sweep.proofs.KeptSteps.{laid-of, pool-by-key, position-within}
 use Rattle.crew_sweep.proofs.Renewed as renewed
 use Rattle.crew_sweep.proofs.Shown.{by_rank, key-of, keyed-in, keyed-out}
-use Rattle.crew_sweep.proofs.Slices.{at-within, get-at, listed-at, map-got, map-or, member-got, member-place, some-same}
 use Rattle.crew_vector.specs.Dominance.{is_at_most}
 use Rattle.crew_vector.proofs.Orders.{walk-order}
 use Rattle.crew_vector.proofs.Steps.{vector-order}
@@ -166,7 +168,7 @@ through P x u y z less tie k = (
       walk-order.transitive k.1 z y (k.4 (e ∙ sym between)) (tie between),
 )
 
-module _ (old : BaseSweep) (net : Net) (t : Twins) (old-turns : List ℕ) (r : AnchoredResource) (earlier : IsEarlier old net t old-turns old.base r) (turns : List ℕ) (passable : IsPassable net turns)
+module _ (old : BaseSweep) (net : Net) (t : Twins) (old-positions : List ℕ) (r : AnchoredResource) (earlier : IsEarlierPass old net t old-positions old.base r) (positions : List ℕ) (passable : IsPassable net positions)
     (walks : List (List ℕ)) (pools : List Labels) (made : List Bool) (held : List Labels) (passing : IsPassing net old.base r walks pools made held)
     (changed : List Bool) (renewing : IsRenewing old net walks pools changed) (places : List ℕ) (are : AreArrivalPlaces net places)
     (place : ℕ) (at-place : slice_get net.by_report (length pools) ≡ Some place) (g : Departure) (at-net : slice_get net.departures place ≡ Some g)
@@ -176,7 +178,7 @@ module _ (old : BaseSweep) (net : Net) (t : Twins) (old-turns : List ℕ) (r : A
   i = length pools
 
   abbrev j : ℕ
-  j = was.turn
+  j = was.position
 
   abbrev Num : Network Duty PairingVector (List (List Leg)) ℕ ℕ
   Num = passed_network net old.base r
@@ -197,7 +199,7 @@ module _ (old : BaseSweep) (net : Net) (t : Twins) (old-turns : List ℕ) (r : A
   Candidate = FromFronts Num (Views Num now-pools) i
 
   laid : IsLaid net
-  laid = laid-of net turns passable
+  laid = laid-of net positions passable
 
   at : slice_get (in_order net) i ≡ Some g
   at = in-order-of net passable.departs passable.ordered i place g at-place at-net
@@ -206,7 +208,7 @@ module _ (old : BaseSweep) (net : Net) (t : Twins) (old-turns : List ℕ) (r : A
   old-at = was.at ∙ at-net
 
   within : j < length old.pools
-  within = subst (λ n. j < n) (sym earlier.long) (turn-within old.net j g old-at)
+  within = subst (λ n. j < n) (sym earlier.long) (position-within old.net j g old-at)
 
   before-are : keyed net walks before ≡ get_or (keyed_pools old) j []
   before-are = was.has.labels ∙ sym (pool-by-key old.net old.walks old.pools j)
@@ -221,7 +223,7 @@ module _ (old : BaseSweep) (net : Net) (t : Twins) (old-turns : List ℕ) (r : A
   stands-at e m = at-arrival net.arrivals (arrival_of e) (passable.arrives.every e m)
 
   sealed : (e : Duty) → Member net.duties e → may_wait net.settings (arrival_of e) g ≡ true → departure_place (in_order net) (departure_of e) < length pools
-  sealed e m waits = keepings.left-before net turns passable old.base r i e m (renewed.may-wait net laid i g at e m ∙ waits)
+  sealed e m waits = keepings.left-before net positions passable old.base r i e m (renewed.may-wait net laid i g at e m ∙ waits)
 
   -- the same duties arrive where nothing has changed
   twin-at : (p : ℕ) (x : Arrival) → slice_get net.arrivals p ≡ Some x → is_unchanged t changed p ≡ true → HaveSameArriving old.net net x

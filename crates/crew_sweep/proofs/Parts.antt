@@ -2,6 +2,7 @@
 use Rattle.std.proofs.Common.{◌≡◌, ◌∙◌, ◌<◌, ◌≤◌, ◌+◌, ◌-◌, ℕ, zero, suc, true, false, List, [], ◌∷◌, ◌++◌, length, map, take, drop, get_or, Some, inl, inr, refl, sym, ap, subst, ⊎_elim, arith, ◌⊎◌}
 use Rattle.std.specs.Prelude.{slice_get}
 use Rattle.std.specs.List.{flat_map}
+use Rattle.crew_net.proofs.Slices.{get-at, listed-at, member-got, part-in, part-out}
 use Rattle.crew_pairing.specs.declared.vector.PairingVector.{PairingVector}
 use Rattle.crew_pool.specs.Counted.{AreCounted}
 use Rattle.crew_pool.specs.LabelWalks.{IsPoolOf, ranks_at_most, shown}
@@ -13,9 +14,8 @@ use Rattle.crew_resource.proofs.Covering.{IsCovering, local_of_all}
 use Rattle.crew_resource.proofs.Members.{Member-append, Member-append_left, Member-append_right, Member-flat_map_in, Member-flat_map_out, Member-map_in, Member-map_out}
 use Rattle.crew_step.specs.Walks.{HasGrown}
 use Rattle.crew_step.proofs.Grown.{all-shown-grown, counted-grown}
-use Rattle.crew_sweep.specs.Machinery.Parts.{AreEnds, AreHeld, IsPart, Within}
+use Rattle.crew_sweep.specs.Machinery.Parts.{AreHeld, AreSuffixes, IsPart, Within}
 use Rattle.crew_sweep.proofs.Fronts.{local-same}
-use Rattle.crew_sweep.proofs.Slices.{get-at, listed-at, member-got, part-in, part-out}
 use Rattle.crew_vector.specs.Dominance.{is_at_most}
 use Rattle.crew_vector.proofs.Steps.{vector-order}
 
@@ -145,10 +145,10 @@ last-or (z ∷ zs) x (suc i) y h = ⊎_elim (λ k. inl k) (λ k. inr (ap suc k.0
 
 module _ (walks : List (List ℕ)) (held : List Labels) (end : ℕ) where
   -- the nearest of them alone
-  pub ends-fewer : (pools : List Labels) (n : ℕ) → AreEnds walks held end pools → AreEnds walks held end (take n pools)
-  ends-fewer pools n ends = record {
-    reach = λ i labels at. ends.reach i labels (taken pools n i labels at);
-    parts = λ i labels at. ends.parts i labels (taken pools n i labels at);
+  pub suffixes-fewer : (pools : List Labels) (n : ℕ) → AreSuffixes walks held end pools → AreSuffixes walks held end (take n pools)
+  suffixes-fewer pools n suffixes = record {
+    reach = λ i labels at. suffixes.reach i labels (taken pools n i labels at);
+    parts = λ i labels at. suffixes.parts i labels (taken pools n i labels at);
   }
     where
       taken : (xs : List Labels) (n i : ℕ) (x : Labels) → slice_get (take n xs) i ≡ Some x → slice_get xs i ≡ Some x
@@ -157,10 +157,10 @@ module _ (walks : List (List ℕ)) (held : List Labels) (end : ℕ) where
       taken (y ∷ ys) (suc n) zero x h = h
       taken (y ∷ ys) (suc n) (suc i) x h = taken ys n i x h
 
-  pub ends-more : (pools : List Labels) (longer : Labels) → AreEnds walks held end pools → length pools ≤ end → IsPart walks held (end - length pools) end longer → AreEnds walks held end (pools ++ longer ∷ [])
-  ends-more pools longer ends few part = record {
-    reach = λ i labels h. ⊎_elim {C = i ≤ end} (ends.reach i labels) (λ k. let e = k.0 in omega (arith, e, few)) (last-or pools longer i labels h);
-    parts = λ i labels h. ⊎_elim {C = IsPart walks held (end - i) end labels} (ends.parts i labels) (λ k. subst (λ n. IsPart walks held (end - n) end labels) (sym k.0) (subst (λ (ls : Labels). IsPart walks held (end - length pools) end ls) k.1 part)) (last-or pools longer i labels h);
+  pub suffixes-more : (pools : List Labels) (longer : Labels) → AreSuffixes walks held end pools → length pools ≤ end → IsPart walks held (end - length pools) end longer → AreSuffixes walks held end (pools ++ longer ∷ [])
+  suffixes-more pools longer suffixes few part = record {
+    reach = λ i labels h. ⊎_elim {C = i ≤ end} (suffixes.reach i labels) (λ k. let e = k.0 in omega (arith, e, few)) (last-or pools longer i labels h);
+    parts = λ i labels h. ⊎_elim {C = IsPart walks held (end - i) end labels} (suffixes.parts i labels) (λ k. subst (λ n. IsPart walks held (end - n) end labels) (sym k.0) (subst (λ (ls : Labels). IsPart walks held (end - length pools) end ls) k.1 part)) (last-or pools longer i labels h);
   }
 
 -- over walks that have grown

@@ -13,7 +13,10 @@ use Rattle.crew_flights.specs.Codes.{code_cmp}
 use Rattle.crew_net.specs.Events.{IsWindow}
 use Rattle.crew_net.specs.Machinery.Moments.{IsReal}
 use Rattle.crew_net.specs.Nets.{Net}
+use Rattle.crew_net.specs.Positions.{in_order}
 use Rattle.crew_net.specs.declared.window.Window.{Window}
+use Rattle.crew_net.proofs.Orders.{in-order-of, place-within}
+use Rattle.crew_net.proofs.Slices.{at-within, member-got}
 use Rattle.crew_pairing.specs.Events.{may_wait}
 use Rattle.crew_pairing.specs.declared.duty.Duty.{Duty}
 use Rattle.crew_pairing.specs.declared.events.Arrival.{Arrival}
@@ -26,9 +29,7 @@ use Rattle.crew_resource.specs.Members.{Member}
 use Rattle.crew_step.specs.Walks.{HasGrown}
 use Rattle.crew_sweep.specs.Machinery.Numbered.{idle_at, window_at}
 use Rattle.crew_sweep.specs.Machinery.Passing.{AreMade, IsPassable, IsPassing, IsPooled, IsSealed}
-use Rattle.crew_sweep.specs.Sweeps.{in_order}
-use Rattle.crew_sweep.proofs.Orders.{in-order-of, place-within, sealed-at}
-use Rattle.crew_sweep.proofs.Slices.{at-within, member-got}
+use Rattle.crew_sweep.proofs.Before.{sealed-at}
 use Rattle.crew_sweep.proofs.Steps as steps
 
 abbrev Labels : Type 0
@@ -43,7 +44,7 @@ idle-ready r base g real v h =
     let k = cond_some (eq_by_cmp code_cmp g.airport base) (anchored_idle r g.report) v h in
     subst (is_ready r 0) k.1 (subst (λ m. is_ready r 0 (anchored_idle r m)) (near-real g.report real) ((anchored_bounds r).idle_ready g tt))
 
-module _ (net : Net) (turns : List ℕ) (passable : IsPassable net turns) where
+module _ (net : Net) (positions : List ℕ) (passable : IsPassable net positions) where
   pub within : (i place : ℕ) → slice_get net.by_report i ≡ Some place → place < length net.departures
   within i place h = place-within net passable.departs passable.ordered i place h
 
@@ -78,4 +79,4 @@ module _ (net : Net) (turns : List ℕ) (passable : IsPassable net turns) where
       → (pool : Labels) → IsPooled net base r before after place w held pool → AreCounted (λ (v : PairingVector). v.duties) after true pool → IsPassing net base r after (pools ++ pool ∷ []) made held
   passed base r before after grown pools made held passing place at w window are-made pool pooled counts =
       let g = departs-at (length pools) place at in
-      steps.passing-more net turns passable base r before after grown pools made held passing g.0 g.2 w (window g.0 g.1) (idle_at r base (Some g.0)) refl (idle-ready r base g.0 g.3) pool (pooled g.0 g.1) counts are-made
+      steps.passing-more net positions passable base r before after grown pools made held passing g.0 g.2 w (window g.0 g.1) (idle_at r base (Some g.0)) refl (idle-ready r base g.0 g.3) pool (pooled g.0 g.1) counts are-made

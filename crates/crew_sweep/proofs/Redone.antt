@@ -2,7 +2,9 @@
 use Rattle.std.proofs.Common.{◌≡◌, ◌∙◌, ◌++◌, ◌∷◌, [], ℕ, Bool, true, false, List, Option, Some, length, get_or, sym, ap, subst, arith}
 use Rattle.std.specs.Prelude.{OnOk, Result, Ok, Err, slice_get}
 use Rattle.crew_carry.specs.Carried.{AreTwinWalks, IsCarried}
+use Rattle.crew_net.specs.Machinery.Numbered.{arrival_place, departure_place}
 use Rattle.crew_net.specs.Nets.{Net}
+use Rattle.crew_net.specs.Positions.{in_order}
 use Rattle.crew_pairing.specs.Events.{arrival_of, departure_of}
 use Rattle.crew_pairing.specs.declared.duty.Duty.{Duty}
 use Rattle.crew_pairing.specs.declared.events.Departure.{Departure}
@@ -13,10 +15,9 @@ use Rattle.crew_resource.specs.Members.{Member}
 use Rattle.crew_resource.proofs.Loop.{get_new}
 use Rattle.crew_step.specs.Walks.{HasGrown}
 use Rattle.crew_sweep.specs.Machinery.Kept.{keyed_pools}
-use Rattle.crew_sweep.specs.Machinery.Numbered.{arrival_place, departure_place}
 use Rattle.crew_sweep.specs.Machinery.Passing.{IsPassable}
 use Rattle.crew_sweep.specs.Machinery.Renewing.{HaveSame, IsRenewing}
-use Rattle.crew_sweep.specs.Sweeps.{BaseSweep, in_order, keyed}
+use Rattle.crew_sweep.specs.Sweeps.{BaseSweep, keyed}
 use Rattle.crew_sweep.proofs.KeptSteps.{laid-of}
 use Rattle.crew_sweep.proofs.Passable as passable-proofs
 use Rattle.crew_sweep.proofs.Renewed.{renewing-more}
@@ -48,12 +49,12 @@ pub last-pool : (pools all : List Labels) (pool last : Labels) (n : ℕ) → all
 last-pool pools all pool last n is at h = h ∙ (ap (λ (ps : List Labels). get_or ps n []) is ∙ get_new pools pool [] n at)
 
 -- what is marked after a pool is made
-pub renewing-redone : (old : BaseSweep) (net : Net) (turns : List ℕ) (passable : IsPassable net turns) (walks : List (List ℕ)) (pools : List Labels) (changed marked : List Bool) → IsRenewing old net walks pools changed
+pub renewing-redone : (old : BaseSweep) (net : Net) (positions : List ℕ) (passable : IsPassable net positions) (walks : List (List ℕ)) (pools : List Labels) (changed marked : List Bool) → IsRenewing old net walks pools changed
     → length marked ≡ length changed → ((p : ℕ) → get_or marked p true ≡ false → get_or changed p true ≡ false)
     → (place : ℕ) → slice_get net.by_report (length pools) ≡ Some place → (pool : Labels)
     → ((g : Departure) → slice_get net.departures place ≡ Some g → (p : ℕ) → get_or marked p true ≡ false → (d : Duty) → Member net.duties d → arrival_place net.arrivals (arrival_of d) ≡ p → departure_of d ≡ g
     → HaveSame (keyed net walks pool) (get_or (keyed_pools old) (departure_place (in_order old.net) g) []))
     → IsRenewing old net walks (pools ++ pool ∷ []) marked
-renewing-redone old net turns passable walks pools changed marked renewing long less place at pool own =
-    let g = passable-proofs.departs-at net turns passable (length pools) place at in
-    renewing-more old net (laid-of net turns passable) walks pools changed marked renewing long less pool g.0 g.2 (own g.0 g.1)
+renewing-redone old net positions passable walks pools changed marked renewing long less place at pool own =
+    let g = passable-proofs.departs-at net positions passable (length pools) place at in
+    renewing-more old net (laid-of net positions passable) walks pools changed marked renewing long less pool g.0 g.2 (own g.0 g.1)

@@ -5,8 +5,13 @@ use Rattle.std.proofs.lemmas.List.{length-map, map-append}
 use Rattle.crew_anchor.specs.declared.resource.AnchoredResource.{AnchoredResource}
 use Rattle.crew_carry.specs.Twins.{AreTwins, Twins}
 use Rattle.crew_net.specs.Events.{IsWindow}
+use Rattle.crew_net.specs.Machinery.Numbered.{arrival_place, departure_place}
 use Rattle.crew_net.specs.Nets.{Net}
+use Rattle.crew_net.specs.Positions.{in_order}
 use Rattle.crew_net.specs.declared.window.Window.{Window}
+use Rattle.crew_net.proofs.Numbers.{at-arrival, at-departure, place-arrival}
+use Rattle.crew_net.proofs.Orders.{arrivals-distinct, leaves-in}
+use Rattle.crew_net.proofs.Slices.{at-within, get-at, some-same}
 use Rattle.crew_pairing.specs.Events.{arrival_of, departure_of, may_wait}
 use Rattle.crew_pairing.specs.Keys.{walk_at_most}
 use Rattle.crew_pairing.specs.Legs.{Leg}
@@ -24,14 +29,11 @@ use Rattle.crew_resource.proofs.Pools.{view_in, view_out}
 use Rattle.crew_rules.specs.declared.settings.Settings.{Settings}
 use Rattle.crew_step.specs.Walks.{HasGrown}
 use Rattle.crew_sweep.specs.Machinery.Kept.{keyed_pools}
-use Rattle.crew_sweep.specs.Machinery.Numbered.{AreLocal, arrival_place, departure_place, idle_at, window_at}
+use Rattle.crew_sweep.specs.Machinery.Numbered.{AreLocal, idle_at, window_at}
 use Rattle.crew_sweep.specs.Machinery.Passing.{passed_network}
 use Rattle.crew_sweep.specs.Machinery.Renewing.{HasSameLabels, HaveSame, IsLaid, IsRenewing, IsWindowKept}
-use Rattle.crew_sweep.specs.Sweeps.{BaseSweep, in_order, keyed}
+use Rattle.crew_sweep.specs.Sweeps.{BaseSweep, keyed}
 use Rattle.crew_sweep.proofs.Fronts.{local-same}
-use Rattle.crew_sweep.proofs.Numbers.{at-arrival, at-departure, place-arrival}
-use Rattle.crew_sweep.proofs.Orders.{arrivals-distinct, leaves-in}
-use Rattle.crew_sweep.proofs.Slices.{at-within, get-at, some-same}
 use Rattle.crew_sweep.proofs.Shown.{keyed-grown, same-map}
 use Rattle.crew_vector.specs.Dominance.{is_at_most}
 

@@ -3,21 +3,21 @@ use Rattle.std.proofs.Common.{◌≡◌, ◌∙◌, ◌<◌, ◌≤◌, ◌+◌,
 use Rattle.std.specs.Prelude.{slice_get}
 use Rattle.crew_net.specs.Nets.{Net}
 use Rattle.crew_net.specs.declared.window.Window.{Window}
+use Rattle.crew_net.proofs.Numbers.{get-within}
+use Rattle.crew_net.proofs.Slices.{item-in}
 use Rattle.crew_pairing.specs.declared.vector.PairingVector.{PairingVector}
 use Rattle.crew_pool.specs.Counted.{AreCounted}
 use Rattle.crew_pool.specs.declared.label_walk.LabelWalk.{LabelWalk}
 use Rattle.crew_resource.specs.Members.{Member}
 use Rattle.crew_resource.proofs.Members.{Member-append}
 use Rattle.crew_step.specs.Walks.{HasGrown}
-use Rattle.crew_sweep.specs.Machinery.Parts.{AreEnds, IsPart}
+use Rattle.crew_sweep.specs.Machinery.Parts.{AreSuffixes, IsPart}
 use Rattle.crew_sweep.specs.Machinery.Passing.{AreMade, HaveStayed, IsMade}
 use Rattle.crew_sweep.specs.Machinery.Sliding.{Covers, IsSliding, Stacks}
 use Rattle.crew_sweep.specs.Machinery.Slides.{AreIdle, AreSliding, AreUnderWay, CoverAny}
 use Rattle.crew_sweep.specs.declared.slide.Slide.{Slide}
 use Rattle.crew_sweep.specs.declared.slides.Slides.{Slides}
-use Rattle.crew_sweep.proofs.Numbers.{get-within}
 use Rattle.crew_sweep.proofs.Parts.{part-framed, part-grown}
-use Rattle.crew_sweep.proofs.Slices.{item-in}
 
 abbrev Labels : Type 0
 Labels = List (PairingVector × LabelWalk)
@@ -56,11 +56,11 @@ sliding-grown before after grown held pending s sl = record {
 }
 
 -- the pool that the stacks have from a place up to the middle
-pub part-first : (walks : List (List ℕ)) (held : List Labels) (middle from : ℕ) (before : List Labels) (item : Labels) → AreEnds walks held middle before → from ≤ middle → middle - from < length before
+pub part-first : (walks : List (List ℕ)) (held : List Labels) (middle from : ℕ) (before : List Labels) (item : Labels) → AreSuffixes walks held middle before → from ≤ middle → middle - from < length before
     → item ≡ get_or before (middle - from) item → IsPart walks held from middle item
-part-first walks held middle from before item ends first reach is =
+part-first walks held middle from before item suffixes first reach is =
     let same : middle - (middle - from) ≡ from = omega (arith, first) in
-    subst (λ k. IsPart walks held k middle item) same (ends.parts (middle - from) item (item-in before before (middle - from) item reach refl is))
+    subst (λ k. IsPart walks held k middle item) same (suffixes.parts (middle - from) item (item-in before before (middle - from) item reach refl is))
 
 -- a slide that goes on covers no more than its window besides
 pub covers-more : (s old : Slide) (middle count end from to : ℕ) → middle ≡ s.middle → count ≡ length s.before.items → end ≡ to → s.middle ≤ s.end → from ≤ s.middle
@@ -82,11 +82,6 @@ covers-more s old middle count end from to same-middle same-count same-end order
     known c = ⊎_elim {C = Goal} (λ k. inl (inl k)) (λ k. inr k) (covers p c)
 
 -- lists of slides
-pub stands : {A : Type 0} (xs : List A) (i : ℕ) → i < length xs → (a : A) × (slice_get xs i ≡ Some a)
-stands [] i h = absurd (omega (arith, h))
-stands (a ∷ xs) zero h = (a, refl)
-stands (a ∷ xs) (suc i) h = stands xs i (omega (arith, h))
-
 pub set-got : {A : Type 0} (xs : List A) (i : ℕ) (y z : A) → slice_get (set xs i y) i ≡ Some z → y ≡ z
 set-got [] i y z h = absurd (let q : ⊥ = (cc) in q)
 set-got (x ∷ xs) zero y z h = (cc)

@@ -7,7 +7,9 @@ use Rattle.crew_anchor.specs.Machinery.Bounds.{is_ready}
 use Rattle.crew_anchor.specs.declared.resource.AnchoredResource.{AnchoredResource}
 use Rattle.crew_net.specs.Events.{IsWindow}
 use Rattle.crew_net.specs.Nets.{Net}
+use Rattle.crew_net.specs.Positions.{in_order}
 use Rattle.crew_net.specs.declared.window.Window.{Window}
+use Rattle.crew_net.proofs.Slices.{member-got, part-out}
 use Rattle.crew_pairing.specs.Events.{may_wait}
 use Rattle.crew_pairing.specs.Keys.{walk_at_most}
 use Rattle.crew_pairing.specs.Legs.{Leg}
@@ -28,11 +30,10 @@ use Rattle.crew_step.specs.Walks.{HasGrown}
 use Rattle.crew_step.proofs.Grown.{all-shown-grown}
 use Rattle.crew_sweep.specs.Machinery.Numbered.{idle_at, window_at}
 use Rattle.crew_sweep.specs.Machinery.Passing.{AreLabels, AreMade, IsMade, IsPassable, IsPassing, passed_network}
-use Rattle.crew_sweep.specs.Sweeps.{in_order, keyed}
+use Rattle.crew_sweep.specs.Sweeps.{keyed}
 use Rattle.crew_sweep.proofs.Fronts.{waits}
 use Rattle.crew_sweep.proofs.Gathered as gathered
 use Rattle.crew_sweep.proofs.Shown.{passing-grown}
-use Rattle.crew_sweep.proofs.Slices.{member-got, part-out}
 use Rattle.crew_vector.specs.Dominance.{is_at_most}
 use Rattle.crew_vector.proofs.Orders.{walk-order}
 use Rattle.crew_vector.proofs.Steps.{vector-order}
@@ -66,7 +67,7 @@ open-arrival : (s : Settings) (o : Option Arrival) (p : Option Departure) (g : D
 open-arrival s None p g e h = absurd (let q : ⊥ = (cc) in q)
 open-arrival s (Some x) p g e h = (x, refl, ap (window_at s (Some x)) (sym e) ∙ h)
 
-module _ (net : Net) (turns : List ℕ) (passable : IsPassable net turns) (base : List ℕ) (r : AnchoredResource) where
+module _ (net : Net) (positions : List ℕ) (passable : IsPassable net positions) (base : List ℕ) (r : AnchoredResource) where
   module _ (before after : List (List ℕ)) (grown : HasGrown before after) (pools : List Labels) (made : List Bool) (held : List Labels) (passing : IsPassing net base r before pools made held)
       (g : Departure) (at : slice_get (in_order net) (length pools) ≡ Some g) (w : Window) (window : IsWindow (λ x. may_wait net.settings x g) net.arrivals w)
       (idle : Option PairingVector) (idle-is : idle ≡ idle_at r base (Some g)) (idle-ready : (v : PairingVector) → idle ≡ Some v → is_ready r 0 v)

@@ -1,22 +1,25 @@
 -- One pass over the departures of a base's network, in order of time: its pools, and the fronts
 -- that these show. Networks of duties along time are described in Barnhart et al. 2003, "Airline
 -- crew scheduling".
-use Rattle.std.specs.Prelude.{◌≡◌, ℕ, ℤ, pos, List, [], Some, get_or, length, map, slice_get}
+use Rattle.std.specs.Prelude.{◌≡◌, ◌≤◌, ℕ, ℤ, List, [], get_or, length, map}
 use Rattle.crew_anchor.specs.Sweeps.{anchored_network, shown_labels}
-use Rattle.crew_flights.specs.Timetable.{Timetable}
-use Rattle.crew_net.specs.Nets.{Net}
-use Rattle.crew_pairing.specs.Duties.{flights_of}
+use Rattle.crew_carry.specs.Twins.{AreTwins, Twins}
+use Rattle.crew_flights.specs.Timetable.{IsBasePrice, IsSound, Timetable}
+use Rattle.crew_net.specs.Machinery.Numbered.{departure_place}
+use Rattle.crew_net.specs.Nets.{AreArrivalPlaces, Net}
+use Rattle.crew_net.specs.Positions.{ArePositions, in_order}
+use Rattle.crew_pairing.specs.Duties.{AreDuties, RiseByKey, flights_of}
+use Rattle.crew_pairing.specs.Events as Events
 use Rattle.crew_pairing.specs.Events.{departure_of}
 use Rattle.crew_pairing.specs.Legs.{Leg}
 use Rattle.crew_pairing.specs.Pairings.{IsDuty}
 use Rattle.crew_pairing.specs.declared.duty.Duty.{Duty}
-use Rattle.crew_pairing.specs.declared.events.Departure.{Departure}
 use Rattle.crew_pairing.specs.declared.vector.PairingVector.{PairingVector}
 use Rattle.crew_pool.specs.LabelWalks.{shown}
 use Rattle.crew_pool.specs.Ranks.{by_key}
 use Rattle.crew_pool.specs.declared.label_walk.LabelWalk.{LabelWalk}
 use Rattle.crew_resource.specs.Events.{view}
-use Rattle.crew_sweep.specs.Machinery.Numbered.{departure_place}
+use Rattle.crew_resource.specs.Members.{Member}
 use Rattle.crew_vector.specs.Fronts.{IsFrontAt}
 
 -- the pools of a base, one for each departure in order of report: labels as of a common instant,
@@ -28,18 +31,12 @@ pub record BaseSweep : Type 0 where
   pub walks : List (List ℕ)
   pub pools : List (List (PairingVector × LabelWalk))
 
-abbrev pub departure_at : List Departure → ℕ → Departure
-departure_at departures place = get_or departures place (record { airport = []; report = pos 0 })
-
--- the departures of a network in order of report
-abbrev pub in_order : Net → List Departure
-in_order net = map (departure_at net.departures) net.by_report
-
--- the turn of each duty's departure by rank: its place among all, in order of report
-pub record AreTurns (net : Net) (turns : List ℕ) : Type 0 where
-  pub long : length turns ≡ length net.duties
-  pub exact : (rank : ℕ) (d : Duty) → slice_get net.duties rank ≡ Some d
-      → slice_get (in_order net) (get_or turns rank 0) ≡ Some (departure_of d)
+-- a network over which a sweep may go, with the position of each duty's departure by rank
+pub record IsSweepable (net : Net) (by_rank : List ℕ) : Type 0 where
+  pub sound : (d : Duty) → Member net.duties d → Events.IsSound d
+  pub rise : RiseByKey net.duties
+  pub few : length net.duties ≤ 200_000
+  pub positions : ArePositions net by_rank
 
 -- labels with the keys of their walks
 abbrev pub keyed : Net → List (List ℕ) → List (PairingVector × LabelWalk)
@@ -60,3 +57,21 @@ front_at b d = shown_labels b.net.settings.trip_rig d.release
 abbrev pub ShowsFronts : Timetable → BaseSweep → Type 0
 ShowsFronts t b = (d : Duty) → IsDuty b.net.settings (flights_of t) d
     → IsFrontAt b.net.settings t b.base b.price d (front_at b d)
+
+-- the sweep of a base at its price over a network: at each legal duty of each timetable that the
+-- network is of it shows the duty's front
+pub record IsSwept (over : Net) (priced : List ℕ × ℤ) (b : BaseSweep) : Type 0 where
+  pub net : b.net ≡ over
+  pub base : (b.base, b.price) ≡ priced
+  pub right : (t : Timetable) → IsSound t → AreDuties over.settings t over.duties → ShowsFronts t b
+
+-- an earlier sweep beside which one over a network may go: with the position of each departure of
+-- its own duties by rank, what its network and this one have alike, and the place of each arrival of
+-- this one's duties by rank
+pub record IsEarlier (old : BaseSweep) (old_by_rank : List ℕ) (alike : Twins) (net : Net)
+    (arriving : List ℕ) : Type 0 where
+  pub price : IsBasePrice old.price
+  pub settings : old.net.settings ≡ net.settings
+  pub earlier_positions : ArePositions old.net old_by_rank
+  pub twins : AreTwins old.net net alike
+  pub places : AreArrivalPlaces net arriving

@@ -38,7 +38,7 @@ fn is_sealed(ground: &Ground, passed: usize, place: usize) -> bool
     ensures { result ≡ true → IsSealed ground.now.net.now passed place }
 {
     for rank in ground.net.arriving(place) {
-        if ground.turns[*rank as usize] as usize >= passed {
+        if ground.positions[*rank as usize] as usize >= passed {
             return false;
         }
     }
@@ -55,8 +55,8 @@ fn mark_window(marks: &mut [bool], window: Window)
     }
 }
 
-// Marks at the arrivals on which the departures from a turn on, up to another, wait, but for those
-// whose pools are kept.
+// Marks at the arrivals on which the departures from a position on, up to another, wait, but for
+// those whose pools are kept.
 fn marks_of<K: Fn(usize) -> bool>(
     alloc: Global,
     ground: &Ground,
@@ -71,8 +71,8 @@ fn marks_of<K: Fn(usize) -> bool>(
     ensures { IfOk result (λ marks. length marks.items ≡ length ground.now.net.now.arrivals) }
 {
     let mut marks = vec![in alloc; false; ground.net.arrivals().len()]?;
-    for turn in from..end {
-        let place = ground.net.by_report()[turn] as usize;
+    for position in from..end {
+        let place = ground.net.by_report()[position] as usize;
         if !kept(place) {
             mark_window(&mut marks, ground.net.window(place));
         }
@@ -104,9 +104,9 @@ fn label_count(ground: &Ground, passed: &Passed, place: usize) -> usize
     let ranks = ground.net.arriving(place);
     let mut count: usize = 0;
     for rank in ranks {
-        let turn = ground.turns[*rank as usize] as usize;
-        if turn < passed.pools.len() {
-            count = count.saturating_add(passed.pools.get(turn).len());
+        let position = ground.positions[*rank as usize] as usize;
+        if position < passed.pools.len() {
+            count = count.saturating_add(passed.pools.get(position).len());
         }
     }
     count
@@ -148,18 +148,18 @@ fn unmade(
     ensures { IfOk result (λ places. AreSealed ground.now.net.now (length passed.now.pools)
         places.items) }
 {
-    let turn = passed.pools.len();
+    let position = passed.pools.len();
     let mut places = Vec::new(alloc);
     for it in longest_first(alloc, ground, passed, marks)? {
-        if is_wanted(ground, turn, marks, made, it.1) {
+        if is_wanted(ground, position, marks, made, it.1) {
             places.push(it.1)?;
         }
     }
     Ok(places)
 }
 
-// The arrivals to make ahead after the departures so far: those that follow, up to a turn, wait on
-// them, but for those whose pools are kept. Those into which the most labels may board come first.
+// The arrivals to make ahead after the departures so far: those that follow, up to a position, wait
+// on them, but for those whose pools are kept. Those into which the most labels may board come first.
 fn places_ahead<K: Fn(usize) -> bool>(
     alloc: Global,
     ground: &Ground,

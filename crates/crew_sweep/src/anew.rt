@@ -1,20 +1,13 @@
 //! A pass over the departures of a base's network that keeps what an earlier one has.
-ghost use Rattle.std.specs.Prelude.{◌≡◌, ◌<◌, ◌≤◌, ◌+◌, ◌++◌, ◌∷◌, [], IfOk, List, OnOk, Some, length, slice_get};
+ghost use Rattle.std.specs.Prelude.{◌≡◌, ◌<◌, ◌+◌, ◌++◌, ◌∷◌, [], IfOk, List, OnOk, Some, length, slice_get};
 ghost use Rattle.std.specs.Arc.{arc_value};
 ghost use Rattle.crew_carry.specs.Carried.{IsCarried};
-ghost use Rattle.crew_carry.specs.Twins.{AreTwins};
-ghost use Rattle.crew_flights.specs.Timetable as TimetableSpec;
-ghost use Rattle.crew_net.specs.Nets.{AreArrivalPlaces};
-ghost use Rattle.crew_pairing.specs.Duties.{AreDuties, RiseByKey};
-ghost use Rattle.crew_pairing.specs.Events.{IsSound};
-ghost use Rattle.crew_pairing.specs.declared.duty.Duty.{Duty};
 ghost use Rattle.crew_pairing.specs.declared.vector.PairingVector.{PairingVector};
 ghost use Rattle.crew_pool.specs.declared.label_walk.LabelWalk.{LabelWalk};
-ghost use Rattle.crew_resource.specs.Members.{Member};
 ghost use Rattle.crew_sweep.specs.Machinery.Beside.{IsBeside, StandsBeside};
 ghost use Rattle.crew_sweep.specs.Machinery.Grounds.{HasPassedAll, IsGround, Stands};
 ghost use Rattle.crew_sweep.specs.Machinery.Renewing.{IsRenewing};
-ghost use Rattle.crew_sweep.specs.Sweeps.{AreTurns, ShowsFronts};
+ghost use Rattle.crew_sweep.specs.Sweeps.{IsEarlier, IsSweepable, IsSwept};
 
 use crate::earlier::Earlier;
 use crate::ground::Ground;
@@ -30,7 +23,7 @@ use std::thread::Threads;
 
 impl Renewal {
     // The pass goes on by one departure, whose pool is mended where it can be, or else made anew.
-    fn make_one(
+    fn make_departure(
         &mut self,
         alloc: Global,
         earlier: &Earlier,
@@ -50,14 +43,14 @@ impl Renewal {
         ensures made { OnOk result ((pool : List (PairingVector × LabelWalk))
             × (self.new.passing.passed.pools ≡ self.old.passing.passed.pools ++ pool ∷ [])) }
     {
-        if self.mend_one(alloc, earlier, ground, place)? {
+        if self.mend_departure(alloc, earlier, ground, place)? {
             return Ok(());
         }
         self.passing.go_on(alloc, ground, place)
     }
 
     // The pass goes on by one departure, whose pool isn't kept.
-    fn redo_one(
+    fn recompute_departure(
         &mut self,
         alloc: Global,
         earlier: &Earlier,
@@ -74,7 +67,7 @@ impl Renewal {
             ≡ length self.old.passing.passed.pools + 1) }
     {
         let last = self.passing.passed.pools.len();
-        self.make_one(alloc, earlier, ground, place)?;
+        self.make_departure(alloc, earlier, ground, place)?;
         let passed = &self.passing.passed;
         let pool = passed.pools.get(last);
         note(
@@ -89,7 +82,7 @@ impl Renewal {
     }
 
     // The pass goes on by one departure, whose pool is kept where it can be.
-    fn renew_one(
+    fn renew_departure(
         &mut self,
         alloc: Global,
         earlier: &Earlier,
@@ -105,10 +98,10 @@ impl Renewal {
         ensures more { OnOk result (length self.new.passing.passed.pools
             ≡ length self.old.passing.passed.pools + 1) }
     {
-        if self.keep_one(alloc, earlier, ground, place)? {
+        if self.keep_departure(alloc, earlier, ground, place)? {
             return Ok(());
         }
-        self.redo_one(alloc, earlier, ground, place)
+        self.recompute_departure(alloc, earlier, ground, place)
     }
 
     // Where the pass comes to the first departure of a batch: lets go of what lies behind it.
@@ -143,7 +136,7 @@ impl Renewal {
             requires { (place < length ground.now.net.now.departures)
                 × IsBeside earlier.now ground.now
                 × (length changed.now ≡ length ground.now.net.now.arrivals) }
-        { earlier.kept_turn(ground, changed, place).is_some() };
+        { earlier.kept_position(ground, changed, place).is_some() };
         self.passing.make_ahead(rt, alloc, threads, ground, &kept)
     }
 
@@ -163,7 +156,7 @@ impl Renewal {
         for departure in ground.net.by_report() {
             let place = *departure as usize;
             self.begin_batch(alloc, earlier, ground);
-            self.renew_one(alloc, earlier, ground, place)?;
+            self.renew_departure(alloc, earlier, ground, place)?;
         }
         Ok(())
     }
@@ -187,7 +180,7 @@ impl Renewal {
         for departure in ground.net.by_report() {
             let place = *departure as usize;
             self.renew_ahead(rt, alloc, threads, earlier, ground)?;
-            self.renew_one(alloc, earlier, ground, place)?;
+            self.renew_departure(alloc, earlier, ground, place)?;
         }
         Ok(())
     }
@@ -228,32 +221,22 @@ fn renew_all_by_threads<T: Threads + Sync>(
 pub fn renew(
     alloc: Global,
     earlier: &Sweep,
-    earlier_turns: &[u32],
+    earlier_positions: &[u32],
     twins: &Twins,
     net: Arc<Net, Global>,
-    turns: &[u32],
+    positions: &[u32],
     places: &[u32],
 ) -> Result<Sweep, AllocError>
-    requires sound { (d : Duty) → Member (arc_value net).duties d → IsSound d }
-    requires rise { RiseByKey (arc_value net).duties }
-    requires few { length (arc_value net).duties ≤ 200_000 }
-    requires turns { AreTurns (arc_value net) turns.now }
-    requires places { AreArrivalPlaces (arc_value net) places.now }
-    requires price { TimetableSpec.IsBasePrice earlier.now.price }
-    requires settings { earlier.now.net.settings ≡ (arc_value net).settings }
-    requires earlier_turns { AreTurns earlier.now.net earlier_turns.now }
-    requires twins { AreTwins earlier.now.net (arc_value net) twins.now }
-    ensures net { IfOk result (λ sweep. sweep.net ≡ arc_value net) }
-    ensures base { IfOk result (λ sweep. (sweep.base ≡ earlier.now.base)
-        × (sweep.price ≡ earlier.now.price)) }
-    ensures right { IfOk result (λ sweep. (t : TimetableSpec.Timetable) → TimetableSpec.IsSound t
-        → AreDuties sweep.net.settings t sweep.net.duties → ShowsFronts t sweep) }
+    requires sweepable { IsSweepable (arc_value net) positions.now }
+    requires earlier { IsEarlier earlier.now earlier_positions.now twins.now (arc_value net)
+        places.now }
+    ensures { IfOk result (IsSwept (arc_value net) (earlier.now.base, earlier.now.price)) }
 {
     let base = earlier.base();
     let price = earlier.price();
     let full = AnchoredResource::new(net.settings(), price);
-    let ground = Ground::of(&net, turns, base, &full);
-    let before = Earlier::of(earlier, earlier_turns, twins, places, &ground);
+    let ground = Ground::of(&net, positions, base, &full);
+    let before = Earlier::of(earlier, earlier_positions, twins, places, &ground);
     let passed = renew_all(alloc, &before, &ground)?;
     Ok(Sweep::of(net, base, price, full, passed))
 }
@@ -264,32 +247,22 @@ pub fn renew_by_threads<T: Threads + Sync>(
     alloc: Global,
     threads: usize,
     earlier: &Sweep,
-    earlier_turns: &[u32],
+    earlier_positions: &[u32],
     twins: &Twins,
     net: Arc<Net, Global>,
-    turns: &[u32],
+    positions: &[u32],
     places: &[u32],
 ) -> Result<Sweep, AllocError>
-    requires sound { (d : Duty) → Member (arc_value net).duties d → IsSound d }
-    requires rise { RiseByKey (arc_value net).duties }
-    requires few { length (arc_value net).duties ≤ 200_000 }
-    requires turns { AreTurns (arc_value net) turns.now }
-    requires places { AreArrivalPlaces (arc_value net) places.now }
-    requires price { TimetableSpec.IsBasePrice earlier.now.price }
-    requires settings { earlier.now.net.settings ≡ (arc_value net).settings }
-    requires earlier_turns { AreTurns earlier.now.net earlier_turns.now }
-    requires twins { AreTwins earlier.now.net (arc_value net) twins.now }
-    ensures net { IfOk result (λ sweep. sweep.net ≡ arc_value net) }
-    ensures base { IfOk result (λ sweep. (sweep.base ≡ earlier.now.base)
-        × (sweep.price ≡ earlier.now.price)) }
-    ensures right { IfOk result (λ sweep. (t : TimetableSpec.Timetable) → TimetableSpec.IsSound t
-        → AreDuties sweep.net.settings t sweep.net.duties → ShowsFronts t sweep) }
+    requires sweepable { IsSweepable (arc_value net) positions.now }
+    requires earlier { IsEarlier earlier.now earlier_positions.now twins.now (arc_value net)
+        places.now }
+    ensures { IfOk result (IsSwept (arc_value net) (earlier.now.base, earlier.now.price)) }
 {
     let base = earlier.base();
     let price = earlier.price();
     let full = AnchoredResource::new(net.settings(), price);
-    let ground = Ground::of(&net, turns, base, &full);
-    let before = Earlier::of(earlier, earlier_turns, twins, places, &ground);
+    let ground = Ground::of(&net, positions, base, &full);
+    let before = Earlier::of(earlier, earlier_positions, twins, places, &ground);
     let passed = renew_all_by_threads(rt, alloc, threads, &before, &ground)?;
     Ok(Sweep::of(net, base, price, full, passed))
 }

@@ -23,12 +23,12 @@ pub(crate) struct Arrivals {
     pub(crate) made: Vec<bool>,
 }
 
-// Ranks, those of the departures with the greatest turns first.
-fn last_first(alloc: Global, ranks: &[u32], turns: &[u32]) -> Result<Vec<u32>, AllocError>
+// Ranks, those of the departures at the greatest positions first.
+fn last_first(alloc: Global, ranks: &[u32], positions: &[u32]) -> Result<Vec<u32>, AllocError>
     ensures { IfOk result (λ sorted. IsPermutation ranks.now sorted.items) }
 {
     let mut sorted = Vec::from_slice(alloc, ranks)?;
-    sorted.sort_unstable_by_key(|rank| Reverse(turns.get(*rank as usize)));
+    sorted.sort_unstable_by_key(|rank| Reverse(positions.get(*rank as usize)));
     Ok(sorted)
 }
 
@@ -46,8 +46,8 @@ pub(crate) fn arrival_at(
     requires sealed { IsSealed ground.now.net.now (length passed.now.pools) place }
     ensures { IfOk result (IsPoolAt ground.now passed.now place) }
 {
-    let turns = ground.turns;
-    let ranks = last_first(alloc, ground.net.arriving(place), turns)?;
+    let positions = ground.positions;
+    let ranks = last_first(alloc, ground.net.arriving(place), positions)?;
     let duties = ground.net.duties().as_slice();
     let pools = &passed.pools;
     let walks = &passed.walks;
@@ -57,7 +57,7 @@ pub(crate) fn arrival_at(
         room,
         pools,
         duties,
-        turns,
+        positions,
         &ranks,
         walks,
     )

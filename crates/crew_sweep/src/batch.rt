@@ -15,16 +15,16 @@ use std::alloc::Global;
 // The least minutes of rest between a release and the next report.
 const LEAST_REST: i64 = 600;
 
-// The report of the departure at a turn.
-fn report_at(ground: &Ground, turn: usize) -> i64
+// The report of the departure at a position.
+fn report_at(ground: &Ground, position: usize) -> i64
     requires ground { IsGround ground.now }
-    requires turn { turn < length ground.now.net.now.by_report }
+    requires position { position < length ground.now.net.now.by_report }
 {
-    ground.net.departures()[ground.net.by_report()[turn] as usize].report
+    ground.net.departures()[ground.net.by_report()[position] as usize].report
 }
 
-// Where the batch that begins at a turn ends: all departures of it report less than the least rest
-// after the first. No clause says so, since it is there for speed.
+// The position at which the batch ends that begins at another: all departures of it report less than
+// the least rest after the first. No clause says so, since it is there for speed.
 fn batch_end(ground: &Ground, from: usize) -> usize
     requires ground { IsGround ground.now }
     requires from { from < length ground.now.net.now.by_report }
@@ -32,9 +32,9 @@ fn batch_end(ground: &Ground, from: usize) -> usize
 {
     let count = ground.net.by_report().len();
     let first = report_at(ground, from);
-    for turn in from..count {
-        if report_at(ground, turn).saturating_sub(first) >= LEAST_REST {
-            return turn;
+    for position in from..count {
+        if report_at(ground, position).saturating_sub(first) >= LEAST_REST {
+            return position;
         }
     }
     count
@@ -68,7 +68,7 @@ impl Passing {
     }
 
     /// Where the pass comes to the first departure of a batch: lets go of what lies behind it, and
-    /// tells the turn at which the batch ends.
+    /// tells the position at which the batch ends.
     pub(crate) fn begin_batch(&mut self, alloc: Global, ground: &Ground) -> Option<usize>
         requires ground { IsGround ground.now }
         requires stands { Stands ground.now self.old }
@@ -76,12 +76,12 @@ impl Passing {
         ensures passed { self.new.passed ≡ self.old.passed }
         ensures end { IfSome result (λ end. end ≤ length ground.now.net.now.by_report) }
     {
-        let turn = self.passed.pools.len();
-        if turn < self.batch_end || turn >= ground.net.by_report().len() {
+        let position = self.passed.pools.len();
+        if position < self.batch_end || position >= ground.net.by_report().len() {
             return None;
         }
         self.let_go(alloc, ground);
-        let end = batch_end(ground, turn);
+        let end = batch_end(ground, position);
         self.batch_end = end;
         Some(end)
     }

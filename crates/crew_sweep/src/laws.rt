@@ -3,6 +3,7 @@ ghost use Rattle.std.specs.Prelude.{◌≡◌, ◌+◌, ℕ, ℤ, List, [], leng
 ghost use Rattle.crew_anchor.specs.Stages.{anchored_resource};
 ghost use Rattle.crew_anchor.specs.Sweeps.{anchored_network, shown_labels};
 ghost use Rattle.crew_anchor.specs.declared.resource.AnchoredResource.{AnchoredResource};
+ghost use Rattle.crew_net.specs.Machinery.Numbered.{AreDistinct, departure_place};
 ghost use Rattle.crew_pairing.specs.Events.{arrival_of, departure_of};
 ghost use Rattle.crew_flights.specs.Timetable.{IsSound, Timetable};
 ghost use Rattle.crew_pairing.specs.Duties.{AreDuties, flights_of};
@@ -16,7 +17,7 @@ ghost use Rattle.crew_resource.specs.Events.{view};
 ghost use Rattle.crew_resource.specs.Members.{Member};
 ghost use Rattle.crew_rules.specs.Settings.{IsChecked};
 ghost use Rattle.crew_rules.specs.declared.settings.Settings.{Settings};
-ghost use Rattle.crew_sweep.specs.Machinery.Numbered.{AreDistinct, AreLocal, departure_place, numbered};
+ghost use Rattle.crew_sweep.specs.Machinery.Numbered.{AreLocal, numbered};
 ghost use Rattle.crew_vector.specs.Fronts.{IsFrontAt};
 
 /// Pools by number of departure, each what the pools of all duties that it may wait on leave with a

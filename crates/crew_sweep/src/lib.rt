@@ -25,9 +25,7 @@ mod renewal;
 mod slide;
 mod slides;
 mod swept;
-mod turns;
 
 pub use anew::{renew, renew_by_threads};
 pub use pass::{sweep, sweep_by_threads};
 pub use swept::Sweep;
-pub use turns::departure_turns;

@@ -282,10 +282,10 @@ fn old_pool(
         earlier.now.sweep.now.walks walks.new carrier.new) }
     ensures grown { HasGrown walks.old walks.new }
 {
-    let Some(turn) = earlier.turn(ground, place) else {
+    let Some(position) = earlier.position(ground, place) else {
         return Ok(None);
     };
-    earlier.carried_pool(alloc, ground, turn, carrier, walks)
+    earlier.carried_pool(alloc, ground, position, carrier, walks)
 }
 
 impl Renewal {
@@ -352,7 +352,7 @@ impl Renewal {
     }
 
     /// The pass goes on by the departure at a place, where its pool can be mended: `false` where not.
-    pub(crate) fn mend_one(
+    pub(crate) fn mend_departure(
         &mut self,
         alloc: Global,
         earlier: &Earlier,

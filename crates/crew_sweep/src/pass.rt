@@ -1,13 +1,9 @@
 //! One pass over the departures of a base's network.
-ghost use Rattle.std.specs.Prelude.{◌≡◌, ◌≤◌, IfOk, OnOk, length};
+ghost use Rattle.std.specs.Prelude.{◌≡◌, IfOk, OnOk, length};
 ghost use Rattle.std.specs.Arc.{arc_value};
-ghost use Rattle.crew_flights.specs.Timetable as TimetableSpec;
-ghost use Rattle.crew_pairing.specs.Duties.{AreDuties, RiseByKey};
-ghost use Rattle.crew_pairing.specs.Events.{IsSound};
-ghost use Rattle.crew_pairing.specs.declared.duty.Duty.{Duty};
-ghost use Rattle.crew_resource.specs.Members.{Member};
+ghost use Rattle.crew_flights.specs.Timetable.{IsBasePrice};
 ghost use Rattle.crew_sweep.specs.Machinery.Grounds.{HasPassedAll, IsGround, Stands};
-ghost use Rattle.crew_sweep.specs.Sweeps.{AreTurns, ShowsFronts};
+ghost use Rattle.crew_sweep.specs.Sweeps.{IsSweepable, IsSwept};
 
 use crate::ground::Ground;
 use crate::passed::Passed;
@@ -87,26 +83,20 @@ fn pass_all_by_threads<T: Threads + Sync>(
 }
 
 /// The pools of a base, one for each departure of its network: at each legal duty they show the
-/// duty's front. `turns` has the turn of each duty's departure, by rank.
+/// duty's front. `positions` has the position of each duty's departure, by rank.
 pub fn sweep(
     alloc: Global,
     net: Arc<Net, Global>,
-    turns: &[u32],
+    positions: &[u32],
     base: Code,
     price: i64,
 ) -> Result<Sweep, AllocError>
-    requires sound { (d : Duty) → Member (arc_value net).duties d → IsSound d }
-    requires rise { RiseByKey (arc_value net).duties }
-    requires few { length (arc_value net).duties ≤ 200_000 }
-    requires turns { AreTurns (arc_value net) turns.now }
-    requires price { TimetableSpec.IsBasePrice price }
-    ensures net { IfOk result (λ sweep. sweep.net ≡ arc_value net) }
-    ensures base { IfOk result (λ sweep. (sweep.base ≡ base) × (sweep.price ≡ price)) }
-    ensures right { IfOk result (λ sweep. (t : TimetableSpec.Timetable) → TimetableSpec.IsSound t
-        → AreDuties sweep.net.settings t sweep.net.duties → ShowsFronts t sweep) }
+    requires sweepable { IsSweepable (arc_value net) positions.now }
+    requires price { IsBasePrice price }
+    ensures { IfOk result (IsSwept (arc_value net) (base, price)) }
 {
     let full = AnchoredResource::new(net.settings(), price);
-    let ground = Ground::of(&net, turns, base, &full);
+    let ground = Ground::of(&net, positions, base, &full);
     let passed = pass_all(alloc, &ground)?;
     Ok(Sweep::of(net, base, price, full, passed))
 }
@@ -118,22 +108,16 @@ pub fn sweep_by_threads<T: Threads + Sync>(
     alloc: Global,
     threads: usize,
     net: Arc<Net, Global>,
-    turns: &[u32],
+    positions: &[u32],
     base: Code,
     price: i64,
 ) -> Result<Sweep, AllocError>
-    requires sound { (d : Duty) → Member (arc_value net).duties d → IsSound d }
-    requires rise { RiseByKey (arc_value net).duties }
-    requires few { length (arc_value net).duties ≤ 200_000 }
-    requires turns { AreTurns (arc_value net) turns.now }
-    requires price { TimetableSpec.IsBasePrice price }
-    ensures net { IfOk result (λ sweep. sweep.net ≡ arc_value net) }
-    ensures base { IfOk result (λ sweep. (sweep.base ≡ base) × (sweep.price ≡ price)) }
-    ensures right { IfOk result (λ sweep. (t : TimetableSpec.Timetable) → TimetableSpec.IsSound t
-        → AreDuties sweep.net.settings t sweep.net.duties → ShowsFronts t sweep) }
+    requires sweepable { IsSweepable (arc_value net) positions.now }
+    requires price { IsBasePrice price }
+    ensures { IfOk result (IsSwept (arc_value net) (base, price)) }
 {
     let full = AnchoredResource::new(net.settings(), price);
-    let ground = Ground::of(&net, turns, base, &full);
+    let ground = Ground::of(&net, positions, base, &full);
     let passed = pass_all_by_threads(rt, alloc, threads, &ground)?;
     Ok(Sweep::of(net, base, price, full, passed))
 }

@@ -27,8 +27,8 @@ use crew_step::{Pools, departure_pool};
 use std::alloc::{AllocError, Global};
 use std::sync::Arc;
 
-/// What a pass has made so far, with the room in which it merges: `batch_end` is the turn at which
-/// the batch of departures ends that it is in.
+/// What a pass has made so far, with the room in which it merges: `batch_end` is the position at
+/// which the batch of departures ends that it is in.
 #[derive(Drop)]
 pub(crate) struct Passing {
     pub(crate) room: Workspace<AnchoredResource>,

@@ -2,6 +2,7 @@
 ghost use Rattle.std.specs.Arc.{arc_value};
 ghost use Rattle.std.specs.Prelude.{◌≡◌, ◌<◌, ◌+◌, ℕ, IfOk, IfSome, Ok, OnOk, false, get_or, length, slice_get, true, Some};
 ghost use Rattle.crew_carry.specs.Carried.{IsCarried};
+ghost use Rattle.crew_net.specs.Machinery.Numbered.{arrival_place};
 ghost use Rattle.crew_pairing.specs.Events.{arrival_of, departure_of};
 ghost use Rattle.crew_pairing.specs.declared.duty.Duty.{Duty};
 ghost use Rattle.crew_pairing.specs.declared.events.Departure.{Departure};
@@ -11,7 +12,6 @@ ghost use Rattle.crew_resource.specs.Members.{Member};
 ghost use Rattle.crew_step.specs.Walks.{HasGrown};
 ghost use Rattle.crew_sweep.specs.Machinery.Beside.{HasOldLabels, IsBeside, StandsBeside};
 ghost use Rattle.crew_sweep.specs.Machinery.Grounds.{IsGround};
-ghost use Rattle.crew_sweep.specs.Machinery.Numbered.{arrival_place};
 ghost use Rattle.crew_sweep.specs.Machinery.Renewing.{IsKeptPool};
 
 use crate::earlier::Earlier;
@@ -58,10 +58,10 @@ fn kept_pool(
         earlier.now.sweep.now.walks walks.new carrier.new) }
     ensures grown { HasGrown walks.old walks.new }
 {
-    let Some(turn) = earlier.kept_turn(ground, changed, place) else {
+    let Some(position) = earlier.kept_position(ground, changed, place) else {
         return Ok(None);
     };
-    earlier.carried_pool(alloc, ground, turn, carrier, walks)
+    earlier.carried_pool(alloc, ground, position, carrier, walks)
 }
 
 // Where the walks of the earlier pass stand, and the walks with which this one begins: each in its own
@@ -100,7 +100,7 @@ impl Renewal {
     }
 
     /// The pass goes on by the departure at a place, where its pool can be kept: `false` where not.
-    pub(crate) fn keep_one(
+    pub(crate) fn keep_departure(
         &mut self,
         alloc: Global,
         earlier: &Earlier,
@@ -176,12 +176,12 @@ fn is_as_before(
     if !open {
         return Ok(false);
     }
-    let Some(turn) = earlier.turn(ground, place) else {
+    let Some(position) = earlier.position(ground, place) else {
         return Ok(false);
     };
     let sweep = earlier.sweep;
     let ranks = earlier.twins.ranks();
-    let old = sweep.pool(turn);
+    let old = sweep.pool(position);
     are_alike(alloc, old, sweep.walks(), ranks, pool, walks)
 }
 

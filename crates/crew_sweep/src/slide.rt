@@ -7,7 +7,7 @@ ghost use Rattle.crew_pool.specs.LabelWalks.{IsPoolOf, shown};
 ghost use Rattle.crew_pool.specs.Machinery.Meets.{vectors_of};
 ghost use Rattle.crew_pool.specs.declared.label_walk.LabelWalk.{LabelWalk};
 ghost use Rattle.crew_resource.specs.Members.{Member};
-ghost use Rattle.crew_sweep.specs.Machinery.Parts.{AreHeld, AreEnds, IsPart};
+ghost use Rattle.crew_sweep.specs.Machinery.Parts.{AreHeld, AreSuffixes, IsPart};
 ghost use Rattle.crew_sweep.specs.Machinery.Sliding.{Covers, IsSliding, IsStacked, Stacks};
 ghost use Rattle.crew_vector.specs.Dominance.{is_at_most};
 
@@ -54,7 +54,7 @@ fn joined(
 }
 
 // The pools from each place of a window up to its end, and that of no place, the nearest first.
-fn ends_of(
+fn suffix_pools(
     alloc: Global,
     resource: &AnchoredResource,
     room: &mut Workspace<AnchoredResource>,
@@ -65,24 +65,25 @@ fn ends_of(
     requires held { AreHeld walks.now held.now }
     requires ordered { window.from ≤ window.end }
     requires within { window.end ≤ length held.now }
-    ensures ends { IfOk result (λ ends. AreEnds walks.now held.now window.end ends.items) }
-    ensures long { IfOk result (λ ends. length ends.items ≡ window.end - window.from + 1) }
+    ensures suffixes { IfOk result
+        (λ pools. AreSuffixes walks.now held.now window.end pools.items) }
+    ensures long { IfOk result (λ pools. length pools.items ≡ window.end - window.from + 1) }
 {
-    let mut ends = Vec::new(alloc);
-    ends.push(Pool::new(alloc))?;
+    let mut suffixes = Vec::new(alloc);
+    suffixes.push(Pool::new(alloc))?;
     for nearer in 0..window.end - window.from {
         let place = window.end - 1 - nearer;
         let longer = joined(
             alloc,
             resource,
             room,
-            &ends[nearer],
+            &suffixes[nearer],
             held[place].as_slice(),
             walks,
         )?;
-        ends.push(longer)?;
+        suffixes.push(longer)?;
     }
-    Ok(ends)
+    Ok(suffixes)
 }
 
 impl Slide {
@@ -116,7 +117,7 @@ impl Slide {
     }
 
     // Begins anew at a window.
-    fn turn(
+    fn restart_at(
         &mut self,
         alloc: Global,
         resource: &AnchoredResource,
@@ -128,22 +129,23 @@ impl Slide {
         requires held { AreHeld walks.now held.now }
         requires ordered { window.from ≤ window.end }
         requires within { window.end ≤ length held.now }
-        ensures ends { OnOk result (AreEnds walks.now held.now window.end self.new.before.items) }
+        ensures suffixes { OnOk result
+            (AreSuffixes walks.now held.now window.end self.new.before.items) }
         ensures long { OnOk result
             (length self.new.before.items ≡ window.end - window.from + 1) }
         ensures after { OnOk result (self.new.after ≡ []) }
         ensures middle { OnOk result ((self.new.middle ≡ window.end)
             × (self.new.end ≡ window.end)) }
     {
-        self.before = ends_of(alloc, resource, room, held, window, walks)?;
+        self.before = suffix_pools(alloc, resource, room, held, window, walks)?;
         self.after.clear();
         self.middle = window.end;
         self.end = window.end;
         Ok(())
     }
 
-    // Turns, unless the slide reaches the window as it is; then it lets go of the pools from places
-    // before the window.
+    // Begins anew at a window, unless the slide reaches it as it is; then it lets go of the pools
+    // from places before the window.
     fn begin_at(
         &mut self,
         alloc: Global,
@@ -169,7 +171,7 @@ impl Slide {
             self.before.truncate(self.middle - window.from + 1);
             return Ok(());
         }
-        self.turn(alloc, resource, room, held, window, walks)
+        self.restart_at(alloc, resource, room, held, window, walks)
     }
 
     // Goes on to an end.

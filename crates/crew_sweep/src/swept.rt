@@ -186,8 +186,8 @@ impl Sweep {
     /// How many labels the pools have. No clause says so, since it is there for memory's sake.
     pub(crate) fn label_count(&self) -> usize {
         let mut count: usize = 0;
-        for turn in 0..self.pools.len() {
-            count = count.saturating_add(self.pools.get(turn).len());
+        for position in 0..self.pools.len() {
+            count = count.saturating_add(self.pools.get(position).len());
         }
         count
     }

@@ -1,22 +1,23 @@
 -- Where a pass stands that goes beside an earlier one.
 use Rattle.std.specs.Prelude.{ℕ, List, [], get_or}
 use Rattle.crew_carry.specs.Carried.{IsCarried}
+use Rattle.crew_net.specs.Machinery.Numbered.{departure_place}
 use Rattle.crew_net.specs.Nets.{AreArrivalPlaces}
+use Rattle.crew_net.specs.Positions.{in_order}
 use Rattle.crew_pairing.specs.declared.events.Departure.{Departure}
 use Rattle.crew_pairing.specs.declared.vector.PairingVector.{PairingVector}
 use Rattle.crew_pool.specs.declared.label_walk.LabelWalk.{LabelWalk}
 use Rattle.crew_sweep.specs.Machinery.Grounds.{Stands}
 use Rattle.crew_sweep.specs.Machinery.Kept.{keyed_pools}
-use Rattle.crew_sweep.specs.Machinery.Numbered.{departure_place}
-use Rattle.crew_sweep.specs.Machinery.Renewing.{HaveSame, IsEarlier, IsRenewing}
-use Rattle.crew_sweep.specs.Sweeps.{in_order, keyed}
+use Rattle.crew_sweep.specs.Machinery.Renewing.{HaveSame, IsEarlierPass, IsRenewing}
+use Rattle.crew_sweep.specs.Sweeps.{keyed}
 use Rattle.crew_sweep.specs.declared.earlier.Earlier.{Earlier}
 use Rattle.crew_sweep.specs.declared.ground.Ground.{Ground}
 use Rattle.crew_sweep.specs.declared.renewal.Renewal.{Renewal}
 
 -- an earlier sweep beside which a pass may go
 pub record IsBeside (e : Earlier) (g : Ground) : Type 0 where
-  pub earlier : IsEarlier e.sweep.now g.net.now e.twins.now e.turns.now g.base g.resource
+  pub earlier : IsEarlierPass e.sweep.now g.net.now e.twins.now e.positions.now g.base g.resource
   pub places : AreArrivalPlaces g.net.now e.places.now
 
 -- a pool has the labels that a departure's had

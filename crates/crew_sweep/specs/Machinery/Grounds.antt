@@ -14,7 +14,7 @@ use Rattle.crew_sweep.specs.declared.passing.Passing.{Passing}
 
 -- a pass may go by it
 pub record IsGround (g : Ground) : Type 0 where
-  pub passable : IsPassable g.net.now g.turns.now
+  pub passable : IsPassable g.net.now g.positions.now
   pub fits : (n : ℕ) → n ≤ 100_000 → fits_in g.resource n
   pub most : g.resource.max_duties ≤ 12
 
@@ -29,7 +29,7 @@ Stay old new = HaveStayed old.made.items old.pools.items new.made.items new.pool
 
 -- the pool of the arrival at a place, from those of so many departures
 abbrev pub IsPoolAt : Ground → Passed → ℕ → List (PairingVector × LabelWalk) → Type 0
-IsPoolAt g p place = IsArrivalPool g.net.now g.turns.now g.resource p.walks p.pools place
+IsPoolAt g p place = IsArrivalPool g.net.now g.positions.now g.resource p.walks p.pools place
 
 -- a pass stands so: its pools, and its slides over those of arrivals
 pub record Stands (g : Ground) (p : Passing) : Type 0 where

@@ -4,6 +4,7 @@ use Rattle.std.specs.Option.{is_some}
 use Rattle.crew_anchor.specs.declared.resource.AnchoredResource.{AnchoredResource}
 use Rattle.crew_carry.specs.Twins.{Twins}
 use Rattle.crew_net.specs.Nets.{Net}
+use Rattle.crew_net.specs.Positions.{in_order}
 use Rattle.crew_net.specs.declared.window.Window.{Window}
 use Rattle.crew_pairing.specs.Keys.{walk_at_most}
 use Rattle.crew_pairing.specs.declared.vector.PairingVector.{PairingVector}
@@ -15,8 +16,8 @@ use Rattle.crew_resource.specs.Events.{FromFronts, Views}
 use Rattle.crew_resource.specs.Labels.{IsLocal}
 use Rattle.crew_resource.specs.Members.{Member}
 use Rattle.crew_sweep.specs.Machinery.Passing.{AreLabels, IsMade, passed_network}
-use Rattle.crew_sweep.specs.Machinery.Renewing.{IsTurnPool}
-use Rattle.crew_sweep.specs.Sweeps.{BaseSweep, in_order, keyed}
+use Rattle.crew_sweep.specs.Machinery.Renewing.{IsPositionPool}
+use Rattle.crew_sweep.specs.Sweeps.{BaseSweep, keyed}
 use Rattle.crew_vector.specs.Dominance.{is_at_most}
 
 -- the arrival at a place has the duties that it had, from pools that have the labels that they had
@@ -57,9 +58,9 @@ pub record IsFresh (t : Twins) (changed : List Bool) (walks : List (List ℕ)) (
 -- the pool that the departure at a place had
 pub record IsOldPool (old : BaseSweep) (net : Net) (walks : List (List ℕ)) (place : ℕ)
     (pool : List (PairingVector × LabelWalk)) : Type 0 where
-  pub turn : ℕ
-  pub at : slice_get (in_order old.net) turn ≡ slice_get net.departures place
-  pub has : IsTurnPool old net walks turn pool
+  pub position : ℕ
+  pub at : slice_get (in_order old.net) position ≡ slice_get net.departures place
+  pub has : IsPositionPool old net walks position pool
 
 -- the pool by which a pass may go on
 pub record IsNextPool (net : Net) (base : List ℕ) (r : AnchoredResource) (walks : List (List ℕ))

@@ -1,11 +1,12 @@
 -- The network of a base with its events by number, as a sweep goes over them: departures by their
 -- places in the order in which it does, arrivals by theirs in the network.
-use Rattle.std.specs.Prelude.{◌≡◌, ◌<◌, ℕ, suc, Bool, false, ◌&&◌, cond, List, [], ◌∷◌, ◌++◌, Option, Some, None, get_or, slice_get}
-use Rattle.std.specs.Ordering.{eq_by_cmp, int_eq}
+use Rattle.std.specs.Prelude.{◌<◌, ℕ, Bool, false, cond, List, [], ◌∷◌, ◌++◌, Option, Some, None, get_or, slice_get}
+use Rattle.std.specs.Ordering.{eq_by_cmp}
 use Rattle.crew_anchor.specs.Stages.{anchored_board, anchored_idle}
 use Rattle.crew_anchor.specs.declared.resource.AnchoredResource.{AnchoredResource}
-use Rattle.crew_pairing.specs.Events.{arrival_of, departure_of, may_wait}
 use Rattle.crew_flights.specs.Codes.{code_cmp}
+use Rattle.crew_net.specs.Machinery.Numbered.{arrival_place, departure_place}
+use Rattle.crew_pairing.specs.Events.{arrival_of, departure_of, may_wait}
 use Rattle.crew_pairing.specs.Keys.{walk_at_most}
 use Rattle.crew_pairing.specs.Legs.{Leg}
 use Rattle.crew_pairing.specs.declared.duty.Duty.{Duty}
@@ -16,27 +17,6 @@ use Rattle.crew_resource.specs.Events.{FromFronts, Network, Views}
 use Rattle.crew_resource.specs.Labels.{IsLocal}
 use Rattle.crew_rules.specs.declared.settings.Settings.{Settings}
 use Rattle.crew_vector.specs.Dominance.{is_at_most}
-
--- the place of the first that passes a test, or how many there are where none does
-abbrev pub place_of : {E : Type 0} → (E → Bool) → List E → ℕ
-place_of passes [] = 0
-place_of passes (e ∷ es) = cond (passes e) 0 (suc (place_of passes es))
-
-abbrev pub is_departure : Departure → Departure → Bool
-is_departure g h = eq_by_cmp code_cmp g.airport h.airport && int_eq g.report h.report
-
-abbrev pub is_arrival : Arrival → Arrival → Bool
-is_arrival x y = eq_by_cmp code_cmp x.airport y.airport && int_eq x.release y.release
-
-abbrev pub departure_place : List Departure → Departure → ℕ
-departure_place departures g = place_of (λ h. is_departure h g) departures
-
-abbrev pub arrival_place : List Arrival → Arrival → ℕ
-arrival_place arrivals x = place_of (λ y. is_arrival y x) arrivals
-
--- each stands in one place
-abbrev pub AreDistinct : {E : Type 0} → List E → Type 0
-AreDistinct {E} es = (i j : ℕ) (e : E) → slice_get es i ≡ Some e → slice_get es j ≡ Some e → i ≡ j
 
 abbrev pub window_at : Settings → Option Arrival → Option Departure → Bool
 window_at s None g = false

@@ -30,7 +30,7 @@ pub record IsPart (walks : List (List ℕ)) (held : List (List (PairingVector ×
   pub counts : AreCounted (λ (v : PairingVector). v.duties) walks false labels
 
 -- the pools from each place up to an end, the nearest first, the pool of no place before all
-pub record AreEnds (walks : List (List ℕ)) (held : List (List (PairingVector × LabelWalk)))
+pub record AreSuffixes (walks : List (List ℕ)) (held : List (List (PairingVector × LabelWalk)))
     (end : ℕ) (pools : List (List (PairingVector × LabelWalk))) : Type 0 where
   pub reach : (i : ℕ) (labels : List (PairingVector × LabelWalk))
       → slice_get pools i ≡ Some labels → i ≤ end

@@ -5,7 +5,9 @@ use Rattle.crew_anchor.specs.Stages.{anchored_board}
 use Rattle.crew_anchor.specs.declared.resource.AnchoredResource.{AnchoredResource}
 use Rattle.crew_net.specs.Events.{AreEvents, arrival_cmp, arrives_at, departure_cmp}
 use Rattle.crew_net.specs.Machinery.Moments.{IsReal}
+use Rattle.crew_net.specs.Machinery.Numbered.{arrival_place, departure_place}
 use Rattle.crew_net.specs.Nets.{AreByReport, Net}
+use Rattle.crew_net.specs.Positions.{ArePositions, in_order}
 use Rattle.crew_net.specs.Ranks.{ranks_where}
 use Rattle.crew_net.specs.declared.window.Window.{Window}
 use Rattle.crew_pairing.specs.Duties.{RiseByKey}
@@ -22,8 +24,8 @@ use Rattle.crew_pool.specs.declared.label_walk.LabelWalk.{LabelWalk}
 use Rattle.crew_resource.specs.Events.{Network, Swept}
 use Rattle.crew_resource.specs.Members.{Each, Member}
 use Rattle.crew_step.specs.Pools.{boarded, waiting}
-use Rattle.crew_sweep.specs.Machinery.Numbered.{arrival_place, departure_place, idle_at, numbered}
-use Rattle.crew_sweep.specs.Sweeps.{AreTurns, in_order, keyed}
+use Rattle.crew_sweep.specs.Machinery.Numbered.{idle_at, numbered}
+use Rattle.crew_sweep.specs.Sweeps.{keyed}
 use Rattle.crew_vector.specs.Dominance.{is_at_most}
 
 -- a base's network with its departures in order of report, under a resource
@@ -87,13 +89,13 @@ AreSealed net passed places = Each (λ place. (place < length net.arrivals) × I
 
 -- the pool is that of the arrival at a place: what is undominated of the labels that board the
 -- duties which arrive there
-pub record IsArrivalPool (net : Net) (turns : List ℕ) (r : AnchoredResource)
+pub record IsArrivalPool (net : Net) (positions : List ℕ) (r : AnchoredResource)
     (walks : List (List ℕ)) (pools : List (List (PairingVector × LabelWalk))) (place : ℕ)
     (pool : List (PairingVector × LabelWalk)) : Type 0 where
   pub ranks : List ℕ
   pub all : (x : Arrival) → slice_get net.arrivals place ≡ Some x
       → IsPermutation (ranks_where (arrives_at x) net.duties) ranks
-  pub local : IsPoolOf is_at_most (boarded walks (anchored_board r) net.duties turns pools ranks)
+  pub local : IsPoolOf is_at_most (boarded walks (anchored_board r) net.duties positions pools ranks)
       (map (shown walks) pool)
   pub counts : AreCounted (λ (v : PairingVector). v.duties) walks false pool
 
@@ -107,8 +109,8 @@ abbrev pub HaveStayed : List Bool → List (List (PairingVector × LabelWalk)) �
 HaveStayed made held made' held' = (place : ℕ) → IsMade made place → IsMade made' place
     × (get_or held' place [] ≡ get_or held place [])
 
--- a network over which a pass may go: its events, its duties, and the turns of these
-pub record IsPassable (net : Net) (turns : List ℕ) : Type 0 where
+-- a network over which a pass may go: its events, its duties, and the positions of their departures
+pub record IsPassable (net : Net) (positions : List ℕ) : Type 0 where
   pub departs : AreEvents departure_of departure_cmp net.duties net.departures
   pub arrives : AreEvents arrival_of arrival_cmp net.duties net.arrivals
   pub ordered : AreByReport net.departures net.by_report
@@ -116,7 +118,7 @@ pub record IsPassable (net : Net) (turns : List ℕ) : Type 0 where
   pub rise : RiseByKey net.duties
   pub sound : (d : Duty) → Member net.duties d → IsSound d
   pub few : length net.duties ≤ 200_000
-  pub are_turns : AreTurns net turns
+  pub are_positions : ArePositions net positions
 
 -- all departures are passed
 pub record HasPassed (net : Net) (base : List ℕ) (r : AnchoredResource) (walks : List (List ℕ))

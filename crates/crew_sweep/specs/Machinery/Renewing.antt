@@ -3,7 +3,9 @@ use Rattle.std.specs.Prelude.{◌≡◌, ◌<◌, ◌+◌, ◌-◌, ℕ, Bool, t
 use Rattle.crew_anchor.specs.declared.resource.AnchoredResource.{AnchoredResource}
 use Rattle.crew_carry.specs.Twins.{AreTwins, Twins}
 use Rattle.crew_net.specs.Events.{AreEvents, IsWindow, arrival_cmp, departure_cmp}
+use Rattle.crew_net.specs.Machinery.Numbered.{arrival_place, departure_place}
 use Rattle.crew_net.specs.Nets.{AreByReport, Net}
+use Rattle.crew_net.specs.Positions.{ArePositions, in_order}
 use Rattle.crew_net.specs.declared.window.Window.{Window}
 use Rattle.crew_pairing.specs.Duties.{RiseByKey}
 use Rattle.crew_pairing.specs.Events.{arrival_of, departure_of, may_wait}
@@ -17,9 +19,9 @@ use Rattle.crew_pool.specs.Ranks.{AreRanked}
 use Rattle.crew_pool.specs.declared.label_walk.LabelWalk.{LabelWalk}
 use Rattle.crew_resource.specs.Members.{Member}
 use Rattle.crew_sweep.specs.Machinery.Kept.{keyed_pools, sparing_of}
-use Rattle.crew_sweep.specs.Machinery.Numbered.{AreLocal, arrival_place, departure_place}
+use Rattle.crew_sweep.specs.Machinery.Numbered.{AreLocal}
 use Rattle.crew_sweep.specs.Machinery.Passing.{AreLabels, passed_network}
-use Rattle.crew_sweep.specs.Sweeps.{AreTurns, BaseSweep, in_order, keyed}
+use Rattle.crew_sweep.specs.Sweeps.{BaseSweep, keyed}
 
 -- two lists of labels have the same ones
 abbrev pub HaveSame : List (PairingVector × List (List Leg)) → List (PairingVector × List (List Leg))
@@ -57,13 +59,13 @@ pub record IsLaid (net : Net) : Type 0 where
   pub ordered : AreByReport net.departures net.by_report
 
 -- an earlier sweep of the same base at the same price, with what its network and this one have alike
-pub record IsEarlier (old : BaseSweep) (net : Net) (t : Twins) (turns : List ℕ) (base : List ℕ)
+pub record IsEarlierPass (old : BaseSweep) (net : Net) (t : Twins) (positions : List ℕ) (base : List ℕ)
     (r : AnchoredResource) : Type 0 where
   pub settings : old.net.settings ≡ net.settings
   pub laid : IsLaid old.net
   pub rise : RiseByKey old.net.duties
   pub twins : AreTwins old.net net t
-  pub are_turns : AreTurns old.net turns
+  pub are_positions : ArePositions old.net positions
   pub own_base : base ≡ old.base
   pub resource : r ≡ sparing_of old
   pub long : length old.pools ≡ length old.net.by_report
@@ -72,29 +74,29 @@ pub record IsEarlier (old : BaseSweep) (net : Net) (t : Twins) (turns : List ℕ
   pub spared : (labels : List (PairingVector × LabelWalk)) → Member old.pools labels
       → AreLabels (sparing_of old) (length old.net.duties) old.walks labels
 
--- the old departure with a turn stands for that at a place, and the window of these holds what it
--- held
-pub record IsKeptTurn (old : BaseSweep) (net : Net) (t : Twins) (changed : List Bool) (place : ℕ)
-    (turn : ℕ) : Type 0 where
+-- the old departure at a position stands for that at a place, and the window of these holds what
+-- it held
+pub record IsKeptPosition (old : BaseSweep) (net : Net) (t : Twins) (changed : List Bool) (place : ℕ)
+    (position : ℕ) : Type 0 where
   pub event : Departure
   pub at : slice_get net.departures place ≡ Some event
-  pub old_at : slice_get (in_order old.net) turn ≡ Some event
+  pub old_at : slice_get (in_order old.net) position ≡ Some event
   pub window : Window
   pub is_window : IsWindow (λ x. may_wait net.settings x event) net.arrivals window
   pub old_window : Window
   pub is_old_window : IsWindow (λ x. may_wait old.net.settings x event) old.net.arrivals old_window
   pub kept : IsWindowKept t changed window old_window
 
--- the pool that the old departure with a turn has, over the walks of another network
-pub record IsTurnPool (old : BaseSweep) (net : Net) (walks : List (List ℕ)) (turn : ℕ)
+-- the pool that the old departure at a position has, over the walks of another network
+pub record IsPositionPool (old : BaseSweep) (net : Net) (walks : List (List ℕ)) (position : ℕ)
     (pool : List (PairingVector × LabelWalk)) : Type 0 where
-  pub labels : keyed net walks pool ≡ keyed old.net old.walks (get_or old.pools turn [])
+  pub labels : keyed net walks pool ≡ keyed old.net old.walks (get_or old.pools position [])
   pub counts : AreCounted (λ (v : PairingVector). v.duties) walks true pool
   pub ranked : AreRanked (length net.duties) (map (shown walks) pool)
 
 -- the pool of such a departure, as it was
 pub record IsKeptPool (old : BaseSweep) (net : Net) (t : Twins) (changed : List Bool)
     (walks : List (List ℕ)) (place : ℕ) (pool : List (PairingVector × LabelWalk)) : Type 0 where
-  pub turn : ℕ
-  pub stands : IsKeptTurn old net t changed place turn
-  pub has : IsTurnPool old net walks turn pool
+  pub position : ℕ
+  pub stands : IsKeptPosition old net t changed place position
+  pub has : IsPositionPool old net walks position pool

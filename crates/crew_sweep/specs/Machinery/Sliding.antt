@@ -3,7 +3,7 @@
 use Rattle.std.specs.Prelude.{◌≤◌, ◌<◌, ◌+◌, ◌⊎◌, ℕ, List, length}
 use Rattle.crew_pairing.specs.declared.vector.PairingVector.{PairingVector}
 use Rattle.crew_pool.specs.declared.label_walk.LabelWalk.{LabelWalk}
-use Rattle.crew_sweep.specs.Machinery.Parts.{AreEnds, IsPart}
+use Rattle.crew_sweep.specs.Machinery.Parts.{AreSuffixes, IsPart}
 use Rattle.crew_sweep.specs.declared.slide.Slide.{Slide}
 
 -- the places whose pools the stacks have merged
@@ -19,7 +19,7 @@ Covers s place = Stacks s place ⊎ ((s.window.from ≤ place) × (place < s.win
 pub record IsStacked (walks : List (List ℕ)) (held : List (List (PairingVector × LabelWalk)))
     (s : Slide) : Type 0 where
   pub ordered : s.middle ≤ s.end
-  pub before : AreEnds walks held s.middle s.before.items
+  pub before : AreSuffixes walks held s.middle s.before.items
   pub after : IsPart walks held s.middle s.end s.after
 
 -- a slide over a row

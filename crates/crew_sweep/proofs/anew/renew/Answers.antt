@@ -3,10 +3,9 @@ use Rattle.crew_anchor.specs.Stages.{anchored_resource}
 use Rattle.crew_net.specs.Nets.{Net}
 use Rattle.crew_rules.specs.declared.settings.Settings.{Settings}
 use Rattle.std.specs.Arc.{arc_value}
-use Rattle.crew_carry.specs.Twins.{AreTwins}
 use Rattle.crew_flights.specs.Timetable.{IsBasePrice}
-use Rattle.crew_net.specs.Nets.{AreArrivalPlaces}
-use Rattle.crew_sweep.proofs.Ends.{spare-of}
+use Rattle.crew_sweep.specs.Sweeps.{IsEarlier}
+use Rattle.crew_sweep.proofs.Ends.{spare-of, swept-as}
 use Rattle.crew_sweep.proofs.Prices.{base-price}
 use Rattle.crew_sweep.proofs.anew.renew.Goals as goal
 
@@ -24,17 +23,11 @@ of-before-requires-clause-resource c =
     let settings = (arc_value c.args.net).settings in
     let price = to_z w64 (of_z w64 c.price-price.result) in
     let full = c.new-full.ensures.made ∙ ap (λ (s : Settings). anchored_resource s price) (c.settings.ensures.value ∙ ap (λ (n : Net). n.settings) c.deref.ensures) in
-    let at = base-price c.price-price.result (subst IsBasePrice (sym c.price-price.ensures) c.requires.price) ∙ c.price-price.ensures in
-    c.of-ground.ensures.resource ∙ spare-of old settings price c.new-full.result full c.requires.settings at
+    let at = base-price c.price-price.result (subst IsBasePrice (sym c.price-price.ensures) c.requires.earlier.price) ∙ c.price-price.ensures in
+    c.of-ground.ensures.resource ∙ spare-of old settings price c.new-full.result full c.requires.earlier.settings at
 
-pub of-before-requires-clause-settings : goal.of-before-requires-clause-settings
-of-before-requires-clause-settings c = c.requires.settings ∙ ap (λ (n : Net). n.settings) (sym (c.of-ground.ensures.net ∙ c.deref-2.ensures))
-
-pub of-before-requires-clause-twins : goal.of-before-requires-clause-twins
-of-before-requires-clause-twins c = subst (λ (n : Net). AreTwins c.args.earlier.now.net n c.args.twins.now) (sym (c.of-ground.ensures.net ∙ c.deref-2.ensures)) c.requires.twins
-
-pub of-before-requires-clause-places : goal.of-before-requires-clause-places
-of-before-requires-clause-places c = subst (λ (n : Net). AreArrivalPlaces n c.args.places.now) (sym (c.of-ground.ensures.net ∙ c.deref-2.ensures)) c.requires.places
+pub of-before-requires-clause-earlier : goal.of-before-requires-clause-earlier
+of-before-requires-clause-earlier c = subst (λ (n : Net). IsEarlier c.args.earlier.now c.args.earlier_positions.now c.args.twins.now n c.args.places.now) (sym (c.of-ground.ensures.net ∙ c.deref-2.ensures)) c.requires.earlier
 
 pub of-requires-clause-resource : goal.of-requires-clause-resource
 of-requires-clause-resource c = c.new-full.ensures.made ∙ ap (λ (s : Settings). anchored_resource s (to_z w64 (of_z w64 c.price-price.result))) (c.settings.ensures.value ∙ ap (λ (n : Net). n.settings) c.deref.ensures)
@@ -51,3 +44,8 @@ of-requires-clause-passed c = record {
   own_resource = c.of-ground.ensures.resource;
   all = c.in_ok-passed.ensures;
 }
+
+pub returns : goal.returns
+returns c =
+    let at = base-price c.price-price.result (subst IsBasePrice (sym c.price-price.ensures) c.requires.earlier.price) ∙ c.price-price.ensures in
+    swept-as (arc_value c.args.net) c.base-base.result c.args.earlier.now.base (to_z w64 (of_z w64 c.price-price.result)) c.args.earlier.now.price _ _ c.of.result c.of.ensures.is c.base-base.ensures at c.of.ensures.right

@@ -1,4 +1,5 @@
 use Rattle.std.proofs.Common.{◌≡◌, ◌∙◌, ◌<◌, ◌+◌, List, Some, arith, false, length, refl, subst, sym, ⊎_elim}
+use Rattle.crew_net.proofs.Slices.{item-in}
 use Rattle.crew_pairing.specs.declared.vector.PairingVector.{PairingVector}
 use Rattle.crew_pool.specs.Counted.{AreCounted, IsCounted}
 use Rattle.crew_pool.specs.declared.label_walk.LabelWalk.{LabelWalk}
@@ -6,7 +7,6 @@ use Rattle.crew_pool.proofs.BoardLemmas.{counted_alike}
 use Rattle.crew_resource.proofs.Members.{Member-get_or}
 use Rattle.crew_sweep.specs.Machinery.Mending.{IsChangedPart}
 use Rattle.crew_sweep.proofs.Gathering.{changed-join, changed-none, changed-skip}
-use Rattle.crew_sweep.proofs.Slices.{item-in}
 use Rattle.crew_sweep.proofs.mending.gathered.Goals.{then-not-is_unchanged+in_ok-merge, else-not-is_unchanged}
 use Rattle.crew_sweep.proofs.mending.gathered.Goals as goal
 

@@ -12,4 +12,4 @@ pub returns-clause-old : goal.returns-clause-old
 returns-clause-old c =
     let now = c.carried_pool.new.walks in
     if-carried-is c.carried_pool.result _ (λ (p : Arc (List (PairingVector × LabelWalk)) Global). IsOldPool c.args.earlier.now.sweep.now c.args.ground.now.net.now now c.args.place (arc_value p)) c.carried_pool.ensures.pool
-    (λ p has. record { turn = c.in-Some.turn; at = c.in-Some.ensures; has = has })
+    (λ p has. record { position = c.in-Some.position; at = c.in-Some.ensures; has = has })

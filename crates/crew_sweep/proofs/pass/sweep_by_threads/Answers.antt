@@ -1,7 +1,10 @@
-use Rattle.std.proofs.Common.{◌∙◌, ap, of_z, sym, to_z, w64}
+use Rattle.std.proofs.Common.{◌∙◌, ap, of_z, refl, sym, to_z, w64}
+use Rattle.std.specs.Arc.{arc_value}
 use Rattle.crew_anchor.specs.Stages.{anchored_resource}
 use Rattle.crew_net.specs.Nets.{Net}
 use Rattle.crew_rules.specs.declared.settings.Settings.{Settings}
+use Rattle.crew_sweep.proofs.Ends.{swept-as}
+use Rattle.crew_sweep.proofs.Prices.{base-price}
 use Rattle.crew_sweep.proofs.pass.sweep_by_threads.Goals as goal
 
 pub of-ground-requires-clause-full : goal.of-ground-requires-clause-full
@@ -27,3 +30,6 @@ of-requires-clause-passed g c = record {
   own_resource = c.of-ground.ensures.resource;
   all = c.in_ok-passed.ensures;
 }
+
+pub returns : goal.returns
+returns g c = swept-as (arc_value c.args.net) c.args.base c.args.base (to_z w64 (of_z w64 c.args.price)) c.args.price _ _ c.of.result c.of.ensures.is refl (base-price c.args.price c.requires.price) c.of.ensures.right

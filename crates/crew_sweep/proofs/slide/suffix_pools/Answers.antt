@@ -1,4 +1,5 @@
 use Rattle.std.proofs.Common.{◌≡◌, ◌∙◌, ◌<◌, ◌≤◌, ◌+◌, ◌-◌, ◌++◌, ◌∷◌, List, [], false, length, refl, sym, subst, ap, arith, length-append}
+use Rattle.crew_net.proofs.Slices.{item-in}
 use Rattle.crew_pairing.specs.declared.vector.PairingVector.{PairingVector}
 use Rattle.crew_pool.specs.Apart.{AreApart}
 use Rattle.crew_pool.specs.Counted.{AreCounted}
@@ -6,14 +7,13 @@ use Rattle.crew_pool.specs.Machinery.Meets.{vectors_of}
 use Rattle.crew_pool.specs.declared.label_walk.LabelWalk.{LabelWalk}
 use Rattle.crew_resource.proofs.Members.{Member-get_or}
 use Rattle.crew_vector.specs.Dominance.{is_at_most}
-use Rattle.crew_sweep.specs.Machinery.Parts.{AreEnds, IsPart}
-use Rattle.crew_sweep.proofs.Parts.{ends-more, part-before, part-one}
-use Rattle.crew_sweep.proofs.Slices.{item-in}
-use Rattle.crew_sweep.proofs.slide.ends_of.Goals as goal
+use Rattle.crew_sweep.specs.Machinery.Parts.{AreSuffixes, IsPart}
+use Rattle.crew_sweep.proofs.Parts.{part-before, part-one, suffixes-more}
+use Rattle.crew_sweep.proofs.slide.suffix_pools.Goals as goal
 
 pub joined-requires-clause-first : goal.joined-requires-clause-first
 joined-requires-clause-first c =
-    let pools = c.loop-nearer.ends.items in
+    let pools = c.loop-nearer.suffixes.items in
     let n = c.loop-nearer.nearer in
     let inv = c.loop-nearer.invariant in
     let long = inv.1 in
@@ -38,7 +38,7 @@ loop-nearer-preserved c =
     let held = c.args.held.now in
     let walks = c.args.walks.now in
     let end = c.args.window.end in
-    let pools = c.loop-nearer.ends.items in
+    let pools = c.loop-nearer.suffixes.items in
     let n = c.loop-nearer.nearer in
     let item = c.index.result.now in
     let arrival = c.index-held-place.result in
@@ -58,6 +58,6 @@ loop-nearer-preserved c =
     let joined = part-before walks held (end - length pools) (end - n) end item labels longer (omega (arith, long)) (omega arith) part own c.in_ok-longer.ensures.local c.in_ok-longer.ensures.counts in
     let few : length pools ≤ end = omega (arith, long, c.loop-nearer-test.true) in
     let grown : c.push-in-loop-nearer.new.self.items ≡ pools ++ longer ∷ [] = c.in_ok-push-2.ensures.items in (
-      subst (λ (ps : List Labels). AreEnds walks held end ps) (sym grown) (ends-more walks held end pools longer inv.0 few joined),
+      subst (λ (ps : List Labels). AreSuffixes walks held end ps) (sym grown) (suffixes-more walks held end pools longer inv.0 few joined),
       ap (λ (ps : List Labels). length ps) grown ∙ (length-append pools (longer ∷ []) ∙ ap (λ k. k + 1) long),
     )

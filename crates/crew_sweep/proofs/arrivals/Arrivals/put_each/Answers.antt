@@ -40,7 +40,7 @@ put-requires-clause-pools c =
 pub loop-pool-preserved : goal.loop-pool-preserved
 loop-pool-preserved c =
     let net = c.args.ground.now.net.now in
-    let turns = c.args.ground.now.turns.now in
+    let positions = c.args.ground.now.positions.now in
     let r = c.args.ground.now.resource in
     let walks = c.args.passed.now.walks in
     let pools = c.args.passed.now.pools in
@@ -53,14 +53,14 @@ loop-pool-preserved c =
     let place = get_or c.args.places.now index 0 in
     let there = each-at (λ p. (p < length net.arrivals) × IsSealed net (length pools) p) c.args.places.now index 0 within c.requires.sealed in
     let left = left-next c.args.made.items c.loop-pool.pool-iterator.rest.items c.next.new.self.rest.items index c.in-Some.pool c.in-Some.pool c.loop-pool.invariant.1 steps.0 in
-    let is = IfOk-at_ok (IsArrivalPool net turns r walks pools place) (left.0 ∙ c.in_ok-pool.was) (c.requires.each index c.in-Some.pool within) in
+    let is = IfOk-at_ok (IsArrivalPool net positions r walks pools place) (left.0 ∙ c.in_ok-pool.was) (c.requires.each index c.in-Some.pool within) in
     let was = c.loop-pool.self in
     let now = c.put.new.self in
     let passing = c.loop-pool.invariant.2 in
     let marked = subst (λ n. place < n) (sym passing.marks) there.0 in (
       omega (arith, counted, fewer),
       left.1,
-      passing-put was.made.items was.pools.items place c.in_ok-pool.field-0 now.made.items now.pools.items c.put.ensures.kept c.put.ensures.put net turns c.requires.ground.passable r walks pools there.0 there.1 is c.args.ground.now.base passing,
+      passing-put was.made.items was.pools.items place c.in_ok-pool.field-0 now.made.items now.pools.items c.put.ensures.kept c.put.ensures.put net positions c.requires.ground.passable r walks pools there.0 there.1 is c.args.ground.now.base passing,
       stayed-through c.args.self.now.made.items c.args.self.now.pools.items was.made.items was.pools.items now.made.items now.pools.items c.loop-pool.invariant.3
           (stayed-put was.made.items was.pools.items place c.in_ok-pool.field-0 now.made.items now.pools.items c.put.ensures.kept c.put.ensures.put marked),
     )

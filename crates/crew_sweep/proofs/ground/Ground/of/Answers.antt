@@ -19,10 +19,10 @@ returns-clause-ground c =
         arrives = c.arrivals-arrivals.ensures.exact;
         ordered = c.by_report-places.ensures.exact;
         real = c.departures-departures.ensures.real;
-        rise = c.requires.rise;
-        sound = c.requires.sound;
-        few = c.requires.few;
-        are_turns = c.requires.turns;
+        rise = c.requires.sweepable.rise;
+        sound = c.requires.sweepable.sound;
+        few = c.requires.sweepable.few;
+        are_positions = c.requires.sweepable.positions;
       };
       fits = λ n h. subst (λ (r : AnchoredResource). fits_in r n) (sym spare) (ends.spare-fits net checked full.0 c.args.full.now full.1 c.requires.fits n h);
       most = subst (λ (r : AnchoredResource). r.max_duties ≤ 12) (sym spare) (ends.spare-few net checked full.0 c.args.full.now full.1 c.requires.fits);

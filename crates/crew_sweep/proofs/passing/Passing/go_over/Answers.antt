@@ -1,6 +1,6 @@
 use Rattle.std.proofs.Common.{◌≡◌, ◌∙◌, ◌+◌, ap, arith, length}
+use Rattle.crew_net.proofs.Slices.{at-position}
 use Rattle.crew_sweep.specs.declared.passed.Passed.{Passed}
-use Rattle.crew_sweep.proofs.Slices.{at-turn}
 use Rattle.crew_sweep.proofs.passing.Passing.go_over.Goals as goal
 
 pub loop-departure-init : goal.loop-departure-init
@@ -10,7 +10,7 @@ pub begin_batch-requires-clause-stands : goal.begin_batch-requires-clause-stands
 begin_batch-requires-clause-stands c = c.loop-departure.invariant.0
 
 pub go_on-requires-clause-place : goal.go_on-requires-clause-place
-go_on-requires-clause-place c = at-turn c.args.ground.now.net.now.by_report c.by_report-departure-items.result.now c.by_report-departure-items.ensures.places c.loop-departure.departure-index c.loop-departure-test.true _ (ap (λ (p : Passed). length p.pools) c.begin_batch.ensures.passed ∙ c.loop-departure.invariant.1)
+go_on-requires-clause-place c = at-position c.args.ground.now.net.now.by_report c.by_report-departure-items.result.now c.by_report-departure-items.ensures.places c.loop-departure.departure-index c.loop-departure-test.true _ (ap (λ (p : Passed). length p.pools) c.begin_batch.ensures.passed ∙ c.loop-departure.invariant.1)
 
 pub go_on-requires-clause-stands : goal.go_on-requires-clause-stands
 go_on-requires-clause-stands c = c.begin_batch.ensures.stands

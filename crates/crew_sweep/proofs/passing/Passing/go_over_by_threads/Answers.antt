@@ -1,6 +1,6 @@
 use Rattle.std.proofs.Common.{◌≡◌, ◌∙◌, ◌+◌, ap, arith, length}
+use Rattle.crew_net.proofs.Slices.{at-position}
 use Rattle.crew_sweep.specs.declared.passed.Passed.{Passed}
-use Rattle.crew_sweep.proofs.Slices.{at-turn}
 use Rattle.crew_sweep.proofs.passing.Passing.go_over_by_threads.Goals as goal
 
 pub loop-departure-init : goal.loop-departure-init
@@ -13,7 +13,7 @@ pub make_ahead-requires-clause-kept : goal.make_ahead-requires-clause-kept
 make_ahead-requires-clause-kept g c _ _ _ _ = tt
 
 pub go_on-requires-clause-place : goal.go_on-requires-clause-place
-go_on-requires-clause-place g c = at-turn c.args.ground.now.net.now.by_report c.by_report-departure-items.result.now c.by_report-departure-items.ensures.places c.loop-departure.departure-index c.loop-departure-test.true _ (ap (λ (p : Passed). length p.pools) c.make_ahead.ensures.passed ∙ c.loop-departure.invariant.1)
+go_on-requires-clause-place g c = at-position c.args.ground.now.net.now.by_report c.by_report-departure-items.result.now c.by_report-departure-items.ensures.places c.loop-departure.departure-index c.loop-departure-test.true _ (ap (λ (p : Passed). length p.pools) c.make_ahead.ensures.passed ∙ c.loop-departure.invariant.1)
 
 pub loop-departure-preserved : goal.loop-departure-preserved
 loop-departure-preserved g c = (c.in_ok-go_on.ensures.stands, c.in_ok-go_on.ensures.more ∙ ap (λ n. n + 1) (ap (λ (p : Passed). length p.pools) c.make_ahead.ensures.passed ∙ c.loop-departure.invariant.1))

@@ -2,6 +2,7 @@ use Rattle.std.proofs.Common.{◌≡◌, ◌∙◌, ◌≤◌, ◌-◌, ◌++◌
 use Rattle.std.specs.Prelude.{slice_get}
 use Rattle.std.specs.List.{flat_map}
 use Rattle.std.proofs.lemmas.Result.{IfOk-weaker}
+use Rattle.crew_net.proofs.Slices.{item-in, member-got, some-same, stands}
 use Rattle.crew_pairing.specs.declared.events.Departure.{Departure}
 use Rattle.crew_pairing.specs.declared.vector.PairingVector.{PairingVector}
 use Rattle.crew_pool.specs.Counted.{AreCounted}
@@ -17,8 +18,7 @@ use Rattle.crew_vector.specs.Dominance.{is_at_most}
 use Rattle.crew_sweep.proofs.Parts.{part-listed}
 use Rattle.crew_sweep.proofs.Redone.{on-ok-of}
 use Rattle.crew_sweep.proofs.Shown.{passing-grown}
-use Rattle.crew_sweep.proofs.Slices.{item-in, member-got, some-same}
-use Rattle.crew_sweep.proofs.Slidings.{stands, stayed-itself, under-way-more}
+use Rattle.crew_sweep.proofs.Slidings.{stayed-itself, under-way-more}
 use Rattle.crew_sweep.proofs.passing.Passing.pool_at.Goals as goal
 
 abbrev Labels : Type 0

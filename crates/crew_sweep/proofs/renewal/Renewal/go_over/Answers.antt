@@ -1,6 +1,6 @@
 use Rattle.std.proofs.Common.{◌≡◌, ◌∙◌, ◌+◌, ap, arith, length}
+use Rattle.crew_net.proofs.Slices.{at-position}
 use Rattle.crew_sweep.specs.declared.passed.Passed.{Passed}
-use Rattle.crew_sweep.proofs.Slices.{at-turn}
 use Rattle.crew_sweep.proofs.renewal.Renewal.go_over.Goals as goal
 
 pub loop-departure-init : goal.loop-departure-init
@@ -9,14 +9,14 @@ loop-departure-init c = (c.requires.stands, c.requires.none)
 pub begin_batch-requires-clause-stands : goal.begin_batch-requires-clause-stands
 begin_batch-requires-clause-stands c = c.loop-departure.invariant.0
 
-pub renew_one-requires-clause-place : goal.renew_one-requires-clause-place
-renew_one-requires-clause-place c = at-turn c.args.ground.now.net.now.by_report c.by_report-departure-items.result.now c.by_report-departure-items.ensures.places c.loop-departure.departure-index c.loop-departure-test.true _ (ap (λ (p : Passed). length p.pools) c.begin_batch.ensures.passed ∙ c.loop-departure.invariant.1)
+pub renew_departure-requires-clause-place : goal.renew_departure-requires-clause-place
+renew_departure-requires-clause-place c = at-position c.args.ground.now.net.now.by_report c.by_report-departure-items.result.now c.by_report-departure-items.ensures.places c.loop-departure.departure-index c.loop-departure-test.true _ (ap (λ (p : Passed). length p.pools) c.begin_batch.ensures.passed ∙ c.loop-departure.invariant.1)
 
-pub renew_one-requires-clause-stands : goal.renew_one-requires-clause-stands
-renew_one-requires-clause-stands c = c.begin_batch.ensures.stands
+pub renew_departure-requires-clause-stands : goal.renew_departure-requires-clause-stands
+renew_departure-requires-clause-stands c = c.begin_batch.ensures.stands
 
 pub loop-departure-preserved : goal.loop-departure-preserved
-loop-departure-preserved c = (c.in_ok-renew_one.ensures.stands, c.in_ok-renew_one.ensures.more ∙ ap (λ n. n + 1) (ap (λ (p : Passed). length p.pools) c.begin_batch.ensures.passed ∙ c.loop-departure.invariant.1))
+loop-departure-preserved c = (c.in_ok-renew_departure.ensures.stands, c.in_ok-renew_departure.ensures.more ∙ ap (λ n. n + 1) (ap (λ (p : Passed). length p.pools) c.begin_batch.ensures.passed ∙ c.loop-departure.invariant.1))
 
 pub returns : goal.returns
 returns c =

@@ -3,13 +3,13 @@ use Rattle.std.specs.Global.{Global}
 use Rattle.std.specs.declared.sync.Arc.{Arc}
 use Rattle.std.proofs.Common.{Bool, List, subst, sym}
 use Rattle.std.specs.Prelude.{IfSome}
+use Rattle.crew_net.proofs.Orders.{place-within}
 use Rattle.crew_pairing.specs.declared.vector.PairingVector.{PairingVector}
 use Rattle.crew_pool.specs.declared.label_walk.LabelWalk.{LabelWalk}
 use Rattle.crew_sweep.specs.Machinery.Passing.{IsPassing}
 use Rattle.crew_sweep.specs.Machinery.Renewing.{IsKeptPool, IsRenewing}
 use Rattle.crew_sweep.proofs.Besides as besides
-use Rattle.crew_sweep.proofs.Orders.{place-within}
-use Rattle.crew_sweep.proofs.renewal.Renewal.keep_one.Goals as goal
+use Rattle.crew_sweep.proofs.renewal.Renewal.keep_departure.Goals as goal
 
 abbrev Labels : Type 0
 Labels = List (PairingVector × LabelWalk)

@@ -5,7 +5,7 @@ use Rattle.crew_pool.specs.declared.label_walk.LabelWalk.{LabelWalk}
 use Rattle.crew_resource.specs.Members.{Member}
 use Rattle.crew_sweep.proofs.Redone.{on-ok-of}
 use Rattle.crew_sweep.proofs.Renewed.{renewing-grown}
-use Rattle.crew_sweep.proofs.renewal.Renewal.make_one.Goals as goal
+use Rattle.crew_sweep.proofs.renewal.Renewal.make_departure.Goals as goal
 
 abbrev Labels : Type 0
 Labels = List (PairingVector × LabelWalk)
@@ -13,8 +13,8 @@ Labels = List (PairingVector × LabelWalk)
 pub returns-clause-marks : goal.returns-clause-marks
 returns-clause-marks c =
     let was = c.args.self.now.passing.passed.pools in
-    let mid = c.mend_one.new.self in
+    let mid = c.mend_departure.new.self in
     let walks = mid.passing.passed.walks in
-    let same = c.in_ok-mend_one.ensures.not_mended (ap Ok c.if-branch.false) in
-    let whole = subst (λ (ps : List Labels). (labels : Labels) → Member ps labels → AreCounted (λ (v : PairingVector). v.duties) walks true labels) same c.in_ok-mend_one.ensures.stands.pools.whole in
-    on-ok-of c.go_on.result (renewing-grown c.args.earlier.now.sweep.now c.args.ground.now.net.now walks c.go_on.new.self.passed.walks was mid.changed.items c.go_on.ensures.grown whole c.in_ok-mend_one.ensures.marks)
+    let same = c.in_ok-mend_departure.ensures.not_mended (ap Ok c.if-branch.false) in
+    let whole = subst (λ (ps : List Labels). (labels : Labels) → Member ps labels → AreCounted (λ (v : PairingVector). v.duties) walks true labels) same c.in_ok-mend_departure.ensures.stands.pools.whole in
+    on-ok-of c.go_on.result (renewing-grown c.args.earlier.now.sweep.now c.args.ground.now.net.now walks c.go_on.new.self.passed.walks was mid.changed.items c.go_on.ensures.grown whole c.in_ok-mend_departure.ensures.marks)

@@ -3,6 +3,7 @@ use Rattle.std.specs.Global.{Global}
 use Rattle.std.specs.declared.sync.Arc.{Arc}
 use Rattle.std.proofs.Common.{◌≡◌, ◌<◌, Bool, List, Some, arith, get_or, length, subst, sym}
 use Rattle.std.specs.Prelude.{IfSome, slice_get}
+use Rattle.crew_net.proofs.Orders.{place-within}
 use Rattle.crew_pairing.specs.declared.vector.PairingVector.{PairingVector}
 use Rattle.crew_pool.specs.LabelWalks.{shown}
 use Rattle.crew_pool.specs.declared.label_walk.LabelWalk.{LabelWalk}
@@ -14,7 +15,6 @@ use Rattle.crew_sweep.specs.Machinery.Renewing.{IsRenewing}
 use Rattle.crew_sweep.proofs.Besides as besides
 use Rattle.crew_sweep.proofs.Mendings as mendings
 use Rattle.crew_sweep.proofs.Mends.{ranked-within}
-use Rattle.crew_sweep.proofs.Orders.{place-within}
 use Rattle.crew_sweep.proofs.Passable as passable-proofs
 use Rattle.crew_sweep.proofs.Redone.{carried-grown}
 use Rattle.crew_sweep.proofs.Renewed.{renewing-grown}
@@ -57,21 +57,21 @@ fresh_labels-requires-clause-stands c =
 pub fresh_labels-requires-clause-ordered : goal.fresh_labels-requires-clause-ordered
 fresh_labels-requires-clause-ordered c =
     let g = c.args.ground.now in
-    let d = passable-proofs.departs-at g.net.now g.turns.now c.requires.ground.passable (length c.args.self.now.passing.passed.pools) c.args.place c.requires.place in
+    let d = passable-proofs.departs-at g.net.now g.positions.now c.requires.ground.passable (length c.args.self.now.passing.passed.pools) c.args.place c.requires.place in
     (c.requires.window d.0 d.1).ordered
 
 pub fresh_labels-requires-clause-within : goal.fresh_labels-requires-clause-within
 fresh_labels-requires-clause-within c =
     let g = c.args.ground.now in
-    let d = passable-proofs.departs-at g.net.now g.turns.now c.requires.ground.passable (length c.args.self.now.passing.passed.pools) c.args.place c.requires.place in
+    let d = passable-proofs.departs-at g.net.now g.positions.now c.requires.ground.passable (length c.args.self.now.passing.passed.pools) c.args.place c.requires.place in
     (c.requires.window d.0 d.1).within
 
 pub fresh_labels-requires-clause-sealed : goal.fresh_labels-requires-clause-sealed
 fresh_labels-requires-clause-sealed c place from end =
     let g = c.args.ground.now in
     let count = length c.args.self.now.passing.passed.pools in
-    let d = passable-proofs.departs-at g.net.now g.turns.now c.requires.ground.passable count c.args.place c.requires.place in
-    passable-proofs.window-sealed g.net.now g.turns.now c.requires.ground.passable count d.0 d.2 c.args.window (c.requires.window d.0 d.1) place from end
+    let d = passable-proofs.departs-at g.net.now g.positions.now c.requires.ground.passable count c.args.place c.requires.place in
+    passable-proofs.window-sealed g.net.now g.positions.now c.requires.ground.passable count d.0 d.2 c.args.window (c.requires.window d.0 d.1) place from end
 
 pub are_reached-requires-clause-there : goal.are_reached-requires-clause-there
 are_reached-requires-clause-there c l m =

@@ -1,6 +1,6 @@
 use Rattle.std.proofs.Common.{sym, subst}
-use Rattle.crew_sweep.specs.Machinery.Parts.{AreEnds}
-use Rattle.crew_sweep.proofs.Parts.{ends-fewer}
+use Rattle.crew_sweep.specs.Machinery.Parts.{AreSuffixes}
+use Rattle.crew_sweep.proofs.Parts.{suffixes-fewer}
 use Rattle.crew_sweep.proofs.slide.Slide.begin_at.Goals as goal
 
 pub returns-then-reaches-clause-stacked : goal.returns-then-reaches-clause-stacked
@@ -9,6 +9,6 @@ returns-then-reaches-clause-stacked c =
     let stacked = c.requires.sliding.stacked in
     record {
       ordered = stacked.ordered;
-      before = subst (AreEnds c.args.walks.now c.args.held.now was.middle) (sym c.truncate.ensures.items) (ends-fewer c.args.walks.now c.args.held.now was.middle was.before.items _ stacked.before);
+      before = subst (AreSuffixes c.args.walks.now c.args.held.now was.middle) (sym c.truncate.ensures.items) (suffixes-fewer c.args.walks.now c.args.held.now was.middle was.before.items _ stacked.before);
       after = stacked.after;
     }

@@ -1,4 +1,5 @@
 use Rattle.std.proofs.Common.{◌<◌, ◌+◌, List, false, length, refl, subst, sym, arith, ⊎_elim}
+use Rattle.crew_net.proofs.Slices.{item-in}
 use Rattle.crew_pairing.specs.declared.vector.PairingVector.{PairingVector}
 use Rattle.crew_pool.specs.Apart.{AreApart}
 use Rattle.crew_pool.specs.Counted.{AreCounted, IsCounted}
@@ -9,7 +10,6 @@ use Rattle.crew_resource.proofs.Members.{Member-get_or}
 use Rattle.crew_vector.specs.Dominance.{is_at_most}
 use Rattle.crew_sweep.specs.Machinery.Parts.{IsPart}
 use Rattle.crew_sweep.proofs.Parts.{part-after, part-one}
-use Rattle.crew_sweep.proofs.Slices.{item-in}
 use Rattle.crew_sweep.proofs.slide.Slide.go_on.Goals as goal
 
 pub merge-requires-clause-apart : goal.merge-requires-clause-apart

@@ -1,7 +1,7 @@
 use Rattle.std.proofs.Common.{◌<◌, List, arith, length, subst, sym}
+use Rattle.crew_net.proofs.Numbers.{get-within}
+use Rattle.crew_net.proofs.Slices.{member-place}
 use Rattle.crew_sweep.specs.declared.slide.Slide.{Slide}
-use Rattle.crew_sweep.proofs.Numbers.{get-within}
-use Rattle.crew_sweep.proofs.Slices.{member-place}
 use Rattle.crew_sweep.proofs.slides.Slides.cover.Goals as goal
 
 pub returns : goal.returns

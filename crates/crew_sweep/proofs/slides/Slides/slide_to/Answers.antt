@@ -1,11 +1,11 @@
 use Rattle.std.proofs.Common.{◌≡◌, ◌<◌, ◌≤◌, sym, subst, arith, inl, inr, ◌⊎◌, ⊎_elim}
+use Rattle.crew_net.proofs.Slices.{set-long}
 use Rattle.crew_pool.proofs.MergeLemmas.{Member-set_out}
 use Rattle.crew_resource.proofs.Members.{Member-get_or}
 use Rattle.crew_sweep.specs.Machinery.Parts.{IsPart}
 use Rattle.crew_sweep.specs.Machinery.Sliding.{Covers, IsSliding}
 use Rattle.crew_sweep.specs.Machinery.Slides.{CoverAny}
 use Rattle.crew_sweep.specs.declared.slide.Slide.{Slide}
-use Rattle.crew_sweep.proofs.Slices.{set-long}
 use Rattle.crew_sweep.proofs.Slidings.{set-got}
 use Rattle.crew_sweep.proofs.slides.Slides.slide_to.Goals as goal
 
