@@ -1,9 +1,7 @@
 -- The positions of the departures of duties, by rank: their places in order of report.
-use Rattle.std.proofs.Common.{◌≡◌, ◌<◌, ◌≤◌, ◌+◌, ◌++◌, ◌∷◌, [], inl, ℕ, true, List, Some, length, set, take, get_or, sym, ap, subst, ◌∙◌, arith, ⊎_elim}
+use Rattle.std.proofs.Common.{◌≡◌, ◌<◌, ◌≤◌, ◌+◌, ℕ, true, List, Some, length, get_or, sym, ap, subst, ◌∙◌, arith, ⊎_elim}
 use Rattle.std.specs.Prelude.{slice_get}
 use Rattle.std.proofs.lemmas.Bool.Decides.{eqb_tells}
-use Rattle.std.proofs.lemmas.Grind.{get_or-set_at}
-use Rattle.std.proofs.lemmas.List.{get_or-set_other, take_more}
 use Rattle.crew_net.specs.Events.{AreEvents, departure_cmp, leaves_at}
 use Rattle.crew_net.specs.Nets.{AreByReport, Net}
 use Rattle.crew_net.specs.Ranks.{ranks_where}
@@ -11,7 +9,6 @@ use Rattle.crew_pairing.specs.Events.{departure_of}
 use Rattle.crew_pairing.specs.declared.duty.Duty.{Duty}
 use Rattle.crew_pairing.specs.declared.events.Departure.{Departure}
 use Rattle.crew_resource.specs.Members.{Member}
-use Rattle.crew_resource.proofs.Members.{Member-append, Member-append_left, Member-append_right}
 use Rattle.crew_net.specs.Machinery.Numbered.{departure_place}
 use Rattle.crew_net.specs.Positions.{in_order}
 use Rattle.crew_net.proofs.Numbers.{at-departure, departure-itself, get-within, same-departure}
