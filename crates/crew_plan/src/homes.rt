@@ -9,11 +9,11 @@ ghost use Rattle.crew_solve.specs.Machinery.Homes as Spec;
 ghost use Rattle.crew_solve.specs.Machinery.Homes.{HasPay, least_of};
 ghost use Rattle.crew_solve.specs.Machinery.Keeps.{keep, keep_all};
 
-use crate::kept::Kept;
 use crate::taken::Taken;
 use crew_flights::Code;
 use crew_fronts::{BaseFronts, Vector, WalkView};
 use crew_pairing::{Key, PairingVector, Walk};
+use crew_solve::CheapestSoFar;
 use crew_vector::PricedPairing;
 use std::alloc::{AllocError, Global};
 use std::sync::Arc;
@@ -59,13 +59,13 @@ fn walk_of(alloc: Global, walk: &WalkView<'_>) -> Result<Walk, AllocError>
 }
 
 // Keeps the pairing of an entry, whose walk is made only where it may be among the least.
-fn keep_entry(
+fn keep_of_entry(
     alloc: Global,
     base: Code,
     trip_rig: u32,
     vector: &Vector,
     walk: &WalkView<'_>,
-    kept: &mut Kept,
+    kept: &mut CheapestSoFar,
 ) -> Result<(), AllocError>
     requires { HasPay trip_rig vector.now.sums }
     ensures { OnOk result (kept.new
@@ -76,16 +76,16 @@ fn keep_entry(
         return Ok(());
     }
     let walk = walk_of(alloc, walk)?;
-    kept.keep(priced(trip_rig, base, sums, walk))
+    kept.keep(alloc, priced(trip_rig, base, sums, walk))
 }
 
 // Keeps the least of the pairings of the front of the duty of a rank.
-fn keep_front(
+fn keep_of_front(
     alloc: Global,
     base: &BaseFronts,
     trip_rig: u32,
     rank: usize,
-    kept: &mut Kept,
+    kept: &mut CheapestSoFar,
 ) -> Result<(), AllocError>
     requires rank { rank < length base.now.net.duties }
     requires pay { IsPayable trip_rig base.now }
@@ -95,18 +95,18 @@ fn keep_front(
     let code = base.base();
     let front = base.front(rank);
     for (vector, walk) in front.iter() {
-        keep_entry(alloc, code, trip_rig, &vector, &walk, kept)?;
+        keep_of_entry(alloc, code, trip_rig, &vector, &walk, kept)?;
     }
     Ok(())
 }
 
 // Keeps the least of the pairings of the front of the duty of a rank, where it ends at the base.
-fn keep_rank(
+fn keep_of_rank(
     alloc: Global,
     base: &BaseFronts,
     trip_rig: u32,
     rank: usize,
-    kept: &mut Kept,
+    kept: &mut CheapestSoFar,
 ) -> Result<(), AllocError>
     requires rank { rank < length base.now.net.duties }
     requires pay { IsPayable trip_rig base.now }
@@ -117,38 +117,38 @@ fn keep_rank(
     if duty.to != base.base() {
         return Ok(());
     }
-    keep_front(alloc, base, trip_rig, rank, kept)
+    keep_of_front(alloc, base, trip_rig, rank, kept)
 }
 
 // Keeps the least of all that comes home to a base.
-fn keep_home_of(
+fn keep_of_base(
     alloc: Global,
     base: &BaseFronts,
     trip_rig: u32,
-    kept: &mut Kept,
+    kept: &mut CheapestSoFar,
 ) -> Result<(), AllocError>
     requires { IsPayable trip_rig base.now }
     ensures { OnOk result (kept.new ≡ keep_all kept.old (home_of trip_rig base.now)) }
 {
     for rank in 0..base.net().duty_count() {
-        keep_rank(alloc, base, trip_rig, rank, kept)?;
+        keep_of_rank(alloc, base, trip_rig, rank, kept)?;
     }
     Ok(())
 }
 
 /// Keeps the least of all that comes home.
-pub(crate) fn keep_home(
+pub(crate) fn keep_of_bases(
     alloc: Global,
     bases: &[Arc<BaseFronts, Global>],
     trip_rig: u32,
-    kept: &mut Kept,
+    kept: &mut CheapestSoFar,
 ) -> Result<(), AllocError>
     requires { Each (IsPayable trip_rig) (map arc_value bases.now) }
     ensures { OnOk result (kept.new
         ≡ keep_all kept.old (flat_map (home_of trip_rig) (map arc_value bases.now))) }
 {
     for base in bases {
-        keep_home_of(alloc, base, trip_rig, kept)?;
+        keep_of_base(alloc, base, trip_rig, kept)?;
     }
     Ok(())
 }
@@ -163,8 +163,8 @@ pub(crate) fn best_of(
     ensures { IfOk result (λ best. best
         ≡ least_of None (flat_map (home_of trip_rig) (map arc_value bases.now))) }
 {
-    let mut kept = Kept::new(alloc, 1);
-    keep_home(alloc, bases, trip_rig, &mut kept)?;
+    let mut kept = CheapestSoFar::new(alloc, 1);
+    keep_of_bases(alloc, bases, trip_rig, &mut kept)?;
     Ok(kept.into_first())
 }
 
@@ -179,8 +179,8 @@ pub(crate) fn cheapest_of(
     ensures { IfOk result (λ pairings. pairings.items
         ≡ first_home limit trip_rig (map arc_value bases.now)) }
 {
-    let mut kept = Kept::new(alloc, limit);
-    keep_home(alloc, bases, trip_rig, &mut kept)?;
+    let mut kept = CheapestSoFar::new(alloc, limit);
+    keep_of_bases(alloc, bases, trip_rig, &mut kept)?;
     kept.into_vec(alloc)
 }
 

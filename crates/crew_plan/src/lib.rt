@@ -11,7 +11,6 @@
 mod alike;
 mod dates;
 mod homes;
-mod kept;
 pub mod laws;
 mod long_plan;
 mod passes;

@@ -23,7 +23,7 @@ use Rattle.crew_solve.proofs.Rooms.{room-last}
 use Rattle.crew_solve.specs.Apart.{flies, flown as flown-of, flown_on, is_apart}
 use Rattle.crew_solve.specs.Machinery.Floors.{CostFrom, IsFloor, least_by, may_begin}
 use Rattle.crew_solve.specs.Machinery.Homes.{IsFit, boarding, ended_by, priced, resource_of, walk_by_key}
-use Rattle.crew_solve.specs.Machinery.Keeps.{Kept, is_wanted, keep, keep_all}
+use Rattle.crew_solve.specs.Machinery.Keeps.{CheapestSoFar, is_wanted, keep, keep_all}
 use Rattle.crew_solve.specs.Machinery.Takes.{Taken, is_past}
 use Rattle.crew_sweep.specs.Sweeps.{BaseSweep, in_order, keyed}
 use Rattle.crew_vector.specs.declared.priced.PricedPairing.{PricedPairing}
@@ -123,6 +123,6 @@ ended-costs beside b index d floor fit known own within low p m wanted =
     subst (λ (q : PricedPairing). least_by d floor ≤ℤ q.cost) e.2 most
 
 -- where none is wanted, none is kept
-pub keep-all-none : (k : Kept) (ps : List PricedPairing) → ((p : PricedPairing) → Member ps p → keep k p ≡ k) → keep_all k ps ≡ k
+pub keep-all-none : (k : CheapestSoFar) (ps : List PricedPairing) → ((p : PricedPairing) → Member ps p → keep k p ≡ k) → keep_all k ps ≡ k
 keep-all-none k [] h = refl
 keep-all-none k (p ∷ ps) h = ap (λ j. keep_all j ps) (h p (inl refl)) ∙ keep-all-none k ps (λ q m. h q (inr m))

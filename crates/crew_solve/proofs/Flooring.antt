@@ -21,7 +21,7 @@ use Rattle.crew_solve.proofs.Listed.{get-same}
 use Rattle.crew_solve.specs.Cheapest.{pairing_cmp}
 use Rattle.crew_solve.specs.Machinery.Floors.{AreFloors, AreKnown, CostFrom, IsKnown, Known, MayCost, may_begin, nothing_known}
 use Rattle.crew_solve.specs.Machinery.Homes.{boarding, ended_by, home_from, home_of, priced, resource_of, walk_by_key}
-use Rattle.crew_solve.specs.Machinery.Keeps.{Kept, KeepsSome, is_wanted, keep, keep_all}
+use Rattle.crew_solve.specs.Machinery.Keeps.{CheapestSoFar, KeepsSome, is_wanted, keep, keep_all}
 use Rattle.crew_solve.specs.Machinery.Takes.{Taken}
 use Rattle.crew_sweep.specs.Sweeps.{BaseSweep, keyed}
 use Rattle.crew_vector.specs.declared.priced.PricedPairing.{PricedPairing}
@@ -52,13 +52,13 @@ from-both beside a b (x ∷ ps) qs h k p (inl i) e = least-left a b p.cost (h p 
 from-both beside a b (x ∷ ps) qs h k p (inr m) e = from-both beside a b ps qs (λ q n. h q (inr n)) k p m e
 
 -- with more, that are kept after others
-pub from-more : (first k : Kept) (ps qs : Ps) (a b n : ℤ) → k ≡ keep_all first ps → CostFrom first.beside a ps → CostFrom k.beside b qs → n ≡ int_min a b → CostFrom first.beside n (ps ++ qs)
+pub from-more : (first k : CheapestSoFar) (ps qs : Ps) (a b n : ℤ) → k ≡ keep_all first ps → CostFrom first.beside a ps → CostFrom k.beside b qs → n ≡ int_min a b → CostFrom first.beside n (ps ++ qs)
 from-more first k ps qs a b n is h more e =
-    let same : k.beside ≡ first.beside = ap (λ (z : Kept). z.beside) is ∙ still-beside first ps in
+    let same : k.beside ≡ first.beside = ap (λ (z : CheapestSoFar). z.beside) is ∙ still-beside first ps in
     subst (λ z. CostFrom first.beside z (ps ++ qs)) (sym e) (from-both first.beside a b ps qs h (subst (λ o. CostFrom o b qs) same more))
 
 -- with more, and a floor that is no greater
-pub from-below : (first k : Kept) (ps qs : Ps) (a n : ℤ) → k ≡ keep_all first ps → CostFrom first.beside a ps → n ≤ℤ a → CostFrom k.beside n qs → CostFrom first.beside n (ps ++ qs)
+pub from-below : (first k : CheapestSoFar) (ps qs : Ps) (a n : ℤ) → k ≡ keep_all first ps → CostFrom first.beside a ps → n ≤ℤ a → CostFrom k.beside n qs → CostFrom first.beside n (ps ++ qs)
 from-below first k ps qs a n is h less more = from-more first k ps qs n n n is (λ p m e. at-most n a p.cost less (h p m e)) more (same-least n)
 
 -- where none is asked for
@@ -75,18 +75,18 @@ from-unasked-one beside floor p h q (inr m) e = absurd m
 
 -- ---- what changes nothing
 
-pub keep-unasked : (k : Kept) (p : PricedPairing) → is_wanted k.beside p ≡ false → keep k p ≡ k
-keep-unasked k p e = ap (λ b. let z : Kept = record { limit = k.limit; beside = k.beside; pairings = cond b (take k.limit (insert_key pairing_cmp k.pairings p)) k.pairings } in z) e
+pub keep-unasked : (k : CheapestSoFar) (p : PricedPairing) → is_wanted k.beside p ≡ false → keep k p ≡ k
+keep-unasked k p e = ap (λ b. let z : CheapestSoFar = record { limit = k.limit; beside = k.beside; pairings = cond b (take k.limit (insert_key pairing_cmp k.pairings p)) k.pairings } in z) e
 
-above-by : (k : Kept) (p : PricedPairing) (b : Bool) → is_wanted k.beside p ≡ b → (b ≡ true → keep k p ≡ k) → keep k p ≡ k
+above-by : (k : CheapestSoFar) (p : PricedPairing) (b : Bool) → is_wanted k.beside p ≡ b → (b ≡ true → keep k p ≡ k) → keep k p ≡ k
 above-by k p true e h = h refl
 above-by k p false e h = keep-unasked k p e
 
 -- where what costs the floor or more changes nothing
-pub keep-above : (k : Kept) (floor : ℤ) (ps : Ps) → CostFrom k.beside floor ps → ((p : PricedPairing) → floor ≤ℤ p.cost → keep k p ≡ k) → keep_all k ps ≡ k
+pub keep-above : (k : CheapestSoFar) (floor : ℤ) (ps : Ps) → CostFrom k.beside floor ps → ((p : PricedPairing) → floor ≤ℤ p.cost → keep k p ≡ k) → keep_all k ps ≡ k
 keep-above k floor ps from none = keep-all-none k ps (λ p m. above-by k p (is_wanted k.beside p) refl (λ e. none p (from p m e)))
 
-pub keep-all-unasked : (k : Kept) (ps : Ps) → ((p : PricedPairing) → Member ps p → is_wanted k.beside p ≡ false) → keep_all k ps ≡ k
+pub keep-all-unasked : (k : CheapestSoFar) (ps : Ps) → ((p : PricedPairing) → Member ps p → is_wanted k.beside p ≡ false) → keep_all k ps ≡ k
 keep-all-unasked k ps h = keep-all-none k ps (λ p m. keep-unasked k p (h p m))
 
 -- ---- the last duty of a pairing that a duty ends
@@ -224,21 +224,21 @@ known-stays t next ss ks less none h = record {
 
 -- ---- some of a list
 
-pub keeps-none : (ps : Ps) (k : Kept) → KeepsSome ps k k
+pub keeps-none : (ps : Ps) (k : CheapestSoFar) → KeepsSome ps k k
 keeps-none ps k = record { some = []; among = λ p m. absurd m; kept = refl }
 
-pub keeps-all : (ps : Ps) (k j : Kept) → j ≡ keep_all k ps → KeepsSome ps k j
+pub keeps-all : (ps : Ps) (k j : CheapestSoFar) → j ≡ keep_all k ps → KeepsSome ps k j
 keeps-all ps k j e = record { some = ps; among = λ p m. m; kept = e }
 
-pub keeps-more : (ps qs : Ps) (k j i : Kept) → KeepsSome ps k j → KeepsSome qs j i → ((p : PricedPairing) → Member qs p → Member ps p) → KeepsSome ps k i
+pub keeps-more : (ps qs : Ps) (k j i : CheapestSoFar) → KeepsSome ps k j → KeepsSome qs j i → ((p : PricedPairing) → Member qs p → Member ps p) → KeepsSome ps k i
 keeps-more ps qs k j i h g among = record {
   some = h.some ++ g.some;
   among = λ p m. ⊎_elim {C = Member ps p} (h.among p) (λ n. among p (g.among p n)) (Member-append h.some g.some p m);
   kept = g.kept ∙ (ap (λ z. keep_all z g.some) h.kept ∙ sym (keep-append k h.some g.some));
 }
 
-pub some-beside : (ps : Ps) (k j : Kept) → KeepsSome ps k j → j.beside ≡ k.beside
-some-beside ps k j h = ap (λ (z : Kept). z.beside) h.kept ∙ still-beside k h.some
+pub some-beside : (ps : Ps) (k j : CheapestSoFar) → KeepsSome ps k j → j.beside ≡ k.beside
+some-beside ps k j h = ap (λ (z : CheapestSoFar). z.beside) h.kept ∙ still-beside k h.some
 
 pub range-member : (n i : ℕ) → i < n → Member (range_with_len 0 n) i
 range-member n i h =

@@ -12,7 +12,7 @@ use Rattle.crew_pairing.proofs.Tree.{Each-member}
 use Rattle.crew_resource.specs.Members.{Each, Member}
 use Rattle.crew_solve.specs.Cheapest.{RiseByCost, pairing_cmp, pairing_total}
 use Rattle.crew_solve.specs.Machinery.Homes.{is_cheaper, least_of, lesser}
-use Rattle.crew_solve.specs.Machinery.Keeps.{Kept, is_wanted, keep, keep_all, nothing, nothing_beside}
+use Rattle.crew_solve.specs.Machinery.Keeps.{CheapestSoFar, is_wanted, keep, keep_all, nothing, nothing_beside}
 use Rattle.crew_solve.specs.Machinery.Takes.{Taken, may_take}
 use Rattle.crew_vector.specs.declared.priced.PricedPairing.{PricedPairing}
 
@@ -21,11 +21,11 @@ Ps = List PricedPairing
 
 -- ---- list by list
 
-pub keep-append : (k : Kept) (ps qs : Ps) → keep_all k (ps ++ qs) ≡ keep_all (keep_all k ps) qs
+pub keep-append : (k : CheapestSoFar) (ps qs : Ps) → keep_all k (ps ++ qs) ≡ keep_all (keep_all k ps) qs
 keep-append k [] qs = refl
 keep-append k (p ∷ ps) qs = keep-append (keep k p) ps qs
 
-pub keep-one-more : {X : Type 0} (k : Kept) (f : X → PricedPairing) (xs : List X) (x : X) → keep_all k (map f (xs ++ x ∷ [])) ≡ keep (keep_all k (map f xs)) (f x)
+pub keep-one-more : {X : Type 0} (k : CheapestSoFar) (f : X → PricedPairing) (xs : List X) (x : X) → keep_all k (map f (xs ++ x ∷ [])) ≡ keep (keep_all k (map f xs)) (f x)
 keep-one-more k f [] x = refl
 keep-one-more k f (y ∷ xs) x = keep-one-more (keep k (f y)) f xs x
 
@@ -35,7 +35,7 @@ abbrev listed : Option PricedPairing → Ps
 listed None = []
 listed (Some p) = p ∷ []
 
-abbrev one : Option PricedPairing → Kept
+abbrev one : Option PricedPairing → CheapestSoFar
 one o = record { limit = 1; beside = None; pairings = listed o }
 
 cheaper-by : (a b : Bool) (r : Ordering) → (a || (is_eq (cond a Less (cond b Greater Equal)) && is_lt r)) ≡ is_lt (ordering_then (cond a Less (cond b Greater Equal)) r)
@@ -53,7 +53,7 @@ one-by p q Greater = refl
 
 keep-lesser : (o : Option PricedPairing) (p : PricedPairing) → keep (one o) p ≡ one (lesser o p)
 keep-lesser None p = refl
-keep-lesser (Some q) p = ap (λ l. let k : Kept = record { limit = 1; beside = None; pairings = l } in k) (one-by p q (pairing_cmp p q) ∙ ap (λ b. cond b p q ∷ []) (sym (is-cheaper p q)))
+keep-lesser (Some q) p = ap (λ l. let k : CheapestSoFar = record { limit = 1; beside = None; pairings = l } in k) (one-by p q (pairing_cmp p q) ∙ ap (λ b. cond b p q ∷ []) (sym (is-cheaper p q)))
 
 keep-least : (o : Option PricedPairing) (ps : Ps) → keep_all (one o) ps ≡ one (least_of o ps)
 keep-least o [] = refl
@@ -64,7 +64,7 @@ first-listed None = refl
 first-listed (Some p) = refl
 
 pub first-is-least : (ps : Ps) → slice_get (keep_all (nothing 1) ps).pairings 0 ≡ least_of None ps
-first-is-least ps = ap (λ (k : Kept). slice_get k.pairings 0) (keep-least None ps) ∙ first-listed (least_of None ps)
+first-is-least ps = ap (λ (k : CheapestSoFar). slice_get k.pairings 0) (keep-least None ps) ∙ first-listed (least_of None ps)
 
 -- ---- what is dearer than all, where there is no room
 
@@ -94,11 +94,11 @@ either-way : (b : Bool) (xs ys : Ps) → xs ≡ ys → cond b xs ys ≡ ys
 either-way true xs ys e = e
 either-way false xs ys e = refl
 
-pub keep-none : (k : Kept) (p : PricedPairing) → length k.pairings ≡ k.limit → ((q : PricedPairing) → Member k.pairings q → pairing_cmp p q ≡ Greater) → keep k p ≡ k
+pub keep-none : (k : CheapestSoFar) (p : PricedPairing) → length k.pairings ≡ k.limit → ((q : PricedPairing) → Member k.pairings q → pairing_cmp p q ≡ Greater) → keep k p ≡ k
 keep-none k p full h =
     let at : take k.limit (insert_key pairing_cmp k.pairings p) ≡ k.pairings = ap (λ n. take n (insert_key pairing_cmp k.pairings p)) (sym full) ∙ cut-end k.pairings p h in
     let same = either-way (is_wanted k.beside p) (take k.limit (insert_key pairing_cmp k.pairings p)) k.pairings at in
-    ap (λ l. let z : Kept = record { limit = k.limit; beside = k.beside; pairings = l } in z) same
+    ap (λ l. let z : CheapestSoFar = record { limit = k.limit; beside = k.beside; pairings = l } in z) same
 
 -- ---- all in order, of which the first are kept
 
@@ -131,7 +131,7 @@ cut-insert zero ys p = refl
 cut-insert (suc n) [] p = refl
 cut-insert (suc n) (y ∷ ys) p = cut-by n y p ys (pairing_cmp p y) (cut-insert n ys p)
 
-abbrev cut : Option Taken → ℕ → Ps → Kept
+abbrev cut : Option Taken → ℕ → Ps → CheapestSoFar
 cut beside n ys = record { limit = n; beside = beside; pairings = take n ys }
 
 cut-if : (n : ℕ) (ys : Ps) (p : PricedPairing) (b : Bool) → cond b (take n (insert_key pairing_cmp (take n ys) p)) (take n ys) ≡ take n (cond b (insert_key pairing_cmp ys p) ys)
@@ -146,7 +146,7 @@ keep-cut : (beside : Option Taken) (n : ℕ) (ys ps : Ps) → keep_all (cut besi
 keep-cut beside n ys [] = refl
 keep-cut beside n ys (p ∷ ps) =
     let b = is_wanted beside p in
-    ap (λ l. let k : Kept = record { limit = n; beside = beside; pairings = l } in keep_all k ps) (cut-if n ys p b)
+    ap (λ l. let k : CheapestSoFar = record { limit = n; beside = beside; pairings = l } in keep_all k ps) (cut-if n ys p b)
     ∙ (keep-cut beside n (cond b (insert_key pairing_cmp ys p) ys) ps
     ∙ ap (cut beside n) (sorted-if ys (filter (is_wanted beside) ps) p b))
 
@@ -154,10 +154,10 @@ take-none : (n : ℕ) → take n (let l : Ps = [] in l) ≡ []
 take-none zero = refl
 take-none (suc n) = refl
 
-kept-of : (beside : Option Taken) (n : ℕ) (ps : Ps) → (let k : Kept = record { limit = n; beside = beside; pairings = [] } in (keep_all k ps).pairings) ≡ take n (sorted [] (filter (is_wanted beside) ps))
+kept-of : (beside : Option Taken) (n : ℕ) (ps : Ps) → (let k : CheapestSoFar = record { limit = n; beside = beside; pairings = [] } in (keep_all k ps).pairings) ≡ take n (sorted [] (filter (is_wanted beside) ps))
 kept-of beside n ps =
-    ap (λ l. let k : Kept = record { limit = n; beside = beside; pairings = l } in (keep_all k ps).pairings) (sym (take-none n))
-    ∙ ap (λ (k : Kept). k.pairings) (keep-cut beside n [] ps)
+    ap (λ l. let k : CheapestSoFar = record { limit = n; beside = beside; pairings = l } in (keep_all k ps).pairings) (sym (take-none n))
+    ∙ ap (λ (k : CheapestSoFar). k.pairings) (keep-cut beside n [] ps)
 
 all-wanted : (ps : Ps) → filter (is_wanted None) ps ≡ ps
 all-wanted [] = refl
@@ -169,7 +169,7 @@ kept-first n ps = kept-of None n ps ∙ ap (λ (l : Ps). take n (sorted [] l)) (
 pub kept-beside : (n : ℕ) (taken : Taken) (ps : Ps) → (keep_all (nothing_beside n taken) ps).pairings ≡ take n (sorted [] (filter (may_take taken) ps))
 kept-beside n taken ps = kept-of (Some taken) n ps
 
-pub still-beside : (k : Kept) (ps : Ps) → (keep_all k ps).beside ≡ k.beside
+pub still-beside : (k : CheapestSoFar) (ps : Ps) → (keep_all k ps).beside ≡ k.beside
 still-beside k [] = refl
 still-beside k (p ∷ ps) = still-beside (keep k p) ps
 

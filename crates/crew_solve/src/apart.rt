@@ -7,13 +7,13 @@ ghost use Rattle.crew_resource.specs.Members.{Each};
 ghost use Rattle.crew_solve.specs.Apart.{taken_from};
 ghost use Rattle.crew_solve.specs.Machinery.Floors.{AreKnown};
 ghost use Rattle.crew_solve.specs.Machinery.Homes.{home_of};
-ghost use Rattle.crew_solve.specs.Machinery.Keeps.{IsLook, KeepsSome, Kept as KeptOf, keep_all};
+ghost use Rattle.crew_solve.specs.Machinery.Keeps.{CheapestSoFar as CheapestOf, IsLook, KeepsSome, keep_all};
 ghost use Rattle.crew_solve.specs.Machinery.Takes.{AreInOrder, Taken as TakenOf, looked_at};
 ghost use Rattle.crew_vector.specs.declared.priced.PricedPairing.{PricedPairing as Pairing};
 
 use crate::base_fronts::BaseFronts;
-use crate::floors::{BaseKnown, keep_above_floors, keep_low_floors, known, low_floor};
-use crate::kept::Kept;
+use crate::cheapest_so_far::CheapestSoFar;
+use crate::floors::{BaseKnown, keep_low_of_bases, keep_of_bases_by_floors, known, low_floor};
 use crate::taken::Taken;
 use crew_vector::PricedPairing;
 use std::alloc::{AllocError, Global};
@@ -40,29 +40,29 @@ fn more_than(many: usize, taken: usize) -> usize
 }
 
 // Keeps the least of what comes home, first by the departures whose floors are low.
-fn keep_least(
+fn keep_of_bases_low_first(
     alloc: Global,
     fronts: &[Arc<BaseFronts, Global>],
     trip_rig: u32,
     many: usize,
     known: &mut [BaseKnown],
-    kept: &mut Kept,
+    kept: &mut CheapestSoFar,
 ) -> Result<(), AllocError>
     requires rate { Each (λ b. trip_rig ≡ b.net.settings.trip_rig) (map arc_value fronts.now) }
     requires known { AreKnown kept.old.beside (map arc_value fronts.now) known.old }
-    ensures kept { OnOk result ((low : KeptOf)
+    ensures kept { OnOk result ((low : CheapestOf)
         × KeepsSome (flat_map home_of (map arc_value fronts.now)) kept.old low
         × (kept.new ≡ keep_all low (flat_map home_of (map arc_value fronts.now)))) }
     ensures known { OnOk result
         (AreKnown kept.old.beside (map arc_value fronts.now) known.new) }
 {
     let most = low_floor(alloc, known, many.saturating_mul(LOW))?;
-    keep_low_floors(alloc, fronts, trip_rig, most, known, kept)?;
-    keep_above_floors(alloc, fronts, trip_rig, known, kept)
+    keep_low_of_bases(alloc, fronts, trip_rig, most, known, kept)?;
+    keep_of_bases_by_floors(alloc, fronts, trip_rig, known, kept)
 }
 
 // Looks at what is kept beside those taken, and says how many pairings these are.
-fn look_at_kept(alloc: Global, kept: Kept) -> Result<(Taken, usize), AllocError>
+fn look_at_kept(alloc: Global, kept: CheapestSoFar) -> Result<(Taken, usize), AllocError>
     requires { (taken : TakenOf) × (kept.beside ≡ Some taken) }
     ensures taken { IfOk result (λ next. (taken : TakenOf) → kept.beside ≡ Some taken
         → next.0 ≡ looked_at taken kept.pairings) }
@@ -96,8 +96,8 @@ fn take_next(
     ensures known { IfOk result (λ next.
         AreKnown (Some next.0) (map arc_value fronts.now) known.new) }
 {
-    let mut kept = Kept::beside(alloc, many, taken);
-    keep_least(alloc, fronts, trip_rig, many, known, &mut kept)?;
+    let mut kept = CheapestSoFar::beside(alloc, many, taken);
+    keep_of_bases_low_first(alloc, fronts, trip_rig, many, known, &mut kept)?;
     look_at_kept(alloc, kept)
 }
 

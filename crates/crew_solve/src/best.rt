@@ -18,8 +18,8 @@ ghost use Rattle.crew_sweep.specs.Sweeps.{in_order};
 ghost use Rattle.crew_vector.specs.declared.priced.PricedPairing.{PricedPairing as Pairing};
 
 use crate::base_fronts::BaseFronts;
-use crate::floors::keep_home;
-use crate::kept::Kept;
+use crate::cheapest_so_far::CheapestSoFar;
+use crate::floors::keep_of_bases;
 use crate::walk_view::WalkView;
 use crew_anchor::AnchoredVector;
 use crew_flights::Code;
@@ -82,7 +82,7 @@ fn pairing_of(
 }
 
 // What pairings cost at least that are asked for: those so far, and one of a cost and a walk.
-fn floor_with(kept: &Kept, cost: i64, walk: &WalkView<'_>, floor: i64) -> i64
+fn floor_with(kept: &CheapestSoFar, cost: i64, walk: &WalkView<'_>, floor: i64) -> i64
     ensures less { result ≤ℤ floor }
     ensures floor { (p : Pairing) → p.cost ≡ cost → p.walk ≡ walk.now
         → CostFrom kept.now.beside result (p ∷ []) }
@@ -106,13 +106,13 @@ fn is_marked(marks: &[bool], walk: u32) -> bool
 // Keeps a label's pairing, whose walk is made only where it may be among the least, and which is
 // passed over where it begins with a walk that is marked. Gives what it and those so far cost at least
 // of which that is asked for.
-fn keep_label(
+fn keep_of_label(
     alloc: Global,
     sweep: &Sweep,
     trip_rig: u32,
     minute: i64,
     marks: &[bool],
-    kept: &mut Kept,
+    kept: &mut CheapestSoFar,
     label: &(AnchoredVector, LabelWalk),
     floor: i64,
 ) -> Result<i64, AllocError>
@@ -147,7 +147,7 @@ fn keep_label(
 }
 
 // Keeps the least of the pairings of the labels that board a duty.
-fn keep_boarding(
+fn keep_of_labels(
     alloc: Global,
     sweep: &Sweep,
     trip_rig: u32,
@@ -156,7 +156,7 @@ fn keep_boarding(
     duty: &Duty,
     minute: i64,
     marks: &[bool],
-    kept: &mut Kept,
+    kept: &mut CheapestSoFar,
 ) -> Result<i64, AllocError>
     requires rate { trip_rig ≡ sweep.now.net.settings.trip_rig }
     requires index { index < length sweep.now.net.by_report }
@@ -175,7 +175,7 @@ fn keep_boarding(
     let view = View::new(sweep.resource(), sweep.pool(index), duty, rank);
     let mut floor = i64::MAX;
     for label in view.iter() {
-        floor = keep_label(alloc, sweep, trip_rig, minute, marks, kept, &label, floor)?;
+        floor = keep_of_label(alloc, sweep, trip_rig, minute, marks, kept, &label, floor)?;
     }
     Ok(floor)
 }
@@ -190,7 +190,7 @@ fn least_by(duty: &Duty, floor: i64) -> i64
 
 // Keeps the least of the pairings that a duty ends, and makes none where the duty's cost too much. A
 // duty that ends none that is asked for has no floor, and so brings nobody back to its departure.
-fn keep_by(
+fn keep_of_duty(
     alloc: Global,
     sweep: &Sweep,
     trip_rig: u32,
@@ -199,7 +199,7 @@ fn keep_by(
     duty: &Duty,
     floor: i64,
     marks: &[bool],
-    kept: &mut Kept,
+    kept: &mut CheapestSoFar,
 ) -> Result<i64, AllocError>
     requires rate { trip_rig ≡ sweep.now.net.settings.trip_rig }
     requires index { index < length sweep.now.net.by_report }
@@ -222,13 +222,13 @@ fn keep_by(
     if !kept.wants(least) {
         return Ok(least);
     }
-    keep_boarding(
+    keep_of_labels(
         alloc, sweep, trip_rig, index, rank, duty, minute, marks, kept,
     )
 }
 
 // Keeps the least of what comes home by the duty of a rank.
-fn keep_at(
+fn keep_of_rank(
     alloc: Global,
     sweep: &Sweep,
     trip_rig: u32,
@@ -236,7 +236,7 @@ fn keep_at(
     rank: u32,
     floor: i64,
     marks: &[bool],
-    kept: &mut Kept,
+    kept: &mut CheapestSoFar,
 ) -> Result<i64, AllocError>
     requires rate { trip_rig ≡ sweep.now.net.settings.trip_rig }
     requires index { index < length sweep.now.net.by_report }
@@ -255,7 +255,7 @@ fn keep_at(
     if duty.to != sweep.base() {
         return Ok(i64::MAX);
     }
-    keep_by(
+    keep_of_duty(
         alloc, sweep, trip_rig, index, rank, duty, floor, marks, kept,
     )
 }
@@ -274,7 +274,7 @@ fn mark(marks: &mut [bool], walk: u32)
 
 // Whether pairings that begin with a label's walk may be asked for. A walk that begins none is marked:
 // what may be asked for gets less, so nobody goes over its flights again, at this departure or another.
-fn may_begin_with(sweep: &Sweep, kept: &Kept, label: LabelWalk, marks: &mut [bool]) -> bool
+fn may_begin_with(sweep: &Sweep, kept: &CheapestSoFar, label: LabelWalk, marks: &mut [bool]) -> bool
     requires there { label.walk < length sweep.now.walks }
     requires ranked { Each (λ rank. rank < length sweep.now.net.duties)
         (walk_of_label sweep.now.walks label) }
@@ -296,7 +296,7 @@ fn may_begin_with(sweep: &Sweep, kept: &Kept, label: LabelWalk, marks: &mut [boo
 // The lesser of a floor and a label's duty pay, if its walk may begin pairings that are asked for.
 fn floor_below(
     sweep: &Sweep,
-    kept: &Kept,
+    kept: &CheapestSoFar,
     duty_pay: i64,
     label: LabelWalk,
     floor: i64,
@@ -324,7 +324,7 @@ fn floor_below(
 // The least duty pay of a departure's labels whose walks may begin pairings that are asked for.
 fn floor_of(
     sweep: &Sweep,
-    kept: &Kept,
+    kept: &CheapestSoFar,
     labels: &[(AnchoredVector, LabelWalk)],
     marks: &mut [bool],
 ) -> i64
@@ -343,7 +343,7 @@ fn floor_of(
 
 // Whether one of the duties of these ranks ends at the base, and may end a pairing that is asked for.
 // Where none does no label of theirs needs to be looked at.
-fn comes_home(sweep: &Sweep, kept: &Kept, ranks: &[u32]) -> bool {
+fn comes_home(sweep: &Sweep, kept: &CheapestSoFar, ranks: &[u32]) -> bool {
     let duties = sweep.net().duties().as_slice();
     for &rank in ranks {
         if let Some(duty) = duties.get(rank as usize) {
@@ -356,7 +356,13 @@ fn comes_home(sweep: &Sweep, kept: &Kept, ranks: &[u32]) -> bool {
 }
 
 // A floor of a departure's labels, where one of its duties comes home.
-fn floor_at(sweep: &Sweep, kept: &Kept, index: usize, ranks: &[u32], marks: &mut [bool]) -> i64
+fn floor_at(
+    sweep: &Sweep,
+    kept: &CheapestSoFar,
+    index: usize,
+    ranks: &[u32],
+    marks: &mut [bool],
+) -> i64
     requires index { index < length sweep.now.net.by_report }
     requires marks { AreMarks kept.now.beside sweep.now marks.old }
     ensures floor { IsFloor kept.now.beside sweep.now result (get_or sweep.now.pools index []) }
@@ -370,13 +376,13 @@ fn floor_at(sweep: &Sweep, kept: &Kept, index: usize, ranks: &[u32], marks: &mut
 }
 
 // Keeps the least of what comes home by the duties of a departure.
-pub(crate) fn keep_from(
+pub(crate) fn keep_of_departure(
     alloc: Global,
     sweep: &Sweep,
     trip_rig: u32,
     index: usize,
     marks: &mut [bool],
-    kept: &mut Kept,
+    kept: &mut CheapestSoFar,
 ) -> Result<i64, AllocError>
     requires rate { trip_rig ≡ sweep.now.net.settings.trip_rig }
     requires index { index < length sweep.now.net.by_report }
@@ -392,7 +398,7 @@ pub(crate) fn keep_from(
     let floor = floor_at(sweep, kept, index, ranks, marks);
     let mut least = i64::MAX;
     for &rank in ranks {
-        let cost = keep_at(alloc, sweep, trip_rig, index, rank, floor, marks, kept)?;
+        let cost = keep_of_rank(alloc, sweep, trip_rig, index, rank, floor, marks, kept)?;
         least = least.min(cost);
     }
     Ok(least)
@@ -408,7 +414,7 @@ pub(crate) fn best_of(
     ensures { IfOk result (λ best. best
         ≡ Spec.least_of None (flat_map Spec.home_of (map arc_value fronts.now))) }
 {
-    let mut kept = Kept::new(alloc, 1);
-    keep_home(alloc, fronts, trip_rig, &mut kept)?;
+    let mut kept = CheapestSoFar::new(alloc, 1);
+    keep_of_bases(alloc, fronts, trip_rig, &mut kept)?;
     Ok(kept.into_first())
 }

@@ -11,8 +11,8 @@ ghost use Rattle.crew_solve.specs.Machinery.Takes.{Taken};
 ghost use Rattle.crew_vector.specs.declared.priced.PricedPairing.{PricedPairing as Pairing};
 
 use crate::base_fronts::BaseFronts;
-use crate::best::keep_from;
-use crate::kept::Kept;
+use crate::best::keep_of_departure;
+use crate::cheapest_so_far::CheapestSoFar;
 use crew_sweep::Sweep;
 use std::alloc::{AllocError, Global};
 use std::collections::BTreeSet;
@@ -38,7 +38,7 @@ impl Model for Floors {
 }
 
 // Whether pairings may be among the least that cost no less than a floor, where it is known.
-fn may_want(kept: &Kept, floor: Option<i64>) -> bool
+fn may_want(kept: &CheapestSoFar, floor: Option<i64>) -> bool
     ensures { result ≡ false → (ps : List Pairing) → MayCost kept.now.beside floor ps
         → keep_all kept.now ps ≡ kept.now }
 {
@@ -50,14 +50,14 @@ fn may_want(kept: &Kept, floor: Option<i64>) -> bool
 
 // Keeps the least of what comes home by a departure, unless its floor is more than is asked for, and
 // gives its floor after that.
-fn keep_above(
+fn keep_of_departure_by_floor(
     alloc: Global,
     sweep: &Sweep,
     trip_rig: u32,
     index: usize,
     floor: Option<i64>,
     marks: &mut [bool],
-    kept: &mut Kept,
+    kept: &mut CheapestSoFar,
 ) -> Result<Option<i64>, AllocError>
     requires rate { trip_rig ≡ sweep.now.net.settings.trip_rig }
     requires index { index < length sweep.now.net.by_report }
@@ -72,18 +72,18 @@ fn keep_above(
     if !may_want(kept, floor) {
         return Ok(floor);
     }
-    let least = keep_from(alloc, sweep, trip_rig, index, marks, kept)?;
+    let least = keep_of_departure(alloc, sweep, trip_rig, index, marks, kept)?;
     Ok(Some(least))
 }
 
 // Keeps the least of all that comes home to a base.
-fn keep_of(
+fn keep_of_base(
     alloc: Global,
     sweep: &Sweep,
     trip_rig: u32,
     floors: &mut [Option<i64>],
     marks: &mut [bool],
-    kept: &mut Kept,
+    kept: &mut CheapestSoFar,
 ) -> Result<(), AllocError>
     requires rate { trip_rig ≡ sweep.now.net.settings.trip_rig }
     requires fit { IsFit sweep.now }
@@ -94,7 +94,15 @@ fn keep_of(
     ensures marks { OnOk result (AreMarks kept.old.beside sweep.now marks.new) }
 {
     for index in 0..sweep.net().by_report().len() {
-        let floor = keep_above(alloc, sweep, trip_rig, index, floors[index], marks, kept)?;
+        let floor = keep_of_departure_by_floor(
+            alloc,
+            sweep,
+            trip_rig,
+            index,
+            floors[index],
+            marks,
+            kept,
+        )?;
         floors[index] = floor;
     }
     Ok(())
@@ -110,7 +118,7 @@ fn is_low(floor: Option<i64>, most: i64) -> bool {
 
 // Keeps the least of what comes home by a departure, if its floor is low, and gives its floor after
 // that.
-fn keep_low(
+fn keep_low_of_departure(
     alloc: Global,
     sweep: &Sweep,
     trip_rig: u32,
@@ -118,7 +126,7 @@ fn keep_low(
     most: i64,
     floor: Option<i64>,
     marks: &mut [bool],
-    kept: &mut Kept,
+    kept: &mut CheapestSoFar,
 ) -> Result<Option<i64>, AllocError>
     requires rate { trip_rig ≡ sweep.now.net.settings.trip_rig }
     requires index { index < length sweep.now.net.by_report }
@@ -133,19 +141,19 @@ fn keep_low(
     if !is_low(floor, most) {
         return Ok(floor);
     }
-    let floor = keep_above(alloc, sweep, trip_rig, index, floor, marks, kept)?;
+    let floor = keep_of_departure_by_floor(alloc, sweep, trip_rig, index, floor, marks, kept)?;
     Ok(floor)
 }
 
 // Keeps the least of what comes home to a base by the departures whose floors are low.
-fn keep_low_of(
+fn keep_low_of_base(
     alloc: Global,
     sweep: &Sweep,
     trip_rig: u32,
     most: i64,
     floors: &mut [Option<i64>],
     marks: &mut [bool],
-    kept: &mut Kept,
+    kept: &mut CheapestSoFar,
 ) -> Result<(), AllocError>
     requires rate { trip_rig ≡ sweep.now.net.settings.trip_rig }
     requires fit { IsFit sweep.now }
@@ -156,7 +164,7 @@ fn keep_low_of(
     ensures marks { OnOk result (AreMarks kept.old.beside sweep.now marks.new) }
 {
     for index in 0..sweep.net().by_report().len() {
-        let floor = keep_low(
+        let floor = keep_low_of_departure(
             alloc,
             sweep,
             trip_rig,
@@ -208,7 +216,7 @@ impl Floors {
         let net = sweep.net();
         let trip_rig = net.settings().trip_rig;
         let mut floors = Floors::unknown(alloc, net.by_report().len())?;
-        let mut none = Kept::new(alloc, 0);
+        let mut none = CheapestSoFar::new(alloc, 0);
         floors.find(alloc, sweep, trip_rig, &mut none)?;
         Ok(floors)
     }
@@ -235,7 +243,7 @@ impl Floors {
         alloc: Global,
         sweep: &Sweep,
         trip_rig: u32,
-        kept: &mut Kept,
+        kept: &mut CheapestSoFar,
     ) -> Result<(), AllocError>
         requires rate { trip_rig ≡ sweep.now.net.settings.trip_rig }
         requires fit { IsFit sweep.now }
@@ -244,7 +252,7 @@ impl Floors {
         ensures floors { OnOk result (AreFloors kept.old.beside sweep.now self.new) }
     {
         let mut none = Vec::new(alloc);
-        keep_of(alloc, sweep, trip_rig, &mut self.floors, &mut none, kept)
+        keep_of_base(alloc, sweep, trip_rig, &mut self.floors, &mut none, kept)
     }
 }
 
@@ -285,12 +293,12 @@ impl BaseKnown {
     }
 
     // Keeps the least of all that comes home to the base.
-    fn keep_of(
+    fn keep_of_base(
         &mut self,
         alloc: Global,
         sweep: &Sweep,
         trip_rig: u32,
-        kept: &mut Kept,
+        kept: &mut CheapestSoFar,
     ) -> Result<(), AllocError>
         requires rate { trip_rig ≡ sweep.now.net.settings.trip_rig }
         requires fit { IsFit sweep.now }
@@ -298,7 +306,7 @@ impl BaseKnown {
         ensures kept { OnOk result (kept.new ≡ keep_all kept.old (Spec.home_of sweep.now)) }
         ensures known { OnOk result (IsKnown kept.old.beside sweep.now self.new) }
     {
-        keep_of(
+        keep_of_base(
             alloc,
             sweep,
             trip_rig,
@@ -309,13 +317,13 @@ impl BaseKnown {
     }
 
     // Keeps the least of what comes home to the base by the departures whose floors are low.
-    fn keep_low_of(
+    fn keep_low_of_base(
         &mut self,
         alloc: Global,
         sweep: &Sweep,
         trip_rig: u32,
         most: i64,
-        kept: &mut Kept,
+        kept: &mut CheapestSoFar,
     ) -> Result<(), AllocError>
         requires rate { trip_rig ≡ sweep.now.net.settings.trip_rig }
         requires fit { IsFit sweep.now }
@@ -323,7 +331,7 @@ impl BaseKnown {
         ensures kept { OnOk result (KeepsSome (Spec.home_of sweep.now) kept.old kept.new) }
         ensures known { OnOk result (IsKnown kept.old.beside sweep.now self.new) }
     {
-        keep_low_of(
+        keep_low_of_base(
             alloc,
             sweep,
             trip_rig,
@@ -371,13 +379,13 @@ pub(crate) fn low_floor(
 }
 
 /// Keeps the least of what comes home to its base by the departures whose floors are low.
-pub(crate) fn keep_low_floors(
+pub(crate) fn keep_low_of_bases(
     alloc: Global,
     fronts: &[Arc<BaseFronts, Global>],
     trip_rig: u32,
     most: i64,
     known: &mut [BaseKnown],
-    kept: &mut Kept,
+    kept: &mut CheapestSoFar,
 ) -> Result<(), AllocError>
     requires rate { Each (λ b. trip_rig ≡ b.net.settings.trip_rig) (map arc_value fronts.now) }
     requires known { AreKnown kept.old.beside (map arc_value fronts.now) known.old }
@@ -387,19 +395,19 @@ pub(crate) fn keep_low_floors(
         (AreKnown kept.old.beside (map arc_value fronts.now) known.new) }
 {
     for (place, base) in fronts.iter().enumerate() {
-        known[place].keep_low_of(alloc, base.sweep(), trip_rig, most, kept)?;
+        known[place].keep_low_of_base(alloc, base.sweep(), trip_rig, most, kept)?;
     }
     Ok(())
 }
 
 /// Keeps the least of all that comes home to its base by the departures whose floors aren't more than
 /// is asked for.
-pub(crate) fn keep_above_floors(
+pub(crate) fn keep_of_bases_by_floors(
     alloc: Global,
     fronts: &[Arc<BaseFronts, Global>],
     trip_rig: u32,
     known: &mut [BaseKnown],
-    kept: &mut Kept,
+    kept: &mut CheapestSoFar,
 ) -> Result<(), AllocError>
     requires rate { Each (λ b. trip_rig ≡ b.net.settings.trip_rig) (map arc_value fronts.now) }
     requires known { AreKnown kept.old.beside (map arc_value fronts.now) known.old }
@@ -409,22 +417,22 @@ pub(crate) fn keep_above_floors(
         (AreKnown kept.old.beside (map arc_value fronts.now) known.new) }
 {
     for (place, base) in fronts.iter().enumerate() {
-        known[place].keep_of(alloc, base.sweep(), trip_rig, kept)?;
+        known[place].keep_of_base(alloc, base.sweep(), trip_rig, kept)?;
     }
     Ok(())
 }
 
 /// Keeps the least of all that comes home to its base.
-pub(crate) fn keep_home(
+pub(crate) fn keep_of_bases(
     alloc: Global,
     fronts: &[Arc<BaseFronts, Global>],
     trip_rig: u32,
-    kept: &mut Kept,
+    kept: &mut CheapestSoFar,
 ) -> Result<(), AllocError>
     requires { Each (λ b. trip_rig ≡ b.net.settings.trip_rig) (map arc_value fronts.now) }
     ensures { OnOk result
         (kept.new ≡ keep_all kept.old (flat_map Spec.home_of (map arc_value fronts.now))) }
 {
     let mut known = known(alloc, fronts, false)?;
-    keep_above_floors(alloc, fronts, trip_rig, &mut known, kept)
+    keep_of_bases_by_floors(alloc, fronts, trip_rig, &mut known, kept)
 }

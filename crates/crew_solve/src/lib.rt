@@ -2,18 +2,18 @@
 //! least of what comes home; and the pairings that cost least. `solve_next` does so beside an earlier
 //! solution, from which it takes what is as it was, and gives what is given from scratch. A `Plan`
 //! has what the passes share, so that threads can make the fronts of one base each, in any order, and
-//! promises that these are what the whole gives. `laws` has that the pairings that cost least are one
-//! list.
+//! promises that these are what the whole gives. `CheapestSoFar` keeps the least of pairings that come
+//! one after another. `laws` has that the pairings that cost least are one list.
 #![tactic(auto)]
 
 mod alike;
 mod apart;
 mod base_fronts;
 mod best;
+mod cheapest_so_far;
 mod entries;
 mod floors;
 mod front_view;
-mod kept;
 pub mod laws;
 mod lookup;
 mod past;
@@ -28,6 +28,7 @@ mod taken;
 mod walk_view;
 
 pub use base_fronts::BaseFronts;
+pub use cheapest_so_far::CheapestSoFar;
 pub use front_view::{FrontEntries, FrontView};
 pub use plan::Plan;
 pub use scratch::{solve, solve_listed, solve_next, solve_with};

@@ -17,10 +17,10 @@ ghost use Rattle.crew_vector.specs.Bests.{AreFronts};
 use crate::apart::apart_of;
 use crate::base_fronts::BaseFronts;
 use crate::best::best_of;
+use crate::cheapest_so_far::CheapestSoFar;
 use crate::entries::fronts_of;
-use crate::floors::keep_home;
+use crate::floors::keep_of_bases;
 use crate::front_view::FrontView;
-use crate::kept::Kept;
 use crate::plan::Plan;
 use crew_flights::Code;
 use crew_net::{Net, Node};
@@ -120,9 +120,9 @@ impl Solution {
             → HasNetOf s t self.now → AreFronts s t (front_of self.now)
             → AreCheapest s t limit pairings.items) }
     {
-        let mut kept = Kept::new(alloc, limit);
+        let mut kept = CheapestSoFar::new(alloc, limit);
         let trip_rig = self.net.settings().trip_rig;
-        keep_home(alloc, &self.fronts, trip_rig, &mut kept)?;
+        keep_of_bases(alloc, &self.fronts, trip_rig, &mut kept)?;
         Ok(kept.into_vec(alloc)?)
     }
 

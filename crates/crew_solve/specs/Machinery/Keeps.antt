@@ -7,15 +7,15 @@ use Rattle.crew_solve.specs.Machinery.Takes.{Taken, looked_at, may_take}
 use Rattle.crew_vector.specs.declared.priced.PricedPairing.{PricedPairing}
 
 -- the least so far, in order, how many at most, and what they are to be taken beside, if anything
-pub record Kept : Type 0 where
+pub record CheapestSoFar : Type 0 where
   pub limit : ℕ
   pub beside : Option Taken
   pub pairings : List PricedPairing
 
-abbrev pub nothing : ℕ → Kept
+abbrev pub nothing : ℕ → CheapestSoFar
 nothing limit = record { limit = limit; beside = None; pairings = [] }
 
-abbrev pub nothing_beside : ℕ → Taken → Kept
+abbrev pub nothing_beside : ℕ → Taken → CheapestSoFar
 nothing_beside limit taken = record { limit = limit; beside = Some taken; pairings = [] }
 
 abbrev pub is_wanted : Option Taken → PricedPairing → Bool
@@ -23,7 +23,7 @@ is_wanted None p = true
 is_wanted (Some taken) p = may_take taken p
 
 -- with one more
-abbrev pub put : Kept → PricedPairing → Kept
+abbrev pub put : CheapestSoFar → PricedPairing → CheapestSoFar
 put k p = record {
   limit = k.limit;
   beside = k.beside;
@@ -31,7 +31,7 @@ put k p = record {
 }
 
 -- where it is wanted
-abbrev pub keep : Kept → PricedPairing → Kept
+abbrev pub keep : CheapestSoFar → PricedPairing → CheapestSoFar
 keep k p = record {
   limit = k.limit;
   beside = k.beside;
@@ -40,12 +40,12 @@ keep k p = record {
 }
 
 -- what costs more than a bound, where there is one, changes nothing
-abbrev pub IsBound : Option ℤ → Kept → Type 0
+abbrev pub IsBound : Option ℤ → CheapestSoFar → Type 0
 IsBound None k = Unit {0}
 IsBound (Some bound) k = (p : PricedPairing) → bound <ℤ p.cost → keep k p ≡ k
 
 -- with each of a list
-abbrev pub keep_all : Kept → List PricedPairing → Kept
+abbrev pub keep_all : CheapestSoFar → List PricedPairing → CheapestSoFar
 keep_all k [] = k
 keep_all k (p ∷ ps) = keep_all (keep k p) ps
 
@@ -54,7 +54,7 @@ abbrev pub least_beside : ℕ → Taken → List PricedPairing → List PricedPa
 least_beside many taken ps = (keep_all (nothing_beside many taken) ps).pairings
 
 -- some of a list are kept, whatever their order, and however often
-pub record KeepsSome (ps : List PricedPairing) (before after : Kept) : Type 0 where
+pub record KeepsSome (ps : List PricedPairing) (before after : CheapestSoFar) : Type 0 where
   pub some : List PricedPairing
   pub among : (p : PricedPairing) → Member some p → Member ps p
   pub kept : after ≡ keep_all before some

@@ -1,0 +1,52 @@
+use Rattle.std.proofs.Common.{◌≡◌, ◌∙◌, ◌<◌, ◌++◌, ◌∷◌, [], ℕ, zero, suc, List, Some, inl, inr, refl, ap, sym, subst, arith, append_assoc, append-nil, length, map}
+use Rattle.std.specs.Prelude.{slice_get}
+use Rattle.std.proofs.lemmas.List.{map-append}
+use Rattle.crew_answers.specs.LongVectors.{LongVector}
+use Rattle.crew_fronts.specs.Fronts.{front_at}
+use Rattle.crew_pairing.specs.Legs.{Leg}
+use Rattle.crew_plan.specs.Machinery.Homes.{pairing_of}
+use Rattle.crew_resource.proofs.Members.{Member-append_right, Member-at}
+use Rattle.crew_resource.specs.Members.{Member}
+use Rattle.crew_solve.proofs.Keeping.{keep-append}
+use Rattle.crew_solve.specs.Machinery.Keeps.{CheapestSoFar, keep_all}
+use Rattle.crew_plan.proofs.homes.keep_of_front.Goals as goal
+
+abbrev Es : Type 0
+Es = List (LongVector × List (List Leg))
+
+some-at : {X : Type 0} (xs : List X) (k : ℕ) → k < length xs → (x : X) × (slice_get xs k ≡ Some x)
+some-at [] k h = absurd (omega (arith, h))
+some-at (x ∷ xs) zero h = (x, refl)
+some-at (x ∷ xs) (suc k) h = some-at xs k (omega (arith, h))
+
+pub loop-vector-init : goal.loop-vector-init
+loop-vector-init c = ([], refl, refl)
+
+pub keep_of_entry-requires : goal.keep_of_entry-requires
+keep_of_entry-requires c =
+    let b = c.args.base.now in
+    let e : LongVector × List (List Leg) = (c.in-Some.vector, c.in-Some.walk) in
+    let so_far = c.loop-vector.invariant in
+    let d = some-at b.net.duties c.args.rank c.requires.rank in
+    let there : Member c.loop-vector.vector-iterator e = subst (λ (es : Es). Member es e) (sym c.in-Some.ensures.steps) (inl refl) in
+    let among : Member c.front-front.result e = subst (λ (es : Es). Member es e) (so_far.1 ∙ (c.into_iter-vector-iterator.ensures.into_iter_gives ∙ c.iter-vector-items.ensures)) (Member-append_right so_far.0 c.loop-vector.vector-iterator e there) in
+    c.requires.pay d.0 e (Member-at b.net.duties c.args.rank d.0 d.1) (subst (λ (es : Es). Member es e) (c.front-front.ensures.front d.0 d.1) among)
+
+pub loop-vector-preserved : goal.loop-vector-preserved
+loop-vector-preserved c =
+    let e : LongVector × List (List Leg) = (c.in-Some.vector, c.in-Some.walk) in
+    let so_far = c.loop-vector.invariant in
+    let f = pairing_of c.args.trip_rig c.base-code.result in (
+      so_far.0 ++ e ∷ [],
+      append_assoc so_far.0 (e ∷ []) c.next.new.self ∙ (ap (λ (es : Es). so_far.0 ++ es) (sym c.in-Some.ensures.steps) ∙ so_far.1),
+      c.in_ok-keep_of_entry.ensures
+          ∙ (ap (λ (k : CheapestSoFar). keep_all k (f e ∷ [])) so_far.2
+          ∙ (sym (keep-append c.args.kept.now (map f so_far.0) (f e ∷ [])) ∙ ap (keep_all c.args.kept.now) (sym (map-append f so_far.0 (e ∷ []))))),
+    )
+
+pub returns : goal.returns
+returns c = λ d at.
+    let so_far = c.loop-vector.invariant in
+    let whole : so_far.0 ≡ c.into_iter-vector-iterator.result = sym (append-nil so_far.0) ∙ (ap (λ (es : Es). so_far.0 ++ es) (sym c.in-None.ensures.steps.0) ∙ so_far.1) in
+    let is : so_far.0 ≡ front_at c.args.base.now d = whole ∙ (c.into_iter-vector-iterator.ensures.into_iter_gives ∙ (c.iter-vector-items.ensures ∙ c.front-front.ensures.front d at)) in
+    so_far.2 ∙ (λ i. keep_all c.args.kept.now (map (pairing_of c.args.trip_rig (c.base-code.ensures i)) (is i)))
