@@ -13,7 +13,7 @@ use Rattle.crew_pass.specs.Passes as Passes
 use Rattle.crew_pass.specs.Passes.{BasePass, keyed_entries}
 use Rattle.crew_rules.specs.Settings.{IsChecked}
 use Rattle.crew_rules.specs.declared.settings.Settings.{Settings}
-use Rattle.crew_sweep.proofs.Numbers.{get-within}
+use Rattle.crew_net.proofs.Numbers.{get-within}
 use Rattle.crew_fronts.specs.Fronts.{Entries, ShowsFronts, front_at}
 use Rattle.crew_fronts.specs.Machinery.Kept.{AreListed, AreValued, fronts_of_pass, passed_front}
 use Rattle.crew_fronts.proofs.Ordered.{labels-rise}

@@ -31,7 +31,7 @@ use Rattle.crew_resource.specs.Machinery.Both.{both}
 use Rattle.crew_resource.specs.Machinery.BothLaws.{both_parts}
 use Rattle.crew_resource.specs.Members.{Member}
 use Rattle.crew_solve.proofs.Lent.{map-long}
-use Rattle.crew_sweep.proofs.Numbers.{get-member}
+use Rattle.crew_net.proofs.Numbers.{get-member}
 use Rattle.crew_vector.specs.Machinery.Numbers.{named, numbers_of}
 use Rattle.crew_vector.specs.Machinery.Sides.{aboard, idle, waited}
 use Rattle.crew_vector.specs.Machinery.VectorLaws.{vector_counting}

@@ -16,7 +16,7 @@ use Rattle.crew_pairing.specs.declared.vector.PairingVector.{PairingVector}
 use Rattle.crew_resource.specs.Members.{Each, Member}
 use Rattle.crew_rules.specs.declared.settings.Settings.{Settings}
 use Rattle.crew_solve.specs.Solutions.{ShowSame}
-use Rattle.crew_sweep.proofs.Numbers.{get-member}
+use Rattle.crew_net.proofs.Numbers.{get-member}
 use Rattle.crew_sweep.specs.Sweeps as Sweeps
 use Rattle.crew_sweep.specs.Sweeps.{BaseSweep}
 use Rattle.crew_vector.proofs.Orders.{walk-order}

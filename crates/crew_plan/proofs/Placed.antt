@@ -30,8 +30,8 @@ use Rattle.crew_solve.proofs.Bases.{entry-of, price-of}
 use Rattle.crew_solve.proofs.Departing.{get-by}
 use Rattle.crew_solve.specs.Machinery.Homes.{HasPay}
 use Rattle.crew_solve.specs.Machinery.Planned.{IsOver}
-use Rattle.crew_sweep.proofs.Numbers.{get-within}
-use Rattle.crew_sweep.proofs.Slices.{map-get, map-got}
+use Rattle.crew_net.proofs.Numbers.{get-within}
+use Rattle.crew_net.proofs.Slices.{map-get, map-got}
 use Rattle.crew_vector.proofs.Orders.{code-itself, same-code}
 
 abbrev Prices : Type 0

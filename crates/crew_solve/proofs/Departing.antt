@@ -20,9 +20,9 @@ use Rattle.crew_pairing.specs.Events.{departure_of}
 use Rattle.crew_pairing.specs.declared.duty.Duty.{Duty}
 use Rattle.crew_pairing.specs.declared.events.Departure.{Departure}
 use Rattle.crew_resource.specs.Members.{Member}
-use Rattle.crew_sweep.proofs.Numbers.{get-member, get-within}
-use Rattle.crew_sweep.specs.Machinery.Numbered.{AreDistinct}
-use Rattle.crew_sweep.specs.Sweeps.{departure_at, in_order}
+use Rattle.crew_net.proofs.Numbers.{get-member, get-within}
+use Rattle.crew_net.specs.Machinery.Numbered.{AreDistinct}
+use Rattle.crew_net.specs.Positions.{departure_at, in_order}
 use Rattle.crew_vector.proofs.Orders.{code-itself, same-code}
 
 -- what stands at a place

@@ -11,8 +11,8 @@ use Rattle.crew_pairing.specs.declared.events.Departure.{Departure}
 use Rattle.crew_solve.proofs.Departing.{departs, get-by, place-within, there}
 use Rattle.crew_solve.proofs.Shown.{place-none}
 use Rattle.crew_solve.specs.Machinery.Early.{is_early}
-use Rattle.crew_sweep.specs.Machinery.Numbered.{departure_place, is_departure}
-use Rattle.crew_sweep.specs.Sweeps.{in_order}
+use Rattle.crew_net.specs.Machinery.Numbered.{departure_place, is_departure}
+use Rattle.crew_net.specs.Positions.{in_order}
 
 -- the earlier ones stand before the others
 sooner : (r s at : ℤ) → r ≤ℤ s → int_lt s at ≡ true → int_lt r at ≡ true

@@ -27,9 +27,10 @@ use Rattle.crew_solve.proofs.Boarded.{are-whole, boarded-by-key, boarded-kept, b
 use Rattle.crew_solve.proofs.Lent.{AreFresh, by_vector-permutes, by_vector-rises}
 use Rattle.crew_solve.proofs.Shown.{shown-listed}
 use Rattle.crew_solve.specs.Machinery.Lent.{AreLent, by_vector, entry_of}
-use Rattle.crew_sweep.proofs.Numbers.{get-member, get-within}
+use Rattle.crew_net.proofs.Numbers.{get-member, get-within}
 use Rattle.crew_sweep.specs.Machinery.Kept.{AreKept}
-use Rattle.crew_sweep.specs.Sweeps.{BaseSweep, in_order}
+use Rattle.crew_sweep.specs.Sweeps.{BaseSweep}
+use Rattle.crew_net.specs.Positions.{in_order}
 use Rattle.crew_vector.specs.Dominance.{is_at_most}
 use Rattle.crew_vector.specs.Fronts.{RiseByVector, vector_cmp}
 use Rattle.crew_vector.specs.Machinery.Named.{named_order}

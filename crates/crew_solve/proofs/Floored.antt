@@ -25,7 +25,8 @@ use Rattle.crew_solve.specs.Machinery.Floors.{CostFrom, IsFloor, least_by, may_b
 use Rattle.crew_solve.specs.Machinery.Homes.{IsFit, boarding, ended_by, priced, resource_of, walk_by_key}
 use Rattle.crew_solve.specs.Machinery.Keeps.{CheapestSoFar, is_wanted, keep, keep_all}
 use Rattle.crew_solve.specs.Machinery.Takes.{Taken, is_past}
-use Rattle.crew_sweep.specs.Sweeps.{BaseSweep, in_order, keyed}
+use Rattle.crew_sweep.specs.Sweeps.{BaseSweep, keyed}
+use Rattle.crew_net.specs.Positions.{in_order}
 use Rattle.crew_vector.specs.declared.priced.PricedPairing.{PricedPairing}
 
 pub as-much : (a b : ℤ) → a ≡ b → a ≤ℤ b

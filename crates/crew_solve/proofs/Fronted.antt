@@ -11,9 +11,9 @@ use Rattle.crew_pairing.specs.declared.duty.Duty.{Duty}
 use Rattle.crew_resource.proofs.Members.{Member-get_or, Member-map_in}
 use Rattle.crew_resource.specs.Members.{Member}
 use Rattle.crew_solve.proofs.Departing.{get-by, member-at}
-use Rattle.crew_sweep.proofs.Numbers.{at-departure, get-within}
-use Rattle.crew_sweep.specs.Machinery.Numbered.{departure_place}
-use Rattle.crew_sweep.specs.Sweeps.{departure_at, in_order}
+use Rattle.crew_net.proofs.Numbers.{at-departure, get-within}
+use Rattle.crew_net.specs.Machinery.Numbered.{departure_place}
+use Rattle.crew_net.specs.Positions.{departure_at, in_order}
 
 -- a duty's departure stands at its place
 pub stands : (net : Net) (d : Duty) → AreEvents departure_of departure_cmp net.duties net.departures → AreByReport net.departures net.by_report → Member net.duties d

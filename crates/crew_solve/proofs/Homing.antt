@@ -28,9 +28,10 @@ use Rattle.crew_solve.specs.Machinery.Homes.{HasPay, IsFit, boarding, ended_by, 
 use Rattle.crew_solve.specs.Machinery.Planned.{IsOver}
 use Rattle.crew_solve.proofs.Departing.{departs, distinct-in-order, get-by, leaves-own, map-within, member-at, own-leaves, rank-in, rank-out}
 use Rattle.crew_solve.proofs.Reach.{vector-pay, vector-room}
-use Rattle.crew_sweep.proofs.Numbers.{at-departure, get-member, get-within, place-departure}
-use Rattle.crew_sweep.specs.Machinery.Numbered.{departure_place}
-use Rattle.crew_sweep.specs.Sweeps.{BaseSweep, ShowsFronts, departure_at, front_at, in_order}
+use Rattle.crew_net.proofs.Numbers.{at-departure, get-member, get-within, place-departure}
+use Rattle.crew_net.specs.Machinery.Numbered.{departure_place}
+use Rattle.crew_sweep.specs.Sweeps.{BaseSweep, ShowsFronts, front_at}
+use Rattle.crew_net.specs.Positions.{departure_at, in_order}
 use Rattle.crew_vector.proofs.Orders.{code-itself, same-code}
 use Rattle.crew_vector.specs.declared.priced.PricedPairing.{PricedPairing}
 

@@ -19,7 +19,7 @@ use Rattle.crew_pairing.proofs.Tree.{Each-member}
 use Rattle.crew_resource.specs.Members.{Each, Member}
 use Rattle.crew_solve.proofs.Departing.{member-at}
 use Rattle.crew_solve.specs.Machinery.Planned.{AreAlike, IsLaidOut}
-use Rattle.crew_sweep.proofs.Numbers.{get-within}
+use Rattle.crew_net.proofs.Numbers.{get-within}
 
 module _ {E : Type 0} (cmp : E → E → Ordering) (order : IsTotalOrder cmp) where
   -- each stands before all later ones

@@ -18,8 +18,9 @@ use Rattle.crew_solve.specs.Machinery.Homes.{resource_of}
 use Rattle.crew_solve.specs.Machinery.Keyed.{AreReadable, keyed_label}
 use Rattle.crew_solve.specs.Solutions.{ShowSame}
 use Rattle.crew_sweep.specs.Machinery.Kept.{AreKept}
-use Rattle.crew_sweep.specs.Machinery.Numbered.{departure_place}
-use Rattle.crew_sweep.specs.Sweeps.{BaseSweep, front_at, in_order, keyed, pool_at}
+use Rattle.crew_net.specs.Machinery.Numbered.{departure_place}
+use Rattle.crew_sweep.specs.Sweeps.{BaseSweep, front_at, keyed, pool_at}
+use Rattle.crew_net.specs.Positions.{in_order}
 
 abbrev Labels : Type 0
 Labels = List (PairingVector × List (List Leg))

@@ -9,7 +9,7 @@ use Rattle.crew_pairing.specs.declared.duty.Duty.{Duty}
 use Rattle.crew_pairing.specs.declared.vector.PairingVector.{PairingVector}
 use Rattle.crew_resource.specs.Members.{Each, Member}
 use Rattle.crew_solve.specs.Solutions.{front_among}
-use Rattle.crew_sweep.specs.Machinery.Numbered.{place_of}
+use Rattle.crew_net.specs.Machinery.Numbered.{place_of}
 use Rattle.crew_sweep.specs.Sweeps.{BaseSweep, front_at}
 use Rattle.crew_vector.proofs.Orders.{code-itself}
 use Rattle.crew_vector.specs.Fronts.{vector_cmp}

@@ -18,11 +18,11 @@ use Rattle.crew_solve.proofs.Departing.{get-by}
 use Rattle.crew_solve.proofs.Homing.{fit}
 use Rattle.crew_solve.specs.Machinery.Planned.{IsFromPast, IsOver, IsPast}
 use Rattle.crew_solve.specs.Machinery.Solved.{AreSweeps, IsShowing}
-use Rattle.crew_solve.specs.Plans.{AreSweepsIn, IsSweepIn, IsSwept, Plan}
+use Rattle.crew_solve.specs.Plans.{AreSweepsIn, IsSweepIn, Plan}
 use Rattle.crew_solve.specs.declared.past.Past.{Past}
-use Rattle.crew_sweep.proofs.Numbers.{get-within}
-use Rattle.crew_sweep.proofs.Slices.{map-get, map-got}
-use Rattle.crew_sweep.specs.Sweeps.{BaseSweep, ShowsFronts}
+use Rattle.crew_net.proofs.Numbers.{get-within}
+use Rattle.crew_net.proofs.Slices.{map-get, map-got}
+use Rattle.crew_sweep.specs.Sweeps.{BaseSweep, IsSwept, ShowsFronts}
 
 -- each sweep is that of the base at its place
 abbrev AllSwept : Net → List (List ℕ × ℤ) → List BaseSweep → Type 0
@@ -48,18 +48,18 @@ own-bases : (net : Net) (bases : List (List ℕ × ℤ)) (sweeps : List BaseSwee
 own-bases net [] [] s = refl
 own-bases net [] (b ∷ bs) s = absurd s
 own-bases net (e ∷ es) [] s = absurd s
-own-bases net (e ∷ es) (b ∷ bs) s = λ i. s.0.own i ∷ own-bases net es bs s.1 i
+own-bases net (e ∷ es) (b ∷ bs) s = λ i. s.0.base i ∷ own-bases net es bs s.1 i
 
 own-nets : (net : Net) (bases : List (List ℕ × ℤ)) (sweeps : List BaseSweep) → AllSwept net bases sweeps → Each (λ (b : BaseSweep). b.net ≡ net) sweeps
 own-nets net bases [] s = tt
 own-nets net [] (b ∷ bs) s = absurd s
-own-nets net (e ∷ es) (b ∷ bs) s = (s.0.same, own-nets net es bs s.1)
+own-nets net (e ∷ es) (b ∷ bs) s = (s.0.net, own-nets net es bs s.1)
 
 own-fronts : (t : Timetable) (net : Net) (bases : List (List ℕ × ℤ)) (sweeps : List BaseSweep) → IsSound t → AreDuties net.settings t net.duties → AllSwept net bases sweeps
     → Each (ShowsFronts t) sweeps
 own-fronts t net bases [] sound duties s = tt
 own-fronts t net [] (b ∷ bs) sound duties s = absurd s
-own-fronts t net (e ∷ es) (b ∷ bs) sound duties s = (s.0.fronts t sound duties, own-fronts t net es bs sound duties s.1)
+own-fronts t net (e ∷ es) (b ∷ bs) sound duties s = (s.0.right t sound duties, own-fronts t net es bs sound duties s.1)
 
 -- sweeps of all bases of a plan are those of its timetable
 pub swept-all : (t : Timetable) (plan : Plan) (sweeps : List BaseSweep) → IsOver t plan.net → plan.prices ≡ fin.entries t.bases → AreSweepsIn plan sweeps → AreSweeps t plan.net sweeps
@@ -97,10 +97,10 @@ price-at t bases k base held at = price-of t base (subst (λ (es : List (List �
 -- and the fronts of the base can be shown
 pub showing-of : (t : Timetable) (net : Net) (base : List ℕ × ℤ) (b : BaseSweep) → IsOver t net → fin.get t.bases base.0 ≡ Some base.1 → IsSwept net base b → IsShowing b
 showing-of t net base b over based s =
-    let own = ap (λ (e : List ℕ × ℤ). fin.get t.bases e.0) s.own ∙ (based ∙ ap (λ (e : List ℕ × ℤ). Some e.1) (sym s.own)) in
+    let own = ap (λ (e : List ℕ × ℤ). fin.get t.bases e.0) s.base ∙ (based ∙ ap (λ (e : List ℕ × ℤ). Some e.1) (sym s.base)) in
     record {
-      fit = fit t b (subst (IsOver t) (sym s.same) over) (s.fronts t over.sound over.duties) own;
-      right = subst (λ (n : Net). (u : Timetable) → IsSound u → AreDuties n.settings u n.duties → ShowsFronts u b) (sym s.same) s.fronts;
+      fit = fit t b (subst (IsOver t) (sym s.net) over) (s.right t over.sound over.duties) own;
+      right = subst (λ (n : Net). (u : Timetable) → IsSound u → AreDuties n.settings u n.duties → ShowsFronts u b) (sym s.net) s.right;
     }
 
 -- earlier fronts of a base at its price stand as they are where the two networks are one
@@ -108,20 +108,10 @@ pub kept-of : (net : Net) (p : Past) (base : List ℕ × ℤ) (b : BaseSweep) �
 kept-of net p base b past same from =
     let is = Each-member (λ (x : BaseSweep). x.net ≡ past.earlier) (map arc_value p.fronts.items) b past.nets from.among ∙ past.alike same in
     record {
-      own = λ i. (from.own i, from.at i);
-      same = is;
-      fronts = subst (λ (n : Net). (u : Timetable) → IsSound u → AreDuties n.settings u n.duties → ShowsFronts u b) is from.right;
+      net = is;
+      base = λ i. (from.own i, from.at i);
+      right = subst (λ (n : Net). (u : Timetable) → IsSound u → AreDuties n.settings u n.duties → ShowsFronts u b) is from.right;
     }
-
--- a sweep over the network, if there is one, of a base at a price
-pub swept-by : {E : Type 0} (r : Result BaseSweep E) (shared net : Net) (base : List ℕ) (price : ℤ) → shared ≡ net → IfOk r (λ b. b.net ≡ shared) → IfOk r (λ b. (b.base ≡ base) × (b.price ≡ price))
-    → IfOk r (λ b. (t : Timetable) → IsSound t → AreDuties b.net.settings t b.net.duties → ShowsFronts t b) → IfOk r (IsSwept net (base, price))
-swept-by (Ok b) shared net base price same own based right = record {
-  own = λ i. (based.0 i, based.1 i);
-  same = own ∙ same;
-  fronts = λ t sound duties. right t sound (subst (λ (n : Net). AreDuties n.settings t n.duties) (sym (own ∙ same)) duties);
-}
-swept-by (Err e) shared net base price same own based right = tt
 
 -- what was made at the places of all bases
 pub each-made : {A : Type 0} (f : A → BaseSweep) (plan : Plan) (made : List (Option A)) (all : List A) → length made ≡ length plan.prices

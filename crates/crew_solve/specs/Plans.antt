@@ -9,7 +9,7 @@ use Rattle.crew_pairing.specs.declared.duty.Duty.{Duty}
 use Rattle.crew_rules.specs.Settings.{IsChecked}
 use Rattle.crew_rules.specs.declared.settings.Settings.{Settings}
 use Rattle.crew_solve.specs.Solutions.{HasNetOf, Solution, front_of}
-use Rattle.crew_sweep.specs.Sweeps.{BaseSweep, ShowsFronts}
+use Rattle.crew_sweep.specs.Sweeps.{BaseSweep, IsSwept}
 use Rattle.crew_vector.specs.Bests.{IsScratch}
 
 -- the network, and the bases with their prices by code
@@ -21,13 +21,6 @@ pub record Plan : Type 0 where
 pub record IsPlanOf (s : Settings) (t : Timetable) (plan : Plan) : Type 0 where
   pub network : (ds : List Duty) × AreDuties s t ds × IsNetOf s t ds plan.net
   pub prices : plan.prices ≡ fin.entries t.bases
-
--- the sweep of a base at its price, which shows the fronts of the timetable that the network is of
-pub record IsSwept (net : Net) (base : List ℕ × ℤ) (b : BaseSweep) : Type 0 where
-  pub own : (b.base, b.price) ≡ base
-  pub same : b.net ≡ net
-  pub fronts : (t : Timetable) → IsSound t → AreDuties net.settings t net.duties
-      → ShowsFronts t b
 
 -- the sweep of the base at a place
 abbrev pub IsSweepIn : Plan → ℕ → BaseSweep → Type 0

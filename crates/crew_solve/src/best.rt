@@ -14,7 +14,7 @@ ghost use Rattle.crew_solve.specs.Machinery.Homes as Spec;
 ghost use Rattle.crew_solve.specs.Machinery.Keeps.{keep, keep_all};
 ghost use Rattle.crew_solve.specs.Machinery.Keyed.{AreReadable};
 ghost use Rattle.crew_solve.specs.Machinery.Homes.{HasPay, IsFit, IsShowable};
-ghost use Rattle.crew_sweep.specs.Sweeps.{in_order};
+ghost use Rattle.crew_net.specs.Positions.{in_order};
 ghost use Rattle.crew_vector.specs.declared.priced.PricedPairing.{PricedPairing as Pairing};
 
 use crate::base_fronts::BaseFronts;

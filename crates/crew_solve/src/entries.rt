@@ -7,8 +7,9 @@ ghost use Rattle.crew_pairing.specs.Events.{departure_of};
 ghost use Rattle.crew_resource.specs.Members.{Member};
 ghost use Rattle.crew_solve.specs.Machinery.Early.{is_early};
 ghost use Rattle.crew_solve.specs.Machinery.Solved.{IsSweepOf};
-ghost use Rattle.crew_sweep.specs.Machinery.Numbered.{departure_place};
-ghost use Rattle.crew_sweep.specs.Sweeps.{BaseSweep, in_order};
+ghost use Rattle.crew_net.specs.Machinery.Numbered.{departure_place};
+ghost use Rattle.crew_sweep.specs.Sweeps.{BaseSweep};
+ghost use Rattle.crew_net.specs.Positions.{in_order};
 
 use crate::base_fronts::BaseFronts;
 use crew_flights::Code;

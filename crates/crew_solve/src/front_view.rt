@@ -5,7 +5,7 @@ ghost use Rattle.crew_pairing.specs.Events.{IsSound, departure_of};
 ghost use Rattle.crew_solve.specs.Machinery.Homes.{IsFit};
 ghost use Rattle.crew_solve.specs.Machinery.Lent as Spec;
 ghost use Rattle.crew_solve.specs.Machinery.Solved.{AreShownAt};
-ghost use Rattle.crew_sweep.specs.Sweeps.{in_order};
+ghost use Rattle.crew_net.specs.Positions.{in_order};
 ghost use Rattle.crew_vector.specs.Fronts.{RiseByVector};
 
 use crate::lookup::Lookup;

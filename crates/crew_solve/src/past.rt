@@ -3,8 +3,8 @@ ghost use Rattle.std.specs.Prelude.{◌≡◌, ◌++◌, ◌∷◌, [], IfOk, If
 ghost use Rattle.std.specs.Arc.{arc_value};
 ghost use Rattle.crew_flights.specs.Timetable.{IsBasePrice};
 ghost use Rattle.crew_resource.specs.Members.{Member};
-ghost use Rattle.crew_solve.specs.Machinery.Planned.{IsFromPast, IsPast, IsSweepable};
-ghost use Rattle.crew_solve.specs.Plans.{IsSwept};
+ghost use Rattle.crew_solve.specs.Machinery.Planned.{IsFromPast, IsPast};
+ghost use Rattle.crew_sweep.specs.Sweeps.{IsSweepable, IsSwept};
 
 use crate::alike::are_one;
 use crate::base_fronts::BaseFronts;
@@ -12,17 +12,17 @@ use crate::entries::fronts_of;
 use crate::solution::Solution;
 use crew_carry::Twins;
 use crew_flights::Code;
-use crew_net::{Net, arrival_places};
-use crew_sweep::{Sweep, departure_turns, renew, renew_by_threads};
+use crew_net::{Net, arrival_places, departure_positions};
+use crew_sweep::{Sweep, renew, renew_by_threads};
 use std::alloc::{AllocError, Global};
 use std::sync::Arc;
 use std::thread::Threads;
 
-/// The fronts of an earlier network's bases, the turns of its duties, what it has alike with the
+/// The fronts of an earlier network's bases, the positions of its duties, what it has alike with the
 /// network now, where the duties of that one arrive, and whether the two are one.
 pub(crate) struct Past {
     pub(crate) fronts: Vec<Arc<BaseFronts, Global>>,
-    pub(crate) turns: Vec<u32>,
+    pub(crate) positions: Vec<u32>,
     pub(crate) twins: Twins,
     pub(crate) places: Vec<u32>,
     pub(crate) is_same: bool,
@@ -32,7 +32,7 @@ impl Drop for Past {
     fn drop(self) {
         let Self {
             fronts: _,
-            turns: _,
+            positions: _,
             twins: _,
             places: _,
             is_same: _,
@@ -73,14 +73,14 @@ impl Past {
         ensures { IfOk result (IsPast net.now) }
     {
         let before = earlier.net();
-        let turns = departure_turns(alloc, before)?;
+        let positions = departure_positions(alloc, before)?;
         let twins = Twins::of(alloc, before, net)?;
         let places = arrival_places(alloc, net)?;
         let is_same = are_one(before, net, &twins);
         let fronts = shared(alloc, earlier.fronts())?;
         Ok(Past {
             fronts,
-            turns,
+            positions,
             twins,
             places,
             is_same,
@@ -105,11 +105,11 @@ impl Past {
         &self,
         alloc: Global,
         net: &Arc<Net, Global>,
-        turns: &[u32],
+        positions: &[u32],
         earlier: &BaseFronts,
     ) -> Result<Sweep, AllocError>
         requires past { IsPast (arc_value net.now) self.now }
-        requires sweepable { IsSweepable (arc_value net.now) turns.now }
+        requires sweepable { IsSweepable (arc_value net.now) positions.now }
         requires among { Member (map arc_value self.now.fronts.items) earlier.now }
         requires price { IsBasePrice earlier.now.price }
         ensures { IfOk result (IsSwept (arc_value net.now)
@@ -119,10 +119,10 @@ impl Past {
         renew(
             alloc,
             earlier.sweep(),
-            &self.turns,
+            &self.positions,
             &self.twins,
             net,
-            turns,
+            positions,
             &self.places,
         )
     }
@@ -134,11 +134,11 @@ impl Past {
         alloc: Global,
         threads: usize,
         net: &Arc<Net, Global>,
-        turns: &[u32],
+        positions: &[u32],
         earlier: &BaseFronts,
     ) -> Result<Sweep, AllocError>
         requires past { IsPast (arc_value net.now) self.now }
-        requires sweepable { IsSweepable (arc_value net.now) turns.now }
+        requires sweepable { IsSweepable (arc_value net.now) positions.now }
         requires among { Member (map arc_value self.now.fronts.items) earlier.now }
         requires price { IsBasePrice earlier.now.price }
         ensures { IfOk result (IsSwept (arc_value net.now)
@@ -150,10 +150,10 @@ impl Past {
             alloc,
             threads,
             earlier.sweep(),
-            &self.turns,
+            &self.positions,
             &self.twins,
             net,
-            turns,
+            positions,
             &self.places,
         )
     }

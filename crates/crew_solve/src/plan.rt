@@ -15,10 +15,10 @@ use crate::past::Past;
 use crate::solution::Solution;
 use crate::sweeps::{sweep_all, sweep_base, sweep_base_by_threads};
 use crew_flights::{Code, Timetable};
-use crew_net::Net;
+use crew_net::{Net, departure_positions};
 use crew_pairing::Duties;
 use crew_rules::Settings;
-use crew_sweep::{Sweep, departure_turns};
+use crew_sweep::Sweep;
 use std::alloc::{AllocError, Global};
 use std::marker::Model;
 use std::sync::Arc;
@@ -32,7 +32,7 @@ use std::thread::Threads;
 pub struct Plan {
     net: Arc<Net, Global>,
     bases: Vec<(Code, i64)>,
-    turns: Vec<u32>,
+    positions: Vec<u32>,
     past: Option<Past>,
 }
 
@@ -41,7 +41,7 @@ impl Drop for Plan {
         let Self {
             net: _,
             bases: _,
-            turns: _,
+            positions: _,
             past: _,
         } = self;
     }
@@ -55,7 +55,7 @@ impl Model for Plan {
 
     ghost view = { λ p. record { net = p.net.value; prices = p.bases.items } };
 
-    ghost invariant = { λ p. IsPlanned p.net.value p.bases.items p.turns.items p.past };
+    ghost invariant = { λ p. IsPlanned p.net.value p.bases.items p.positions.items p.past };
 }
 
 // The bases of a timetable with their prices, in order.
@@ -189,12 +189,12 @@ impl Plan {
         ensures net { IfOk result (λ plan. plan.net ≡ arc_value net) }
         ensures prices { IfOk result (λ plan. plan.prices ≡ bases.items) }
     {
-        let turns = departure_turns(alloc, &net)?;
+        let positions = departure_positions(alloc, &net)?;
         let past = past_of(alloc, earlier, &net)?;
         Ok(Plan {
             net,
             bases,
-            turns,
+            positions,
             past,
         })
     }
@@ -264,7 +264,7 @@ impl Plan {
     {
         let (base, price) = self.bases[place];
         let past = self.past.as_ref();
-        let sweep = sweep_base(alloc, &self.net, &self.turns, past, base, price)?;
+        let sweep = sweep_base(alloc, &self.net, &self.positions, past, base, price)?;
         shown(alloc, sweep)
     }
 
@@ -286,7 +286,7 @@ impl Plan {
             alloc,
             threads,
             &self.net,
-            &self.turns,
+            &self.positions,
             past,
             base,
             price,

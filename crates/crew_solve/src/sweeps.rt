@@ -2,8 +2,9 @@
 ghost use Rattle.std.specs.Prelude.{◌≡◌, ◌<◌, IfOk, IfSome, Some, length, map, slice_index_or};
 ghost use Rattle.std.specs.Arc.{arc_value};
 ghost use Rattle.crew_flights.specs.Timetable.{IsBasePrice};
-ghost use Rattle.crew_solve.specs.Machinery.Planned.{IsPast, IsSweepable};
-ghost use Rattle.crew_solve.specs.Plans.{AreSweepsIn, IsSweepIn, IsSwept};
+ghost use Rattle.crew_solve.specs.Machinery.Planned.{IsPast};
+ghost use Rattle.crew_sweep.specs.Sweeps.{IsSweepable, IsSwept};
+ghost use Rattle.crew_solve.specs.Plans.{AreSweepsIn, IsSweepIn};
 
 use crate::base_fronts::BaseFronts;
 use crate::past::Past;
@@ -47,15 +48,15 @@ fn unswept(alloc: Global, count: usize) -> Result<Vec<Option<Arc<BaseFronts, Glo
 fn sweep_anew(
     alloc: Global,
     net: &Arc<Net, Global>,
-    turns: &[u32],
+    positions: &[u32],
     base: Code,
     price: i64,
 ) -> Result<Sweep, AllocError>
-    requires sweepable { IsSweepable (arc_value net.now) turns.now }
+    requires sweepable { IsSweepable (arc_value net.now) positions.now }
     requires price { IsBasePrice price }
     ensures { IfOk result (IsSwept (arc_value net.now) (base, price)) }
 {
-    sweep(alloc, Arc::try_clone(net)?, turns, base, price)
+    sweep(alloc, Arc::try_clone(net)?, positions, base, price)
 }
 
 // The same in at most so many threads, this one among them.
@@ -64,38 +65,38 @@ fn sweep_anew_by_threads<R: Threads + Sync>(
     alloc: Global,
     threads: usize,
     net: &Arc<Net, Global>,
-    turns: &[u32],
+    positions: &[u32],
     base: Code,
     price: i64,
 ) -> Result<Sweep, AllocError>
-    requires sweepable { IsSweepable (arc_value net.now) turns.now }
+    requires sweepable { IsSweepable (arc_value net.now) positions.now }
     requires price { IsBasePrice price }
     ensures { IfOk result (IsSwept (arc_value net.now) (base, price)) }
 {
     let net = Arc::try_clone(net)?;
-    sweep_by_threads(rt, alloc, threads, net, turns, base, price)
+    sweep_by_threads(rt, alloc, threads, net, positions, base, price)
 }
 
 /// The sweep of a base at its price, beside earlier fronts of it, if there are any.
 pub(crate) fn sweep_base(
     alloc: Global,
     net: &Arc<Net, Global>,
-    turns: &[u32],
+    positions: &[u32],
     past: Option<&Past>,
     base: Code,
     price: i64,
 ) -> Result<Sweep, AllocError>
-    requires sweepable { IsSweepable (arc_value net.now) turns.now }
+    requires sweepable { IsSweepable (arc_value net.now) positions.now }
     requires past { IfSome past (λ p. IsPast (arc_value net.now) p.now) }
     requires price { IsBasePrice price }
     ensures { IfOk result (IsSwept (arc_value net.now) (base, price)) }
 {
     let Some(past) = past else {
-        return sweep_anew(alloc, net, turns, base, price);
+        return sweep_anew(alloc, net, positions, base, price);
     };
     match past.fronts_at(base, price) {
-        Some(earlier) => past.renew(alloc, net, turns, earlier),
-        None => sweep_anew(alloc, net, turns, base, price),
+        Some(earlier) => past.renew(alloc, net, positions, earlier),
+        None => sweep_anew(alloc, net, positions, base, price),
     }
 }
 
@@ -105,22 +106,22 @@ pub(crate) fn sweep_base_by_threads<R: Threads + Sync>(
     alloc: Global,
     threads: usize,
     net: &Arc<Net, Global>,
-    turns: &[u32],
+    positions: &[u32],
     past: Option<&Past>,
     base: Code,
     price: i64,
 ) -> Result<Sweep, AllocError>
-    requires sweepable { IsSweepable (arc_value net.now) turns.now }
+    requires sweepable { IsSweepable (arc_value net.now) positions.now }
     requires past { IfSome past (λ p. IsPast (arc_value net.now) p.now) }
     requires price { IsBasePrice price }
     ensures { IfOk result (IsSwept (arc_value net.now) (base, price)) }
 {
     let Some(past) = past else {
-        return sweep_anew_by_threads(rt, alloc, threads, net, turns, base, price);
+        return sweep_anew_by_threads(rt, alloc, threads, net, positions, base, price);
     };
     match past.fronts_at(base, price) {
-        Some(earlier) => past.renew_by_threads(rt, alloc, threads, net, turns, earlier),
-        None => sweep_anew_by_threads(rt, alloc, threads, net, turns, base, price),
+        Some(earlier) => past.renew_by_threads(rt, alloc, threads, net, positions, earlier),
+        None => sweep_anew_by_threads(rt, alloc, threads, net, positions, base, price),
     }
 }
 

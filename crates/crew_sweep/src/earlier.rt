@@ -28,17 +28,6 @@ pub(crate) struct Earlier<'a> {
     pub(crate) places: &'a [u32],
 }
 
-// Whether the twin of an arrival stands at a place.
-fn stands_at(twins: &Twins, place: usize, old: usize) -> bool
-    requires { place < length twins.now.arrivals }
-    ensures { result ≡ true → slice_get twins.now.arrivals place ≡ Some (Some old) }
-{
-    match twins.arrival(place) {
-        Some(there) => there == old,
-        None => false,
-    }
-}
-
 // Whether a window holds what it held, where no change is marked.
 fn is_kept(twins: &Twins, changed: &[bool], now: Window, old: Window) -> bool
     requires ordered { now.from ≤ now.end }
@@ -52,7 +41,7 @@ fn is_kept(twins: &Twins, changed: &[bool], now: Window, old: Window) -> bool
     }
     for offset in 0..now.end - now.from {
         let place = now.from + offset;
-        if changed[place] || !stands_at(twins, place, old.from + offset) {
+        if changed[place] || !twins.has_arrival_at(place, old.from + offset) {
             return false;
         }
     }

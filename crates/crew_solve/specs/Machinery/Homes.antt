@@ -25,7 +25,8 @@ use Rattle.crew_resource.specs.Events.{view}
 use Rattle.crew_resource.specs.Machinery.Sum.{LiesWithin}
 use Rattle.crew_resource.specs.Machinery.Uses.{HasRoom}
 use Rattle.crew_resource.specs.Members.{Member}
-use Rattle.crew_sweep.specs.Sweeps.{BaseSweep, in_order, keyed}
+use Rattle.crew_sweep.specs.Sweeps.{BaseSweep, keyed}
+use Rattle.crew_net.specs.Positions.{in_order}
 use Rattle.crew_vector.specs.declared.priced.PricedPairing.{PricedPairing}
 
 -- the pairing of a vector and a walk that come home to a base

@@ -7,13 +7,13 @@ use Rattle.crew_flights.specs.Timetable.{IsSound, Timetable}
 use Rattle.crew_net.specs.Events.{AreEvents, arrival_cmp, departure_cmp}
 use Rattle.crew_net.specs.Nets.{AreArrivalPlaces, IsNetOf, Net}
 use Rattle.crew_pairing.specs.Duties.{AreDuties, RiseByKey}
-use Rattle.crew_pairing.specs.Events as Events
 use Rattle.crew_pairing.specs.Events.{arrival_of, departure_of}
 use Rattle.crew_pairing.specs.declared.duty.Duty.{Duty}
 use Rattle.crew_resource.specs.Members.{Each, Member}
 use Rattle.crew_rules.specs.Settings.{IsChecked}
 use Rattle.crew_solve.specs.declared.past.Past.{Past}
-use Rattle.crew_sweep.specs.Sweeps.{AreTurns, BaseSweep, ShowsFronts}
+use Rattle.crew_sweep.specs.Sweeps.{BaseSweep, ShowsFronts}
+use Rattle.crew_net.specs.Positions.{ArePositions}
 
 -- two networks have the same bases, as many duties, and departures in the same order
 pub record AreAlike (old new : Net) : Type 0 where
@@ -35,19 +35,12 @@ pub record IsOver (t : Timetable) (net : Net) : Type 0 where
   pub duties : AreDuties net.settings t net.duties
   pub few : length net.duties ≤ 200_000
 
--- what a pass over a network needs, whatever the base
-pub record IsSweepable (net : Net) (turns : List ℕ) : Type 0 where
-  pub sound : (d : Duty) → Member net.duties d → Events.IsSound d
-  pub rise : RiseByKey net.duties
-  pub few : length net.duties ≤ 200_000
-  pub by_rank : AreTurns net turns
-
 -- what an earlier network has for one: its fronts, and what the two have alike
 pub record IsPast (net : Net) (p : Past) : Type 0 where
   pub earlier : Net
   pub nets : Each (λ b. b.net ≡ earlier) (map arc_value p.fronts.items)
   pub settings : earlier.settings ≡ net.settings
-  pub turns : AreTurns earlier p.turns.items
+  pub positions : ArePositions earlier p.positions.items
   pub twins : AreTwins earlier net p.twins
   pub places : AreArrivalPlaces net p.places.items
   pub alike : p.is_same ≡ true → earlier ≡ net
@@ -61,10 +54,10 @@ pub record IsFromPast (p : Past) (base : List ℕ) (price : ℤ) (b : BaseSweep)
       → ShowsFronts t b
 
 -- the network and the bases of some timetable, and what an earlier network has for it
-pub record IsPlanned (net : Net) (bases : List (List ℕ × ℤ)) (turns : List ℕ) (past : Option Past)
+pub record IsPlanned (net : Net) (bases : List (List ℕ × ℤ)) (positions : List ℕ) (past : Option Past)
     : Type 0 where
   pub timetable : Timetable
   pub over : IsOver timetable net
   pub priced : bases ≡ fin.entries timetable.bases
-  pub by_rank : AreTurns net turns
+  pub by_rank : ArePositions net positions
   pub beside : IfSome past (IsPast net)

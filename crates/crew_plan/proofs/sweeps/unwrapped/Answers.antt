@@ -11,7 +11,7 @@ use Rattle.crew_plan.specs.Machinery.Kinds.{plan_by_sweeps}
 use Rattle.crew_plan.specs.Plans.{AreFrontsIn}
 use Rattle.crew_solve.proofs.Departing.{read-at}
 use Rattle.crew_solve.specs.Plans.{IsSweepIn, Plan}
-use Rattle.crew_sweep.proofs.Slices.{map-get}
+use Rattle.crew_net.proofs.Slices.{map-get}
 use Rattle.crew_sweep.specs.Sweeps.{BaseSweep, ShowsFronts}
 use Rattle.crew_plan.proofs.sweeps.unwrapped.Goals as goal
 

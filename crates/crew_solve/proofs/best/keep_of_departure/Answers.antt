@@ -10,7 +10,7 @@ use Rattle.crew_net.specs.Ranks.{ranks_where}
 use Rattle.crew_pairing.specs.Events.{departure_of}
 use Rattle.crew_resource.proofs.Members.{Member-get}
 use Rattle.crew_resource.specs.Members.{Member}
-use Rattle.crew_sweep.proofs.Numbers.{get-within}
+use Rattle.crew_net.proofs.Numbers.{get-within}
 use Rattle.crew_solve.specs.Machinery.Floors.{AreMarks, CostFrom, IsFloor}
 use Rattle.crew_solve.specs.Machinery.Homes.{home_at, leaving}
 use Rattle.crew_solve.proofs.Flooring.{from-more, from-none}

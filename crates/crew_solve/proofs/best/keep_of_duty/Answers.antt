@@ -2,7 +2,7 @@ use Rattle.std.proofs.Common.{◌≡◌, ◌∙◌, ap, sym, subst, to_z, of_z, 
 use Rattle.std.specs.Prelude.{◌≤ℤ◌}
 use Rattle.std.proofs.lemmas.Int.{ints}
 use Rattle.crew_resource.specs.Machinery.Sum.{LiesWithin}
-use Rattle.crew_sweep.proofs.Numbers.{get-member}
+use Rattle.crew_net.proofs.Numbers.{get-member}
 use Rattle.crew_solve.specs.Machinery.Floors.{CostFrom, least_by}
 use Rattle.crew_solve.specs.Machinery.Homes.{ended_by}
 use Rattle.crew_solve.proofs.Floored.{ended-costs}

@@ -8,7 +8,7 @@ use Rattle.crew_anchor.specs.declared.resource.AnchoredResource.{AnchoredResourc
 use Rattle.crew_pairing.specs.declared.vector.PairingVector.{PairingVector}
 use Rattle.crew_pool.specs.Counted.{AreWhole, boarded_labels}
 use Rattle.crew_resource.specs.Machinery.Sum.{LiesWithin}
-use Rattle.crew_sweep.proofs.Numbers.{get-member, get-within}
+use Rattle.crew_net.proofs.Numbers.{get-member, get-within}
 use Rattle.crew_pool.specs.declared.label_walk.LabelWalk.{LabelWalk}
 use Rattle.crew_resource.proofs.Members.{Member-get_or}
 use Rattle.crew_resource.specs.Members.{Member}

@@ -4,7 +4,7 @@ use Rattle.std.specs.Ordering.{eq_by_cmp}
 use Rattle.crew_flights.specs.Codes.{code_cmp}
 use Rattle.crew_net.specs.Nets.{Net}
 use Rattle.crew_pairing.specs.declared.duty.Duty.{Duty}
-use Rattle.crew_sweep.proofs.Numbers.{get-member}
+use Rattle.crew_net.proofs.Numbers.{get-member}
 use Rattle.crew_solve.specs.Machinery.Floors.{CostFrom}
 use Rattle.crew_solve.specs.Machinery.Homes.{ended_by, home_at, home_by}
 use Rattle.crew_solve.proofs.Flooring.{from-none}

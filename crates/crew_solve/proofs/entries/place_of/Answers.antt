@@ -3,8 +3,8 @@ use Rattle.std.proofs.lemmas.Int.{ints}
 use Rattle.crew_net.specs.Events.{leaves_at}
 use Rattle.crew_pairing.specs.Events.{departure_of}
 use Rattle.crew_pairing.specs.declared.events.Departure.{Departure}
-use Rattle.crew_sweep.specs.Machinery.Numbered.{is_departure}
-use Rattle.crew_sweep.specs.Sweeps.{in_order}
+use Rattle.crew_net.specs.Machinery.Numbered.{is_departure}
+use Rattle.crew_net.specs.Positions.{in_order}
 use Rattle.crew_solve.proofs.Departing.{departs, get-by}
 use Rattle.crew_solve.proofs.Early.{early-as, early-none}
 use Rattle.crew_solve.proofs.Shown.{place-here, place-none}

@@ -2,8 +2,7 @@ use Rattle.std.proofs.Common.{◌≡◌, ◌∙◌, List, ℕ, ℤ, IfOk, ap, sy
 use Rattle.std.proofs.lemmas.Int.{ints}
 use Rattle.std.specs.Arc.{arc_value}
 use Rattle.crew_flights.specs.Timetable.{IsBasePrice}
-use Rattle.crew_solve.specs.Plans.{IsSwept}
-use Rattle.crew_sweep.specs.Sweeps.{BaseSweep}
+use Rattle.crew_sweep.specs.Sweeps.{BaseSweep, IsSwept}
 use Rattle.crew_solve.proofs.sweeps.sweep_base.Goals as goal
 
 pub renew-requires-clause-price : goal.renew-requires-clause-price

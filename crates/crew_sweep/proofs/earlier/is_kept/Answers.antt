@@ -9,7 +9,7 @@ pub loop-offset-preserved : goal.loop-offset-preserved
 loop-offset-preserved c =
     let from = c.args.now.from in
     let within : from + c.loop-offset.offset < length c.args.changed.now = omega (arith, c.loop-offset-test.true, c.requires.ordered, c.requires.marks) in
-    kept-more c.args.twins.now c.args.changed.now c.args.now c.args.old c.loop-offset.offset c.loop-offset.invariant (mark-at c.args.changed.now (from + c.loop-offset.offset) within c.if-changed-place.false) (c.stands_at.ensures c.if-not-stands_at.false)
+    kept-more c.args.twins.now c.args.changed.now c.args.now c.args.old c.loop-offset.offset c.loop-offset.invariant (mark-at c.args.changed.now (from + c.loop-offset.offset) within c.if-changed-place.false) (c.has_arrival_at.ensures.0 c.if-not-has_arrival_at.false)
 
 pub returns : goal.returns
 returns c = λ t. record {

@@ -9,7 +9,7 @@ use Rattle.crew_plan.specs.Machinery.Kinds.{net_of}
 use Rattle.crew_plan.specs.Solutions.{IsFrontOf, Solution, front_among}
 use Rattle.crew_resource.proofs.Members.{Member-map_out}
 use Rattle.crew_resource.specs.Members.{Member}
-use Rattle.crew_sweep.proofs.Numbers.{get-within}
+use Rattle.crew_net.proofs.Numbers.{get-within}
 use Rattle.crew_plan.proofs.solution.Solution.front.Goals as goal
 
 pub returns-in_err-fronts : goal.returns-in_err-fronts

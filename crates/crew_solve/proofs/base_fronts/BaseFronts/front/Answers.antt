@@ -6,8 +6,9 @@ use Rattle.crew_net.specs.Nets.{AreByReport, Net}
 use Rattle.crew_pairing.specs.Events.{departure_of}
 use Rattle.crew_resource.proofs.Members.{Member-at}
 use Rattle.crew_solve.specs.Machinery.Homes.{boarding}
-use Rattle.crew_sweep.specs.Machinery.Numbered.{departure_place}
-use Rattle.crew_sweep.specs.Sweeps.{BaseSweep, front_at, in_order}
+use Rattle.crew_net.specs.Machinery.Numbered.{departure_place}
+use Rattle.crew_sweep.specs.Sweeps.{BaseSweep, front_at}
+use Rattle.crew_net.specs.Positions.{in_order}
 use Rattle.crew_solve.proofs.Departing.{read-at}
 use Rattle.crew_solve.proofs.Fronted.{stands}
 use Rattle.crew_solve.proofs.base_fronts.BaseFronts.front.Goals as goal

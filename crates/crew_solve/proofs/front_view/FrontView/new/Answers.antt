@@ -7,7 +7,7 @@ use Rattle.crew_pool.specs.declared.label_walk.LabelWalk.{LabelWalk}
 use Rattle.crew_resource.specs.Members.{Member}
 use Rattle.crew_solve.specs.Machinery.Lent.{boarding_at}
 use Rattle.crew_solve.specs.Machinery.Homes.{resource_of}
-use Rattle.crew_sweep.proofs.Numbers.{get-within}
+use Rattle.crew_net.proofs.Numbers.{get-within}
 use Rattle.crew_sweep.specs.Machinery.Kept.{AreKept}
 use Rattle.crew_solve.proofs.Boarded.{can-board}
 use Rattle.crew_solve.proofs.Entered.{are-lent, boarders-are, lent-shown}

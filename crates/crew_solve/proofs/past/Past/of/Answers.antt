@@ -2,7 +2,8 @@ use Rattle.std.proofs.Common.{◌≡◌, ◌∙◌, subst, sym}
 use Rattle.crew_carry.specs.Twins.{AreTwins}
 use Rattle.crew_net.specs.Nets.{Net}
 use Rattle.crew_resource.specs.Members.{Each}
-use Rattle.crew_sweep.specs.Sweeps.{AreTurns, BaseSweep}
+use Rattle.crew_sweep.specs.Sweeps.{BaseSweep}
+use Rattle.crew_net.specs.Positions.{ArePositions}
 use Rattle.crew_solve.proofs.past.Past.of.Goals as goal
 
 pub returns : goal.returns
@@ -13,7 +14,7 @@ returns c =
       earlier = earlier;
       nets = subst (Each (λ (b : BaseSweep). b.net ≡ earlier)) (sym (c.in_ok-fronts.ensures ∙ c.fronts.ensures.all)) c.fronts.ensures.nets;
       settings = c.requires;
-      turns = subst (λ (n : Net). AreTurns n c.in_ok-turns.turns.items) c.net-before.ensures c.in_ok-turns.ensures;
+      positions = subst (λ (n : Net). ArePositions n c.in_ok-positions.positions.items) c.net-before.ensures c.in_ok-positions.ensures;
       twins = subst (λ (n : Net). AreTwins n net c.in_ok-twins.twins) c.net-before.ensures c.in_ok-twins.ensures.twins;
       places = c.in_ok-places.ensures;
       alike = λ same. sym c.net-before.ensures ∙ c.are_one-is_same.ensures same;

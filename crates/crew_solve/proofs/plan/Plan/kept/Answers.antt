@@ -5,7 +5,8 @@ use Rattle.std.specs.Prelude.{slice_get}
 use Rattle.crew_solve.proofs.Departing.{read-at}
 use Rattle.crew_solve.proofs.Swept.{kept-of, price-at}
 use Rattle.crew_solve.specs.Machinery.Planned.{IsFromPast, IsPast}
-use Rattle.crew_solve.specs.Plans.{IsSwept, Plan}
+use Rattle.crew_solve.specs.Plans.{Plan}
+use Rattle.crew_sweep.specs.Sweeps.{IsSwept}
 use Rattle.crew_solve.proofs.plan.Plan.kept.Goals as goal
 
 weaker : {X : Type 0} (P Q : X → Type 0) → ((x : X) → P x → Q x) → (o : Option X) → IfSome o P → IfSome o Q

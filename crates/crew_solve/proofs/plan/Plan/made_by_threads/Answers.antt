@@ -6,8 +6,8 @@ use Rattle.std.specs.Prelude.{slice_get}
 use Rattle.crew_flights.specs.Timetable.{IsBasePrice}
 use Rattle.crew_solve.proofs.Departing.{read-at}
 use Rattle.crew_solve.proofs.Swept.{price-at, showing-of}
-use Rattle.crew_solve.specs.Machinery.Planned.{IsSweepable}
-use Rattle.crew_solve.specs.Plans.{IsSwept, Plan}
+use Rattle.crew_sweep.specs.Sweeps.{IsSweepable, IsSwept}
+use Rattle.crew_solve.specs.Plans.{Plan}
 use Rattle.crew_vector.proofs.LegalDuties.{duties-sound}
 use Rattle.crew_solve.proofs.plan.Plan.made_by_threads.Goals as goal
 
@@ -19,7 +19,7 @@ sweep_base_by_threads-requires-clause-sweepable g c =
       sound = duties-sound net.settings k.timetable net.duties k.over.checked k.over.sound k.over.duties;
       rise = k.over.duties.rising;
       few = k.over.few;
-      by_rank = k.by_rank;
+      positions = k.by_rank;
     })
 
 pub sweep_base_by_threads-requires-clause-price : goal.sweep_base_by_threads-requires-clause-price

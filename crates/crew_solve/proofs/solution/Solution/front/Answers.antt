@@ -7,7 +7,7 @@ use Rattle.crew_resource.proofs.Members.{Member-map_out}
 use Rattle.crew_resource.specs.Members.{Member}
 use Rattle.crew_solve.specs.Machinery.Solved.{IsSweepOf}
 use Rattle.crew_solve.specs.Solutions.{IsFrontOf, Solution, front_among}
-use Rattle.crew_sweep.proofs.Numbers.{get-within}
+use Rattle.crew_net.proofs.Numbers.{get-within}
 use Rattle.crew_sweep.specs.Sweeps.{BaseSweep}
 use Rattle.crew_solve.proofs.solution.Solution.front.Goals as goal
 
