@@ -10,10 +10,10 @@ mod carried;
 mod flags;
 pub mod laws;
 mod node_places;
+mod node_state;
 mod places;
 mod reach;
 mod same;
-mod node_state;
 mod windows;
 
 pub use carried::{Carried, carry};

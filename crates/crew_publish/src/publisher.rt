@@ -11,7 +11,7 @@ ghost use Rattle.crew_publish.specs.declared.fault.PairFault.TheVariants.{NoView
 use crate::fault::{PairFault, PublishFault};
 use crate::follow::follows;
 use crate::note::Note;
-use crate::shown::{Adds, Opens, Pen, Shown, Briefing};
+use crate::shown::{Adds, Briefing, Opens, Pen, Shown};
 use crate::viewer::Viewer;
 use core::mem::replace_with;
 use crew_version::Version;
