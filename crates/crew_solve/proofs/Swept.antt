@@ -1,5 +1,5 @@
 -- What stands at the places of bases, and the sweeps of all bases.
-use Rattle.std.proofs.Common.{◌≡◌, ◌∙◌, ◌<◌, ◌≤◌, ℕ, suc, ℤ, List, [], ◌∷◌, Option, None, Some, true, Result, Ok, Err, IfOk, IfSome, get_or, length, map, arith, ap, refl, sym, subst}
+use Rattle.std.proofs.Common.{◌≡◌, ◌∙◌, ◌<◌, ◌≤◌, ℕ, suc, ℤ, List, [], ◌∷◌, Option, None, Some, true, IfSome, get_or, length, map, arith, ap, refl, sym, subst}
 use Rattle.std.proofs.lemmas.List.{length-map}
 use Rattle.std.specs.Prelude.{slice_get}
 use Rattle.std.specs.Arc.{arc_value}

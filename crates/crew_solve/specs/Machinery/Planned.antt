@@ -8,7 +8,6 @@ use Rattle.crew_net.specs.Events.{AreEvents, arrival_cmp, departure_cmp}
 use Rattle.crew_net.specs.Nets.{AreArrivalPlaces, IsNetOf, Net}
 use Rattle.crew_pairing.specs.Duties.{AreDuties, RiseByKey}
 use Rattle.crew_pairing.specs.Events.{arrival_of, departure_of}
-use Rattle.crew_pairing.specs.declared.duty.Duty.{Duty}
 use Rattle.crew_resource.specs.Members.{Each, Member}
 use Rattle.crew_rules.specs.Settings.{IsChecked}
 use Rattle.crew_solve.specs.declared.past.Past.{Past}

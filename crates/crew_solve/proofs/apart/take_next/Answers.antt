@@ -4,7 +4,7 @@ use Rattle.std.specs.List.{flat_map}
 use Rattle.crew_solve.specs.Machinery.Floors.{AreKnown}
 use Rattle.crew_solve.specs.Machinery.Homes.{home_of}
 use Rattle.crew_solve.specs.Machinery.Keeps.{CheapestSoFar, KeepsSome, keep_all, nothing_beside}
-use Rattle.crew_solve.specs.Machinery.Takes.{Taken, looked_at}
+use Rattle.crew_solve.specs.Machinery.Takes.{looked_at}
 use Rattle.crew_solve.proofs.Choosing.{begins-none, might-before}
 use Rattle.crew_solve.proofs.Flooring.{known-stays}
 use Rattle.crew_solve.proofs.Keeping.{keep-append, still-beside}

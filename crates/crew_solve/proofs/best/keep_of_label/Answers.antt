@@ -1,16 +1,15 @@
-use Rattle.std.proofs.Common.{◌≡◌, ◌∙◌, ◌∷◌, [], ap, sym, subst, to_z, of_z, w64, ℤ, arith, false}
-use Rattle.std.specs.Prelude.{OnOk, ◌≤ℤ◌}
+use Rattle.std.proofs.Common.{◌≡◌, ◌∙◌, ◌∷◌, [], ap, sym, subst, to_z, of_z, w64, ℤ, arith}
+use Rattle.std.specs.Prelude.{◌≤ℤ◌}
 use Rattle.std.specs.Int.{int_min}
 use Rattle.std.proofs.lemmas.Int.{ints}
 use Rattle.crew_pairing.specs.Vectors.{reduced_cost}
 use Rattle.crew_solve.specs.Machinery.Floors.{CostFrom}
-use Rattle.crew_solve.specs.Machinery.Homes.{pairing_at, walk_by_key}
-use Rattle.crew_solve.specs.Machinery.Keeps.{is_wanted, keep}
+use Rattle.crew_solve.specs.Machinery.Homes.{pairing_at}
+use Rattle.crew_solve.specs.Machinery.Keeps.{keep}
 use Rattle.crew_solve.proofs.Floored.{as-much}
 use Rattle.crew_solve.proofs.Flooring.{from-one, from-unasked-one, keep-unasked}
 use Rattle.crew_solve.proofs.Marking.{unasked-marked}
 use Rattle.crew_solve.proofs.Pairings.{has-pay, paired, shown-as}
-use Rattle.crew_vector.specs.declared.priced.PricedPairing.{PricedPairing}
 use Rattle.crew_solve.proofs.best.keep_of_label.Goals as goal
 
 less-than : (m a c : ℤ) → m ≡ int_min a c → m ≤ℤ c

@@ -1,4 +1,4 @@
-use Rattle.std.proofs.Common.{◌≡◌, ◌∙◌, ◌<◌, ap, sym, subst, arith, length, get_or, None}
+use Rattle.std.proofs.Common.{◌∙◌, ◌<◌, ap, sym, subst, arith, length, get_or, None}
 use Rattle.crew_net.specs.Nets.{Net}
 use Rattle.crew_solve.specs.Machinery.Floors.{AreMarks, MayCost}
 use Rattle.crew_solve.specs.Machinery.Homes.{home_from, home_of}

@@ -1,4 +1,4 @@
-use Rattle.std.proofs.Common.{◌≡◌, ◌∙◌, ◌<◌, ap, refl, sym, subst, arith, length, get_or, None, Option, ℤ}
+use Rattle.std.proofs.Common.{◌≡◌, ◌∙◌, ◌<◌, ap, refl, sym, subst, arith, length, get_or, None}
 use Rattle.std.specs.List.{flat_map, range_with_len}
 use Rattle.crew_net.specs.Nets.{Net}
 use Rattle.crew_solve.specs.Machinery.Floors.{AreMarks, MayCost}

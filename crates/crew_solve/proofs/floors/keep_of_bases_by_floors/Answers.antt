@@ -1,4 +1,4 @@
-use Rattle.std.proofs.Common.{◌≡◌, ◌∙◌, ◌<◌, Option, Some, ap, arith, length, map, refl, subst, sym, take, get_or}
+use Rattle.std.proofs.Common.{◌≡◌, ◌∙◌, ◌<◌, Some, ap, arith, length, map, refl, subst, sym, take, get_or}
 use Rattle.std.specs.Prelude.{slice_get}
 use Rattle.std.specs.Arc.{arc_value}
 use Rattle.std.specs.List.{flat_map}
@@ -7,7 +7,6 @@ use Rattle.crew_resource.proofs.Members.{Member-at, Member-map_in}
 use Rattle.crew_solve.specs.Machinery.Floors.{IsKnown}
 use Rattle.crew_solve.specs.Machinery.Homes.{home_of}
 use Rattle.crew_solve.specs.Machinery.Keeps.{CheapestSoFar, keep_all}
-use Rattle.crew_solve.specs.Machinery.Takes.{Taken}
 use Rattle.crew_solve.proofs.Departing.{read-at}
 use Rattle.crew_solve.proofs.Flooring.{known-at, known-set, long-map, mapped-at}
 use Rattle.crew_solve.proofs.Listed.{flat-more-of}
