@@ -8,7 +8,7 @@ use Rattle.crew_label.specs.declared.label.Label.{Label}
 use Rattle.crew_net.specs.Nets.{Net}
 use Rattle.crew_pairing.specs.Duties.{RiseByKey}
 use Rattle.crew_pairing.specs.declared.duty.Duty.{Duty}
-use Rattle.crew_pass.proofs.Slices.{get-at}
+use Rattle.crew_net.proofs.Slices.{get-at}
 use Rattle.crew_pass.specs.Passes.{keyed_entries}
 use Rattle.crew_rules.specs.declared.settings.Settings.{Settings}
 use Rattle.crew_fronts.specs.Fronts.{BaseFronts, front_at}
