@@ -17,11 +17,11 @@ returns c =
     let b : BaseFronts = arc_value c.in_ok-fronts.fronts in
     let right : AreRight b = subst AreRight c.deref.ensures c.net-net.ensures.right in
     let own : (b.base, b.price) ≡ ((arc_value c.in_ok-sweep.sweep).base, (arc_value c.in_ok-sweep.sweep).price) = λ i. (f.base i, f.price i) in
-    let net = f.net ∙ k.2.same in (
+    let net = f.net ∙ k.2.net in (
       k.0,
       k.1,
       record {
-        own = own ∙ k.2.own;
+        own = own ∙ k.2.base;
         same = net;
         fronts = λ t sound dated duties. right t sound dated (subst (λ (n : Net). AreDuties n.settings t n.duties) (sym net) duties);
       },

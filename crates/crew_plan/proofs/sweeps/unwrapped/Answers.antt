@@ -24,9 +24,9 @@ sweep-in plan place b sweep are own right =
       are.0,
       are.1,
       record {
-        own = pair ∙ are.2.own;
-        same = net;
-        fronts = λ t sound duties. right t sound (subst (λ (n : Net). AreDuties n.settings t n.duties) (sym net) duties);
+        net = net;
+        base = pair ∙ are.2.own;
+        right = λ t sound duties. right t sound (subst (λ (n : Net). AreDuties n.settings t n.duties) (sym net) duties);
       },
     )
 
