@@ -45,7 +45,7 @@ ends_push (v ∷ vs) z = last_or_push v vs z
 
 -- what follows the last of a chain is the last of the longer one
 pub view_push : (vs l : List Snapshot) (last z : Snapshot) → l ≡ vs ++ z ∷ [] → IsChain Follows vs → Ends vs last → Follows last z → IsViewOf l z
-view_push vs l last z is h e f = (subst (IsChain Follows) Follows (sym is) (chain_push vs last z h e f), subst (λ (m : List Snapshot). Ends m z) (sym is) (ends_push vs z))
+view_push vs l last z is h e f = (subst (λ (l : List Snapshot). IsChain Follows l) (sym is) (chain_push vs last z h e f), subst (λ (m : List Snapshot). Ends m z) (sym is) (ends_push vs z))
 
 -- where a beginning ends as the whole does, nothing is left
 nothing_left : (v : Snapshot) (vs rest : List Snapshot) → ChainFrom Follows v (vs ++ rest) → last_or v vs ≡ last_or v (vs ++ rest) → rest ≡ []
@@ -63,7 +63,7 @@ append-nil' (x ∷ xs) = ap (λ ys. x ∷ ys) (append-nil' xs)
 pub same_end : (vs whole : List Snapshot) (last : Snapshot) → IsPrefix vs whole → IsChain Follows whole → Ends vs last → Ends whole last → vs ≡ whole
 same_end [] whole last p h e f = absurd e
 same_end (v ∷ vs) whole last p h e f =
-    let h' : ChainFrom Follows v (vs ++ p.0) = subst (IsChain Follows) Follows (sym p.1) h in
+    let h' : ChainFrom Follows v (vs ++ p.0) = subst (λ (l : List Snapshot). IsChain Follows l) (sym p.1) h in
     let f' : last_or v (vs ++ p.0) ≡ last = subst (λ (l : List Snapshot). Ends l last) (sym p.1) f in
     let none : p.0 ≡ [] = nothing_left v vs p.0 h' (e ∙ sym f') in
     sym (append-nil' (v ∷ vs)) ∙ (ap (λ (r : List Snapshot). (v ∷ vs) ++ r) (sym none) ∙ p.1)
@@ -149,7 +149,7 @@ extends_from v (w ∷ ws) rest h = extends_from w ws rest h.1
 pub extends_beginning : (vs whole : List Snapshot) (last end : Snapshot) → IsPrefix vs whole → Ends vs last → IsViewOf whole end → Extends last end
 extends_beginning [] whole last end p e of = absurd e
 extends_beginning (v ∷ vs) whole last end p e of =
-    let chain : ChainFrom Follows v (vs ++ p.0) = subst (IsChain Follows) Follows (sym p.1) of.0 in
+    let chain : ChainFrom Follows v (vs ++ p.0) = subst (λ (l : List Snapshot). IsChain Follows l) (sym p.1) of.0 in
     let ends : last_or v (vs ++ p.0) ≡ end = subst (λ (l : List Snapshot). Ends l end) (sym p.1) of.1 in
     subst (λ (w : Snapshot). Extends last w) ends (subst (λ (w : Snapshot). Extends w (last_or v (vs ++ p.0))) e (extends_from v vs p.0 chain))
 

@@ -2,6 +2,7 @@ use Rattle.std.proofs.Common.{sym, subst, rules}
 use Rattle.std.specs.Arc.{arc_value}
 use Rattle.crew_version.specs.Versions.{Snapshot}
 use Rattle.crew_publish.specs.Chain.{Follows}
+use Rattle.crew_resource.specs.Chains.{IsChain}
 use Rattle.crew_publish.specs.Views.{IsViewOf, Published}
 use Rattle.crew_publish.proofs.Chains.{view_push}
 use Rattle.crew_publish.proofs.publisher.Publisher.publish.Goals as goal
