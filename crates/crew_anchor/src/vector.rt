@@ -92,7 +92,7 @@ impl AnchoredVector {
         }
     }
 
-    /// The pay of the duties, less prices.
+    /// The pay of the duties, less prices, in points.
     #[inline]
     pub fn duty_pay(&self) -> i64
         ensures { result ≡ self.now.duty_pay }

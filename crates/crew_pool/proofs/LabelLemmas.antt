@@ -1,6 +1,6 @@
 -- Labels beside their marks.
 use Rattle.std.proofs.Common.{◌≡◌, ℕ, zero, suc, ◌+◌, ◌<◌, ◌⊎◌, Bool, true, false, cond, not, List, [], ◌∷◌, ◌++◌, length, take, map, get_or, set, ltb, Option, Some, None, refl, subst, sym, ◌∙◌, ap, arith, ⊎_elim}
-use Rattle.std.specs.Prelude.{◌&&◌, ◌||◌, ◌≤◌, slice_get}
+use Rattle.std.specs.Prelude.{◌||◌, ◌≤◌, slice_get}
 use Rattle.std.specs.Option.{is_some}
 use Rattle.std.specs.List.{list_any, position, position_or_len, swap}
 use borrow.Author.Tests.{ltb-true, ltb-false}

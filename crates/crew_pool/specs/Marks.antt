@@ -10,6 +10,6 @@ abbrev pub are_first : ℕ → List ℤ → List ℤ → Bool
 are_first zero a b = true
 are_first (suc n) a b = are_first n a b && int_le (mark_at n a) (mark_at n b)
 
--- each of eight
+-- each of four
 unfoldable pub are_at_most : List ℤ → List ℤ → Bool
-are_at_most a b = are_first 8 a b
+are_at_most a b = are_first 4 a b

@@ -17,7 +17,7 @@ use std::marker::Model;
 #[derive(Drop)]
 pub(crate) struct Labels<R: Marked> {
     labels: Vec<(R::Value, LabelWalk)>,
-    marks: Vec<[i32; 8]>,
+    marks: Vec<[i32; 4]>,
 }
 
 impl<R: Marked> Model for Labels<R> {
@@ -80,7 +80,7 @@ impl<R: Marked> Labels<R> {
     pub(crate) fn push(
         &mut self,
         label: (R::Value, LabelWalk),
-        marks: [i32; 8],
+        marks: [i32; 4],
     ) -> Result<(), AllocError>
         requires { marks ≡ R.marks_of label.0 }
         ensures ok { OnOk result (self.new ≡ self.old ++ label ∷ []) }
@@ -97,7 +97,7 @@ impl<R: Marked> Labels<R> {
         &self,
         resource: &R,
         value: &R::Value,
-        marks: &[i32; 8],
+        marks: &[i32; 4],
     ) -> Option<usize>
         requires { marks.now ≡ R.marks_of value.now }
         ensures { result ≡ position (λ l. R.below l.0 value.now) self.now }
@@ -168,7 +168,7 @@ impl<R: Marked> Labels<R> {
 fn drop_reached<R: Marked>(
     resource: &R,
     labels: &mut Vec<(R::Value, LabelWalk)>,
-    marks: &mut Vec<[i32; 8]>,
+    marks: &mut Vec<[i32; 4]>,
     joins: &Labels<R>,
 )
     requires { marks.old.items ≡ map (λ e. R.marks_of e.0) labels.old.items }

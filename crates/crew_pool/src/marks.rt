@@ -4,7 +4,7 @@ ghost use Rattle.crew_pool.specs.Marks.{are_at_most};
 
 use crew_resource::Resource;
 
-/// A resource whose values have eight marks: of two values, one at most the other, each mark of the
+/// A resource whose values have four marks: of two values, one at most the other, each mark of the
 /// one is at most the other's. So a glance at marks tells of most pairs of values that the one isn't
 /// at most the other.
 ///
@@ -14,25 +14,18 @@ pub trait Marked: Resource {
     ghost marks_of: { Self.Value → List ℤ };
 
     /// A value's marks.
-    fn marks(&self, value: &Self::Value) -> [i32; 8]
+    fn marks(&self, value: &Self::Value) -> [i32; 4]
         ensures { result ≡ marks_of value.now };
 
     ghost marks_rise: { (a b : Self.Value) → Self.below a b ≡ true
         → are_at_most (marks_of a) (marks_of b) ≡ true };
 }
 
-// Whether each of some marks is at most the other's at its place. There is one way through it, so
-// that four are compared at a time.
+// Whether each of four marks is at most the other's at its place. There is one way through it, so
+// that all four are compared at once.
 #[inline(always)]
-pub(crate) fn are_at_most(a: &[i32; 8], b: &[i32; 8]) -> bool
+pub(crate) fn are_at_most(a: &[i32; 4], b: &[i32; 4]) -> bool
     ensures { result ≡ are_at_most a.now b.now }
 {
-    true & (a[0] <= b[0])
-        & (a[1] <= b[1])
-        & (a[2] <= b[2])
-        & (a[3] <= b[3])
-        & (a[4] <= b[4])
-        & (a[5] <= b[5])
-        & (a[6] <= b[6])
-        & (a[7] <= b[7])
+    true & (a[0] <= b[0]) & (a[1] <= b[1]) & (a[2] <= b[2]) & (a[3] <= b[3])
 }

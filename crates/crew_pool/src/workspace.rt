@@ -5,7 +5,7 @@ use std::alloc::Global;
 
 /// Working space that is used again.
 ///
-/// What it holds is cleared before it is used, so any space serves and no clause speaks of it.
+/// What it holds is cleared before it is used.
 pub struct Workspace<R: Marked> {
     pub(crate) free: Labels<R>,
 }
@@ -17,7 +17,7 @@ impl<R: Marked> Drop for Workspace<R> {
 }
 
 impl<R: Marked> Workspace<R> {
-    /// No space yet.
+    /// No space yet. No clause says so, since any space serves.
     pub fn new(alloc: Global) -> Self {
         Workspace {
             free: Labels::new(alloc),

@@ -12,11 +12,10 @@ use Rattle.crew_vector.specs.Dominance.{is_at_most}
 abbrev pub narrowed : ℤ → ℤ
 narrowed z = int_max (negsuc 2_147_483_647) (int_min z (pos 2_147_483_647))
 
--- the seven parts, each as near as 32 bits come, and 0
+-- the guarantee, the minutes of duty and of flight and those away, each as near as 32 bits come
 abbrev pub marks_of : PairingVector → List ℤ
 marks_of v =
-    narrowed v.duty_pay ∷ narrowed v.trip_rig ∷ narrowed v.guarantee ∷ narrowed v.fdp
-    ∷ narrowed v.fly ∷ narrowed v.duties ∷ narrowed v.away ∷ pos 0 ∷ []
+    narrowed v.guarantee ∷ narrowed v.fdp ∷ narrowed v.fly ∷ narrowed v.away ∷ []
 
 narrowed_rises : (x y : ℤ) → x ≤ℤ y → narrowed x ≤ℤ narrowed y
 narrowed_rises x y h = omega (arith, ints, clamps)
@@ -40,8 +39,6 @@ marks_rise a b h =
     let times = and_parts _ _ sums.1 in
     let duty = and_parts _ _ times.0 in
     let length = and_parts _ _ times.1 in
-    also (also (also (also (also (also (also (also {a = true} refl
-    (part_rises a.duty_pay b.duty_pay money.0)) (part_rises a.trip_rig b.trip_rig rig.0))
-    (part_rises a.guarantee b.guarantee rig.1)) (part_rises a.fdp b.fdp duty.0))
-    (part_rises a.fly b.fly duty.1)) (part_rises a.duties b.duties length.0))
-    (part_rises a.away b.away length.1)) refl
+    also (also (also (also {a = true} refl (part_rises a.guarantee b.guarantee rig.1))
+    (part_rises a.fdp b.fdp duty.0)) (part_rises a.fly b.fly duty.1))
+    (part_rises a.away b.away length.1)

@@ -6,12 +6,8 @@ use Rattle.crew_pool.proofs.marks.are_at_most.Goals as goal
 pub returns : goal.returns
 unfolding are_at_most
 returns c =
-    and_same (and_same (and_same (and_same (and_same (and_same (and_same (and_same {a = true} {b = true} (refl)
+    and_same (and_same (and_same (and_same {a = true} {b = true} (refl)
     (le_same (mark_at 0 c.args.a.now) (mark_at 0 c.args.b.now) (search rules) (search rules)))
     (le_same (mark_at 1 c.args.a.now) (mark_at 1 c.args.b.now) (search rules) (search rules)))
     (le_same (mark_at 2 c.args.a.now) (mark_at 2 c.args.b.now) (search rules) (search rules)))
-    (le_same (mark_at 3 c.args.a.now) (mark_at 3 c.args.b.now) (search rules) (search rules)))
-    (le_same (mark_at 4 c.args.a.now) (mark_at 4 c.args.b.now) (search rules) (search rules)))
-    (le_same (mark_at 5 c.args.a.now) (mark_at 5 c.args.b.now) (search rules) (search rules)))
-    (le_same (mark_at 6 c.args.a.now) (mark_at 6 c.args.b.now) (search rules) (search rules)))
-    (le_same (mark_at 7 c.args.a.now) (mark_at 7 c.args.b.now) (search rules) (search rules))
+    (le_same (mark_at 3 c.args.a.now) (mark_at 3 c.args.b.now) (search rules) (search rules))

@@ -7,5 +7,4 @@ also {x} {y} {xs} {ys} e f = ap (λ z. z ∷ xs) e ∙ ap (λ z. y ∷ z) f
 -- mark by mark
 pub returns : goal.returns
 returns c =
-    also (search rules) (also (search rules) (also (search rules) (also (search rules)
-    (also (search rules) (also (search rules) (also (search rules) (also (search rules) refl)))))))
+    also (search rules) (also (search rules) (also (search rules) (also (search rules) refl)))

@@ -1,8 +1,8 @@
-use Rattle.std.proofs.Common.{◌≡◌, ◌∙◌, ◌<◌, arith, ap, false, get_or, length, map, refl, sym, subst, true, true≢false, Bool, List, Some, ℤ}
+use Rattle.std.proofs.Common.{◌≡◌, ◌∙◌, ◌<◌, arith, ap, false, get_or, length, refl, sym, subst, true, true≢false, Bool, List, Some, ℤ}
 use Rattle.std.specs.Prelude.{slice_get}
 use Rattle.std.proofs.lemmas.List.{length-map}
 use Rattle.crew_pool.specs.Marks.{are_at_most}
-use Rattle.crew_pool.proofs.LabelLemmas.{NoneOf, first-found, got, label-at, mark-at, none-found, none-more}
+use Rattle.crew_pool.proofs.LabelLemmas.{first-found, got, label-at, mark-at, none-found, none-more}
 use Rattle.crew_pool.proofs.labels.Labels.first_at_most.Goals.{else-are_at_most-via-then-are_at_most+else-at_most, else-are_at_most-via-else-are_at_most}
 use Rattle.crew_pool.proofs.labels.Labels.first_at_most.Goals as goal
 
