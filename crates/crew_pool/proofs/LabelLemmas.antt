@@ -2,11 +2,11 @@
 use Rattle.std.proofs.Common.{◌≡◌, ℕ, zero, suc, ◌+◌, ◌<◌, ◌⊎◌, Bool, true, false, cond, not, List, [], ◌∷◌, ◌++◌, length, take, map, get_or, set, ltb, Option, Some, None, refl, subst, sym, ◌∙◌, ap, arith, ⊎_elim}
 use Rattle.std.specs.Prelude.{◌||◌, ◌≤◌, slice_get}
 use Rattle.std.specs.Option.{is_some}
-use Rattle.std.specs.List.{list_any, position, position_or_len, swap}
+use Rattle.std.specs.List.{filter, list_any, position, position_or_len, swap}
 use borrow.Author.Tests.{ltb-true, ltb-false}
 use Rattle.std.proofs.Math.ListN.{get_or-map}
 use Rattle.std.proofs.lemmas.Bool.{cases_Bool, lt-ltb, le-ltb}
-use Rattle.std.proofs.lemmas.List.{map_more, map-set}
+use Rattle.std.proofs.lemmas.List.{append-nil, map_more, map-set}
 use Rattle.std.proofs.lemmas.List.Sums.{position_or_len_is}
 
 -- the elements of two places change them, and so do what a function makes of them
@@ -24,6 +24,18 @@ map-swap f (d ∷ ys) i j =
 -- what is swapped in step stays in step
 pub swapped_in_step : {X Y : Type 0} (f : X → Y) (xs us : List X) (ys vs : List Y) (i j : ℕ) → ys ≡ map f xs → us ≡ swap xs i j → vs ≡ swap ys i j → vs ≡ map f us
 swapped_in_step f xs us ys vs i j e p q = q ∙ (ap (λ z. swap z i j) e ∙ (sym (map-swap f xs i j) ∙ ap (map f) (sym p)))
+
+keeps_all : {X : Type 0} (hit : X → X → Bool) (xs : List X)
+    → filter (λ e. not (list_any (λ l. hit l e) [])) xs ≡ xs
+keeps_all hit [] = refl
+keeps_all hit (x ∷ xs) = ap (λ ys. x ∷ ys) (keeps_all hit xs)
+
+-- where none joins all stay
+pub none_joins : {X : Type 0} (hit : X → X → Bool) (xs joins : List X) → joins ≡ []
+    → xs ≡ filter (λ e. not (list_any (λ l. hit l e) joins)) xs ++ joins
+none_joins hit xs joins e =
+    sym (subst (λ js. filter (λ x. not (list_any (λ l. hit l x) js)) xs ++ js ≡ xs) (sym e)
+    (append-nil (filter (λ x. not (list_any (λ l. hit l x) [])) xs) ∙ keeps_all hit xs))
 
 -- the first label that passes a test, looked for by marks that tell of most that don't
 module _ {X Y : Type 0} (f : X → Y) (test : X → Bool) where

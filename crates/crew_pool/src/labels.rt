@@ -1,5 +1,5 @@
 //! Labels with their marks.
-ghost use Rattle.std.specs.Prelude.{◌≡◌, ◌<◌, ◌≤◌, ◌++◌, ◌∷◌, List, [], length, map, not, slice_get, slice_set, vec_capacity, vec_len, OnErr, OnOk, IfOk, Some};
+ghost use Rattle.std.specs.Prelude.{◌≡◌, ◌<◌, ◌≤◌, ◌++◌, ◌∷◌, ◌↔◌, List, [], length, map, not, slice_get, slice_set, vec_capacity, vec_len, OnErr, OnOk, IfOk, IsTrue, Some};
 ghost use Rattle.std.specs.List.{filter, list_any, position, swap};
 ghost use Rattle.crew_pool.specs.LabelWalks.{AreAlike, lesser_label_walk};
 ghost use Rattle.crew_pool.specs.declared.label_walk.LabelWalk.{LabelWalk};
@@ -66,6 +66,13 @@ impl<R: Marked> Labels<R> {
         ensures { result.now ≡ self.now }
     {
         self.labels.as_slice()
+    }
+
+    /// Whether there are none.
+    pub(crate) fn is_empty(&self) -> bool
+        ensures { IsTrue result ↔ (self.now ≡ []) }
+    {
+        self.labels.is_empty()
     }
 
     /// Lets go of all labels, and keeps the memory.
@@ -155,6 +162,9 @@ impl<R: Marked> Labels<R> {
             ++ joins.old) }
         ensures err { OnErr result (self.new ≡ self.old) }
     {
+        if joins.is_empty() {
+            return Ok(());
+        }
         self.labels.reserve(joins.labels.len())?;
         self.marks.reserve(joins.marks.len())?;
         drop_reached(resource, &mut self.labels, &mut self.marks, joins);
