@@ -8,3 +8,6 @@ pub mod Permuted
 pub mod Listed
 pub mod MarkLemmas
 pub mod LabelLemmas
+pub mod ColumnLemmas
+pub mod LaneLemmas
+pub mod NextLemmas

@@ -1,3 +1,4 @@
--- How walks are linked, and which labels a pool leaves free.
+-- How walks are linked, which labels a pool leaves free, and marks by column.
 pub mod ArenaLinks
+pub mod Columns
 pub mod Meets

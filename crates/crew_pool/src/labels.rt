@@ -1,12 +1,13 @@
 //! Labels with their marks.
 ghost use Rattle.std.specs.Prelude.{◌≡◌, ◌<◌, ◌≤◌, ◌++◌, ◌∷◌, ◌↔◌, List, [], length, map, not, slice_get, slice_set, vec_capacity, vec_len, OnErr, OnOk, IfOk, IsTrue, Some};
-ghost use Rattle.std.specs.List.{filter, list_any, position, swap};
+ghost use Rattle.std.specs.List.{SwappedAt, filter, list_any, position, swap};
 ghost use Rattle.crew_pool.specs.LabelWalks.{AreAlike, lesser_label_walk};
 ghost use Rattle.crew_pool.specs.declared.label_walk.LabelWalk.{LabelWalk};
 
 use crate::arena::Walks;
+use crate::columns::Columns;
 use crate::label_walk::{LabelWalk, compare_label_walks};
-use crate::marks::{Marked, are_at_most};
+use crate::marks::Marked;
 use std::alloc::{AllocError, Global};
 use std::marker::Model;
 
@@ -17,7 +18,7 @@ use std::marker::Model;
 #[derive(Drop)]
 pub(crate) struct Labels<R: Marked> {
     labels: Vec<(R::Value, LabelWalk)>,
-    marks: Vec<[i32; 4]>,
+    marks: Columns,
 }
 
 impl<R: Marked> Model for Labels<R> {
@@ -25,7 +26,7 @@ impl<R: Marked> Model for Labels<R> {
 
     ghost view = { λ l. l.labels.items };
 
-    ghost invariant = { λ l. l.marks.items ≡ map (λ e. R.marks_of e.0) l.labels.items };
+    ghost invariant = { λ l. l.marks.rows ≡ map (λ e. R.marks_of e.0) l.labels.items };
 }
 
 impl<R: Marked> Labels<R> {
@@ -35,7 +36,7 @@ impl<R: Marked> Labels<R> {
     {
         Labels {
             labels: Vec::new(alloc),
-            marks: Vec::new(alloc),
+            marks: Columns::new(alloc),
         }
     }
 
@@ -47,11 +48,15 @@ impl<R: Marked> Labels<R> {
     ) -> Result<Self, AllocError>
         ensures { IfOk result (λ marked. marked ≡ labels.items) }
     {
-        let mut marks = Vec::with_capacity(alloc, labels.len())?;
+        let mut columns = Columns::new(alloc);
+        columns.reserve(labels.len())?;
         for label in &labels {
-            marks.push(resource.marks(&label.0))?;
+            columns.push(resource.marks(&label.0))?;
         }
-        Ok(Labels { labels, marks })
+        Ok(Labels {
+            labels,
+            marks: columns,
+        })
     }
 
     /// The list of the labels alone.
@@ -109,12 +114,12 @@ impl<R: Marked> Labels<R> {
         requires { marks.now ≡ R.marks_of value.now }
         ensures { result ≡ position (λ l. R.below l.0 value.now) self.now }
     {
-        for place in 0..self.marks.len() {
-            if are_at_most(&self.marks[place], marks)
-                && resource.at_most(&self.labels[place].0, value)
-            {
+        let mut from = 0;
+        while let Some(place) = self.marks.next_at_most(from, marks) {
+            if resource.at_most(&self.labels[place].0, value) {
                 return Some(place);
             }
+            from = place + 1;
         }
         None
     }
@@ -166,10 +171,10 @@ impl<R: Marked> Labels<R> {
             return Ok(());
         }
         self.labels.reserve(joins.labels.len())?;
-        self.marks.reserve(joins.marks.len())?;
+        self.marks.reserve(joins.labels.len())?;
         drop_reached(resource, &mut self.labels, &mut self.marks, joins);
         self.labels.append(&mut joins.labels)?;
-        self.marks.append(&mut joins.marks)?;
+        self.marks.append(&mut joins.marks);
         Ok(())
     }
 }
@@ -178,29 +183,50 @@ impl<R: Marked> Labels<R> {
 fn drop_reached<R: Marked>(
     resource: &R,
     labels: &mut Vec<(R::Value, LabelWalk)>,
-    marks: &mut Vec<[i32; 4]>,
+    marks: &mut Columns,
     joins: &Labels<R>,
 )
-    requires { marks.old.items ≡ map (λ e. R.marks_of e.0) labels.old.items }
+    requires { marks.old.rows ≡ map (λ e. R.marks_of e.0) labels.old.items }
     ensures kept { labels.new.items
         ≡ filter (λ e. not (list_any (λ l. R.below l.0 e.0) joins.now)) labels.old.items }
-    ensures marked { marks.new.items ≡ map (λ e. R.marks_of e.0) labels.new.items }
-    ensures fewer { (vec_len labels.new ≤ vec_len labels.old)
-        × (vec_len marks.new ≤ vec_len marks.old) }
+    ensures marked { marks.new.rows ≡ map (λ e. R.marks_of e.0) labels.new.items }
+    ensures fewer { vec_len labels.new ≤ vec_len labels.old }
     ensures room { (vec_capacity labels.new ≡ vec_capacity labels.old)
-        × (vec_capacity marks.new ≡ vec_capacity marks.old) }
+        × (marks.new.room ≡ marks.old.room) }
 {
     let mut kept = 0;
     for place in 0..labels.len() {
         if joins
-            .first_at_most(resource, &labels[place].0, &marks[place])
+            .first_at_most(resource, &labels[place].0, &marks.at(place))
             .is_none()
         {
-            labels.swap(kept, place);
-            marks.swap(kept, place);
+            bring_forward::<R>(labels, marks, place, kept);
             kept += 1;
         }
     }
     labels.truncate(kept);
     marks.truncate(kept);
+}
+
+// Puts the label of a place, with its marks, at one that isn't after it, and what stood there in its
+// place.
+fn bring_forward<R: Marked>(
+    labels: &mut Vec<(R::Value, LabelWalk)>,
+    marks: &mut Columns,
+    place: usize,
+    to: usize,
+)
+    requires marked { marks.old.rows ≡ map (λ e. R.marks_of e.0) labels.old.items }
+    requires there { place < vec_len labels.old }
+    requires before { to ≤ place }
+    ensures moved { SwappedAt labels.old.items labels.new.items to place }
+    ensures marked { marks.new.rows ≡ map (λ e. R.marks_of e.0) labels.new.items }
+    ensures long { vec_len labels.new ≡ vec_len labels.old }
+    ensures room { (vec_capacity labels.new ≡ vec_capacity labels.old)
+        × (marks.new.room ≡ marks.old.room) }
+{
+    if to < place {
+        labels.swap(to, place);
+        marks.swap(to, place);
+    }
 }

@@ -7,6 +7,7 @@
 
 mod absorb;
 mod arena;
+mod columns;
 mod entries;
 mod growing;
 mod label_walk;

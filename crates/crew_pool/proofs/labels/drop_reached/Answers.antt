@@ -4,7 +4,7 @@ use Rattle.std.specs.List.{list_any}
 use Rattle.std.proofs.lemmas.List.{take-map}
 use Rattle.std.proofs.lemmas.List.Filters.{FiltersInPlace-more_no, FiltersInPlace-more_swap}
 use Rattle.crew_pool.specs.declared.label_walk.LabelWalk.{LabelWalk}
-use Rattle.crew_pool.proofs.LabelLemmas.{found_any, swapped_in_step}
+use Rattle.crew_pool.proofs.LabelLemmas.{found_any}
 use Rattle.crew_pool.proofs.labels.drop_reached.Goals as goal
 use Rattle.crew_pool.proofs.labels.drop_reached.Goals.{then-is_none, else-is_none}
 
@@ -15,10 +15,10 @@ loop-place-preserved g c =
     let hits = λ (j : g.row.R-Value.Denot × LabelWalk). g.R.Resource.below j.0 held.0 in
     elim c.if-is_none.branch [
       | then-is_none w ↦ rw (w.labels-is, w.marks-is, w.kept-is) (record {
-        marked = swapped_in_step (λ e. g.R.Marked.marks_of e.0) c.loop-place.labels.items w.swap.new.self.items c.loop-place.marks.items w.swap-then-is_none.new.self.items c.loop-place.kept c.loop-place.place c.loop-place.invariant.marked w.swap.ensures.items w.swap-then-is_none.ensures.items;
-        kept = FiltersInPlace-more_swap c.loop-place.invariant.kept (omega arith) (not_from_false (list_any hits joins) (found_any hits joins c.first_at_most.result false c.first_at_most.ensures w.if-is_none.ensures)) c.index.ensures w.swap.ensures.by_index;
-        label_room = w.swap.ensures.capacity ∙ c.loop-place.invariant.label_room;
-        mark_room = w.swap-then-is_none.ensures.capacity ∙ c.loop-place.invariant.mark_room;
+        marked = w.bring_forward.ensures.marked;
+        kept = FiltersInPlace-more_swap c.loop-place.invariant.kept (omega arith) (not_from_false (list_any hits joins) (found_any hits joins c.first_at_most.result false c.first_at_most.ensures w.if-is_none.ensures)) c.index.ensures w.bring_forward.ensures.moved;
+        label_room = w.bring_forward.ensures.room.0 ∙ c.loop-place.invariant.label_room;
+        mark_room = w.bring_forward.ensures.room.1 ∙ c.loop-place.invariant.mark_room;
       })
       | else-is_none w ↦ rw (w.labels-is, w.marks-is, w.kept-is) (record {
         marked = c.loop-place.invariant.marked;
@@ -31,4 +31,4 @@ loop-place-preserved g c =
 pub returns-clause-marked : goal.returns-clause-marked
 returns-clause-marked g c =
     let f = λ (e : g.row.R-Value.Denot × LabelWalk). g.R.Marked.marks_of e.0 in
-    c.truncate-2.ensures.items ∙ (ap (take c.loop-place.kept) c.loop-place.invariant.marked ∙ (take-map f c.loop-place.kept c.loop-place.labels.items ∙ ap (map f) (sym c.truncate.ensures.items)))
+    c.truncate-2.ensures.rows ∙ (ap (take c.loop-place.kept) c.loop-place.invariant.marked ∙ (take-map f c.loop-place.kept c.loop-place.labels.items ∙ ap (map f) (sym c.truncate.ensures.items)))

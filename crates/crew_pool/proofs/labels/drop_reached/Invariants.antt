@@ -6,8 +6,8 @@ use Rattle.crew_pool.proofs.labels.drop_reached.Given as goal
 -- the marks are of the labels, and what is kept of the labels so far stands in front
 abbrev pub invariant-loop-place : goal.invariant-loop-place
 invariant-loop-place g l = record {
-  marked : l.marks.items ≡ map (λ e. g.R.Marked.marks_of e.0) l.labels.items;
+  marked : l.marks.rows ≡ map (λ e. g.R.Marked.marks_of e.0) l.labels.items;
   kept : FiltersInPlace (λ e. not (list_any (λ j. g.R.Resource.below j.0 e.0) l.joins)) l.initial.labels.items l.labels.items l.kept l.place;
   label_room : vec_capacity l.labels ≡ vec_capacity l.fn.labels;
-  mark_room : vec_capacity l.marks ≡ vec_capacity l.fn.marks;
+  mark_room : l.marks.room ≡ l.fn.marks.room;
 }

@@ -1,58 +1,57 @@
-use Rattle.std.proofs.Common.{◌≡◌, ◌∙◌, ◌<◌, arith, ap, false, get_or, length, refl, sym, subst, true, true≢false, Bool, List, Some, ℤ}
-use Rattle.std.specs.Prelude.{slice_get}
+use Rattle.std.proofs.Common.{◌≡◌, ◌∙◌, ◌<◌, arith, ap, get_or, length, map, sym, true}
 use Rattle.std.proofs.lemmas.List.{length-map}
+use Rattle.crew_pool.specs.declared.label_walk.LabelWalk.{LabelWalk}
 use Rattle.crew_pool.specs.Marks.{are_at_most}
-use Rattle.crew_pool.proofs.LabelLemmas.{first-found, got, label-at, mark-at, none-found, none-more}
-use Rattle.crew_pool.proofs.labels.Labels.first_at_most.Goals.{else-are_at_most-via-then-are_at_most+else-at_most, else-are_at_most-via-else-are_at_most}
+use Rattle.crew_pool.proofs.LabelLemmas.{first-found, got, label-at, none-found, none-more}
+use Rattle.crew_pool.proofs.NextLemmas.{passed_over}
 use Rattle.crew_pool.proofs.labels.Labels.first_at_most.Goals as goal
-
-pub loop-place-init : goal.loop-place-init
-loop-place-init g c k x l at = absurd (omega (arith, l))
-
-not-so : (b : Bool) → (b ≡ true → ⊥) → b ≡ false
-not-so true h = absurd (h refl)
-not-so false h = refl
 
 pub returns-then-at_most : goal.returns-then-at_most
 returns-then-at_most g c =
-    let below = g.R.Resource.below in
-    let marks_of = g.R.Marked.marks_of in
+    let f = λ (e : g.row.R-Value.Denot × LabelWalk). g.R.Marked.marks_of e.0 in
     let value = c.args.value.now in
-    let place = c.loop-place.place in
-    let label = c.index-then-are_at_most.result.now in
-    let items = c.self.inside.labels.items in
-    let long : place < length items = (let marks = ap length c.self.invariant ∙ length-map items (λ e. marks_of e.0) in let held = c.self.inside.marks.ok.0 in let end = c.len-place-end.ensures in let l = c.loop-place-test.true in omega (arith, marks, held, end, l)) in
-    let at = subst (λ ls. slice_get ls place ≡ Some label) c.self.view_is (label-at (λ e. marks_of e.0) (λ e. below e.0 value) items place label long c.index-then-are_at_most.ensures) in
-    first-found (λ e. marks_of e.0) (λ e. below e.0 value) c.args.self.now place label c.loop-place.invariant at (sym c.at_most.ensures ∙ c.if-at_most.true)
+    let test = λ (e : g.row.R-Value.Denot × LabelWalk). g.R.Resource.below e.0 value in
+    let place = c.in-Some.place in
+    let label = c.index.result.now in
+    let marks = c.args.marks.now in
+    let rows = c.self.inside.marks.rows in
+    let labels = c.args.self.now in
+    let next = c.in-Some.ensures in
+    let same : rows ≡ map f labels = c.self.invariant ∙ ap (map f) c.self.view_is in
+    let long : place < length labels = (let there = next.there in let is = ap length same ∙ length-map labels f in omega (arith, there, is)) in
+    let rise = λ (x : g.row.R-Value.Denot × LabelWalk) (t : test x ≡ true). ap (are_at_most (f x)) c.requires ∙ g.met.R.Marked.marks_rise x.0 value t in
+    first-found f test labels place label (passed_over f test marks rows labels c.loop-place.from place rise same c.loop-place.invariant.none next.none)
+    (label-at f test labels place label long (c.index.ensures ∙ ap (λ ls. get_or ls place label) c.self.view_is))
+    (sym c.at_most.ensures ∙ c.if-at_most.true)
 
 pub loop-place-preserved : goal.loop-place-preserved
 loop-place-preserved g c =
-    let below = g.R.Resource.below in
-    let marks_of = g.R.Marked.marks_of in
+    let f = λ (e : g.row.R-Value.Denot × LabelWalk). g.R.Marked.marks_of e.0 in
     let value = c.args.value.now in
-    let place = c.loop-place.place in
-    let items = c.self.inside.labels.items in
-    none-more (λ e. marks_of e.0) (λ e. below e.0 value) c.args.self.now place c.loop-place.invariant (λ x at.
-    let there = subst (λ ls. slice_get ls place ≡ Some x) (sym c.self.view_is) at in
-    elim c.else-are_at_most.branch [
-      | else-are_at_most-via-then-are_at_most+else-at_most w ↦
-          let label = w.index-then-are_at_most.result.now in
-          let same = w.index-then-are_at_most.ensures ∙ got (λ e. marks_of e.0) (λ e. below e.0 value) items place x label there in
-          ap (λ e. below e.0 value) (sym same) ∙ (sym w.at_most.ensures ∙ w.if-at_most.false)
-      | else-are_at_most-via-else-are_at_most w ↦
-          let mark = c.index.result.now in
-          let same : mark ≡ marks_of x.0 = c.index.ensures ∙ (ap (λ (ms : List (List ℤ)). get_or ms place mark) c.self.invariant ∙ mark-at (λ e. marks_of e.0) (λ e. below e.0 value) items place x mark there) in
-          let apart : are_at_most (marks_of x.0) (marks_of value) ≡ false = ap (λ m. are_at_most m (marks_of value)) (sym same) ∙ (ap (are_at_most mark) (sym c.requires) ∙ (sym c.are_at_most.ensures ∙ w.if-are_at_most.false)) in
-          not-so (below x.0 value) (λ e. true≢false (sym (g.met.R.Marked.marks_rise x.0 value e) ∙ apart))
-    ])
+    let test = λ (e : g.row.R-Value.Denot × LabelWalk). g.R.Resource.below e.0 value in
+    let place = c.in-Some.place in
+    let label = c.index.result.now in
+    let marks = c.args.marks.now in
+    let rows = c.self.inside.marks.rows in
+    let labels = c.args.self.now in
+    let next = c.in-Some.ensures in
+    let same : rows ≡ map f labels = c.self.invariant ∙ ap (map f) c.self.view_is in
+    let rise = λ (x : g.row.R-Value.Denot × LabelWalk) (t : test x ≡ true). ap (are_at_most (f x)) c.requires ∙ g.met.R.Marked.marks_rise x.0 value t in
+    record {
+      within = let there = next.there in let is = ap length same ∙ length-map labels f in omega (arith, there, is);
+      none = none-more f test labels place (passed_over f test marks rows labels c.loop-place.from place rise same c.loop-place.invariant.none next.none) (λ x at.
+          ap test (sym (c.index.ensures ∙ (ap (λ ls. get_or ls place label) c.self.view_is ∙ got f test labels place x label at))) ∙ (sym c.at_most.ensures ∙ c.if-at_most.false));
+    }
 
 pub returns : goal.returns
 returns g c =
-    let below = g.R.Resource.below in
-    let marks_of = g.R.Marked.marks_of in
+    let f = λ (e : g.row.R-Value.Denot × LabelWalk). g.R.Marked.marks_of e.0 in
     let value = c.args.value.now in
-    let items = c.self.inside.labels.items in
-    let long : length c.self.inside.marks.items ≡ length c.args.self.now = ap length c.self.invariant ∙ (length-map items (λ e. marks_of e.0) ∙ ap length c.self.view_is) in
-    let held = c.self.inside.marks.ok.0 in
-    let end = c.len-place-end.ensures in
-    none-found (λ e. marks_of e.0) (λ e. below e.0 value) c.args.self.now (λ k x h at. c.loop-place.invariant k x (let l = c.loop-place-test.false in omega (arith, h, long, held, end, l)) at)
+    let test = λ (e : g.row.R-Value.Denot × LabelWalk). g.R.Resource.below e.0 value in
+    let marks = c.args.marks.now in
+    let rows = c.self.inside.marks.rows in
+    let labels = c.args.self.now in
+    let same : rows ≡ map f labels = c.self.invariant ∙ ap (map f) c.self.view_is in
+    let rise = λ (x : g.row.R-Value.Denot × LabelWalk) (t : test x ≡ true). ap (are_at_most (f x)) c.requires ∙ g.met.R.Marked.marks_rise x.0 value t in
+    none-found f test labels (passed_over f test marks rows labels c.loop-place.from (length labels) rise same c.loop-place.invariant.none
+    (λ k p q. c.in_default.ensures k p (let is = ap length same ∙ length-map labels f in omega (arith, q, is))))

@@ -3,4 +3,4 @@ use Rattle.crew_pool.proofs.labels.Labels.swap.Goals as goal
 
 pub invariant_of-self : goal.invariant_of-self
 invariant_of-self g c =
-    swapped_in_step (λ e. g.R.Marked.marks_of e.0) c.self.inside.labels.items c.swap.new.self.items c.self.inside.marks.items c.swap-2.new.self.items c.args.a c.args.b c.self.invariant c.swap.ensures.items c.swap-2.ensures.items
+    swapped_in_step (λ e. g.R.Marked.marks_of e.0) c.self.inside.labels.items c.swap.new.self.items c.self.inside.marks.rows c.swap-2.new.self.rows c.args.a c.args.b c.self.invariant c.swap.ensures.items c.swap-2.ensures.rows
