@@ -191,7 +191,8 @@ fn above(column: &[i32], at: usize, mark: i32) -> mask32x4
     ensures { result ≡ map (λ x. if int_lt mark x then negsuc 0 else pos 0)
         (chunk at LANES column.now) }
 {
-    // What is read is known to fit; no such read is left once it is compiled.
+    // What is read is known to fit its type, and what is loaded below isn't; the compiler drops
+    // the reads.
     let _fitting = [column[at], column[at + 1], column[at + 2], column[at + 3]];
     i32x4::from_slice(&column[at..]).simd_gt(i32x4::splat(mark))
 }

@@ -221,7 +221,6 @@ fn bring_forward<R: Marked>(
     requires before { to ≤ place }
     ensures moved { SwappedAt labels.old.items labels.new.items to place }
     ensures marked { marks.new.rows ≡ map (λ e. R.marks_of e.0) labels.new.items }
-    ensures long { vec_len labels.new ≡ vec_len labels.old }
     ensures room { (vec_capacity labels.new ≡ vec_capacity labels.old)
         × (marks.new.room ≡ marks.old.room) }
 {
