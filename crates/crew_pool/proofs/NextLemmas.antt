@@ -1,13 +1,15 @@
 -- The next place whose marks are at most others.
 use Rattle.std.proofs.Common.{refl, get_or, true, ◌≡◌, ℕ, ◌+◌, ◌*◌, ◌<◌, ◌≤◌, ◌⊎◌, Bool, false, not, cond, List, [], ◌∷◌, length, map, Option, Some, None, sym, subst, ◌∙◌, ap, arith, ℤ, ⊎_elim, true≢false}
-use Rattle.std.specs.Prelude.{MatchOption}
-use Rattle.std.specs.List.{prefix_len}
+use Rattle.std.specs.Prelude.{MatchOption, slice_get}
+use Rattle.std.specs.List.{position, prefix_len}
+use Rattle.std.proofs.lemmas.List.{length-map}
+use Rattle.std.proofs.lemmas.Option.{same_Some}
 use Rattle.std.specs.Simd.Lanes.{chunk, mask_l}
 use Rattle.std.proofs.lemmas.Bool.{cases_Bool}
 use Rattle.std.proofs.lemmas.Simd.{length-chunk, none_from_empty_mask, run_in_chunk_fails, run_in_chunk_stops, trailing_mask_l}
 use lib.Count.{count_trailing_zeros}
 use Rattle.crew_pool.specs.Marks.{are_at_most}
-use Rattle.crew_pool.proofs.LabelLemmas.{NoneOf, mark-at}
+use Rattle.crew_pool.proofs.LabelLemmas.{NoneOf, first-found, label-at, mark-at, none-found, none-more}
 use Rattle.crew_pool.specs.Machinery.Columns.{IsNext, NoneBetween, is_at_most}
 
 module _ (rows : List (List ℤ)) (m : List ℤ) where
@@ -70,15 +72,41 @@ not_so : (b : Bool) → (b ≡ true → ⊥) → b ≡ false
 not_so true h = absurd (h refl)
 not_so false h = refl
 
--- what isn't found by its marks doesn't pass
-pub passed_over : {X : Type 0} (f : X → List ℤ) (test : X → Bool) (m : List ℤ) (rows : List (List ℤ)) (xs : List X) (i j : ℕ)
-    → ((x : X) → test x ≡ true → are_at_most (f x) m ≡ true)
-    → rows ≡ map f xs → NoneOf f test xs i → NoneBetween rows m i j → NoneOf f test xs j
-passed_over f test m rows xs i j rise same none over k x l at =
-    ⊎_elim {C = test x ≡ false} (λ h. none k x h at) (λ h.
-    let apart : are_at_most (f x) m ≡ false = ap (λ r. are_at_most r m) (sym (ap (λ rs. get_or rs k []) same ∙ mark-at f test xs k x [] at)) ∙ over k h l in
-    not_so (test x) (λ t. true≢false (sym (rise x t) ∙ apart)))
-    (side k i)
-  where
-    side : (k i : ℕ) → (k < i) ⊎ (i ≤ k)
-    side k i = grind (arith)
+-- a list is searched by its marks: what passes has marks that are at most these
+module _ {X : Type 0} (f : X → List ℤ) (test : X → Bool) (m v : List ℤ) (same : m ≡ v)
+    (rise : (x : X) → test x ≡ true → are_at_most (f x) v ≡ true)
+    (rows : List (List ℤ)) (items xs : List X) (marked : rows ≡ map f items) (seen : items ≡ xs) where
+  as_long : length rows ≡ length xs
+  as_long = ap length marked ∙ (length-map items f ∙ ap length seen)
+
+  -- what isn't found by its marks doesn't pass
+  passed_over : (i j : ℕ) → NoneOf f test xs i → NoneBetween rows m i j → NoneOf f test xs j
+  passed_over i j none over k x l at =
+      ⊎_elim {C = test x ≡ false} (λ h. none k x h at) (λ h.
+      let mark : get_or rows k [] ≡ f x = ap (λ rs. get_or rs k []) marked ∙ mark-at f test items k x [] (ap (λ z. slice_get z k) seen ∙ at) in
+      let apart : are_at_most (f x) v ≡ false = ap (are_at_most (f x)) (sym same) ∙ (ap (λ r. are_at_most r m) (sym mark) ∙ over k h l) in
+      not_so (test x) (λ t. true≢false (sym (rise x t) ∙ apart)))
+      (side k i)
+    where
+      side : (k i : ℕ) → (k < i) ⊎ (i ≤ k)
+      side k i = grind (arith)
+
+  module _ (i place : ℕ) (x : X) (passes : Bool) (none : NoneOf f test xs i) (next : IsNext rows m i place)
+      (is : x ≡ get_or items place x) (told : passes ≡ test x) where
+    there : place < length xs
+    there = let h = next.there in omega (arith, h, as_long)
+
+    read : slice_get xs place ≡ Some x
+    read = label-at f test xs place x there (is ∙ ap (λ ls. get_or ls place x) seen)
+
+    before : NoneOf f test xs place
+    before = passed_over i place none next.none
+
+    pub found_here : passes ≡ true → Some place ≡ position test xs
+    found_here t = first-found f test xs place x before read (sym told ∙ t)
+
+    pub goes_on : passes ≡ false → (place + 1 ≤ length xs) × NoneOf f test xs (place + 1)
+    goes_on t = (let h = there in omega (arith, h), none-more f test xs place before (λ y at. ap test (sym (same_Some x y (sym read ∙ at))) ∙ (sym told ∙ t)))
+
+  pub none_left : (i : ℕ) → NoneOf f test xs i → NoneBetween rows m i (length rows) → None ≡ position test xs
+  none_left i none over = none-found f test xs (passed_over i (length xs) none (λ k p q. over k p (omega (arith, q, as_long))))
