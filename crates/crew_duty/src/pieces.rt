@@ -54,7 +54,9 @@ fn count_piece(
     Ok(())
 }
 
-// The same, by as many threads as there are pieces.
+// The same, by as many threads as there are pieces. This thread starts each of the others itself, in a
+// row: threads that were started by one that had itself just been started often stay on one processor
+// for a while.
 fn count_in<R: Threads + Sync>(
     rt: &R,
     alloc: Global,
@@ -72,20 +74,18 @@ fn count_in<R: Threads + Sync>(
     if pieces < 2 || counts.len() < 2 {
         return count_piece(alloc, plan, from, counts);
     }
-    let middle = counts.len() / 2;
-    let half = pieces / 2;
-    let others = pieces - half;
+    let middle = counts.len() / pieces;
+    let others = pieces - 1;
     let (front, back) = counts.split_at_mut(middle);
     let (these, those) = join_mut(
         rt,
         &mut || -> Result<(), AllocError>
-            requires { IsSync R.row × IsPlan plan.now.settings.now plan.now.flights.now
-                plan.now.slots.now plan.now.next.now
-                × (from + length front.now ≤ length plan.now.flights.now) }
+            requires { IsPlan plan.now.settings.now plan.now.flights.now plan.now.slots.now
+                plan.now.next.now × (from + length front.now ≤ length plan.now.flights.now) }
             ensures { OnOk result (AreCounts
                 (from_place plan.entry.now.settings.now plan.entry.now.flights.now) from
                 (length front.entry.now) front.exit.now) }
-        { count_in(rt, alloc, plan, from, half, front) },
+        { count_piece(alloc, plan, from, front) },
         &mut || -> Result<(), AllocError>
             requires { IsSync R.row × IsPlan plan.now.settings.now plan.now.flights.now
                 plan.now.slots.now plan.now.next.now
@@ -156,8 +156,8 @@ fn fill_piece(
     Ok(())
 }
 
-// How many of these flights have some half of the duties, and how many they have.
-fn cut_at(counts: &[usize], half: usize) -> (usize, usize)
+// How many of these flights have so many duties or more, and how many they have.
+fn cut_at(counts: &[usize], share: usize) -> (usize, usize)
     requires long { 2 ≤ length counts.now }
     requires few { sum counts.now ≤ 200_000 }
     ensures least { 1 ≤ result.0 }
@@ -166,7 +166,7 @@ fn cut_at(counts: &[usize], half: usize) -> (usize, usize)
 {
     let mut before = counts[0];
     for place in 1..counts.len() - 1 {
-        if before >= half {
+        if before >= share {
             return (place, before);
         }
         before += counts[place];
@@ -175,7 +175,8 @@ fn cut_at(counts: &[usize], half: usize) -> (usize, usize)
 }
 
 // Puts the duties of some first flights in their places, by as many threads as there are pieces,
-// which have like numbers of duties.
+// which have like numbers of duties. This thread starts each of the others itself, in a row, as where
+// they are counted.
 fn fill_in<R: Threads + Sync>(
     rt: &R,
     alloc: Global,
@@ -199,23 +200,21 @@ fn fill_in<R: Threads + Sync>(
     if pieces < 2 || counts.len() < 2 {
         return fill_piece(alloc, plan, from, counts.len(), found);
     }
-    let half = pieces / 2;
-    let others = pieces - half;
-    let (middle, before) = cut_at(counts, found.len() / 2);
+    let others = pieces - 1;
+    let (middle, before) = cut_at(counts, found.len() / pieces);
     let (these, those) = counts.split_at(middle);
     let (front, back) = found.split_at_mut(before);
     let (early, late) = join_mut(
         rt,
         &mut || -> Result<(), AllocError>
-            requires { IsSync R.row × IsPlan plan.now.settings.now plan.now.flights.now
-                plan.now.slots.now plan.now.next.now
-                × (from + length these.now ≤ length plan.now.flights.now)
+            requires { IsPlan plan.now.settings.now plan.now.flights.now plan.now.slots.now
+                plan.now.next.now × (from + length these.now ≤ length plan.now.flights.now)
                 × AreExact (from_place plan.now.settings.now plan.now.flights.now) from
                 these.now × (length front.now ≡ sum these.now) × (length front.now ≤ 200_000) }
             ensures { OnOk result (front.exit.now
                 ≡ flat_map (from_place plan.entry.now.settings.now plan.entry.now.flights.now)
                 (range_with_len from (length these.entry.now))) }
-        { fill_in(rt, alloc, plan, from, half, these, front) },
+        { fill_piece(alloc, plan, from, these.len(), front) },
         &mut || -> Result<(), AllocError>
             requires { IsSync R.row × IsPlan plan.now.settings.now plan.now.flights.now
                 plan.now.slots.now plan.now.next.now

@@ -5,7 +5,7 @@ use Rattle.std.proofs.lemmas.List.{take-append-drop}
 use Rattle.crew_duty.specs.Machinery.Counts.{AreExact}
 use Rattle.crew_pairing.specs.Machinery.Listing.{from_place}
 use Rattle.crew_duty.proofs.Counts.{exact-back, exact-front, exact-total, range-append, sum-append}
-use Rattle.crew_duty.proofs.pieces.+fill_in+fn-fill_in-join_mut+arg2+fn-fill_in-join_mut+arg3.Goals as goal
+use Rattle.crew_duty.proofs.pieces.+fill_in+fn-fill_in-join_mut+arg3.Goals as goal
 
 pub fill_piece-requires-clause-size : goal.fill_piece-requires-clause-size
 fill_piece-requires-clause-size g t c = c.requires.size ∙ exact-total (from_place c.args.plan.now.settings.now c.args.plan.now.flights.now) c.args.from c.args.counts.now c.requires.counts
@@ -30,10 +30,9 @@ join_mut-early-requires-after_bounds g t c κs within =
     let found = ap length c.split_at_mut-front.ensures.value ∙ length-append c.split_at_mut-front.result.0.now c.split_at_mut-front.result.1.now in
     let size-front : length c.split_at_mut-front.result.0.now ≡ sum ms = c.split_at_mut-front.ensures.front_len ∙ before in
     let size-back : length c.split_at_mut-front.result.1.now ≡ sum ns = omega (arith, size-front, found, c.requires.size, added) in
-    let fewer : length ms < length counts = omega (arith, many, c.cut_at-middle.ensures.most) in
-    let least : length ns < length counts = omega (arith, many, all, long, c.cut_at-middle.ensures.least) in (
-      (omega (arith, fewer), (λ a m. m, ((search rules, c.requires.plan, omega (arith, c.requires.within, fewer), front, size-front, omega (arith, found, c.requires.room)), search rules))),
-      (omega (arith, least), (λ a m. m, ((search rules, c.requires.plan, omega (arith, c.requires.within, many, all, long), back, size-back, omega (arith, found, c.requires.room)), search rules))),
+    let fewer : length ms < length counts = omega (arith, many, c.cut_at-middle.ensures.most) in (
+      (c.requires.plan, omega (arith, c.requires.within, fewer), front, size-front, omega (arith, found, c.requires.room)),
+      (omega (arith), (λ a m. m, ((search rules, c.requires.plan, omega (arith, c.requires.within, many, all, long), back, size-back, omega (arith, found, c.requires.room)), search rules))),
     )
 
 pub returns : goal.returns
@@ -69,12 +68,6 @@ fill_piece-requires-clause-room g t c = search rules
 pub fill_piece-requires-clause-within : goal.fill_piece-requires-clause-within
 fill_piece-requires-clause-within g t c = search rules
 
-pub join_mut+arg2-fill_in-requires-clause-counts : goal.join_mut+arg2-fill_in-requires-clause-counts
-join_mut+arg2-fill_in-requires-clause-counts g t c = search rules
-
-pub join_mut+arg2-fill_in-requires-clause-room : goal.join_mut+arg2-fill_in-requires-clause-room
-join_mut+arg2-fill_in-requires-clause-room g t c = search rules
-
 pub join_mut+arg3-fill_in-requires-clause-counts : goal.join_mut+arg3-fill_in-requires-clause-counts
 join_mut+arg3-fill_in-requires-clause-counts g t c = search rules
 
@@ -83,9 +76,6 @@ join_mut+arg3-fill_in-requires-clause-within g t c = search rules
 
 pub join_mut+arg3-overflow_add-from : goal.join_mut+arg3-overflow_add-from
 join_mut+arg3-overflow_add-from g t c = search rules
-
-pub join_mut+arg2-returns : goal.join_mut+arg2-returns
-join_mut+arg2-returns g t c = search rules
 
 pub join_mut+arg3-returns : goal.join_mut+arg3-returns
 join_mut+arg3-returns g t c = search rules
