@@ -1,11 +1,15 @@
 -- What stands at the places when one more result is put there.
-use Rattle.std.proofs.Common.{◌≡◌, ◌∙◌, ◌<◌, ℕ, List, ◌∷◌, Option, Some, All, IfSome, length, set, get_or, ⊎_elim, sym, subst, arith}
+use Rattle.std.proofs.Common.{rules, ◌≡◌, ◌∙◌, ◌<◌, ℕ, List, [], ◌∷◌, ◌++◌, Option, Some, All, IfSome, length, set, get_or, ⊎_elim, sym, subst, arith}
 use denote.Param.Members.{Shared}
 use Rattle.std.specs.Fn.{FnReturns}
 use Rattle.std.proofs.lemmas.Bool.{cases_eq}
 use Rattle.std.proofs.lemmas.List.{get_or-set_same, get_or-set_other, length-set}
-use Rattle.std.proofs.lemmas.List.Elements.{All-head, All-tail, All-same}
+use Rattle.std.proofs.lemmas.List.Elements.{All-append, All-head, All-tail, All-same}
 use Rattle.crew_claims.specs.Machinery.Claims.{ArePlaced, IsMade}
+
+-- one more, where each before it has a property, and it too
+pub all-and-one : {A : Type 0} (P : A → Type 0) (before all : List A) (x : A) → all ≡ before ++ x ∷ [] → All P before → P x → All P all
+all-and-one P before all x is each one = All-same P all (before ++ x ∷ []) is (All-append P before (x ∷ []) each (search rules))
 
 module _ {F X : Type 0} (g : Shared F (ℕ × Unit {0}) X) (f : F) where
   placed-more : (places : List (Option X)) (count index : ℕ) (x : X) → length places ≡ count → ArePlaced g f places → IsMade g f count (index, x)

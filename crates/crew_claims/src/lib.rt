@@ -5,5 +5,9 @@
 #![tactic(auto)]
 
 mod claims;
+mod sharing;
+mod work;
 
-pub use claims::{map_claimed, map_in_turn};
+pub use claims::{map_claimed, map_claimed_beside, map_in_turn};
+pub use sharing::Sharing;
+pub use work::Work;
