@@ -21,3 +21,4 @@ pub mod LettingGo
 pub mod Gathering
 pub mod Mends
 pub mod Mendings
+pub mod Aheads

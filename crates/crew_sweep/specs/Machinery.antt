@@ -9,3 +9,4 @@ pub mod Grounds
 pub mod Renewing
 pub mod Beside
 pub mod Mending
+pub mod Ahead

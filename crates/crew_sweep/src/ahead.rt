@@ -9,20 +9,26 @@
 ghost use Rattle.std.specs.Prelude.{◌≡◌, ◌<◌, ◌≤◌, ℕ, IfOk, List, OnOk, length, set, slice_index_or, true, vec_len};
 ghost use Rattle.crew_pairing.specs.declared.vector.PairingVector.{PairingVector};
 ghost use Rattle.crew_pool.specs.declared.label_walk.LabelWalk.{LabelWalk};
+ghost use Rattle.crew_sweep.specs.Machinery.Ahead.{AreAhead, IsSlid};
+ghost use Rattle.crew_sweep.specs.Machinery.Slides.{AreUnderWay};
 ghost use Rattle.crew_sweep.specs.Machinery.Grounds.{ArePools, IsGround, IsPoolAt, Stands, Stay};
 ghost use Rattle.crew_sweep.specs.Machinery.Passing.{AreSealed, IsMade, IsSealed};
 ghost use Rattle.crew_sweep.specs.declared.arrivals.Arrivals.{Arrivals as ArrivalsSpec};
 
 use crate::arrivals::{Arrivals, arrival_at};
+use crate::batch::{LEAST_REST, batch_end};
 use crate::ground::Ground;
 use crate::passed::Passed;
 use crate::passing::Passing;
+use crate::slides::Slides;
+use crate::windows::{Slid, SlideAhead, Waiting};
 use crew_anchor::AnchoredResource;
-use crew_claims::map_claimed;
+use crew_claims::{Sharing, map_claimed, map_claimed_beside};
 use crew_net::Window;
 use crew_pool::{Pool, Workspace};
 use std::alloc::{AllocError, Global};
 use std::cmp::Reverse;
+use std::mem;
 use std::thread::Threads;
 
 // The fewest pools for each thread: with fewer a thread costs more than it gives.
@@ -216,6 +222,54 @@ fn made_at_once<T: Threads + Sync>(
     map_claimed(rt, alloc, threads, places.len(), &part)
 }
 
+// The same beside slides, which this thread lets go on up to a position before it helps the others.
+fn made_beside<T: Threads + Sync>(
+    rt: &T,
+    alloc: Global,
+    threads: usize,
+    ground: &Ground,
+    places: &[usize],
+    passing: &Passing,
+    slides: Slides,
+    end: usize,
+) -> (Result<Slid, AllocError>, Result<MadePools, AllocError>)
+    requires ground { IsGround ground.now }
+    requires pools { ArePools ground.now passing.now.passed passing.now.arrivals }
+    requires sealed { AreSealed ground.now.net.now (length passing.now.passed.pools) places.now }
+    requires slides { AreUnderWay ground.now.net.now passing.now.passed.walks
+        passing.now.arrivals.made.items passing.now.arrivals.pools.items slides }
+    requires end { end ≤ length ground.now.net.now.by_report }
+    ensures slid { IfOk result.0 (IsSlid ground.now.net.now passing.now.passed.walks
+        passing.now.arrivals.made.items passing.now.arrivals.pools.items
+        (length passing.now.passed.pools)) }
+    ensures long { IfOk result.1 (λ made. vec_len made ≡ length places.now) }
+    ensures each { IfOk result.1 (λ made. (i : ℕ) (d : _) → i < length places.now
+        → IfOk (slice_index_or made.items i d) (IsPoolAt ground.now passing.now.passed
+        (slice_index_or places.now i 0))) }
+{
+    let passed = &passing.passed;
+    let arrivals = &passing.arrivals;
+    let part = |index: usize| -> Result<Pool<AnchoredResource>, AllocError>
+        requires { (index < length places.now) × IsGround ground.now
+            × ((arrivals : ArrivalsSpec) × ArePools ground.now passed.now arrivals)
+            × AreSealed ground.now.net.now (length passed.now.pools) places.now }
+        ensures { IfOk result (IsPoolAt ground.entry.now passed.entry.now
+            (slice_index_or places.entry.now index 0)) }
+    {
+        let mut room = Workspace::new(alloc);
+        arrival_at(alloc, ground, places[index], &mut room, passed)
+    };
+    let work = SlideAhead {
+        slides,
+        alloc,
+        ground,
+        passed,
+        arrivals,
+        end,
+    };
+    map_claimed_beside(rt, alloc, threads, places.len(), &part, work)
+}
+
 impl Arrivals {
     // Puts a pool at a place that has none.
     fn put(&mut self, place: usize, pool: Pool<AnchoredResource>)
@@ -270,7 +324,7 @@ impl Passing {
         &mut self,
         rt: &T,
         alloc: Global,
-        threads: usize,
+        sharing: &Sharing,
         ground: &Ground,
         kept: &K,
     ) -> Result<(), AllocError>
@@ -284,6 +338,7 @@ impl Passing {
         let Some(end) = self.begin_batch(alloc, ground) else {
             return Ok(());
         };
+        let threads = sharing.share();
         if threads < 2 {
             return Ok(());
         }
@@ -292,5 +347,42 @@ impl Passing {
         let made = made_at_once(rt, alloc, threads, ground, &places, &self.passed)?;
         self.arrivals.put_each(ground, &places, made, &self.passed)?;
         Ok(())
+    }
+
+    /// What stands in the windows of the departures that come next, where all of it is made; and
+    /// beside it, by threads of those that are shared, makes the pools on which departures wait that
+    /// report less than the least rest after the next one. The windows go half as far, since what is
+    /// made beside them isn't there for them yet.
+    pub(crate) fn look_ahead<T: Threads + Sync>(
+        &mut self,
+        rt: &T,
+        alloc: Global,
+        sharing: &Sharing,
+        ground: &Ground,
+    ) -> Result<Vec<Waiting>, AllocError>
+        requires ground { IsGround ground.now }
+        requires stands { Stands ground.now self.old }
+        requires left { length self.old.passed.pools < length ground.now.net.now.by_report }
+        ensures stands { OnOk result (Stands ground.now self.new) }
+        ensures passed { OnOk result (self.new.passed ≡ self.old.passed) }
+        ensures ahead { IfOk result (λ ahead. AreAhead ground.now.net.now self.new.passed.walks
+            self.new.arrivals.made.items self.new.arrivals.pools.items
+            (length self.new.passed.pools) ahead.items) }
+    {
+        let from = self.passed.pools.len();
+        self.let_go(alloc, ground, from);
+        let end = batch_end(ground, from, LEAST_REST);
+        let next = batch_end(ground, from, LEAST_REST / 2);
+        let kept = |_: usize| -> bool { false };
+        let made = &self.arrivals.made;
+        let places = places_ahead(alloc, ground, &self.passed, end, &kept, made)?;
+        let slides = mem::replace(&mut self.slides, Slides::none(alloc));
+        let threads = sharing.share();
+        let (slid, made) = made_beside(rt, alloc, threads, ground, &places, self, slides, next);
+        let Slid { slides, waiting } = slid?;
+        self.slides = slides;
+        self.arrivals
+            .put_each(ground, &places, made?, &self.passed)?;
+        Ok(waiting)
     }
 }

@@ -16,6 +16,7 @@ use crate::renewal::{Renewal, note};
 use crate::swept::Sweep;
 use crew_anchor::AnchoredResource;
 use crew_carry::Twins;
+use crew_claims::Sharing;
 use crew_net::Net;
 use std::alloc::{AllocError, Global};
 use std::sync::Arc;
@@ -121,7 +122,7 @@ impl Renewal {
         &mut self,
         rt: &T,
         alloc: Global,
-        threads: usize,
+        sharing: &Sharing,
         earlier: &Earlier,
         ground: &Ground,
     ) -> Result<(), AllocError>
@@ -137,7 +138,7 @@ impl Renewal {
                 × IsBeside earlier.now ground.now
                 × (length changed.now ≡ length ground.now.net.now.arrivals) }
         { earlier.kept_position(ground, changed, place).is_some() };
-        self.passing.make_ahead(rt, alloc, threads, ground, &kept)
+        self.passing.make_ahead(rt, alloc, sharing, ground, &kept)
     }
 
     // The pass goes on by all departures.
@@ -167,7 +168,7 @@ impl Renewal {
         &mut self,
         rt: &T,
         alloc: Global,
-        threads: usize,
+        sharing: &Sharing,
         earlier: &Earlier,
         ground: &Ground,
     ) -> Result<(), AllocError>
@@ -179,7 +180,7 @@ impl Renewal {
     {
         for departure in ground.net.by_report() {
             let place = *departure as usize;
-            self.renew_ahead(rt, alloc, threads, earlier, ground)?;
+            self.renew_ahead(rt, alloc, sharing, earlier, ground)?;
             self.renew_departure(alloc, earlier, ground, place)?;
         }
         Ok(())
@@ -201,7 +202,7 @@ fn renew_all(alloc: Global, earlier: &Earlier, ground: &Ground) -> Result<Passed
 fn renew_all_by_threads<T: Threads + Sync>(
     rt: &T,
     alloc: Global,
-    threads: usize,
+    sharing: &Sharing,
     earlier: &Earlier,
     ground: &Ground,
 ) -> Result<Passed, AllocError>
@@ -210,7 +211,7 @@ fn renew_all_by_threads<T: Threads + Sync>(
     ensures { IfOk result (HasPassedAll ground.now) }
 {
     let mut renewal = Renewal::new(alloc, earlier, ground)?;
-    renewal.go_over_by_threads(rt, alloc, threads, earlier, ground)?;
+    renewal.go_over_by_threads(rt, alloc, sharing, earlier, ground)?;
     Ok(renewal.passing.passed)
 }
 
@@ -245,7 +246,7 @@ pub fn renew(
 pub fn renew_by_threads<T: Threads + Sync>(
     rt: &T,
     alloc: Global,
-    threads: usize,
+    sharing: &Sharing,
     earlier: &Sweep,
     earlier_positions: &[u32],
     twins: &Twins,
@@ -263,6 +264,6 @@ pub fn renew_by_threads<T: Threads + Sync>(
     let full = AnchoredResource::new(net.settings(), price);
     let ground = Ground::of(&net, positions, base, &full);
     let before = Earlier::of(earlier, earlier_positions, twins, places, &ground);
-    let passed = renew_all_by_threads(rt, alloc, threads, &before, &ground)?;
+    let passed = renew_all_by_threads(rt, alloc, sharing, &before, &ground)?;
     Ok(Sweep::of(net, base, price, full, passed))
 }

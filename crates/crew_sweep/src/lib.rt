@@ -25,6 +25,7 @@ mod renewal;
 mod slide;
 mod slides;
 mod swept;
+mod windows;
 
 pub use anew::{renew, renew_by_threads};
 pub use pass::{sweep, sweep_by_threads};

@@ -1,7 +1,9 @@
 //! One pass over the departures of a base's network.
-ghost use Rattle.std.specs.Prelude.{◌≡◌, IfOk, OnOk, length};
+ghost use Rattle.std.specs.Prelude.{◌≡◌, ◌<◌, ◌+◌, IfOk, IfSome, OnOk, Some, length, slice_get};
 ghost use Rattle.std.specs.Arc.{arc_value};
 ghost use Rattle.crew_flights.specs.Timetable.{IsBasePrice};
+ghost use Rattle.crew_step.specs.Walks.{HasGrown};
+ghost use Rattle.crew_sweep.specs.Machinery.Ahead.{AreAhead, IsAhead};
 ghost use Rattle.crew_sweep.specs.Machinery.Grounds.{HasPassedAll, IsGround, Stands};
 ghost use Rattle.crew_sweep.specs.Sweeps.{IsSweepable, IsSwept};
 
@@ -9,13 +11,16 @@ use crate::ground::Ground;
 use crate::passed::Passed;
 use crate::passing::Passing;
 use crate::swept::Sweep;
+use crate::windows::Waiting;
 use crew_anchor::AnchoredResource;
+use crew_claims::Sharing;
 use crew_flights::Code;
 use crew_net::Net;
 use crew_pool::Walks;
 use std::alloc::{AllocError, Global};
 use std::sync::Arc;
 use std::thread::Threads;
+use std::vec::IntoIter;
 
 impl Passing {
     // The pass goes on by all departures.
@@ -33,13 +38,69 @@ impl Passing {
         Ok(())
     }
 
-    // The same by threads, at most so many: what departures of the next hours wait on is made at
-    // once.
+    // What is ahead, or where nothing is left of it what comes next.
+    fn or_look_ahead<T: Threads + Sync>(
+        &mut self,
+        rt: &T,
+        alloc: Global,
+        sharing: &Sharing,
+        ground: &Ground,
+        ahead: IntoIter<Waiting>,
+    ) -> Result<IntoIter<Waiting>, AllocError>
+        requires ground { IsGround ground.now }
+        requires stands { Stands ground.now self.old }
+        requires left { length self.old.passed.pools < length ground.now.net.now.by_report }
+        requires ahead { AreAhead ground.now.net.now self.old.passed.walks
+            self.old.arrivals.made.items self.old.arrivals.pools.items
+            (length self.old.passed.pools) ahead.rest.items }
+        ensures stands { OnOk result (Stands ground.now self.new) }
+        ensures passed { OnOk result (self.new.passed ≡ self.old.passed) }
+        ensures ahead { IfOk result (λ next. AreAhead ground.now.net.now self.new.passed.walks
+            self.new.arrivals.made.items self.new.arrivals.pools.items
+            (length self.new.passed.pools) next.rest.items) }
+    {
+        if ahead.len() > 0 {
+            return Ok(ahead);
+        }
+        let next = self.look_ahead(rt, alloc, sharing, ground)?;
+        Ok(next.into_iter())
+    }
+
+    // The pass goes on by the departure at a place, of which it may be merged what stands in its
+    // window.
+    fn go_on_from(
+        &mut self,
+        alloc: Global,
+        ground: &Ground,
+        place: usize,
+        waiting: Option<Waiting>,
+    ) -> Result<(), AllocError>
+        requires ground { IsGround ground.now }
+        requires place { slice_get ground.now.net.now.by_report
+            (length self.old.passed.pools) ≡ Some place }
+        requires stands { Stands ground.now self.old }
+        requires ahead { IfSome waiting (IsAhead ground.now.net.now self.old.passed.walks
+            self.old.arrivals.made.items self.old.arrivals.pools.items
+            (length self.old.passed.pools)) }
+        ensures stands { OnOk result (Stands ground.now self.new) }
+        ensures more { OnOk result (length self.new.passed.pools
+            ≡ length self.old.passed.pools + 1) }
+        ensures grown { HasGrown self.old.passed.walks self.new.passed.walks }
+        ensures arrivals { IfSome waiting (λ _. self.new.arrivals ≡ self.old.arrivals) }
+    {
+        match waiting {
+            Some(waiting) => self.go_on_with(alloc, ground, &waiting),
+            None => self.go_on(alloc, ground, place),
+        }
+    }
+
+    // The same by threads, of those that are shared: one merges what stands in the windows of the
+    // departures that come next, while others make what later ones wait on.
     fn go_over_by_threads<T: Threads + Sync>(
         &mut self,
         rt: &T,
         alloc: Global,
-        threads: usize,
+        sharing: &Sharing,
         ground: &Ground,
     ) -> Result<(), AllocError>
         requires ground { IsGround ground.now }
@@ -47,11 +108,11 @@ impl Passing {
         requires none { length self.old.passed.pools ≡ 0 }
         ensures { OnOk result (HasPassedAll ground.now self.new.passed) }
     {
-        let kept = |_: usize| -> bool { false };
+        let mut ahead = Vec::new(alloc).into_iter();
         for departure in ground.net.by_report() {
-            let place = *departure as usize;
-            self.make_ahead(rt, alloc, threads, ground, &kept)?;
-            self.go_on(alloc, ground, place)?;
+            ahead = self.or_look_ahead(rt, alloc, sharing, ground, ahead)?;
+            let waiting = ahead.next();
+            self.go_on_from(alloc, ground, *departure as usize, waiting)?;
         }
         Ok(())
     }
@@ -67,18 +128,18 @@ fn pass_all(alloc: Global, ground: &Ground) -> Result<Passed, AllocError>
     Ok(passing.passed)
 }
 
-// The same by threads, at most so many.
+// The same by threads, of those that are shared.
 fn pass_all_by_threads<T: Threads + Sync>(
     rt: &T,
     alloc: Global,
-    threads: usize,
+    sharing: &Sharing,
     ground: &Ground,
 ) -> Result<Passed, AllocError>
     requires { IsGround ground.now }
     ensures { IfOk result (HasPassedAll ground.now) }
 {
     let mut passing = Passing::new(alloc, ground, Walks::new(alloc))?;
-    passing.go_over_by_threads(rt, alloc, threads, ground)?;
+    passing.go_over_by_threads(rt, alloc, sharing, ground)?;
     Ok(passing.passed)
 }
 
@@ -101,12 +162,13 @@ pub fn sweep(
     Ok(Sweep::of(net, base, price, full, passed))
 }
 
-/// The same pass in at most so many threads, this one among them: the pools of arrivals on which
-/// departures wait that report less than the least rest after one another are made at once.
+/// The same pass by threads, of those that are shared, this one among them: the pools of arrivals on
+/// which departures wait that report less than the least rest after one another are made at once,
+/// while this thread merges what stands in the windows of the next ones.
 pub fn sweep_by_threads<T: Threads + Sync>(
     rt: &T,
     alloc: Global,
-    threads: usize,
+    sharing: &Sharing,
     net: Arc<Net, Global>,
     positions: &[u32],
     base: Code,
@@ -118,6 +180,6 @@ pub fn sweep_by_threads<T: Threads + Sync>(
 {
     let full = AnchoredResource::new(net.settings(), price);
     let ground = Ground::of(&net, positions, base, &full);
-    let passed = pass_all_by_threads(rt, alloc, threads, &ground)?;
+    let passed = pass_all_by_threads(rt, alloc, sharing, &ground)?;
     Ok(Sweep::of(net, base, price, full, passed))
 }

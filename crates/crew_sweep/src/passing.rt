@@ -1,5 +1,5 @@
 //! A pass over the departures of a base's network, departure by departure.
-ghost use Rattle.std.specs.Prelude.{◌≡◌, ◌<◌, ◌+◌, ◌++◌, ◌∷◌, ℕ, IfOk, List, OnOk, Some, [], length, slice_get, true};
+ghost use Rattle.std.specs.Prelude.{◌≡◌, ◌<◌, ◌+◌, ◌++◌, ◌∷◌, ℕ, IfOk, List, OnOk, Some, [], false, length, slice_get, true};
 ghost use Rattle.crew_anchor.specs.Machinery.Bounds.{fits_in};
 ghost use Rattle.crew_net.specs.Machinery.Moments.{IsReal};
 ghost use Rattle.crew_net.specs.Events.{IsWindow};
@@ -11,12 +11,14 @@ ghost use Rattle.crew_pool.specs.declared.label_walk.LabelWalk.{LabelWalk};
 ghost use Rattle.crew_step.specs.Walks.{HasGrown};
 ghost use Rattle.crew_sweep.specs.Machinery.Grounds.{IsGround, Stands};
 ghost use Rattle.crew_sweep.specs.Machinery.Numbered.{idle_at};
-ghost use Rattle.crew_sweep.specs.Machinery.Passing.{AreMade, IsPooled};
+ghost use Rattle.crew_sweep.specs.Machinery.Ahead.{IsAhead};
+ghost use Rattle.crew_sweep.specs.Machinery.Passing.{AreMade, IsPooled, IsPooledOver};
 
 use crate::arrivals::Arrivals;
 use crate::ground::Ground;
 use crate::passed::Passed;
 use crate::slides::Slides;
+use crate::windows::Waiting;
 use crew_anchor::{AnchoredResource, AnchoredVector};
 use crew_flights::Code;
 use crew_net::Window;
@@ -53,6 +55,28 @@ fn idle_label(
     } else {
         None
     }
+}
+
+// The pool of the departure at a place, from what stands in its window.
+fn pool_over(
+    alloc: Global,
+    ground: &Ground,
+    room: &mut Workspace<AnchoredResource>,
+    place: usize,
+    waiting: &Pool<AnchoredResource>,
+    walks: &mut Walks,
+) -> Result<Pool<AnchoredResource>, AllocError>
+    requires ground { IsGround ground.now }
+    requires place { place < length ground.now.net.now.departures }
+    requires gathered { AreCounted (λ (v : PairingVector). v.duties) walks.old false waiting.now }
+    ensures pooled { IfOk result (IsPooledOver ground.now.net.now ground.now.base
+        ground.now.resource walks.old walks.new place waiting.now) }
+    ensures counts { IfOk result (AreCounted (λ (v : PairingVector). v.duties) walks.new true) }
+    ensures grown { HasGrown walks.old walks.new }
+{
+    let resource = &ground.resource;
+    let idle = idle_label(resource, ground.base, &ground.net.departures()[place]);
+    departure_pool(alloc, resource, room, waiting, idle, walks)
 }
 
 impl Passing {
@@ -106,9 +130,34 @@ impl Passing {
         let number = self
             .slides
             .slide_to(alloc, resource, place, held, window, walks)?;
-        let idle = idle_label(resource, ground.base, &ground.net.departures()[place]);
         let waiting = self.slides.pool(number);
-        departure_pool(alloc, resource, &mut self.room, waiting, idle, walks)
+        pool_over(alloc, ground, &mut self.room, place, waiting, walks)
+    }
+
+    /// The pass goes on by the departure of which it is merged what stands in its window.
+    pub(crate) fn go_on_with(
+        &mut self,
+        alloc: Global,
+        ground: &Ground,
+        ahead: &Waiting,
+    ) -> Result<(), AllocError>
+        requires ground { IsGround ground.now }
+        requires stands { Stands ground.now self.old }
+        requires ahead { IsAhead ground.now.net.now self.old.passed.walks
+            self.old.arrivals.made.items self.old.arrivals.pools.items
+            (length self.old.passed.pools) ahead.now }
+        ensures stands { OnOk result (Stands ground.now self.new) }
+        ensures more { OnOk result (length self.new.passed.pools
+            ≡ length self.old.passed.pools + 1) }
+        ensures grown { HasGrown self.old.passed.walks self.new.passed.walks }
+        ensures arrivals { self.new.arrivals ≡ self.old.arrivals }
+    {
+        let place = ahead.place;
+        let room = &mut self.room;
+        let walks = &mut self.passed.walks;
+        let pool = pool_over(alloc, ground, room, place, &ahead.pool, walks)?;
+        self.passed.pools.push(Arc::new(alloc, pool)?)?;
+        Ok(())
     }
 
     /// The pass goes on by one departure: the arrivals on which it waits, and its pool.

@@ -55,6 +55,15 @@ impl Slides {
         })
     }
 
+    /// The slides of no departures.
+    pub(crate) fn none(alloc: Global) -> Slides {
+        Slides {
+            airports: Vec::new(alloc),
+            slides: Vec::new(alloc),
+            room: Workspace::new(alloc),
+        }
+    }
+
     /// Slides the slide of a departure's airport to a window, and gives its number.
     pub(crate) fn slide_to(
         &mut self,

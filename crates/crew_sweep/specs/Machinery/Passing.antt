@@ -1,5 +1,5 @@
 -- Where a pass over the departures stands.
-use Rattle.std.specs.Prelude.{◌≡◌, ◌≤◌, ◌<◌, ◌-◌, ℕ, Bool, true, false, IsPermutation, List, [], Some, drop, get_or, length, map, slice_get, take}
+use Rattle.std.specs.Prelude.{◌≡◌, ◌≤◌, ◌<◌, ◌-◌, ◌++◌, ℕ, Bool, true, false, IsPermutation, List, [], Some, drop, get_or, length, map, slice_get, take}
 use Rattle.crew_anchor.specs.Machinery.Bounds.{is_ready}
 use Rattle.crew_anchor.specs.Stages.{anchored_board}
 use Rattle.crew_anchor.specs.declared.resource.AnchoredResource.{AnchoredResource}
@@ -21,7 +21,7 @@ use Rattle.crew_pairing.specs.declared.vector.PairingVector.{PairingVector}
 use Rattle.crew_pool.specs.Counted.{AreCounted}
 use Rattle.crew_pool.specs.LabelWalks.{IsPoolOf, shown}
 use Rattle.crew_pool.specs.declared.label_walk.LabelWalk.{LabelWalk}
-use Rattle.crew_resource.specs.Events.{Network, Swept}
+use Rattle.crew_resource.specs.Events.{Network, Swept, labelled}
 use Rattle.crew_resource.specs.Members.{Each, Member}
 use Rattle.crew_step.specs.Pools.{boarded, waiting}
 use Rattle.crew_sweep.specs.Machinery.Numbered.{idle_at, numbered}
@@ -75,6 +75,15 @@ IsPooled net base r before after place w held pool = (g : Departure)
     → slice_get net.departures place ≡ Some g
     → IsPoolOf is_at_most (waiting before (take (w.end - w.from) (drop w.from held))
     (idle_at r base (Some g))) (map (shown after) pool)
+
+-- the pool is that of the departure at a place, over what waits for it
+abbrev pub IsPooledOver : Net → List ℕ → AnchoredResource → List (List ℕ) → List (List ℕ) → ℕ
+    → List (PairingVector × LabelWalk) → List (PairingVector × LabelWalk) → Type 0
+IsPooledOver net base r before after place labels pool = (g : Departure)
+    → slice_get net.departures place ≡ Some g → (candidates : List (PairingVector × List ℕ))
+    → IsPoolOf is_at_most candidates (map (shown before) labels)
+    → IsPoolOf is_at_most (candidates ++ labelled (idle_at r base (Some g)) [])
+    (map (shown after) pool)
 
 -- after so many departures nothing more will arrive there
 abbrev pub IsSealed : Net → ℕ → ℕ → Type 0

@@ -1,29 +1,19 @@
-use Rattle.std.proofs.Common.{◌≡◌, ◌∙◌, ◌+◌, ap, arith, length}
-use Rattle.crew_net.proofs.Slices.{at-position}
+use Rattle.std.proofs.Common.{◌∙◌, ◌+◌, ap, length, subst, sym}
+use Rattle.crew_sweep.specs.Machinery.Ahead.{AreAhead}
 use Rattle.crew_sweep.specs.declared.passed.Passed.{Passed}
+use Rattle.crew_sweep.proofs.Aheads.{ahead-after}
 use Rattle.crew_sweep.proofs.passing.Passing.go_over_by_threads.Goals as goal
 
-pub loop-departure-init : goal.loop-departure-init
-loop-departure-init g c = (c.requires.stands, c.requires.none)
-
-pub make_ahead-requires-clause-stands : goal.make_ahead-requires-clause-stands
-make_ahead-requires-clause-stands g c _ _ = c.loop-departure.invariant.0
-
-pub make_ahead-requires-clause-kept : goal.make_ahead-requires-clause-kept
-make_ahead-requires-clause-kept g c _ _ _ _ = tt
-
-pub go_on-requires-clause-place : goal.go_on-requires-clause-place
-go_on-requires-clause-place g c = at-position c.args.ground.now.net.now.by_report c.by_report-departure-items.result.now c.by_report-departure-items.ensures.places c.loop-departure.departure-index c.loop-departure-test.true _ (ap (λ (p : Passed). length p.pools) c.make_ahead.ensures.passed ∙ c.loop-departure.invariant.1)
-
 pub loop-departure-preserved : goal.loop-departure-preserved
-loop-departure-preserved g c = (c.in_ok-go_on.ensures.stands, c.in_ok-go_on.ensures.more ∙ ap (λ n. n + 1) (ap (λ (p : Passed). length p.pools) c.make_ahead.ensures.passed ∙ c.loop-departure.invariant.1))
-
-pub returns : goal.returns
-returns g c =
-    let all : c.loop-departure.departure-index ≡ length c.by_report-departure-items.result.now = omega arith in
-    record {
-      made = c.loop-departure.self.arrivals.made.items;
-      held = c.loop-departure.self.arrivals.pools.items;
-      all = c.loop-departure.invariant.1 ∙ (all ∙ ap length c.by_report-departure-items.ensures.places);
-      passing = c.loop-departure.invariant.0.pools;
-    }
+loop-departure-preserved g c =
+    let net = c.args.ground.now.net.now in
+    let was = c.or_look_ahead.new.self in
+    let now = c.go_on_from.new.self in
+    let rest = c.next-waiting.new.self.rest in
+    let counted = ap (λ (p : Passed). length p.pools) c.in_ok-ahead.ensures.passed ∙ c.loop-departure.invariant.1 in
+    let ahead = subst (λ n. AreAhead net was.passed.walks was.arrivals.made.items was.arrivals.pools.items n c.in_ok-ahead.ahead.rest.items) counted c.in_ok-ahead.ensures.ahead in (
+      c.in_ok-go_on_from.ensures.stands,
+      c.in_ok-go_on_from.ensures.more ∙ ap (λ n. n + 1) counted,
+      ahead-after net was.passed.walks now.passed.walks c.go_on_from.ensures.grown was.arrivals now.arrivals c.in_ok-ahead.ensures.stands.pools.pending c.loop-departure.departure-index c.next-waiting.result c.in_ok-ahead.ahead.rest.items rest.items
+          c.in_ok-ahead.ahead.rest.len rest.len (sym rest.ok.0) c.next-waiting.ensures.cases c.go_on_from.ensures.arrivals ahead,
+    )

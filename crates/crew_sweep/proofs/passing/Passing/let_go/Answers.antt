@@ -7,7 +7,7 @@ use Rattle.crew_sweep.specs.Machinery.Passing.{IsPassing}
 use Rattle.crew_sweep.specs.Machinery.Slides.{AreUnderWay}
 use Rattle.crew_sweep.specs.declared.passing.Passing.{Passing}
 use Rattle.crew_sweep.proofs.LettingGo.{passing-without, under-way-without}
-use Rattle.crew_sweep.proofs.passing.Passing.let_go.Goals.{then-index+then-not-cover, else-index}
+use Rattle.crew_sweep.proofs.passing.Passing.let_go.Goals.{then-can_let_go, else-can_let_go}
 use Rattle.crew_sweep.proofs.passing.Passing.let_go.Goals as goal
 
 abbrev Labels : Type 0
@@ -20,15 +20,15 @@ loop-place-preserved c =
     let was = c.loop-place.self in
     let place = c.loop-place.place in
     let stands = c.loop-place.invariant.0 in
-    elim c.if-index.branch [
-      | then-index+then-not-cover w ↦
+    elim c.if-can_let_go.branch [
+      | then-can_let_go w ↦
           let arrivals = was.arrivals in
           let now = w.let_go.new.self in
           let walks = was.passed.walks in
           let pools = was.passed.pools in
           let within : place < length net.arrivals = subst (λ (xs : List Arrival). place < length xs) c.arrivals-place-end.ensures.events c.loop-place-test.true in
           let marked : place < length arrivals.made.items = subst (λ n. place < n) (sym stands.pools.marks) within in
-          let free = w.cover.ensures w.if-not-cover.true in
+          let free = c.can_let_go.ensures w.if-can_let_go.true in
           let all : Stands ground (record { room = was.room; slides = was.slides; arrivals = now; passed = was.passed; batch_end = was.batch_end }) = record {
             pools = subst (λ (bs : List Bool). IsPassing net ground.base ground.resource walks pools bs now.pools.items) (sym w.let_go.ensures.made)
                 (subst (λ (hs : List Labels). IsPassing net ground.base ground.resource walks pools (set arrivals.made.items place false) hs) (sym w.let_go.ensures.pools)
@@ -38,5 +38,5 @@ loop-place-preserved c =
                 (under-way-without net walks arrivals.made.items arrivals.pools.items place was.slides free stands.slides));
           } in
           subst (λ (p : Passing). Stands ground p × (p.passed ≡ c.args.self.now.passed)) (sym w.self-is) (all, c.loop-place.invariant.1)
-      | else-index w ↦ subst (λ (p : Passing). Stands ground p × (p.passed ≡ c.args.self.now.passed)) (sym w.self-is) c.loop-place.invariant
+      | else-can_let_go w ↦ subst (λ (p : Passing). Stands ground p × (p.passed ≡ c.args.self.now.passed)) (sym w.self-is) c.loop-place.invariant
     ]

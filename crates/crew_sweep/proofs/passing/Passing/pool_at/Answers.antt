@@ -1,21 +1,13 @@
-use Rattle.std.proofs.Common.{◌≡◌, ◌∙◌, ◌≤◌, ◌-◌, ◌++◌, ℕ, List, [], Some, Option, false, length, map, take, drop, ap, subst, sym}
-use Rattle.std.specs.Prelude.{slice_get}
-use Rattle.std.specs.List.{flat_map}
+use Rattle.std.proofs.Common.{◌≤◌, List, false, length, subst, sym}
 use Rattle.std.proofs.lemmas.Result.{IfOk-weaker}
-use Rattle.crew_net.proofs.Slices.{item-in, member-got, some-same, stands}
-use Rattle.crew_pairing.specs.declared.events.Departure.{Departure}
+use Rattle.crew_net.proofs.Slices.{stands}
 use Rattle.crew_pairing.specs.declared.vector.PairingVector.{PairingVector}
 use Rattle.crew_pool.specs.Counted.{AreCounted}
-use Rattle.crew_pool.specs.LabelWalks.{IsPoolOf, shown}
 use Rattle.crew_pool.specs.declared.label_walk.LabelWalk.{LabelWalk}
-use Rattle.crew_resource.specs.Events.{labelled}
 use Rattle.crew_sweep.specs.Machinery.Grounds.{Stands}
-use Rattle.crew_sweep.specs.Machinery.Grounds.{Stands}
-use Rattle.crew_sweep.specs.Machinery.Numbered.{idle_at}
 use Rattle.crew_sweep.specs.Machinery.Parts.{AreHeld, IsPart}
 use Rattle.crew_sweep.specs.Machinery.Slides.{AreSliding}
-use Rattle.crew_vector.specs.Dominance.{is_at_most}
-use Rattle.crew_sweep.proofs.Parts.{part-listed}
+use Rattle.crew_sweep.proofs.Aheads.{pooled-by}
 use Rattle.crew_sweep.proofs.Redone.{on-ok-of}
 use Rattle.crew_sweep.proofs.Shown.{passing-grown}
 use Rattle.crew_sweep.proofs.Slidings.{stayed-itself, under-way-more}
@@ -42,36 +34,24 @@ slide_to-requires-clause-within c =
 pub slide_to-requires-clause-sliding : goal.slide_to-requires-clause-sliding
 slide_to-requires-clause-sliding c = subst (λ (hs : List Labels). AreSliding c.args.self.now.passed.walks hs c.args.self.now.slides) (sym c.deref.ensures.value) c.requires.stands.slides.sliding
 
-pub idle_label-idle-requires-clause-real : goal.idle_label-idle-requires-clause-real
-idle_label-idle-requires-clause-real c =
-    let departures = c.args.ground.now.net.now.departures in
-    let g = c.index-departures-place.result in
-    let at = item-in departures c.departures.result.now c.args.place g c.requires.place c.departures.ensures.events c.index-departures-place.is in
-    c.departures.ensures.real g (member-got departures c.args.place g at)
-
-pub departure_pool-requires-clause-gathered : goal.departure_pool-requires-clause-gathered
-departure_pool-requires-clause-gathered c =
+pub pool_over-requires-clause-gathered : goal.pool_over-requires-clause-gathered
+pool_over-requires-clause-gathered c =
     let slide = stands c.slide_to.new.self.slides.items c.in_ok-number.number c.in_ok-number.ensures.number in
     subst (λ (ls : Labels). AreCounted (λ (v : PairingVector). v.duties) c.args.self.now.passed.walks false ls) (sym (c.pool-waiting.ensures slide.0 slide.1)) (c.in_ok-number.ensures.part slide.0 slide.1).counts
 
 pub returns-clause-pooled : goal.returns-clause-pooled
 returns-clause-pooled c =
     let ground = c.args.ground.now in
-    let departures = ground.net.now.departures in
     let held = c.args.self.now.arrivals.pools.items in
     let walks = c.args.self.now.passed.walks in
     let w = c.args.window in
-    let first = c.index-departures-place.result in
-    let at = item-in departures c.departures.result.now c.args.place first c.requires.place c.departures.ensures.events c.index-departures-place.is in
+    let g = stands ground.net.now.departures c.args.place c.requires.place in
     let slide = stands c.slide_to.new.self.slides.items c.in_ok-number.number c.in_ok-number.ensures.number in
-    let part = subst (λ (hs : List Labels). IsPart walks hs w.from w.end slide.0.pool) c.deref.ensures.value (c.in_ok-number.ensures.part slide.0 slide.1) in
-    let listed = part-listed walks held w.from w.end slide.0.pool (c.requires.window first at).ordered part in
-    let waits : List (PairingVector × List ℕ) = flat_map (map (shown walks)) (take (w.end - w.from) (drop w.from held)) in
-    let gathered : IsPoolOf is_at_most waits (map (shown walks) c.pool-waiting.result.now) = subst (λ (ls : Labels). IsPoolOf is_at_most waits (map (shown walks) ls)) (sym (c.pool-waiting.ensures slide.0 slide.1)) listed in
-    IfOk-weaker c.departure_pool.result _ _ (λ pool local (g : Departure) (h : slice_get departures c.args.place ≡ Some g).
-    let same : first ≡ g = some-same (slice_get departures c.args.place) first g at h in
-    let begun = c.idle_label-idle.ensures ∙ ap (λ (z : Departure). idle_at ground.resource ground.base (Some z)) same in
-    subst (λ (o : Option PairingVector). IsPoolOf is_at_most (waits ++ labelled o []) (map (shown c.departure_pool.new.walks) pool)) begun (local waits gathered)) c.departure_pool.ensures.local
+    let part : IsPart walks held w.from w.end slide.0.pool = subst (λ (hs : List Labels). IsPart walks hs w.from w.end slide.0.pool) c.deref.ensures.value (c.in_ok-number.ensures.part slide.0 slide.1) in
+    let waiting = subst (λ (ls : Labels). IsPart walks held w.from w.end ls) (sym (c.pool-waiting.ensures slide.0 slide.1)) part in
+    IfOk-weaker c.pool_over.result _ _
+    (λ pool. pooled-by ground.net.now ground.base ground.resource walks c.pool_over.new.walks c.args.place w held c.pool-waiting.result.now pool (c.requires.window g.0 g.1).ordered waiting)
+    c.pool_over.ensures.pooled
 
 pub returns-clause-stands : goal.returns-clause-stands
 returns-clause-stands c =
@@ -79,13 +59,13 @@ returns-clause-stands c =
     let was = c.args.self.now in
     let made = was.arrivals.made.items in
     let held = was.arrivals.pools.items in
-    let after = c.departure_pool.new.walks in
+    let after = c.pool_over.new.walks in
     let pools = c.requires.stands.pools in
-    let grown = c.departure_pool.ensures.grown in
+    let grown = c.pool_over.ensures.grown in
     let sliding = subst (λ (hs : List Labels). AreSliding was.passed.walks hs c.slide_to.new.self) c.deref.ensures.value c.in_ok-number.ensures.sliding in
-    let all : Stands ground (record { room = c.departure_pool.new.room; slides = c.slide_to.new.self; arrivals = was.arrivals; passed = record { walks = after; pools = was.passed.pools }; batch_end = was.batch_end }) = record {
+    let all : Stands ground (record { room = c.pool_over.new.room; slides = c.slide_to.new.self; arrivals = was.arrivals; passed = record { walks = after; pools = was.passed.pools }; batch_end = was.batch_end }) = record {
       pools = passing-grown was.passed.walks after grown ground.net.now ground.base ground.resource was.passed.pools made held pools;
       slides = under-way-more ground.net.now was.passed.walks after grown made held made held (stayed-itself made held) was.slides c.slide_to.new.self pools.pending c.requires.stands.slides sliding c.slide_to.ensures.airports c.args.window
           c.requires.made c.in_ok-number.ensures.covers;
     } in
-    on-ok-of c.departure_pool.result all
+    on-ok-of c.pool_over.result all
