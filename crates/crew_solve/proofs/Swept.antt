@@ -1,5 +1,5 @@
 -- What stands at the places of bases, and the sweeps of all bases.
-use Rattle.std.proofs.Common.{◌≡◌, ◌∙◌, ◌<◌, ◌≤◌, ℕ, suc, ℤ, List, [], ◌∷◌, Option, None, Some, true, IfSome, get_or, length, map, arith, ap, refl, sym, subst}
+use Rattle.std.proofs.Common.{◌≡◌, ◌∙◌, ◌<◌, ◌≤◌, ℕ, suc, ℤ, List, [], ◌∷◌, Ok, Result, Some, true, IfOk, get_or, length, map, arith, ap, refl, sym, subst}
 use Rattle.std.proofs.lemmas.List.{length-map}
 use Rattle.std.specs.Prelude.{slice_get}
 use Rattle.std.specs.Arc.{arc_value}
@@ -114,18 +114,19 @@ kept-of net p base b past same from =
     }
 
 -- what was made at the places of all bases
-pub each-made : {A : Type 0} (f : A → BaseSweep) (plan : Plan) (made : List (Option A)) (all : List A) → length made ≡ length plan.prices
-    → ((place : ℕ) (d : Option A) → place < length plan.prices → IfSome (get_or made place d) (λ a. IsSweepIn plan place (f a))) → made ≡ map Some all → AreSweepsIn plan (map f all)
-each-made {A} f plan made all long each is =
+pub each-made : {A E : Type 0} (f : A → BaseSweep) (plan : Plan) (made : List (Result A E)) (all : List A) → length made ≡ length plan.prices
+    → ((place : ℕ) (d : Result A E) → place < length plan.prices → IfOk (get_or made place d) (λ a. IsSweepIn plan place (f a))) → made ≡ map Ok all → AreSweepsIn plan (map f all)
+each-made {A} {E} f plan made all long each is =
+    let ok : A → Result A E = λ a. Ok a in
     let many = length-map all f in
-    let whole : length all ≡ length made = sym (length-map all (λ (a : A). Some a)) ∙ ap length (sym is) in
+    let whole : length all ≡ length made = sym (length-map all ok) ∙ ap length (sym is) in
     record {
       long = many ∙ (whole ∙ long);
       each = λ place b h.
           let at = map-got f all place b h in
           let low = get-within all place at.0 at.1 in
-          let there = get-by made place None (Some at.0) (ap (λ l. slice_get l place) is ∙ map-get Some all place at.0 at.1) in
-          let one = each place None (omega (arith, low, whole, long)) in
-          let right : IsSweepIn plan place (f at.0) = subst (λ o. IfSome o (λ a. IsSweepIn plan place (f a))) there one in
+          let there = get-by made place (Ok at.0) (Ok at.0) (ap (λ l. slice_get l place) is ∙ map-get ok all place at.0 at.1) in
+          let one = each place (Ok at.0) (omega (arith, low, whole, long)) in
+          let right : IsSweepIn plan place (f at.0) = subst (λ o. IfOk o (λ a. IsSweepIn plan place (f a))) there one in
           subst (IsSweepIn plan place) at.2 right;
     }

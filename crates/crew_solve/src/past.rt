@@ -11,6 +11,7 @@ use crate::base_fronts::BaseFronts;
 use crate::entries::fronts_of;
 use crate::solution::Solution;
 use crew_carry::Twins;
+use crew_claims::Sharing;
 use crew_flights::Code;
 use crew_net::{Net, arrival_places, departure_positions};
 use crew_sweep::{Sweep, renew, renew_by_threads};
@@ -127,12 +128,12 @@ impl Past {
         )
     }
 
-    /// The same in at most so many threads, this one among them.
+    /// The same by threads of those that are shared.
     pub(crate) fn renew_by_threads<R: Threads + Sync>(
         &self,
         rt: &R,
         alloc: Global,
-        threads: usize,
+        sharing: &Sharing,
         net: &Arc<Net, Global>,
         positions: &[u32],
         earlier: &BaseFronts,
@@ -148,7 +149,7 @@ impl Past {
         renew_by_threads(
             rt,
             alloc,
-            threads,
+            sharing,
             earlier.sweep(),
             &self.positions,
             &self.twins,

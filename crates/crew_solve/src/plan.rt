@@ -14,6 +14,7 @@ use crate::base_fronts::BaseFronts;
 use crate::past::Past;
 use crate::solution::Solution;
 use crate::sweeps::{sweep_all, sweep_base, sweep_base_by_threads};
+use crew_claims::Sharing;
 use crew_flights::{Code, Timetable};
 use crew_net::{Net, departure_positions};
 use crew_pairing::Duties;
@@ -268,12 +269,12 @@ impl Plan {
         shown(alloc, sweep)
     }
 
-    // The same in at most so many threads, this one among them.
+    // The same by threads of those that are shared.
     fn made_by_threads<R: Threads + Sync>(
         &self,
         rt: &R,
         alloc: Global,
-        threads: usize,
+        sharing: &Sharing,
         place: usize,
     ) -> Result<Arc<BaseFronts, Global>, AllocError>
         requires { place < length self.now.prices }
@@ -284,7 +285,7 @@ impl Plan {
         let sweep = sweep_base_by_threads(
             rt,
             alloc,
-            threads,
+            sharing,
             &self.net,
             &self.positions,
             past,
@@ -307,12 +308,12 @@ impl Plan {
         }
     }
 
-    /// The same in at most so many threads, this one among them.
+    /// The same by threads of those that are shared.
     pub fn sweep_by_threads<R: Threads + Sync>(
         &self,
         rt: &R,
         alloc: Global,
-        threads: usize,
+        sharing: &Sharing,
         place: usize,
     ) -> Result<Arc<BaseFronts, Global>, AllocError>
         requires { place < length self.now.prices }
@@ -320,13 +321,13 @@ impl Plan {
     {
         match self.kept(place) {
             Some(fronts) => Arc::try_clone(fronts),
-            None => self.made_by_threads(rt, alloc, threads, place),
+            None => self.made_by_threads(rt, alloc, sharing, place),
         }
     }
 
-    /// All fronts and the best pairing. So many threads at most sweep the bases, which they share:
-    /// where there are twice as many as bases or more, several go over a base. With 0 workers or 1,
-    /// and for few duties, the calling thread sweeps all of them, and also what no thread can be
+    /// All fronts and the best pairing. So many threads at most sweep the bases, and are shared out
+    /// among those that are still under way, so several go over each of the last bases. With 0 workers
+    /// or 1, and for few duties, the calling thread sweeps all of them, and also what no thread can be
     /// started for.
     pub fn solve<R: Threads + Sync>(
         &self,

@@ -1,5 +1,5 @@
 //! The sweeps of a plan's bases, by one thread or more.
-ghost use Rattle.std.specs.Prelude.{◌≡◌, ◌<◌, IfOk, IfSome, Some, length, map, slice_index_or};
+ghost use Rattle.std.specs.Prelude.{◌≡◌, ◌<◌, ℕ, IfOk, IfSome, Ok, length, map, slice_index_or, vec_len};
 ghost use Rattle.std.specs.Arc.{arc_value};
 ghost use Rattle.crew_flights.specs.Timetable.{IsBasePrice};
 ghost use Rattle.crew_solve.specs.Machinery.Planned.{IsPast};
@@ -9,12 +9,16 @@ ghost use Rattle.crew_solve.specs.Plans.{AreSweepsIn, IsSweepIn};
 use crate::base_fronts::BaseFronts;
 use crate::past::Past;
 use crate::plan::Plan;
+use crew_claims::{Sharing, map_claimed};
 use crew_flights::Code;
 use crew_net::Net;
 use crew_sweep::{Sweep, sweep, sweep_by_threads};
 use std::alloc::{AllocError, Global};
 use std::sync::Arc;
-use std::thread::{Threads, for_each_mut};
+use std::thread::Threads;
+
+// The fronts of some bases, or want of memory.
+type Made = Vec<Result<Arc<BaseFronts, Global>, AllocError>>;
 
 // The fewest legal duties for whose passes threads are started: with fewer a thread costs more than
 // it gives.
@@ -25,23 +29,6 @@ fn threads_for(workers: usize, duties: usize) -> usize
     ensures { 0 < result }
 {
     if duties < SHARED { 1 } else { workers.max(1) }
-}
-
-// How many of so many threads the sweep of each of so many bases goes by: all together are no more
-// than these.
-fn share_of(threads: usize, bases: usize) -> usize {
-    (threads / bases.max(1)).max(1)
-}
-
-// Places for so many sweeps, of which none is made yet.
-fn unswept(alloc: Global, count: usize) -> Result<Vec<Option<Arc<BaseFronts, Global>>>, AllocError>
-    ensures { IfOk result (λ swept. length swept.items ≡ count) }
-{
-    let mut swept = Vec::with_capacity(alloc, count)?;
-    for _ in 0..count {
-        swept.push(None)?;
-    }
-    Ok(swept)
 }
 
 // The sweep of a base at its price, from scratch.
@@ -59,11 +46,11 @@ fn sweep_anew(
     sweep(alloc, Arc::try_clone(net)?, positions, base, price)
 }
 
-// The same in at most so many threads, this one among them.
+// The same by threads of those that are shared.
 fn sweep_anew_by_threads<R: Threads + Sync>(
     rt: &R,
     alloc: Global,
-    threads: usize,
+    sharing: &Sharing,
     net: &Arc<Net, Global>,
     positions: &[u32],
     base: Code,
@@ -74,7 +61,7 @@ fn sweep_anew_by_threads<R: Threads + Sync>(
     ensures { IfOk result (IsSwept (arc_value net.now) (base, price)) }
 {
     let net = Arc::try_clone(net)?;
-    sweep_by_threads(rt, alloc, threads, net, positions, base, price)
+    sweep_by_threads(rt, alloc, sharing, net, positions, base, price)
 }
 
 /// The sweep of a base at its price, beside earlier fronts of it, if there are any.
@@ -100,11 +87,11 @@ pub(crate) fn sweep_base(
     }
 }
 
-/// The same in at most so many threads, this one among them.
+/// The same by threads of those that are shared.
 pub(crate) fn sweep_base_by_threads<R: Threads + Sync>(
     rt: &R,
     alloc: Global,
-    threads: usize,
+    sharing: &Sharing,
     net: &Arc<Net, Global>,
     positions: &[u32],
     past: Option<&Past>,
@@ -117,66 +104,53 @@ pub(crate) fn sweep_base_by_threads<R: Threads + Sync>(
     ensures { IfOk result (IsSwept (arc_value net.now) (base, price)) }
 {
     let Some(past) = past else {
-        return sweep_anew_by_threads(rt, alloc, threads, net, positions, base, price);
+        return sweep_anew_by_threads(rt, alloc, sharing, net, positions, base, price);
     };
     match past.fronts_at(base, price) {
-        Some(earlier) => past.renew_by_threads(rt, alloc, threads, net, positions, earlier),
-        None => sweep_anew_by_threads(rt, alloc, threads, net, positions, base, price),
+        Some(earlier) => past.renew_by_threads(rt, alloc, sharing, net, positions, earlier),
+        None => sweep_anew_by_threads(rt, alloc, sharing, net, positions, base, price),
     }
 }
 
-// Sweeps each base into its place, in at most so many threads, this one among them. Where there are
-// more of them than bases, the sweep of each base goes by its share of them.
-fn sweep_in<R: Threads + Sync>(
+// Sweeps each base, in at most so many threads, this one among them, each of which takes the next base
+// that nobody has taken yet. The fewer bases are still under way, the more threads a sweep goes by.
+fn sweep_each<R: Threads + Sync>(
     rt: &R,
     alloc: Global,
     plan: &Plan,
     threads: usize,
-    swept: &mut [Option<Arc<BaseFronts, Global>>],
-)
-    requires threads { 0 < threads }
-    requires long { length swept.old ≡ length plan.now.prices }
-    ensures long { length swept.new ≡ length plan.now.prices }
-    ensures each { (place : _) (d : _) → place < length plan.now.prices
-        → IfSome (slice_index_or swept.new place d)
-        (λ fronts. IsSweepIn plan.now place (arc_value fronts)) }
+) -> Result<Made, AllocError>
+    ensures long { IfOk result (λ made. vec_len made ≡ length plan.now.prices) }
+    ensures each { IfOk result (λ made. (place : ℕ) (d : _) → place < length plan.now.prices
+        → IfOk (slice_index_or made.items place d)
+        (λ fronts. IsSweepIn plan.now place (arc_value fronts))) }
 {
-    let share = share_of(threads, swept.len());
-    for_each_mut(
-        rt,
-        swept,
-        threads,
-        &|place: usize, swept: &mut Option<Arc<BaseFronts, Global>>|
-            requires { place < length plan.now.prices }
-            ensures { IfSome swept.new
-                (λ fronts. IsSweepIn plan.entry.now place (arc_value fronts)) }
-        {
-            *swept = plan.sweep_by_threads(rt, alloc, share, place).ok();
-        },
-    );
+    let sharing = Sharing::new(threads, plan.base_count());
+    let part = |place: usize| -> Result<Arc<BaseFronts, Global>, AllocError>
+        requires { place < length plan.now.prices }
+        ensures { IfOk result (λ fronts. IsSweepIn plan.entry.now place (arc_value fronts)) }
+    {
+        let fronts = plan.sweep_by_threads(rt, alloc, &sharing, place);
+        sharing.end_one();
+        fronts
+    };
+    map_claimed(rt, alloc, threads, plan.base_count(), &part)
 }
 
 // What was made, where each could be.
-fn all_made(
-    alloc: Global,
-    swept: Vec<Option<Arc<BaseFronts, Global>>>,
-) -> Result<Vec<Arc<BaseFronts, Global>>, AllocError>
-    ensures { IfOk result (λ fronts. swept.items ≡ map Some fronts.items) }
+fn all_made(alloc: Global, made: Made) -> Result<Vec<Arc<BaseFronts, Global>>, AllocError>
+    ensures { IfOk result (λ fronts. made.items ≡ map Ok fronts.items) }
 {
-    let mut fronts = Vec::with_capacity(alloc, swept.len())?;
-    for made in swept {
-        let Some(made) = made else {
-            return Err(AllocError);
-        };
-        fronts.push(made)?;
+    let mut fronts = Vec::with_capacity(alloc, made.len())?;
+    for of_base in made {
+        fronts.push(of_base?)?;
     }
     Ok(fronts)
 }
 
 /// The fronts of all bases of a plan, in order, whatever the number of workers. So many threads at
-/// most make them, which are shared out among the bases: where there are twice as many as bases or
-/// more, the sweep of a base goes by several. With 0 or 1, and for few duties, it is the calling
-/// thread alone.
+/// most make them, which are shared out among the bases that are still under way, so the last bases
+/// go by several. With 0 or 1, and for few duties, it is the calling thread alone.
 pub(crate) fn sweep_all<R: Threads + Sync>(
     rt: &R,
     alloc: Global,
@@ -185,8 +159,7 @@ pub(crate) fn sweep_all<R: Threads + Sync>(
 ) -> Result<Vec<Arc<BaseFronts, Global>>, AllocError>
     ensures { IfOk result (λ fronts. AreSweepsIn plan.now (map arc_value fronts.items)) }
 {
-    let mut swept = unswept(alloc, plan.base_count())?;
     let threads = threads_for(workers, plan.net().duty_count());
-    sweep_in(rt, alloc, plan, threads, &mut swept);
-    all_made(alloc, swept)
+    let made = sweep_each(rt, alloc, plan, threads)?;
+    all_made(alloc, made)
 }

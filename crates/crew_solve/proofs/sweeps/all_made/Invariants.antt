@@ -1,5 +1,5 @@
-use Rattle.std.proofs.Common.{◌≡◌, Some, map}
+use Rattle.std.proofs.Common.{◌≡◌, Ok, map}
 use Rattle.crew_solve.proofs.sweeps.all_made.Given as goal
 
-abbrev pub invariant-loop-made : goal.invariant-loop-made
-invariant-loop-made l = map Some l.fronts.items ≡ l.yielded
+abbrev pub invariant-loop-of_base : goal.invariant-loop-of_base
+invariant-loop-of_base l = map Ok l.fronts.items ≡ l.yielded
