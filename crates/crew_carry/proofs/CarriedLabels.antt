@@ -1,16 +1,15 @@
 -- What labels show that are carried one by one.
-use Rattle.std.proofs.Common.{◌≡◌, ◌<◌, ◌++◌, ◌∷◌, [], inl, inr, ℕ, ℤ, pos, zero, suc, true, List, Option, Some, length, map, cond, refl, ap, arith, sym, ◌∙◌, subst}
+use Rattle.std.proofs.Common.{◌≡◌, ◌<◌, ◌++◌, ◌∷◌, [], inl, inr, ℕ, ℤ, pos, zero, suc, Bool, true, false, List, Option, Some, length, map, cond, refl, ap, arith, sym, ◌∙◌, subst}
 use Rattle.std.specs.Prelude.{nat_eq, slice_get}
-use Rattle.std.proofs.lemmas.List.{length-map}
+use Rattle.std.proofs.lemmas.List.{length-map, map-append}
 use Rattle.crew_pairing.specs.declared.duty.Duty.{Duty}
 use Rattle.crew_pool.specs.Arena.{walk_at}
 use Rattle.crew_pool.specs.Counted.{AreCounted, AreWhole}
-use Rattle.crew_pool.specs.LabelWalks.{shown, walk_of_label}
+use Rattle.crew_pool.specs.LabelWalks.{duty_of, shown, walk_of_label}
 use Rattle.crew_pool.specs.Ranks.{AreRanked, by_key, key_at}
 use Rattle.crew_pool.specs.declared.label_walk.LabelWalk.{LabelWalk}
 use Rattle.crew_resource.specs.Members.{Each, Member}
 use Rattle.crew_step.specs.Walks.{HasGrown}
-use Rattle.crew_step.proofs.Loops.{append-none}
 use Rattle.crew_carry.specs.Carried.{AreTwinWalks, IsCarried, twin_of}
 use Rattle.crew_carry.specs.Labels.{AreCarriedLabels, IsCarriedLabel}
 use Rattle.crew_carry.specs.Twins.{AreRankTwins}
@@ -53,11 +52,36 @@ twins-long ranks w v h =
     let some : ℕ → Option ℕ = λ n. Some n in
     sym (length-map v some) ∙ (sym (ap length h) ∙ length-map w (twin_of ranks))
 
--- a whole label shows its walk
-pub whole-shows : (walks : List (List ℕ)) (t : LabelWalk) → nat_eq t.duty 4294967295 ≡ true → walk_of_label walks t ≡ walk_at walks t.walk
-whole-shows walks t e = ap (λ b. walk_at walks t.walk ++ cond b [] (t.duty ∷ [])) e ∙ append-none (walk_at walks t.walk)
+-- one walk after another
+twins-append : (ranks : List (Option ℕ)) (w v x y : List ℕ) → AreTwinWalks ranks w v → AreTwinWalks ranks x y → AreTwinWalks ranks (w ++ x) (v ++ y)
+twins-append ranks w v x y h k =
+    let some : ℕ → Option ℕ = λ n. Some n in
+    map-append (twin_of ranks) w x ∙ (ap (λ (os : List (Option ℕ)). os ++ map (twin_of ranks) x) h ∙ (ap (λ (os : List (Option ℕ)). map some v ++ os) k ∙ sym (map-append some v y)))
+
+no-duty : (d : ℕ) → nat_eq d 4294967295 ≡ true → duty_of d ≡ []
+no-duty d e = ap (λ b. cond b [] (d ∷ [])) e
+
+-- where there is no duty on either side
+pub none-twins : (ranks : List (Option ℕ)) (a b : ℕ) → nat_eq a 4294967295 ≡ true → nat_eq b 4294967295 ≡ true → AreTwinWalks ranks (duty_of a) (duty_of b)
+none-twins ranks a b p q =
+    let some : ℕ → Option ℕ = λ n. Some n in
+    ap (map (twin_of ranks)) (no-duty a p) ∙ sym (ap (map some) (no-duty b q))
+
+stand-same : (ranks : List (Option ℕ)) (x y : Bool) (a b : ℕ) → AreTwinWalks ranks (cond x [] (a ∷ [])) (cond y [] (b ∷ [])) → y ≡ x
+stand-same ranks true true a b h = refl
+stand-same ranks true false a b h = absurd (let q : ⊥ = (cc) in q)
+stand-same ranks false true a b h = absurd (let q : ⊥ = (cc) in q)
+stand-same ranks false false a b h = refl
+
+-- a duty has a twin that is one
+pub stands-same : (ranks : List (Option ℕ)) (a b : ℕ) → AreTwinWalks ranks (duty_of a) (duty_of b) → nat_eq b 4294967295 ≡ nat_eq a 4294967295
+stands-same ranks a b h = stand-same ranks (nat_eq a 4294967295) (nat_eq b 4294967295) a b h
 
 module _ {V : Type 0} (ranks : List (Option ℕ)) (from : List (List ℕ)) where
+  -- the walk with its duty
+  label-twins : (to : List (List ℕ)) (o n : V × LabelWalk) → IsCarriedLabel ranks from to o n → AreTwinWalks ranks (walk_of_label from o.1) (walk_of_label to n.1)
+  label-twins to o n c = twins-append ranks (walk_at from o.1.walk) (walk_at to n.1.walk) (duty_of o.1.duty) (duty_of n.1.duty) c.walk c.duty
+
   label-grown : (to now : List (List ℕ)) → HasGrown to now → (o n : V × LabelWalk) → IsCarriedLabel ranks from to o n → IsCarriedLabel ranks from now o n
   label-grown to now h o n c =
       let a = c.there in
@@ -65,7 +89,7 @@ module _ {V : Type 0} (ranks : List (Option ℕ)) (from : List (List ℕ)) where
       record {
         value = c.value;
         there = omega (arith, a, b);
-        whole = c.whole;
+        duty = c.duty;
         walk = subst (λ (v : List ℕ). AreTwinWalks ranks (walk_at from o.1.walk) v) (sym (h.same n.1.walk a)) c.walk;
       }
 
@@ -101,26 +125,20 @@ module _ {V : Type 0} (ranks : List (Option ℕ)) (from : List (List ℕ)) where
         let was = counted r.0 r.1 in
         record {
           there = is.there;
-          stands = is.whole;
-          counts =
-              ap count is.value
-              ∙ (was.counts
-              ∙ ap (λ (k : ℕ). pos k)
-              (ap length (whole-shows from r.0.1 was.stands) ∙ (sym (twins-long ranks (walk_at from r.0.1.walk) (walk_at to n.1.walk) is.walk) ∙ sym (ap length (whole-shows to n.1 is.whole)))));
+          stands = stands-same ranks r.0.1.duty n.1.duty is.duty ∙ was.stands;
+          counts = ap count is.value ∙ (was.counts ∙ ap (λ (k : ℕ). pos k) (sym (twins-long ranks (walk_of_label from r.0.1) (walk_of_label to n.1) (label-twins to r.0 n is))));
         }
 
     module _ (olds news : List Duty) (twins : AreRankTwins olds news ranks) where
-      pub labels-keys : (os ns : List (V × LabelWalk)) → AreWhole os → AreCarriedLabels ranks from to os ns → by_key news (map (shown to) ns) ≡ by_key olds (map (shown from) os)
-      labels-keys [] [] w c = refl
-      labels-keys [] (n ∷ ns) w c = absurd c
-      labels-keys (o ∷ os) [] w c = absurd c
-      labels-keys (o ∷ os) (n ∷ ns) w c =
+      pub labels-keys : (os ns : List (V × LabelWalk)) → AreCarriedLabels ranks from to os ns → by_key news (map (shown to) ns) ≡ by_key olds (map (shown from) os)
+      labels-keys [] [] c = refl
+      labels-keys [] (n ∷ ns) c = absurd c
+      labels-keys (o ∷ os) [] c = absurd c
+      labels-keys (o ∷ os) (n ∷ ns) c =
           let value = c.0.value in
           let keys : map (key_at news) (walk_of_label to n.1) ≡ map (key_at olds) (walk_of_label from o.1) =
-          ap (map (key_at news)) (whole-shows to n.1 c.0.whole)
-          ∙ (sym (twins-keys ranks olds news twins (walk_at from o.1.walk) (walk_at to n.1.walk) c.0.walk)
-          ∙ ap (map (key_at olds)) (sym (whole-shows from o.1 (w o (inl refl))))) in
-          let others = labels-keys os ns (λ l m. w l (inr m)) c.1 in
+          sym (twins-keys ranks olds news twins (walk_of_label from o.1) (walk_of_label to n.1) (label-twins to o n c.0)) in
+          let others = labels-keys os ns c.1 in
           (λ i. (value i, keys i) ∷ others i)
 
       pub labels-ranked : (os ns : List (V × LabelWalk)) → AreCarriedLabels ranks from to os ns → AreRanked (length news) (map (shown to) ns)
@@ -129,7 +147,7 @@ module _ {V : Type 0} (ranks : List (Option ℕ)) (from : List (List ℕ)) where
       labels-ranked (o ∷ os) [] c e m = absurd c
       labels-ranked (o ∷ os) (n ∷ ns) c e (inl s) =
           subst (λ (z : V × List ℕ). Each (λ k. k < length news) z.1) s
-          (subst (λ (z : List ℕ). Each (λ k. k < length news) z) (sym (whole-shows to n.1 c.0.whole)) (twins-within ranks olds news twins (walk_at from o.1.walk) (walk_at to n.1.walk) c.0.walk))
+          (twins-within ranks olds news twins (walk_of_label from o.1) (walk_of_label to n.1) (label-twins to o n c.0))
       labels-ranked (o ∷ os) (n ∷ ns) c e (inr m) = labels-ranked os ns c.1 e m
 
 -- labels whose walks were carried to their own places are carried as they are
@@ -138,6 +156,6 @@ pub labels-in-place : {V : Type 0} (ranks : List (Option ℕ)) (from to : List (
 labels-in-place ranks from to places c [] at w = tt
 labels-in-place ranks from to places c (l ∷ ls) at w =
     let e = at l (inl refl) in (
-      record { value = refl; there = c.there l.1.walk l.1.walk e; whole = w l (inl refl); walk = c.shows l.1.walk l.1.walk e },
+      record { value = refl; there = c.there l.1.walk l.1.walk e; duty = none-twins ranks l.1.duty l.1.duty (w l (inl refl)) (w l (inl refl)); walk = c.shows l.1.walk l.1.walk e },
       labels-in-place ranks from to places c ls (λ m k. at m (inr k)) (λ m k. w m (inr k)),
     )

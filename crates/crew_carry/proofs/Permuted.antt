@@ -5,7 +5,6 @@ use Rattle.std.specs.List.Sorted.{IsPermutation}
 use Rattle.std.proofs.lemmas.List.Sorted.{IsPermutation-map, IsPermutation-sym}
 use Rattle.crew_pairing.specs.Legs.{Leg}
 use Rattle.crew_pairing.specs.declared.duty.Duty.{Duty}
-use Rattle.crew_pool.specs.Counted.{AreWhole}
 use Rattle.crew_pool.specs.LabelWalks.{shown}
 use Rattle.crew_pool.specs.Ranks.{by_key, key_at}
 use Rattle.crew_pool.specs.declared.label_walk.LabelWalk.{LabelWalk}
@@ -49,12 +48,11 @@ module _ {V : Type 0} (ranks : List (Option ℕ)) (from to : List (List ℕ)) wh
         IsPermutation-map key (map (shown walks) xs) (map (shown walks) ys) (IsPermutation-map (shown walks) xs ys p)
 
     -- pools whose labels are twins in another order show the same by key
-    pub alike-pools : (old new os ns : List (V × LabelWalk)) → IsPermutation old os → IsPermutation new ns → AreWhole old → AreCarriedLabels ranks from to os ns
+    pub alike-pools : (old new os ns : List (V × LabelWalk)) → IsPermutation old os → IsPermutation new ns → AreCarriedLabels ranks from to os ns
         → (e : V × List (List Leg))
         → (Member (by_key olds (map (shown from) old)) e → Member (by_key news (map (shown to) new)) e) × (Member (by_key news (map (shown to) new)) e → Member (by_key olds (map (shown from) old)) e)
-    alike-pools old new os ns p q whole c e =
-        let whole-sorted : AreWhole os = λ l m. whole l (Member-permuted os old (IsPermutation-sym old os p) l m) in
-        let keys = labels-keys ranks from to olds news twins os ns whole-sorted c in
+    alike-pools old new os ns p q c e =
+        let keys = labels-keys ranks from to olds news twins os ns c in
         let po = keyed-permuted olds from old os p in
         let pn = keyed-permuted news to new ns q in (
           λ m.

@@ -7,18 +7,18 @@ ghost use Rattle.crew_carry.specs.Twins.{AreRankTwins};
 ghost use Rattle.crew_pairing.specs.Legs.{Leg};
 ghost use Rattle.crew_pairing.specs.declared.duty.Duty.{Duty};
 ghost use Rattle.crew_pool.specs.Arena.{walk_at};
-ghost use Rattle.crew_pool.specs.Counted.{AreWhole};
-ghost use Rattle.crew_pool.specs.LabelWalks.{shown};
+ghost use Rattle.crew_pool.specs.LabelWalks.{duty_of, shown};
 ghost use Rattle.crew_pool.specs.Ranks.{by_key};
 ghost use Rattle.crew_pool.specs.declared.label_walk.LabelWalk.{LabelWalk};
 ghost use Rattle.crew_resource.specs.Members.{Member};
 
 use crate::carrier::twin;
-use crew_pool::{LabelWalk, Pool, Walks};
+use crew_pool::{LabelWalk, NO_DUTY, Pool, Walks};
 use crew_resource::Resource;
 use std::alloc::{AllocError, Global};
 
-/// Whether two pools have the same vectors, each with the same walk by key, in whatever order.
+/// Whether two pools have the same vectors, each with the same walk by key, in whatever order. A walk
+/// is that of a label, with the duty after it where it has one.
 ///
 /// The ranks are those of the duties' twins, from the old pool's network to the new one's. Labels
 /// that are the same one by one, as they stand, are found so without memory.
@@ -32,8 +32,6 @@ pub fn are_alike<R: Resource>(
 ) -> Result<bool, AllocError>
     requires old_there { (l : R.Value × LabelWalk) → Member old.now l → l.1.walk < length from.now }
     requires new_there { (l : R.Value × LabelWalk) → Member new.now l → l.1.walk < length to.now }
-    requires old_whole { AreWhole old.now }
-    requires new_whole { AreWhole new.now }
     ensures alike { result ≡ Ok true → (olds news : List Duty) → AreRankTwins olds news ranks.now
         → (e : R.Value × List (List Leg))
         → (Member (by_key olds (map (shown from.now) old.now)) e
@@ -67,7 +65,6 @@ fn are_in_order<R: Resource>(
     requires old_there { (l : R.Value × LabelWalk) → Member olds.now l
         → l.1.walk < length from.now }
     requires new_there { (l : R.Value × LabelWalk) → Member news.now l → l.1.walk < length to.now }
-    requires new_whole { AreWhole news.now }
     ensures { IsTrue result
         ↔ AreCarriedLabels ranks.now from.now to.now olds.now news.now }
 {
@@ -109,7 +106,6 @@ fn are_twins<R: Resource>(
         → l.1.walk < length from.now }
     requires new_there { (l : R.Value × LabelWalk) → Member (map (λ l. l.now) news.now) l
         → l.1.walk < length to.now }
-    requires new_whole { AreWhole (map (λ l. l.now) news.now) }
     ensures { IsTrue result ↔ AreCarriedLabels ranks.now from.now to.now
         (map (λ l. l.now) olds.now) (map (λ l. l.now) news.now) }
 {
@@ -124,7 +120,7 @@ fn are_twins<R: Resource>(
     true
 }
 
-// Whether a label has the same vector as another, at the walk's twin.
+// Whether a label has the same vector as another, at the walk's twin, with the twin of its duty.
 fn is_twin<R: Resource>(
     old: &(R::Value, LabelWalk),
     from: &Walks,
@@ -135,10 +131,26 @@ fn is_twin<R: Resource>(
     requires old { old.now.1.walk < length from.now }
     requires new { new.now.1.walk < length to.now }
     ensures { IsTrue result ↔ ((new.now.0 ≡ old.now.0)
+        × AreTwinWalks ranks.now (duty_of old.now.1.duty) (duty_of new.now.1.duty)
         × AreTwinWalks ranks.now (walk_at from.now old.now.1.walk)
         (walk_at to.now new.now.1.walk)) }
 {
-    new.0.cmp(&old.0).is_eq() && is_twin_walk(from, old.1.walk, ranks, to, new.1.walk)
+    new.0.cmp(&old.0).is_eq()
+        && is_twin_duty(old.1.duty, ranks, new.1.duty)
+        && is_twin_walk(from, old.1.walk, ranks, to, new.1.walk)
+}
+
+// Whether the duty after a walk is the twin of that after another, or both have none.
+fn is_twin_duty(old: u32, ranks: &[Option<u32>], new: u32) -> bool
+    ensures { IsTrue result ↔ AreTwinWalks ranks.now (duty_of old) (duty_of new) }
+{
+    if old == NO_DUTY || new == NO_DUTY {
+        return old == new;
+    }
+    match twin(ranks, old) {
+        Some(found) => found == new,
+        None => false,
+    }
 }
 
 // Whether a walk has the twins of another's duties, from the last back.

@@ -230,6 +230,7 @@ fn carry_labels<R: Resource>(
 ) -> Result<Option<Vec<(R::Value, LabelWalk)>>, AllocError>
     requires there { (l : R.Value × LabelWalk) → Member labels.now l
         → l.1.walk < length from.now }
+    requires whole { AreWhole labels.now }
     requires carried { IsCarried ranks.now from.now to.old places.old }
     ensures carried { IsCarried ranks.now from.now to.new places.new }
     ensures grown { HasGrown to.old to.new }

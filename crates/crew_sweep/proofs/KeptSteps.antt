@@ -51,8 +51,8 @@ pub laid-of : (net : Net) (positions : List ℕ) → IsPassable net positions �
 laid-of net positions p = record { departs = p.departs; arrives = p.arrives; ordered = p.ordered }
 
 module _ (old : BaseSweep) (net : Net) (t : Twins) (old-positions : List ℕ) (r : AnchoredResource) (earlier : IsEarlierPass old net t old-positions old.base r) (positions : List ℕ) (passable : IsPassable net positions)
-    (before after : List (List ℕ)) (grown : HasGrown before after) (pools : List Labels) (changed : List Bool)
-    (place : ℕ) (at-place : slice_get net.by_report (length pools) ≡ Some place) (pool : Labels) (kept : IsKeptPool old net t changed after place pool) where
+    (before after : List (List ℕ)) (grown : HasGrown before after) (pools : List Labels) (changed : List Bool) (alike : List (Option ℕ))
+    (place : ℕ) (at-place : slice_get net.by_report (length pools) ≡ Some place) (pool : Labels) (kept : IsKeptPool old net t changed alike after place pool) where
   abbrev i : ℕ
   i = length pools
 
@@ -82,17 +82,17 @@ module _ (old : BaseSweep) (net : Net) (t : Twins) (old-positions : List ℕ) (r
       (subst (λ (z : AnchoredResource). AreLabels z (length old.net.duties) old.walks (get_or old.pools j [])) (sym earlier.resource)
       (earlier.spared (get_or old.pools j []) (member-got old.pools j (get_or old.pools j []) (at-within old.pools j [] within))))
 
-  module _ (made : List Bool) (held : List Labels) (passing : IsPassing net old.base r before pools made held) (renewing : IsRenewing old net before pools changed) where
-    still : IsRenewing old net after pools changed
-    still = renewed.renewing-grown old net before after pools changed grown passing.whole renewing
+  module _ (made : List Bool) (held : List Labels) (passing : IsPassing net old.base r before pools made held) (renewing : IsRenewing old net before pools changed alike) where
+    still : IsRenewing old net after pools changed alike
+    still = renewed.renewing-grown old net before after pools changed alike grown passing.whole renewing
 
     sealed : (e : Duty) → Member net.duties e → may_wait net.settings (arrival_of e) g ≡ true → departure_place (in_order net) (departure_of e) < length pools
     sealed e m waits = keepings.left-before net positions passable old.base r i e m (renewed.may-wait net laid i g at e m ∙ waits)
 
     local : IsLocal is_at_most walk_at_most (FromFronts (passed_network net old.base r) (Views (passed_network net old.base r) (map (keyed net after) pools)) i) (keyed net after pool)
-    local = renewed.kept-local old net earlier.settings earlier.laid laid r after pools i j g at kept.stands.old_at
-        (renewed.window-in old net earlier.settings earlier.laid laid r after pools t earlier.twins changed still g kept.stands.window kept.stands.old_window kept.stands.is_window kept.stands.is_old_window kept.stands.kept sealed)
-        (renewed.window-out old net earlier.settings earlier.laid laid r after pools t earlier.twins changed still g kept.stands.window kept.stands.old_window kept.stands.is_window kept.stands.is_old_window kept.stands.kept sealed)
+    local = renewed.kept-local old net earlier.settings earlier.laid laid r after pools earlier.resource i j g at kept.stands.old_at
+        (renewed.window-in old net earlier.settings earlier.laid laid r after pools t earlier.twins changed alike still g kept.stands.window kept.stands.old_window kept.stands.is_window kept.stands.is_old_window kept.stands.kept sealed)
+        (renewed.window-out old net earlier.settings earlier.laid laid r after pools t earlier.twins changed alike still g kept.stands.window kept.stands.old_window kept.stands.is_window kept.stands.is_old_window kept.stands.kept sealed)
         local-before within (keyed net after pool) labels-are
 
     pub passing-kept : IsPassing net old.base r after (pools ++ pool ∷ []) made held
@@ -104,8 +104,8 @@ module _ (old : BaseSweep) (net : Net) (t : Twins) (old-positions : List ℕ) (r
         let same : keyed net after pool ≡ get_or (keyed_pools old) (departure_place (in_order old.net) g) [] = labels-are ∙ ap (λ n. get_or (keyed_pools old) n []) (sym there) in
         λ l. (subst (λ (ls : Shown). Member ls l) same, subst (λ (ls : Shown). Member ls l) (sym same))
 
-    pub renewing-kept : IsRenewing old net after (pools ++ pool ∷ []) changed
-    renewing-kept = renewed.renewing-more old net laid after pools changed changed still refl (λ p h. h) pool g at (λ p h d m is leaves. own)
+    pub renewing-kept : IsRenewing old net after (pools ++ pool ∷ []) changed alike
+    renewing-kept = renewed.renewing-more old net laid after pools changed changed alike still refl (λ p h. h) pool g at (λ p h d m is leaves. own)
 
 -- pools that are alike have the same labels
 pub alike-is : (old : BaseSweep) (net : Net) (t : Twins) (twins : AreTwins old.net net t) (laid : IsLaid old.net) (walks : List (List ℕ)) (place position : ℕ) → slice_get (in_order old.net) position ≡ slice_get net.departures place → (pool : Labels)

@@ -227,6 +227,11 @@ module _ (net : Net) (positions : List ℕ) (passable : IsPassable net positions
       let one = boarded-label r (length net.duties) q.4 q.1 e.0 q.0 (passable.sound q.1 (member-got net.duties q.0 q.1 q.2)) l c (get-within net.duties q.0 q.1 q.2) q.6 in
       subst (λ z. IsLabel r (length net.duties) (e.0, z)) (sym q.7) one
 
+  -- its pool leaves what arrives there
+  pub arrived-by : (labels : Labels) → IsPoolOf is_at_most bringing (map (shown walks) labels) → IsLocal is_at_most walk_at_most (Arriving Num (Views Num shown-pools) place) (keyed net walks labels)
+  arrived-by labels local = local-same is_at_most walk_at_most (λ u w. Member (by_key net.duties bringing) (u, w)) (Arriving Num (Views Num shown-pools) place) (keyed net walks labels) to-arriving from-arriving
+      (pool_of_rising is_at_most net.duties bringing (map (shown walks) labels) passable.rise (λ e m. (cand-label e m).ranked) local)
+
   -- its pool joins those that are made
   module _ (labels : Labels) (local : IsPoolOf is_at_most bringing (map (shown walks) labels)) (counts : AreCounted (λ (v : PairingVector). v.duties) walks false labels) (unmade : IsMade made place → ⊥) where
     within : place < length held
@@ -236,8 +241,7 @@ module _ (net : Net) (positions : List ℕ) (passable : IsPassable net positions
     marked = subst (λ n. place < n) (sym passing.marks) (get-within net.arrivals place a at)
 
     arrived : IsLocal is_at_most walk_at_most (Arriving Num (Views Num shown-pools) place) (keyed net walks labels)
-    arrived = local-same is_at_most walk_at_most (λ u w. Member (by_key net.duties bringing) (u, w)) (Arriving Num (Views Num shown-pools) place) (keyed net walks labels) to-arriving from-arriving
-        (pool_of_rising is_at_most net.duties bringing (map (shown walks) labels) passable.rise (λ e m. (cand-label e m).ranked) local)
+    arrived = arrived-by labels local
 
     abbrev made' : List Bool
     made' = set made place true

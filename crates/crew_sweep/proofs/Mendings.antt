@@ -1,5 +1,5 @@
 -- A pass beside an earlier one, as it goes on by a pool that is mended.
-use Rattle.std.proofs.Common.{◌≡◌, ◌∙◌, ◌<◌, ℕ, Bool, true, List, length, get_or, Some, sym, subst}
+use Rattle.std.proofs.Common.{◌≡◌, ◌∙◌, ◌<◌, ℕ, Bool, true, List, Option, length, get_or, Some, sym, subst}
 use Rattle.std.specs.Prelude.{slice_get}
 use Rattle.crew_net.specs.Events.{IsWindow}
 use Rattle.crew_net.specs.Nets.{Net}
@@ -43,7 +43,7 @@ old-pool-grown old net before after grown place pool was =
       };
     }
 
-module _ (e : Earlier) (g : Ground) (ground : IsGround g) (beside : IsBeside e g) (p : Passing) (stands : Stands g p) (changed : List Bool) (marks : IsRenewing e.sweep.now g.net.now p.passed.walks p.passed.pools changed)
+module _ (e : Earlier) (g : Ground) (ground : IsGround g) (beside : IsBeside e g) (p : Passing) (stands : Stands g p) (changed : List Bool) (alike : List (Option ℕ)) (marks : IsRenewing e.sweep.now g.net.now p.passed.walks p.passed.pools changed alike)
     (place : ℕ) (at : slice_get g.net.now.by_report (length p.passed.pools) ≡ Some place) (w : Window)
     (window : (d : Departure) → slice_get g.net.now.departures place ≡ Some d → IsWindow (λ x. may_wait g.net.now.settings x d) g.net.now.arrivals w)
     (before : Labels) (was : IsOldPool e.sweep.now g.net.now p.passed.walks place before)
@@ -63,11 +63,11 @@ module _ (e : Earlier) (g : Ground) (ground : IsGround g) (beside : IsBeside e g
       → (l : PairingVector × LabelWalk) → Member result l → (rank : ℕ) → Member (walk_at walks l.1.walk) rank → (rank < length e.places.now) × (get_or e.places.now rank 0 < length changed)
 
   pub walks-within : (l : PairingVector × LabelWalk) → Member result l → (rank : ℕ) → Member (walk_at walks l.1.walk) rank → (rank < length e.places.now) × (get_or e.places.now rank 0 < length changed)
-  walks-within = subst Within (sym beside.earlier.own_base) (λ earlier passing. mends.walks-within old g.net.now e.twins.now e.positions.now g.resource earlier g.positions.now ground.passable walks p.passed.pools p.arrivals.made.items p.arrivals.pools.items passing changed marks e.places.now beside.places place at there.0 there.1 before was w (window there.0 there.1) fresh newly result mended) beside.earlier stands.pools
+  walks-within = subst Within (sym beside.earlier.own_base) (λ earlier passing. mends.walks-within old g.net.now e.twins.now e.positions.now g.resource earlier g.positions.now ground.passable walks p.passed.pools p.arrivals.made.items p.arrivals.pools.items passing changed alike marks e.places.now beside.places place at there.0 there.1 before was w (window there.0 there.1) fresh newly result mended) beside.earlier stands.pools
 
   abbrev ByBase : List ℕ → Type 0
   ByBase base = IsEarlierPass old g.net.now e.twins.now e.positions.now base g.resource → IsPassing g.net.now base g.resource walks p.passed.pools p.arrivals.made.items p.arrivals.pools.items
       → IsNextPool g.net.now base g.resource walks p.passed.pools result
 
   pub next-pool : (added : ℕ) → ((l : PairingVector × LabelWalk) → Member before l → l.1.walk < added) → AreSound e.twins.now changed e.places.now walks added result → IsNextPool g.net.now g.base g.resource walks p.passed.pools result
-  next-pool added standing sound = subst ByBase (sym beside.earlier.own_base) (λ earlier passing. mends.next-pool old g.net.now e.twins.now e.positions.now g.resource earlier g.positions.now ground.passable walks p.passed.pools p.arrivals.made.items p.arrivals.pools.items passing changed marks e.places.now beside.places place at there.0 there.1 before was w (window there.0 there.1) fresh newly result mended added standing sound) beside.earlier stands.pools
+  next-pool added standing sound = subst ByBase (sym beside.earlier.own_base) (λ earlier passing. mends.next-pool old g.net.now e.twins.now e.positions.now g.resource earlier g.positions.now ground.passable walks p.passed.pools p.arrivals.made.items p.arrivals.pools.items passing changed alike marks e.places.now beside.places place at there.0 there.1 before was w (window there.0 there.1) fresh newly result mended added standing sound) beside.earlier stands.pools

@@ -50,9 +50,8 @@ use Rattle.crew_sweep.proofs.Keepings as keepings
 use Rattle.crew_sweep.proofs.KeptSteps.{laid-of, pool-by-key, position-within}
 use Rattle.crew_sweep.proofs.Renewed as renewed
 use Rattle.crew_sweep.proofs.Shown.{by_rank, key-of, keyed-in, keyed-out}
+use Rattle.crew_sweep.proofs.Unders.{Under, through}
 use Rattle.crew_vector.specs.Dominance.{is_at_most}
-use Rattle.crew_vector.proofs.Orders.{walk-order}
-use Rattle.crew_vector.proofs.Steps.{vector-order}
 
 abbrev Labels : Type 0
 Labels = List (PairingVector × LabelWalk)
@@ -153,24 +152,9 @@ each-last : (P : ℕ → Type 0) (ns : List ℕ) (n : ℕ) → Each P (ns ++ n �
 each-last P [] n h = h.0
 each-last P (m ∷ ns) n h = each-last P ns n h.1
 
--- an entry at most another, at equal vectors with a walk at most its walk
-abbrev Under : (PairingVector → List (List Leg) → Type 0) → PairingVector → List (List Leg) → Type 0
-Under P x y = (v : PairingVector) × (w : List (List Leg)) × P v w × (is_at_most v x ≡ true) × (v ≡ x → walk_at_most w y ≡ true)
-
-through : (P : PairingVector → List (List Leg) → Type 0) (x u : PairingVector) (y z : List (List Leg)) → is_at_most u x ≡ true → (u ≡ x → walk_at_most z y ≡ true) → Under P u z → Under P x y
-through P x u y z less tie k = (
-  k.0,
-  k.1,
-  k.2,
-  vector-order.transitive k.0 u x k.3 less,
-  λ e.
-      let between : u ≡ x = vector-order.antisymmetric u x less (subst (λ (a : PairingVector). is_at_most a u ≡ true) e k.3) in
-      walk-order.transitive k.1 z y (k.4 (e ∙ sym between)) (tie between),
-)
-
 module _ (old : BaseSweep) (net : Net) (t : Twins) (old-positions : List ℕ) (r : AnchoredResource) (earlier : IsEarlierPass old net t old-positions old.base r) (positions : List ℕ) (passable : IsPassable net positions)
     (walks : List (List ℕ)) (pools : List Labels) (made : List Bool) (held : List Labels) (passing : IsPassing net old.base r walks pools made held)
-    (changed : List Bool) (renewing : IsRenewing old net walks pools changed) (places : List ℕ) (are : AreArrivalPlaces net places)
+    (changed : List Bool) (alike : List (Option ℕ)) (renewing : IsRenewing old net walks pools changed alike) (places : List ℕ) (are : AreArrivalPlaces net places)
     (place : ℕ) (at-place : slice_get net.by_report (length pools) ≡ Some place) (g : Departure) (at-net : slice_get net.departures place ≡ Some g)
     (before : Labels) (was : IsOldPool old net walks place before) (w : Window) (window : IsWindow (λ x. may_wait net.settings x g) net.arrivals w)
     (fresh : Labels) (newly : IsFresh t changed walks made held w fresh) (result : Labels) (mended : IsMended walks fresh before result) where

@@ -49,12 +49,12 @@ pub last-pool : (pools all : List Labels) (pool last : Labels) (n : ℕ) → all
 last-pool pools all pool last n is at h = h ∙ (ap (λ (ps : List Labels). get_or ps n []) is ∙ get_new pools pool [] n at)
 
 -- what is marked after a pool is made
-pub renewing-redone : (old : BaseSweep) (net : Net) (positions : List ℕ) (passable : IsPassable net positions) (walks : List (List ℕ)) (pools : List Labels) (changed marked : List Bool) → IsRenewing old net walks pools changed
+pub renewing-redone : (old : BaseSweep) (net : Net) (positions : List ℕ) (passable : IsPassable net positions) (walks : List (List ℕ)) (pools : List Labels) (changed marked : List Bool) (alike : List (Option ℕ)) → IsRenewing old net walks pools changed alike
     → length marked ≡ length changed → ((p : ℕ) → get_or marked p true ≡ false → get_or changed p true ≡ false)
     → (place : ℕ) → slice_get net.by_report (length pools) ≡ Some place → (pool : Labels)
     → ((g : Departure) → slice_get net.departures place ≡ Some g → (p : ℕ) → get_or marked p true ≡ false → (d : Duty) → Member net.duties d → arrival_place net.arrivals (arrival_of d) ≡ p → departure_of d ≡ g
     → HaveSame (keyed net walks pool) (get_or (keyed_pools old) (departure_place (in_order old.net) g) []))
-    → IsRenewing old net walks (pools ++ pool ∷ []) marked
-renewing-redone old net positions passable walks pools changed marked renewing long less place at pool own =
+    → IsRenewing old net walks (pools ++ pool ∷ []) marked alike
+renewing-redone old net positions passable walks pools changed marked alike renewing long less place at pool own =
     let g = passable-proofs.departs-at net positions passable (length pools) place at in
-    renewing-more old net (laid-of net positions passable) walks pools changed marked renewing long less pool g.0 g.2 (own g.0 g.1)
+    renewing-more old net (laid-of net positions passable) walks pools changed marked alike renewing long less pool g.0 g.2 (own g.0 g.1)

@@ -51,37 +51,66 @@ fn is_sealed(ground: &Ground, passed: usize, place: usize) -> bool
     true
 }
 
-// Marks the places of a window.
-fn mark_window(marks: &mut [bool], window: Window)
-    requires { window.end ≤ length marks.old }
+/// What is made ahead for a departure: nothing where its pool is kept, what has changed of its window
+/// where it may be mended, or else its whole window.
+#[derive(Clone, Copy)]
+pub(crate) enum Wanted {
+    Nothing,
+    Changes,
+    Window,
+}
+
+// Marks the places of a window, but for those that are spared.
+fn mark_window<S: Fn(usize) -> bool>(marks: &mut [bool], window: Window, spared: &S)
+    requires within { window.end ≤ length marks.old }
+    requires spared { (place : ℕ) → place < length marks.old → S.pre spared.now place }
     ensures { length marks.new ≡ length marks.old }
 {
     for place in window.from..window.end {
-        marks[place] = true;
+        if !spared(place) {
+            marks[place] = true;
+        }
     }
 }
 
-// Marks at the arrivals on which the departures from a position on, up to another, wait, but for
-// those whose pools are kept.
-fn marks_of<K: Fn(usize) -> bool>(
+// Marks what is wanted of a window.
+fn mark_wanted<S: Fn(usize) -> bool>(marks: &mut [bool], window: Window, wanted: Wanted, spared: &S)
+    requires within { window.end ≤ length marks.old }
+    requires spared { (place : ℕ) → place < length marks.old → S.pre spared.now place }
+    ensures { length marks.new ≡ length marks.old }
+{
+    let none = |_: usize| -> bool { false };
+    match wanted {
+        Wanted::Nothing => {}
+        Wanted::Changes => mark_window(marks, window, spared),
+        Wanted::Window => mark_window(marks, window, &none),
+    }
+}
+
+// Marks at the arrivals that are made ahead for the departures from a position on, up to another:
+// `spared` tells where nothing has changed.
+fn marks_of<K: Fn(usize) -> Wanted, S: Fn(usize) -> bool>(
     alloc: Global,
     ground: &Ground,
     from: usize,
     end: usize,
-    kept: &K,
+    wanted: &K,
+    spared: &S,
 ) -> Result<Vec<bool>, AllocError>
     requires ground { IsGround ground.now }
     requires end { end ≤ length ground.now.net.now.by_report }
-    requires kept { (place : ℕ) → place < length ground.now.net.now.departures
-        → K.pre kept.now place }
+    requires wanted { (place : ℕ) → place < length ground.now.net.now.departures
+        → K.pre wanted.now place }
+    requires spared { (place : ℕ) → place < length ground.now.net.now.arrivals
+        → S.pre spared.now place }
     ensures { IfOk result (λ marks. length marks.items ≡ length ground.now.net.now.arrivals) }
 {
     let mut marks = vec![in alloc; false; ground.net.arrivals().len()]?;
     for position in from..end {
         let place = ground.net.by_report()[position] as usize;
-        if !kept(place) {
-            mark_window(&mut marks, ground.net.window(place));
-        }
+        let window = ground.net.window(place);
+        let wish = wanted(place);
+        mark_wanted(&mut marks, window, wish, spared);
     }
     Ok(marks)
 }
@@ -164,29 +193,32 @@ fn unmade(
     Ok(places)
 }
 
-// The arrivals to make ahead after the departures so far: those that follow, up to a position, wait
-// on them, but for those whose pools are kept. Those into which the most labels may board come first.
-fn places_ahead<K: Fn(usize) -> bool>(
+// The arrivals to make ahead after the departures so far, of what those wait on that follow, up to a
+// position. Those into which the most labels may board come first.
+fn places_ahead<K: Fn(usize) -> Wanted, S: Fn(usize) -> bool>(
     alloc: Global,
     ground: &Ground,
     passed: &Passed,
     end: usize,
-    kept: &K,
+    wanted: &K,
+    spared: &S,
     made: &[bool],
 ) -> Result<Vec<usize>, AllocError>
     requires ground { IsGround ground.now }
     requires end { end ≤ length ground.now.net.now.by_report }
-    requires kept { (place : ℕ) → place < length ground.now.net.now.departures
-        → K.pre kept.now place }
+    requires wanted { (place : ℕ) → place < length ground.now.net.now.departures
+        → K.pre wanted.now place }
+    requires spared { (place : ℕ) → place < length ground.now.net.now.arrivals
+        → S.pre spared.now place }
     requires made { length made.now ≡ length ground.now.net.now.arrivals }
     ensures { IfOk result (λ places. AreSealed ground.now.net.now (length passed.now.pools)
         places.items) }
 {
-    let marks = marks_of(alloc, ground, passed.pools.len(), end, kept)?;
+    let marks = marks_of(alloc, ground, passed.pools.len(), end, wanted, spared)?;
     unmade(alloc, ground, passed, &marks, made)
 }
 
-// In how many threads so many pools are made.
+// In how many threads so many pools are made: no more than are worth it, however many there may be.
 fn threads_for(threads: usize, pools: usize) -> usize {
     threads.min(pools / SHARE)
 }
@@ -267,6 +299,9 @@ fn made_beside<T: Threads + Sync>(
         arrivals,
         end,
     };
+    let threads = threads_for(threads, places.len())
+        .saturating_add(1)
+        .min(threads);
     map_claimed_beside(rt, alloc, threads, places.len(), &part, work)
 }
 
@@ -318,20 +353,23 @@ impl Arrivals {
 
 impl Passing {
     /// Where the pass comes to the first departure of a batch: begins it, and makes at once, in at
-    /// most so many threads, the pools on which the batch waits, but for the departures that are
-    /// kept. With fewer than two threads nothing is made ahead.
-    pub(crate) fn make_ahead<T: Threads + Sync, K: Fn(usize) -> bool>(
+    /// most so many threads, the pools that are wanted ahead for the departures of the batch; `spared`
+    /// tells where nothing has changed. With fewer than two threads nothing is made ahead.
+    pub(crate) fn make_ahead<T: Threads + Sync, K: Fn(usize) -> Wanted, S: Fn(usize) -> bool>(
         &mut self,
         rt: &T,
         alloc: Global,
         sharing: &Sharing,
         ground: &Ground,
-        kept: &K,
+        wanted: &K,
+        spared: &S,
     ) -> Result<(), AllocError>
         requires ground { IsGround ground.now }
         requires stands { Stands ground.now self.old }
-        requires kept { (place : ℕ) → place < length ground.now.net.now.departures
-            → K.pre kept.now place }
+        requires wanted { (place : ℕ) → place < length ground.now.net.now.departures
+            → K.pre wanted.now place }
+        requires spared { (place : ℕ) → place < length ground.now.net.now.arrivals
+            → S.pre spared.now place }
         ensures stands { OnOk result (Stands ground.now self.new) }
         ensures passed { self.new.passed ≡ self.old.passed }
     {
@@ -343,7 +381,8 @@ impl Passing {
             return Ok(());
         }
         let made = &self.arrivals.made;
-        let places = places_ahead(alloc, ground, &self.passed, end, kept, made)?;
+        let passed = &self.passed;
+        let places = places_ahead(alloc, ground, passed, end, wanted, spared, made)?;
         let made = made_at_once(rt, alloc, threads, ground, &places, &self.passed)?;
         self.arrivals.put_each(ground, &places, made, &self.passed)?;
         Ok(())
@@ -373,9 +412,10 @@ impl Passing {
         self.let_go(alloc, ground, from);
         let end = batch_end(ground, from, LEAST_REST);
         let next = batch_end(ground, from, LEAST_REST / 2);
-        let kept = |_: usize| -> bool { false };
+        let all = |_: usize| -> Wanted { Wanted::Window };
+        let none = |_: usize| -> bool { false };
         let made = &self.arrivals.made;
-        let places = places_ahead(alloc, ground, &self.passed, end, &kept, made)?;
+        let places = places_ahead(alloc, ground, &self.passed, end, &all, &none, made)?;
         let slides = mem::replace(&mut self.slides, Slides::none(alloc));
         let threads = sharing.share();
         let (slid, made) = made_beside(rt, alloc, threads, ground, &places, self, slides, next);

@@ -9,8 +9,10 @@ ghost use Rattle.crew_sweep.specs.Machinery.Grounds.{HasPassedAll, IsGround, Sta
 ghost use Rattle.crew_sweep.specs.Machinery.Renewing.{IsRenewing};
 ghost use Rattle.crew_sweep.specs.Sweeps.{IsEarlier, IsSweepable, IsSwept};
 
+use crate::ahead::Wanted;
 use crate::earlier::Earlier;
 use crate::ground::Ground;
+use crate::mending::is_unchanged;
 use crate::passed::Passed;
 use crate::renewal::{Renewal, note};
 use crate::swept::Sweep;
@@ -38,7 +40,8 @@ impl Renewal {
         requires stands { StandsBeside earlier.now ground.now self.old }
         ensures stands { OnOk result (Stands ground.now self.new.passing) }
         ensures marks { OnOk result (IsRenewing earlier.now.sweep.now ground.now.net.now
-            self.new.passing.passed.walks self.old.passing.passed.pools self.new.changed.items) }
+            self.new.passing.passed.walks self.old.passing.passed.pools self.new.changed.items
+            self.new.alike.items) }
         ensures carried { OnOk result (IsCarried earlier.now.twins.now.ranks
             earlier.now.sweep.now.walks self.new.passing.passed.walks self.new.carrier) }
         ensures made { OnOk result ((pool : List (PairingVector × LabelWalk))
@@ -82,7 +85,8 @@ impl Renewal {
         )
     }
 
-    // The pass goes on by one departure, whose pool is kept where it can be.
+    // The pass goes on by one departure, whose pool is kept where it can be: where nothing of its window
+    // has changed, as far as is known or is seen by looking at it.
     fn renew_departure(
         &mut self,
         alloc: Global,
@@ -102,6 +106,12 @@ impl Renewal {
         if self.keep_departure(alloc, earlier, ground, place)? {
             return Ok(());
         }
+        if !self.see_window(alloc, earlier, ground, place)? {
+            return self.recompute_departure(alloc, earlier, ground, place);
+        }
+        if self.keep_departure(alloc, earlier, ground, place)? {
+            return Ok(());
+        }
         self.recompute_departure(alloc, earlier, ground, place)
     }
 
@@ -116,8 +126,8 @@ impl Renewal {
         self.passing.begin_batch(alloc, ground);
     }
 
-    // Where the pass comes to the first departure of a batch: makes at once, by threads, what those
-    // of the batch wait on whose pools can't be kept.
+    // Where the pass comes to the first departure of a batch: makes at once, by threads, what is wanted
+    // for those of the batch whose pools can't be kept.
     fn renew_ahead<T: Threads + Sync>(
         &mut self,
         rt: &T,
@@ -133,12 +143,19 @@ impl Renewal {
         ensures passed { self.new.passing.passed ≡ self.old.passing.passed }
     {
         let changed = self.changed.as_slice();
-        let kept = |place: usize| -> bool
-            requires { (place < length ground.now.net.now.departures)
+        let alike = self.alike.as_slice();
+        let wanted = |place: usize| -> Wanted
+            requires { (place < length ground.now.net.now.departures) × IsGround ground.now
                 × IsBeside earlier.now ground.now
-                × (length changed.now ≡ length ground.now.net.now.arrivals) }
-        { earlier.kept_position(ground, changed, place).is_some() };
-        self.passing.make_ahead(rt, alloc, sharing, ground, &kept)
+                × (length changed.now ≡ length ground.now.net.now.arrivals)
+                × (length alike.now ≡ length ground.now.net.now.arrivals) }
+        { earlier.wanted(ground, changed, alike, place) };
+        let spared = |place: usize| -> bool
+            requires { (place < length changed.now)
+                × (length earlier.now.twins.now.arrivals ≡ length changed.now) }
+        { is_unchanged(earlier.twins, changed, place) };
+        self.passing
+            .make_ahead(rt, alloc, sharing, ground, &wanted, &spared)
     }
 
     // The pass goes on by all departures.
@@ -217,8 +234,9 @@ fn renew_all_by_threads<T: Threads + Sync>(
 
 /// The pools of a base over a network, as `sweep` makes them, beside an earlier sweep of that base at
 /// the same price over another network, with what the two networks have alike. The pool of a
-/// departure is kept where the same duties can be waited on and all of them leave from pools that
-/// have the labels that they had, and mended where that is so but for a few.
+/// departure is kept where the arrivals in its window are those that were, and each has the same
+/// duties from pools that have the labels that they had, or is seen to show what it showed; and it is
+/// mended where that is so but for a few.
 pub fn renew(
     alloc: Global,
     earlier: &Sweep,
@@ -237,7 +255,7 @@ pub fn renew(
     let price = earlier.price();
     let full = AnchoredResource::new(net.settings(), price);
     let ground = Ground::of(&net, positions, base, &full);
-    let before = Earlier::of(earlier, earlier_positions, twins, places, &ground);
+    let before = Earlier::of(earlier, earlier_positions, twins, places, &ground, &full);
     let passed = renew_all(alloc, &before, &ground)?;
     Ok(Sweep::of(net, base, price, full, passed))
 }
@@ -263,7 +281,7 @@ pub fn renew_by_threads<T: Threads + Sync>(
     let price = earlier.price();
     let full = AnchoredResource::new(net.settings(), price);
     let ground = Ground::of(&net, positions, base, &full);
-    let before = Earlier::of(earlier, earlier_positions, twins, places, &ground);
+    let before = Earlier::of(earlier, earlier_positions, twins, places, &ground, &full);
     let passed = renew_all_by_threads(rt, alloc, sharing, &before, &ground)?;
     Ok(Sweep::of(net, base, price, full, passed))
 }

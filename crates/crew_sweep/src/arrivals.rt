@@ -1,18 +1,18 @@
 //! The pools of arrivals.
-ghost use Rattle.std.specs.Prelude.{◌≡◌, ◌<◌, ◌≤◌, ℕ, IfOk, IsPermutation, List, OnOk, [], false, get_or, length};
+ghost use Rattle.std.specs.Prelude.{◌≡◌, ◌<◌, ◌≤◌, ℕ, Bool, IfOk, IsPermutation, List, OnOk, [], false, get_or, length};
 ghost use Rattle.crew_pairing.specs.declared.vector.PairingVector.{PairingVector};
 ghost use Rattle.crew_pool.specs.declared.label_walk.LabelWalk.{LabelWalk};
 ghost use Rattle.crew_resource.specs.Members.{Member};
 ghost use Rattle.crew_sweep.specs.Machinery.Grounds.{ArePools, IsGround, IsPoolAt, Stay};
-ghost use Rattle.crew_sweep.specs.Machinery.Passing.{AreMade, IsMade, IsSealed};
+ghost use Rattle.crew_sweep.specs.Machinery.Passing.{AreMade, IsArrivalPool, IsMade, IsPassing, IsSealed};
 ghost use Rattle.crew_sweep.specs.declared.arrivals.Arrivals.{Arrivals as ArrivalsSpec};
 
 use crate::ground::Ground;
 use crate::passed::Passed;
 use crew_anchor::AnchoredResource;
 use crew_net::Window;
-use crew_pool::{Pool, Workspace};
-use crew_step::arrival_pool;
+use crew_pool::{Pool, Walks, Workspace};
+use crew_step::{Pools, arrival_pool};
 use std::alloc::{AllocError, Global};
 use std::cmp::Reverse;
 
@@ -46,11 +46,30 @@ pub(crate) fn arrival_at(
     requires sealed { IsSealed ground.now.net.now (length passed.now.pools) place }
     ensures { IfOk result (IsPoolAt ground.now passed.now place) }
 {
+    arrival_from(alloc, ground, place, room, &passed.pools, &passed.walks)
+}
+
+/// The same from pools over walks, as a pass leaves them.
+pub(crate) fn arrival_from(
+    alloc: Global,
+    ground: &Ground,
+    place: usize,
+    room: &mut Workspace<AnchoredResource>,
+    pools: &Pools<AnchoredResource>,
+    walks: &Walks,
+) -> Result<Pool<AnchoredResource>, AllocError>
+    requires ground { IsGround ground.now }
+    requires pools { (made : List Bool) × (held : List (List (PairingVector × LabelWalk)))
+        × IsPassing ground.now.net.now ground.now.base ground.now.resource walks.now pools.now made
+        held }
+    requires place { place < length ground.now.net.now.arrivals }
+    requires sealed { IsSealed ground.now.net.now (length pools.now) place }
+    ensures { IfOk result (IsArrivalPool ground.now.net.now ground.now.positions.now
+        ground.now.resource walks.now pools.now place) }
+{
     let positions = ground.positions;
     let ranks = last_first(alloc, ground.net.arriving(place), positions)?;
     let duties = ground.net.duties().as_slice();
-    let pools = &passed.pools;
-    let walks = &passed.walks;
     arrival_pool(
         alloc,
         &ground.resource,

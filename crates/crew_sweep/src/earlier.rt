@@ -1,12 +1,14 @@
 //! What an earlier pass left.
 ghost use Rattle.std.specs.Arc.{arc_value};
-ghost use Rattle.std.specs.Prelude.{◌≡◌, ◌<◌, ◌≤◌, IfOk, IfSome, length, slice_get, true, Some, ◌-◌};
+ghost use Rattle.std.specs.Prelude.{◌≡◌, ◌<◌, ◌≤◌, ℕ, Option, IfOk, IfSome, length, slice_get, true, Some, ◌-◌};
+ghost use Rattle.crew_anchor.specs.Machinery.Bounds.{fits_in};
+ghost use Rattle.crew_anchor.specs.Stages.{anchored_resource};
 ghost use Rattle.crew_carry.specs.Carried.{IsCarried};
 ghost use Rattle.crew_net.specs.Positions.{ArePositions, in_order};
 ghost use Rattle.crew_step.specs.Walks.{HasGrown};
 ghost use Rattle.crew_sweep.specs.Machinery.Beside.{IsBeside};
 ghost use Rattle.crew_sweep.specs.Machinery.Kept.{sparing_of};
-ghost use Rattle.crew_sweep.specs.Machinery.Renewing.{IsKeptPosition, IsPositionPool, IsWindowKept};
+ghost use Rattle.crew_sweep.specs.Machinery.Renewing.{IsAsItWas, IsKeptPosition, IsPositionPool, IsWindowKept};
 ghost use Rattle.crew_sweep.specs.Sweeps.{IsEarlier};
 
 use crate::ground::Ground;
@@ -19,29 +21,60 @@ use std::alloc::{AllocError, Global};
 use std::sync::Arc;
 
 /// An earlier sweep, the positions of its duties' departures, what its network has alike with another,
-/// and the places at which the other's duties arrive.
+/// the places at which the other's duties arrive, and the ground over which it went.
 #[derive(Drop)]
 pub(crate) struct Earlier<'a> {
     pub(crate) sweep: &'a Sweep,
     pub(crate) positions: &'a [u32],
     pub(crate) twins: &'a Twins,
     pub(crate) places: &'a [u32],
+    pub(crate) ground: Ground<'a>,
 }
 
-// Whether a window holds what it held, where no change is marked.
-fn is_kept(twins: &Twins, changed: &[bool], now: Window, old: Window) -> bool
+/// Whether the arrival at a place shows what the old one at another showed: no change is marked there
+/// and the same duties arrive, or it was seen to.
+pub(crate) fn is_as_it_was(
+    twins: &Twins,
+    changed: &[bool],
+    alike: &[Option<usize>],
+    place: usize,
+    old: usize,
+) -> bool
+    requires marks { place < length changed.now }
+    requires alike { place < length alike.now }
+    requires arrivals { place < length twins.now.arrivals }
+    ensures { result ≡ true → IsAsItWas twins.now changed.now alike.now place old }
+{
+    if !changed[place] && twins.has_arrival_at(place, old) {
+        return true;
+    }
+    match alike[place] {
+        Some(found) => found == old,
+        None => false,
+    }
+}
+
+// Whether a window holds what it held.
+fn is_kept(
+    twins: &Twins,
+    changed: &[bool],
+    alike: &[Option<usize>],
+    now: Window,
+    old: Window,
+) -> bool
     requires ordered { now.from ≤ now.end }
     requires was { old.from ≤ old.end }
     requires marks { now.end ≤ length changed.now }
+    requires alike { now.end ≤ length alike.now }
     requires arrivals { now.end ≤ length twins.now.arrivals }
-    ensures { result ≡ true → IsWindowKept twins.now changed.now now old }
+    ensures { result ≡ true → IsWindowKept twins.now changed.now alike.now now old }
 {
     if now.end - now.from != old.end - old.from {
         return false;
     }
     for offset in 0..now.end - now.from {
         let place = now.from + offset;
-        if changed[place] || !twins.has_arrival_at(place, old.from + offset) {
+        if !is_as_it_was(twins, changed, alike, place, old.from + offset) {
             return false;
         }
     }
@@ -61,18 +94,22 @@ fn position_of(net: &Net, positions: &[u32], departure: usize) -> Option<usize>
 
 impl<'a> Earlier<'a> {
     /// An earlier sweep of the ground's base under its resource, beside the positions of the
-    /// departures of that sweep's duties, and the places at which the ground's duties arrive.
+    /// departures of that sweep's duties, and the places at which the ground's duties arrive; `full` is
+    /// the base's own resource.
     pub(crate) fn of(
         sweep: &'a Sweep,
         positions: &'a [u32],
         twins: &'a Twins,
         places: &'a [u32],
         ground: &Ground,
+        full: &AnchoredResource,
     ) -> Earlier<'a>
         requires earlier { IsEarlier sweep.now positions.now twins.now ground.now.net.now
             places.now }
         requires base { ground.now.base ≡ sweep.now.base }
         requires resource { ground.now.resource ≡ sparing_of sweep.now }
+        requires full { full.now ≡ anchored_resource sweep.now.net.settings sweep.now.price }
+        requires fits { (n : ℕ) → n ≤ 100_000 → fits_in full.now n }
         ensures { IsBeside result ground.now }
     {
         let net = sweep.net();
@@ -86,6 +123,7 @@ impl<'a> Earlier<'a> {
             positions,
             twins,
             places,
+            ground: Ground::of(net, positions, sweep.base(), full),
         }
     }
 
@@ -95,19 +133,22 @@ impl<'a> Earlier<'a> {
         &self,
         ground: &Ground,
         changed: &[bool],
+        alike: &[Option<usize>],
         place: usize,
     ) -> Option<usize>
         requires beside { IsBeside self.now ground.now }
         requires place { place < length ground.now.net.now.departures }
         requires marks { length changed.now ≡ length ground.now.net.now.arrivals }
+        requires alike { length alike.now ≡ length ground.now.net.now.arrivals }
         ensures { IfSome result (IsKeptPosition self.now.sweep.now ground.now.net.now
-            self.now.twins.now changed.now place) }
+            self.now.twins.now changed.now alike.now place) }
     {
         let old = self.twins.departure(place)?;
         let before = self.sweep.net();
         if !is_kept(
             self.twins,
             changed,
+            alike,
             ground.net.window(place),
             before.window(old),
         ) {

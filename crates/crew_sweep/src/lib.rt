@@ -6,7 +6,8 @@
 //! `sweep_by_threads` makes the pools of arrivals several at a time, since departures that report
 //! less than the least rest after one another don't wait on each other's duties; no result depends
 //! on the number of threads. `renew` and `renew_by_threads` are the same beside an earlier sweep,
-//! whose pools they keep where nothing changed, and mend where little did.
+//! whose pools they keep where nothing changed, or where the arrivals that may have changed are seen
+//! to show what they showed, and mend where little did.
 //! `laws` has what this rests on.
 #![tactic(auto)]
 
@@ -22,9 +23,11 @@ mod pass;
 mod passed;
 mod passing;
 mod renewal;
+mod seen;
 mod slide;
 mod slides;
 mod swept;
+mod trials;
 mod windows;
 
 pub use anew::{renew, renew_by_threads};

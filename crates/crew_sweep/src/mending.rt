@@ -21,6 +21,7 @@ ghost use Rattle.crew_sweep.specs.Machinery.Passing.{IsMade, IsSealed};
 ghost use Rattle.crew_sweep.specs.Machinery.Renewing.{IsRenewing};
 ghost use Rattle.crew_vector.specs.Dominance.{is_at_most};
 
+use crate::ahead::Wanted;
 use crate::earlier::Earlier;
 use crate::ground::Ground;
 use crate::passing::Passing;
@@ -38,9 +39,9 @@ use std::sync::Arc;
 // has changed, for a departure's pool to be mended: where fewer are, the window's slide is cheaper.
 const SPARED: usize = 8;
 
-// Whether the arrival at a place has the duties that it had, from pools that have the labels that
-// they had.
-fn is_unchanged(twins: &Twins, changed: &[bool], place: usize) -> bool
+/// Whether the arrival at a place has the duties that it had, from pools that have the labels that
+/// they had.
+pub(crate) fn is_unchanged(twins: &Twins, changed: &[bool], place: usize) -> bool
     requires marks { place < length changed.now }
     requires arrivals { place < length twins.now.arrivals }
     ensures { result ≡ is_unchanged twins.now changed.now place }
@@ -79,6 +80,50 @@ fn is_worth_it(twins: &Twins, changed: &[bool], made: &[bool], window: Window) -
         }
     }
     merged <= spared
+}
+
+impl<'a> Earlier<'a> {
+    // Whether so little of a window has changed that its departure's pool may be mended. No clause says
+    // so, since it is there for speed.
+    fn has_few_changes(&self, changed: &[bool], window: Window) -> bool
+        requires marks { window.end ≤ length changed.now }
+        requires arrivals { length self.now.twins.now.arrivals ≡ length changed.now }
+    {
+        let mut same: usize = 0;
+        let mut merged: usize = 0;
+        for place in window.from..window.end {
+            if is_unchanged(self.twins, changed, place) {
+                same = same.saturating_add(1);
+            } else {
+                merged = merged.saturating_add(SPARED);
+            }
+        }
+        merged <= same
+    }
+
+    /// What is made ahead for the departure at a place. No clause says which, since it is there for
+    /// speed.
+    pub(crate) fn wanted(
+        &self,
+        ground: &Ground,
+        changed: &[bool],
+        alike: &[Option<usize>],
+        place: usize,
+    ) -> Wanted
+        requires beside { IsBeside self.now ground.now }
+        requires place { place < length ground.now.net.now.departures }
+        requires marks { length changed.now ≡ length ground.now.net.now.arrivals }
+        requires alike { length alike.now ≡ length ground.now.net.now.arrivals }
+    {
+        if self.kept_position(ground, changed, alike, place).is_some() {
+            return Wanted::Nothing;
+        }
+        let window = ground.net.window(place);
+        if self.has_few_changes(changed, window) {
+            return Wanted::Changes;
+        }
+        Wanted::Window
+    }
 }
 
 // Whether each label that ends where something has changed is reached by one that comes from there:
@@ -221,9 +266,7 @@ impl Passing {
     {
         for place in window.from..window.end {
             if !is_unchanged(twins, changed, place) {
-                let room = &mut self.room;
-                self.arrivals
-                    .make(alloc, ground, place, room, &self.passed)?;
+                self.make_arrival(alloc, ground, place)?;
             }
         }
         Ok(())
@@ -366,7 +409,8 @@ impl Renewal {
         requires stands { StandsBeside earlier.now ground.now self.old }
         ensures stands { OnOk result (Stands ground.now self.new.passing) }
         ensures marks { OnOk result (IsRenewing earlier.now.sweep.now ground.now.net.now
-            self.new.passing.passed.walks self.old.passing.passed.pools self.new.changed.items) }
+            self.new.passing.passed.walks self.old.passing.passed.pools self.new.changed.items
+            self.new.alike.items) }
         ensures carried { OnOk result (IsCarried earlier.now.twins.now.ranks
             earlier.now.sweep.now.walks self.new.passing.passed.walks self.new.carrier) }
         ensures mended { result ≡ Ok true → (pool : List (PairingVector × LabelWalk))

@@ -9,10 +9,10 @@ ghost use Rattle.crew_pairing.specs.declared.vector.PairingVector.{PairingVector
 ghost use Rattle.crew_pool.specs.Counted.{AreCounted};
 ghost use Rattle.crew_pool.specs.declared.label_walk.LabelWalk.{LabelWalk};
 ghost use Rattle.crew_step.specs.Walks.{HasGrown};
-ghost use Rattle.crew_sweep.specs.Machinery.Grounds.{IsGround, Stands};
+ghost use Rattle.crew_sweep.specs.Machinery.Grounds.{IsGround, Stands, Stay};
 ghost use Rattle.crew_sweep.specs.Machinery.Numbered.{idle_at};
 ghost use Rattle.crew_sweep.specs.Machinery.Ahead.{IsAhead};
-ghost use Rattle.crew_sweep.specs.Machinery.Passing.{AreMade, IsPooled, IsPooledOver};
+ghost use Rattle.crew_sweep.specs.Machinery.Passing.{AreMade, IsMade, IsPooled, IsPooledOver, IsSealed};
 
 use crate::arrivals::Arrivals;
 use crate::ground::Ground;
@@ -97,6 +97,28 @@ impl Passing {
             passed: Passed { walks, pools },
             batch_end: 0,
         })
+    }
+
+    /// Makes the pool of the arrival at a place, where it isn't made yet.
+    pub(crate) fn make_arrival(
+        &mut self,
+        alloc: Global,
+        ground: &Ground,
+        place: usize,
+    ) -> Result<(), AllocError>
+        requires ground { IsGround ground.now }
+        requires stands { Stands ground.now self.old }
+        requires place { place < length ground.now.net.now.arrivals }
+        requires sealed { IsSealed ground.now.net.now (length self.old.passed.pools) place }
+        ensures stands { OnOk result (Stands ground.now self.new) }
+        ensures made { OnOk result (IsMade self.new.arrivals.made.items place) }
+        ensures stay { OnOk result (Stay self.old.arrivals self.new.arrivals) }
+        ensures passed { self.new.passed ≡ self.old.passed }
+    {
+        let room = &mut self.room;
+        self.arrivals
+            .make(alloc, ground, place, room, &self.passed)?;
+        Ok(())
     }
 
     // The pool of the departure at a place, from what has arrived in its window.

@@ -17,6 +17,7 @@ ghost use Rattle.crew_sweep.specs.Machinery.Renewing.{IsKeptPool};
 use crate::earlier::Earlier;
 use crate::ground::Ground;
 use crate::passing::Passing;
+use crate::trials::Trials;
 use crew_anchor::AnchoredResource;
 use crew_carry::{Carrier, Twins, are_alike};
 use crew_pool::{Pool, Walks};
@@ -27,13 +28,16 @@ use std::sync::Arc;
 // as they stand: walks that no label has any more are kept with them.
 const SPARE: usize = 2;
 
-/// A pass that keeps what it can of an earlier one: what it has carried over, and the marks of change
-/// at arrivals, of which each that has none comes from pools that have the labels that they had.
+/// A pass that keeps what it can of an earlier one: what it has carried over; the marks of change at
+/// arrivals, of which each that has none comes from pools that have the labels that they had; and
+/// where an arrival was seen to show what it showed, its old place.
 #[derive(Drop)]
 pub(crate) struct Renewal {
     pub(crate) passing: Passing,
     pub(crate) carrier: Carrier,
     pub(crate) changed: Vec<bool>,
+    pub(crate) alike: Vec<Option<usize>>,
+    pub(crate) trials: Trials,
 }
 
 // The pool of the departure at a place as the earlier pass left it, where all that it waits on is as
@@ -44,21 +48,24 @@ fn kept_pool(
     ground: &Ground,
     place: usize,
     changed: &[bool],
+    alike: &[Option<usize>],
     carrier: &mut Carrier,
     walks: &mut Walks,
 ) -> Result<Option<Arc<Pool<AnchoredResource>, Global>>, AllocError>
     requires beside { IsBeside earlier.now ground.now }
     requires place { place < length ground.now.net.now.departures }
     requires marks { length changed.now ≡ length ground.now.net.now.arrivals }
+    requires alike { length alike.now ≡ length ground.now.net.now.arrivals }
     requires carried { IsCarried earlier.now.twins.now.ranks earlier.now.sweep.now.walks walks.old
         carrier.old }
     ensures kept { IfOk result (λ kept. IfSome kept (λ pool. IsKeptPool earlier.now.sweep.now
-        ground.now.net.now earlier.now.twins.now changed.now walks.new place (arc_value pool))) }
+        ground.now.net.now earlier.now.twins.now changed.now alike.now walks.new place
+        (arc_value pool))) }
     ensures carried { OnOk result (IsCarried earlier.now.twins.now.ranks
         earlier.now.sweep.now.walks walks.new carrier.new) }
     ensures grown { HasGrown walks.old walks.new }
 {
-    let Some(position) = earlier.kept_position(ground, changed, place) else {
+    let Some(position) = earlier.kept_position(ground, changed, alike, place) else {
         return Ok(None);
     };
     earlier.carried_pool(alloc, ground, position, carrier, walks)
@@ -79,6 +86,14 @@ fn walks_beside(alloc: Global, earlier: &Earlier) -> Result<(Carrier, Walks), Al
     Carrier::in_place(alloc, from, earlier.twins.ranks())
 }
 
+// Of so many arrivals none was seen to show what an old one showed.
+fn none_alike(alloc: Global, count: usize) -> Result<Vec<Option<usize>>, AllocError>
+    ensures long { IfOk result (λ alike. length alike.items ≡ count) }
+    ensures none { IfOk result (λ alike. (p q : ℕ) → slice_get alike.items p ≡ Some (Some q) → ⊥) }
+{
+    vec![in alloc; None; count]
+}
+
 impl Renewal {
     /// A pass that has come to no departure yet.
     pub(crate) fn new(
@@ -91,11 +106,15 @@ impl Renewal {
     {
         let (carrier, walks) = walks_beside(alloc, earlier)?;
         let changed = vec![in alloc; false; ground.net.arrivals().len()]?;
+        let alike = none_alike(alloc, ground.net.arrivals().len())?;
+        let trials = Trials::new(alloc, ground.net.arrivals().len())?;
         let passing = Passing::new(alloc, ground, walks)?;
         Ok(Renewal {
             passing,
             carrier,
             changed,
+            alike,
+            trials,
         })
     }
 
@@ -121,7 +140,11 @@ impl Renewal {
         let passed = &mut self.passing.passed;
         let walks = &mut passed.walks;
         let carrier = &mut self.carrier;
-        let kept = kept_pool(alloc, earlier, ground, place, &self.changed, carrier, walks)?;
+        let changed = &self.changed;
+        let alike = &self.alike;
+        let kept = kept_pool(
+            alloc, earlier, ground, place, changed, alike, carrier, walks,
+        )?;
         let Some(pool) = kept else {
             return Ok(false);
         };

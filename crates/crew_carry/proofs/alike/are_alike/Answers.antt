@@ -17,11 +17,6 @@ are_twins-requires-clause-new_there g c l m =
     let known = unsorted c.as_slice-made.result.now c.in_ok-news.news.items c.deref-2.result.now c.deref-2.ensures.value c.in_ok-news.ensures l m in
     c.requires.new_there l (subst (λ (ls : List (g.row.R-Value.Denot × LabelWalk)). Member ls l) c.as_slice-made.ensures.all known)
 
-pub are_twins-requires-clause-new_whole : goal.are_twins-requires-clause-new_whole
-are_twins-requires-clause-new_whole g c l m =
-    let known = unsorted c.as_slice-made.result.now c.in_ok-news.news.items c.deref-2.result.now c.deref-2.ensures.value c.in_ok-news.ensures l m in
-    c.requires.new_whole l (subst (λ (ls : List (g.row.R-Value.Denot × LabelWalk)). Member ls l) c.as_slice-made.ensures.all known)
-
 pub returns-then-are_in_order-clause-alike : goal.returns-then-are_in_order-clause-alike
 returns-then-are_in_order-clause-alike g c ok olds news twins e =
     let Label = g.row.R-Value.Denot × LabelWalk in
@@ -33,7 +28,7 @@ returns-then-are_in_order-clause-alike g c ok olds news twins e =
     let are : AreCarriedLabels ranks from to old new =
     subst (λ (os : List Label). AreCarriedLabels ranks from to os new) c.as_slice-held.ensures.all
     (subst (λ (ns : List Label). AreCarriedLabels ranks from to c.as_slice-held.result.now ns) c.as_slice-made.ensures.all (c.are_in_order.ensures.0 c.if-are_in_order.true)) in
-    alike-pools ranks from to olds news twins old new old new (IsPermutation-refl old) (IsPermutation-refl new) c.requires.old_whole are e
+    alike-pools ranks from to olds news twins old new old new (IsPermutation-refl old) (IsPermutation-refl new) are e
 
 pub returns-clause-alike : goal.returns-clause-alike
 returns-clause-alike g c ok olds news twins e =
@@ -48,4 +43,4 @@ returns-clause-alike g c ok olds news twins e =
     subst (λ (ls : List Label). IsPermutation ls (map now b)) c.as_slice-made.ensures.all
     (subst (λ (zs : List (Bor Label)). IsPermutation c.as_slice-made.result.now (map now zs)) (sym c.deref-2.ensures.value) c.in_ok-news.ensures) in
     let yes : c.are_twins.result ≡ true = (cc) in
-    alike-pools c.args.ranks.now c.args.from.now c.args.to.now olds news twins c.args.old.now c.args.new.now (map now a) (map now b) p q c.requires.old_whole (c.are_twins.ensures.0 yes) e
+    alike-pools c.args.ranks.now c.args.from.now c.args.to.now olds news twins c.args.old.now c.args.new.now (map now a) (map now b) p q (c.are_twins.ensures.0 yes) e

@@ -36,7 +36,7 @@ returns-then-not-is_twin g c =
       λ t. absurd (let q : ⊥ = (cc) in q),
       λ h.
           let one = labels-at c.args.ranks.now c.args.from.now c.args.to.now c.args.olds.now c.args.news.now i o n h at-old at-new in
-          subst IsTrue c.if-not-is_twin.true (c.is_twin.ensures.1 (one.value, one.walk)),
+          subst IsTrue c.if-not-is_twin.true (c.is_twin.ensures.1 (one.value, one.duty, one.walk)),
     )
 
 pub loop-place-preserved : goal.loop-place-preserved
@@ -58,8 +58,8 @@ loop-place-preserved g c =
     let one : IsCarriedLabel ranks from to o n = record {
       value = same.0;
       there = c.requires.new_there n known;
-      whole = c.requires.new_whole n known;
-      walk = same.1;
+      duty = same.1;
+      walk = same.2;
     }
     in
     let more = labels-more ranks from to to (grown-itself to) (take i os) (take i ns) o n c.loop-place.invariant one in

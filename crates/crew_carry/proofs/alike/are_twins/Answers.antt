@@ -52,7 +52,7 @@ returns-then-not-is_twin g c =
       λ t. absurd (let q : ⊥ = (cc) in q),
       λ h.
           let one = labels-at c.args.ranks.now c.args.from.now c.args.to.now (map now c.args.olds.now) (map now c.args.news.now) i o.now n.now h at-old at-new in
-          subst IsTrue c.if-not-is_twin.true (c.is_twin.ensures.1 (one.value, one.walk)),
+          subst IsTrue c.if-not-is_twin.true (c.is_twin.ensures.1 (one.value, one.duty, one.walk)),
     )
 
 pub loop-place-preserved : goal.loop-place-preserved
@@ -75,8 +75,8 @@ loop-place-preserved g c =
     let one : IsCarriedLabel ranks from to o.now n.now = record {
       value = same.0;
       there = c.requires.new_there n.now known;
-      whole = c.requires.new_whole n.now known;
-      walk = same.1;
+      duty = same.1;
+      walk = same.2;
     }
     in
     let more = labels-more ranks from to to (grown-itself to) (take i os) (take i ns) o.now n.now c.loop-place.invariant one in

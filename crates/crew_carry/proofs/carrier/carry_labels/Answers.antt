@@ -7,7 +7,7 @@ use Rattle.crew_pool.specs.Arena.{walk_at}
 use Rattle.crew_pool.specs.declared.label_walk.LabelWalk.{LabelWalk}
 use Rattle.crew_step.proofs.Grown.{grown-itself, grown-through}
 use Rattle.crew_step.proofs.Loops.{item-at, item-known, take-grown}
-use Rattle.crew_carry.proofs.CarriedLabels.{labels-more}
+use Rattle.crew_carry.proofs.CarriedLabels.{labels-more, none-twins}
 use Rattle.crew_carry.proofs.carrier.carry_labels.Goals as goal
 
 pub returns-in_err-carried-clause-carried : goal.returns-in_err-carried-clause-carried
@@ -77,7 +77,7 @@ loop-label-preserved g c =
     let one : IsCarriedLabel ranks from to l x = record {
       value = c.in_ok-value.ensures;
       there = at.0;
-      whole = refl;
+      duty = none-twins ranks l.1.duty 4294967295 (c.requires.whole l (item-known c.args.labels.now i l c.loop-label-test.true c.label-item.is)) refl;
       walk = at.1;
     }
     in

@@ -26,6 +26,17 @@ of-before-requires-clause-resource g c =
     let at = base-price c.price-price.result (subst IsBasePrice (sym c.price-price.ensures) c.requires.earlier.price) ∙ c.price-price.ensures in
     c.of-ground.ensures.resource ∙ spare-of old settings price c.new-full.result full c.requires.earlier.settings at
 
+pub of-before-requires-clause-full : goal.of-before-requires-clause-full
+of-before-requires-clause-full g c =
+    let old = c.args.earlier.now in
+    let price = to_z w64 (of_z w64 c.price-price.result) in
+    let full = c.new-full.ensures.made ∙ ap (λ (s : Settings). anchored_resource s price) (c.settings.ensures.value ∙ ap (λ (n : Net). n.settings) c.deref.ensures) in
+    let at = base-price c.price-price.result (subst IsBasePrice (sym c.price-price.ensures) c.requires.earlier.price) ∙ c.price-price.ensures in
+    full ∙ (ap (λ (s : Settings). anchored_resource s price) (sym c.requires.earlier.settings) ∙ ap (anchored_resource old.net.settings) at)
+
+pub of-before-requires-clause-fits : goal.of-before-requires-clause-fits
+of-before-requires-clause-fits g c = c.new-full.ensures.fits
+
 pub of-before-requires-clause-earlier : goal.of-before-requires-clause-earlier
 of-before-requires-clause-earlier g c = subst (λ (n : Net). IsEarlier c.args.earlier.now c.args.earlier_positions.now c.args.twins.now n c.args.places.now) (sym (c.of-ground.ensures.net ∙ c.deref-2.ensures)) c.requires.earlier
 

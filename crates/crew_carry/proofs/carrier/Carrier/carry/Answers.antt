@@ -31,6 +31,9 @@ put-back ranks from was to old places n e h k =
 pub carry_labels-requires-clause-there : goal.carry_labels-requires-clause-there
 carry_labels-requires-clause-there g c = λ l m. c.requires.there l (subst (λ (ls : List (g.row.R-Value.Denot × LabelWalk)). Member ls l) c.as_slice-labels.ensures.all m)
 
+pub carry_labels-requires-clause-whole : goal.carry_labels-requires-clause-whole
+carry_labels-requires-clause-whole g c = subst (λ (os : List (g.row.R-Value.Denot × LabelWalk)). AreWhole os) (sym c.as_slice-labels.ensures.all) c.requires.whole
+
 pub carry_labels-requires-clause-carried : goal.carry_labels-requires-clause-carried
 carry_labels-requires-clause-carried g c = subst (IsCarried c.args.ranks.now c.args.from.now c.args.to.now) (sym (c.deref_mut.ensures.value ∙ c.self.view_is)) c.requires.carried
 
@@ -81,9 +84,8 @@ returns-clause-labels g c olds news twins =
     let to = c.carry_labels.new.to in
     let items = c.as_slice-labels.result.now in
     let are = carried ranks from to items c.in_ok-carried.carried c.in-Some.labels c.in-Some.is c.in_ok-carried.ensures.labels in
-    let whole = subst (λ (os : List (V × LabelWalk)). AreWhole os) (sym c.as_slice-labels.ensures.all) c.requires.whole in
     ap (λ (ns : List (V × LabelWalk)). by_key news (map (shown to) ns)) c.from_apart.ensures
-    ∙ (labels-keys ranks from to olds news twins items c.in-Some.labels.items whole are ∙ ap (λ (os : List (V × LabelWalk)). by_key olds (map (shown from) os)) c.as_slice-labels.ensures.all)
+    ∙ (labels-keys ranks from to olds news twins items c.in-Some.labels.items are ∙ ap (λ (os : List (V × LabelWalk)). by_key olds (map (shown from) os)) c.as_slice-labels.ensures.all)
 
 pub returns-clause-vectors : goal.returns-clause-vectors
 returns-clause-vectors g c =

@@ -32,7 +32,7 @@ pub returns-then-are_in_place-clause-labels : goal.returns-then-are_in_place-cla
 returns-then-are_in_place-clause-labels g c olds news twins =
     let V = g.row.R-Value.Denot in
     ap (λ (ls : List (V × LabelWalk)). by_key news (map (shown c.args.to.now) ls)) c.in_ok-try_clone.ensures
-    ∙ labels-keys c.args.ranks.now c.args.from.now c.args.to.now olds news twins (arc_value c.args.pool.now) (arc_value c.args.pool.now) c.requires.whole (as-they-are g c)
+    ∙ labels-keys c.args.ranks.now c.args.from.now c.args.to.now olds news twins (arc_value c.args.pool.now) (arc_value c.args.pool.now) (as-they-are g c)
 
 pub returns-then-are_in_place-clause-counted : goal.returns-then-are_in_place-clause-counted
 returns-then-are_in_place-clause-counted g c count counted =

@@ -1,7 +1,7 @@
 use Rattle.std.specs.Arc.{arc_value}
 use Rattle.std.specs.Global.{Global}
 use Rattle.std.specs.declared.sync.Arc.{Arc}
-use Rattle.std.proofs.Common.{Bool, List, subst, sym}
+use Rattle.std.proofs.Common.{Bool, List, Option, subst, sym, ℕ}
 use Rattle.std.specs.Prelude.{IfSome}
 use Rattle.crew_net.proofs.Orders.{place-within}
 use Rattle.crew_pairing.specs.declared.vector.PairingVector.{PairingVector}
@@ -28,9 +28,9 @@ returns-in_default-clause-stands c =
     let after = c.kept_pool.new.walks in
     let grown = c.kept_pool.ensures.grown in
     besides.stands-beside e g (record {
-      pools = besides.pools-still e g c.requires.ground c.requires.beside was.passing stands.passing was.changed.items stands.marks after grown;
-      slides = besides.slides-still e g c.requires.ground c.requires.beside was.passing stands.passing was.changed.items stands.marks after grown;
-    }) (besides.marks-still e g c.requires.ground c.requires.beside was.passing stands.passing was.changed.items stands.marks after grown) c.in_ok-kept.ensures.carried
+      pools = besides.pools-still e g c.requires.ground c.requires.beside was.passing stands.passing was.changed.items was.alike.items stands.marks after grown;
+      slides = besides.slides-still e g c.requires.ground c.requires.beside was.passing stands.passing was.changed.items was.alike.items stands.marks after grown;
+    }) (besides.marks-still e g c.requires.ground c.requires.beside was.passing stands.passing was.changed.items was.alike.items stands.marks after grown) c.in_ok-kept.ensures.carried
 
 pub returns-clause-stands : goal.returns-clause-stands
 returns-clause-stands c =
@@ -44,11 +44,14 @@ returns-clause-stands c =
     let grown = c.kept_pool.ensures.grown in
     let made = was.passing.arrivals.made.items in
     let held = was.passing.arrivals.pools.items in
-    let marked = subst (λ (bs : List Bool). IfSome c.in_ok-kept.kept (λ (p : Arc Labels Global). IsKeptPool old net e.twins.now bs after c.args.place (arc_value p))) c.deref.ensures.value c.in_ok-kept.ensures.kept in
-    let kept = subst (λ o. IfSome o (λ (p : Arc Labels Global). IsKeptPool old net e.twins.now was.changed.items after c.args.place (arc_value p))) c.in-Some.is marked in
-    let pools = besides.pools-more e g c.requires.ground c.requires.beside was.passing stands.passing was.changed.items stands.marks after grown c.args.place c.requires.place (arc_value c.in-Some.pool) kept in
-    let marks = besides.marks-more e g c.requires.ground c.requires.beside was.passing stands.passing was.changed.items stands.marks after grown c.args.place c.requires.place (arc_value c.in-Some.pool) kept in
+    let found = c.in_ok-kept.kept in
+    let changed = c.deref.result.now in
+    let noted = subst (λ (qs : List (Option ℕ)). IfSome found (λ (p : Arc Labels Global). IsKeptPool old net e.twins.now changed qs after c.args.place (arc_value p))) c.deref-2.ensures.value c.in_ok-kept.ensures.kept in
+    let marked = subst (λ (bs : List Bool). IfSome found (λ (p : Arc Labels Global). IsKeptPool old net e.twins.now bs was.alike.items after c.args.place (arc_value p))) c.deref.ensures.value noted in
+    let kept = subst (λ o. IfSome o (λ (p : Arc Labels Global). IsKeptPool old net e.twins.now was.changed.items was.alike.items after c.args.place (arc_value p))) c.in-Some.is marked in
+    let pools = besides.pools-more e g c.requires.ground c.requires.beside was.passing stands.passing was.changed.items was.alike.items stands.marks after grown c.args.place c.requires.place (arc_value c.in-Some.pool) kept in
+    let marks = besides.marks-more e g c.requires.ground c.requires.beside was.passing stands.passing was.changed.items was.alike.items stands.marks after grown c.args.place c.requires.place (arc_value c.in-Some.pool) kept in
     besides.stands-beside e g (record {
       pools = subst (λ (ps : List Labels). IsPassing net g.base g.resource after ps made held) (sym c.in_ok-push.ensures.added) pools;
-      slides = besides.slides-still e g c.requires.ground c.requires.beside was.passing stands.passing was.changed.items stands.marks after grown;
-    }) (subst (λ (ps : List Labels). IsRenewing old net after ps was.changed.items) (sym c.in_ok-push.ensures.added) marks) c.in_ok-kept.ensures.carried
+      slides = besides.slides-still e g c.requires.ground c.requires.beside was.passing stands.passing was.changed.items was.alike.items stands.marks after grown;
+    }) (subst (λ (ps : List Labels). IsRenewing old net after ps was.changed.items was.alike.items) (sym c.in_ok-push.ensures.added) marks) c.in_ok-kept.ensures.carried

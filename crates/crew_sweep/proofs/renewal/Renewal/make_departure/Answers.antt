@@ -17,4 +17,4 @@ returns-clause-marks c =
     let walks = mid.passing.passed.walks in
     let same = c.in_ok-mend_departure.ensures.not_mended (ap Ok c.if-branch.false) in
     let whole = subst (λ (ps : List Labels). (labels : Labels) → Member ps labels → AreCounted (λ (v : PairingVector). v.duties) walks true labels) same c.in_ok-mend_departure.ensures.stands.pools.whole in
-    on-ok-of c.go_on.result (renewing-grown c.args.earlier.now.sweep.now c.args.ground.now.net.now walks c.go_on.new.self.passed.walks was mid.changed.items c.go_on.ensures.grown whole c.in_ok-mend_departure.ensures.marks)
+    on-ok-of c.go_on.result (renewing-grown c.args.earlier.now.sweep.now c.args.ground.now.net.now walks c.go_on.new.self.passed.walks was mid.changed.items mid.alike.items c.go_on.ensures.grown whole c.in_ok-mend_departure.ensures.marks)

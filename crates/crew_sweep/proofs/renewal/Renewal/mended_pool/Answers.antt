@@ -37,9 +37,9 @@ returns-in_default-clause-stands c =
     let after = c.old_pool.new.walks in
     let grown = c.old_pool.ensures.grown in
     besides.stands-beside e g (record {
-      pools = besides.pools-still e g c.requires.ground c.requires.beside was.passing stands.passing was.changed.items stands.marks after grown;
-      slides = besides.slides-still e g c.requires.ground c.requires.beside was.passing stands.passing was.changed.items stands.marks after grown;
-    }) (besides.marks-still e g c.requires.ground c.requires.beside was.passing stands.passing was.changed.items stands.marks after grown) c.in_ok-old.ensures.carried
+      pools = besides.pools-still e g c.requires.ground c.requires.beside was.passing stands.passing was.changed.items was.alike.items stands.marks after grown;
+      slides = besides.slides-still e g c.requires.ground c.requires.beside was.passing stands.passing was.changed.items was.alike.items stands.marks after grown;
+    }) (besides.marks-still e g c.requires.ground c.requires.beside was.passing stands.passing was.changed.items was.alike.items stands.marks after grown) c.in_ok-old.ensures.carried
 
 pub fresh_labels-requires-clause-stands : goal.fresh_labels-requires-clause-stands
 fresh_labels-requires-clause-stands c =
@@ -50,8 +50,8 @@ fresh_labels-requires-clause-stands c =
     let after = c.old_pool.new.walks in
     let grown = c.old_pool.ensures.grown in
     record {
-      pools = besides.pools-still e g c.requires.ground c.requires.beside was.passing stands.passing was.changed.items stands.marks after grown;
-      slides = besides.slides-still e g c.requires.ground c.requires.beside was.passing stands.passing was.changed.items stands.marks after grown;
+      pools = besides.pools-still e g c.requires.ground c.requires.beside was.passing stands.passing was.changed.items was.alike.items stands.marks after grown;
+      slides = besides.slides-still e g c.requires.ground c.requires.beside was.passing stands.passing was.changed.items was.alike.items stands.marks after grown;
     }
 
 pub fresh_labels-requires-clause-ordered : goal.fresh_labels-requires-clause-ordered
@@ -101,13 +101,13 @@ are_sound-requires-clause-ranks c =
     let now = c.fresh_labels.new.self in
     let grown = grown-through was.passing.passed.walks c.old_pool.new.walks now.passed.walks c.old_pool.ensures.grown c.in_ok-fresh.ensures.grown in
     let same = c.in_ok-fresh.ensures.pools in
-    let marks = subst (λ (ps : List Labels). IsRenewing old net now.passed.walks ps was.changed.items) (sym same)
-    (renewing-grown old net was.passing.passed.walks now.passed.walks was.passing.passed.pools was.changed.items grown c.requires.stands.passing.pools.whole c.requires.stands.marks) in
+    let marks = subst (λ (ps : List Labels). IsRenewing old net now.passed.walks ps was.changed.items was.alike.items) (sym same)
+    (renewing-grown old net was.passing.passed.walks now.passed.walks was.passing.passed.pools was.changed.items was.alike.items grown c.requires.stands.passing.pools.whole c.requires.stands.marks) in
     let at = subst (λ (ps : List Labels). slice_get net.by_report (length ps) ≡ Some c.args.place) (sym same) c.requires.place in
     let had = subst (λ o. IfSome o (λ (p : Arc Labels Global). IsOldPool old net c.old_pool.new.walks c.args.place (arc_value p))) c.in-Some.is c.in_ok-old.ensures.old in
     let before = mendings.old-pool-grown old net c.old_pool.new.walks now.passed.walks c.in_ok-fresh.ensures.grown c.args.place (arc_value c.in-Some.old) had in
     let newly = subst (λ (bs : List Bool). IsFresh e.twins.now bs now.passed.walks now.arrivals.made.items now.arrivals.pools.items c.args.window c.in_ok-fresh.fresh) c.deref.ensures.value c.in_ok-fresh.ensures.fresh in
-    let within = mendings.walks-within e g c.requires.ground c.requires.beside now c.in_ok-fresh.ensures.stands was.changed.items marks c.args.place at c.args.window c.requires.window (arc_value c.in-Some.old) before c.in_ok-fresh.fresh newly c.in_ok-pool.pool (subst (λ (ls : Labels). IsMended now.passed.walks c.in_ok-fresh.fresh ls c.in_ok-pool.pool) c.deref-4.ensures c.in_ok-pool.ensures) in
+    let within = mendings.walks-within e g c.requires.ground c.requires.beside now c.in_ok-fresh.ensures.stands was.changed.items was.alike.items marks c.args.place at c.args.window c.requires.window (arc_value c.in-Some.old) before c.in_ok-fresh.fresh newly c.in_ok-pool.pool (subst (λ (ls : Labels). IsMended now.passed.walks c.in_ok-fresh.fresh ls c.in_ok-pool.pool) c.deref-4.ensures c.in_ok-pool.ensures) in
     λ l m rank k.
     let found = within l (subst (λ (ls : Labels). Member ls l) c.as_slice.ensures.all m) rank k in
     (found.0, subst (λ (bs : List Bool). get_or e.places.now rank 0 < length bs) (sym c.deref-5.ensures.value) found.1)
@@ -121,8 +121,8 @@ returns-then-not-are_reached-clause-stands c =
     let was = c.args.self.now in
     let now = c.fresh_labels.new.self in
     let grown = grown-through was.passing.passed.walks c.old_pool.new.walks now.passed.walks c.old_pool.ensures.grown c.in_ok-fresh.ensures.grown in
-    let marks = subst (λ (ps : List Labels). IsRenewing old net now.passed.walks ps was.changed.items) (sym c.in_ok-fresh.ensures.pools)
-    (renewing-grown old net was.passing.passed.walks now.passed.walks was.passing.passed.pools was.changed.items grown c.requires.stands.passing.pools.whole c.requires.stands.marks) in
+    let marks = subst (λ (ps : List Labels). IsRenewing old net now.passed.walks ps was.changed.items was.alike.items) (sym c.in_ok-fresh.ensures.pools)
+    (renewing-grown old net was.passing.passed.walks now.passed.walks was.passing.passed.pools was.changed.items was.alike.items grown c.requires.stands.passing.pools.whole c.requires.stands.marks) in
     let stands = c.in_ok-fresh.ensures.stands in
     besides.stands-beside e g (record { pools = stands.pools; slides = stands.slides }) marks (carried-grown e.twins.now.ranks old.walks c.old_pool.new.walks now.passed.walks c.old_pool.new.carrier c.in_ok-fresh.ensures.grown c.in_ok-old.ensures.carried)
 
@@ -135,8 +135,8 @@ returns-then-are_sound-clause-stands c =
     let was = c.args.self.now in
     let now = c.fresh_labels.new.self in
     let grown = grown-through was.passing.passed.walks c.old_pool.new.walks now.passed.walks c.old_pool.ensures.grown c.in_ok-fresh.ensures.grown in
-    let marks = subst (λ (ps : List Labels). IsRenewing old net now.passed.walks ps was.changed.items) (sym c.in_ok-fresh.ensures.pools)
-    (renewing-grown old net was.passing.passed.walks now.passed.walks was.passing.passed.pools was.changed.items grown c.requires.stands.passing.pools.whole c.requires.stands.marks) in
+    let marks = subst (λ (ps : List Labels). IsRenewing old net now.passed.walks ps was.changed.items was.alike.items) (sym c.in_ok-fresh.ensures.pools)
+    (renewing-grown old net was.passing.passed.walks now.passed.walks was.passing.passed.pools was.changed.items was.alike.items grown c.requires.stands.passing.pools.whole c.requires.stands.marks) in
     let stands = c.in_ok-fresh.ensures.stands in
     besides.stands-beside e g (record { pools = stands.pools; slides = stands.slides }) marks (carried-grown e.twins.now.ranks old.walks c.old_pool.new.walks now.passed.walks c.old_pool.new.carrier c.in_ok-fresh.ensures.grown c.in_ok-old.ensures.carried)
 
@@ -151,8 +151,8 @@ returns-then-are_sound-clause-next c =
     let walks = now.passed.walks in
     let grown = grown-through was.passing.passed.walks c.old_pool.new.walks walks c.old_pool.ensures.grown c.in_ok-fresh.ensures.grown in
     let same = c.in_ok-fresh.ensures.pools in
-    let marks = subst (λ (ps : List Labels). IsRenewing old net walks ps was.changed.items) (sym same)
-    (renewing-grown old net was.passing.passed.walks walks was.passing.passed.pools was.changed.items grown c.requires.stands.passing.pools.whole c.requires.stands.marks) in
+    let marks = subst (λ (ps : List Labels). IsRenewing old net walks ps was.changed.items was.alike.items) (sym same)
+    (renewing-grown old net was.passing.passed.walks walks was.passing.passed.pools was.changed.items was.alike.items grown c.requires.stands.passing.pools.whole c.requires.stands.marks) in
     let at = subst (λ (ps : List Labels). slice_get net.by_report (length ps) ≡ Some c.args.place) (sym same) c.requires.place in
     let had = subst (λ o. IfSome o (λ (p : Arc Labels Global). IsOldPool old net c.old_pool.new.walks c.args.place (arc_value p))) c.in-Some.is c.in_ok-old.ensures.old in
     let before = mendings.old-pool-grown old net c.old_pool.new.walks walks c.in_ok-fresh.ensures.grown c.args.place (arc_value c.in-Some.old) had in
@@ -160,7 +160,7 @@ returns-then-are_sound-clause-next c =
     let told = c.are_sound.ensures c.if-are_sound.true in
     let marked = subst (λ (bs : List Bool). AreSound e.twins.now bs e.places.now walks c.count-added.result c.as_slice.result.now) c.deref-5.ensures.value told in
     let sound = subst (AreSound e.twins.now was.changed.items e.places.now walks c.count-added.result) c.as_slice.ensures.all marked in
-    mendings.next-pool e g c.requires.ground c.requires.beside now c.in_ok-fresh.ensures.stands was.changed.items marks c.args.place at c.args.window c.requires.window (arc_value c.in-Some.old) before c.in_ok-fresh.fresh newly c.in_ok-pool.pool (subst (λ (ls : Labels). IsMended walks c.in_ok-fresh.fresh ls c.in_ok-pool.pool) c.deref-4.ensures c.in_ok-pool.ensures)
+    mendings.next-pool e g c.requires.ground c.requires.beside now c.in_ok-fresh.ensures.stands was.changed.items was.alike.items marks c.args.place at c.args.window c.requires.window (arc_value c.in-Some.old) before c.in_ok-fresh.fresh newly c.in_ok-pool.pool (subst (λ (ls : Labels). IsMended walks c.in_ok-fresh.fresh ls c.in_ok-pool.pool) c.deref-4.ensures c.in_ok-pool.ensures)
     c.count-added.result (λ l m. subst (λ n. l.1.walk < n) (sym c.count-added.ensures) (had.has.counts l m).there) sound
 
 pub returns-clause-stands : goal.returns-clause-stands
@@ -172,7 +172,7 @@ returns-clause-stands c =
     let was = c.args.self.now in
     let now = c.fresh_labels.new.self in
     let grown = grown-through was.passing.passed.walks c.old_pool.new.walks now.passed.walks c.old_pool.ensures.grown c.in_ok-fresh.ensures.grown in
-    let marks = subst (λ (ps : List Labels). IsRenewing old net now.passed.walks ps was.changed.items) (sym c.in_ok-fresh.ensures.pools)
-    (renewing-grown old net was.passing.passed.walks now.passed.walks was.passing.passed.pools was.changed.items grown c.requires.stands.passing.pools.whole c.requires.stands.marks) in
+    let marks = subst (λ (ps : List Labels). IsRenewing old net now.passed.walks ps was.changed.items was.alike.items) (sym c.in_ok-fresh.ensures.pools)
+    (renewing-grown old net was.passing.passed.walks now.passed.walks was.passing.passed.pools was.changed.items was.alike.items grown c.requires.stands.passing.pools.whole c.requires.stands.marks) in
     let stands = c.in_ok-fresh.ensures.stands in
     besides.stands-beside e g (record { pools = stands.pools; slides = stands.slides }) marks (carried-grown e.twins.now.ranks old.walks c.old_pool.new.walks now.passed.walks c.old_pool.new.carrier c.in_ok-fresh.ensures.grown c.in_ok-old.ensures.carried)

@@ -42,7 +42,7 @@ returns-clause-stands c =
     let is = last-pool was.pools now.pools added.0 pool c.len-last.result added.1 c.len-last.ensures c.get-pool.ensures in
     let all : now.pools ≡ was.pools ++ pool ∷ [] = added.1 ∙ ap (λ (p : Labels). was.pools ++ p ∷ []) (sym is) in
     on-ok-by c.note.result
-    (λ own. stands-beside e g c.in_ok-make_departure.ensures.stands (subst (λ (ps : List Labels). IsRenewing old net now.walks ps c.note.new.changed.items) (sym all)
-    (renewing-redone old net g.positions.now c.requires.ground.passable now.walks was.pools made.changed.items c.note.new.changed.items
+    (λ own. stands-beside e g c.in_ok-make_departure.ensures.stands (subst (λ (ps : List Labels). IsRenewing old net now.walks ps c.note.new.changed.items made.alike.items) (sym all)
+    (renewing-redone old net g.positions.now c.requires.ground.passable now.walks was.pools made.changed.items c.note.new.changed.items made.alike.items
     c.in_ok-make_departure.ensures.marks c.note.ensures.long c.note.ensures.less c.args.place c.requires.place pool own)) c.in_ok-make_departure.ensures.carried)
     c.note.ensures.own

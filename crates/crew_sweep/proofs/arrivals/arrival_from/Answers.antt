@@ -14,7 +14,7 @@ use Rattle.crew_step.specs.Pools.{boarded}
 use Rattle.crew_vector.specs.Dominance.{is_at_most}
 use Rattle.crew_sweep.proofs.Making as making
 use Rattle.crew_sweep.proofs.Passable.{may-board}
-use Rattle.crew_sweep.proofs.arrivals.arrival_at.Goals as goal
+use Rattle.crew_sweep.proofs.arrivals.arrival_from.Goals as goal
 
 abbrev Labels : Type 0
 Labels = List (PairingVector × LabelWalk)
@@ -26,11 +26,10 @@ pub arrival_pool-requires-clause-within : goal.arrival_pool-requires-clause-with
 arrival_pool-requires-clause-within c rank m =
     let g = c.args.ground.now in
     let net = g.net.now in
-    let passed = c.args.passed.now in
     let p = c.requires.pools in
     let a = stands net.arrivals c.args.place c.requires.place in
     let all = subst (λ (rs : List ℕ). IsPermutation rs c.in_ok-ranks.ranks.items) (c.arriving.ensures a.0 a.1) c.in_ok-ranks.ensures in
-    let k = making.ranks-within net g.positions.now c.requires.ground.passable g.base g.resource passed.walks passed.pools p.0.made.items p.0.pools.items p.1
+    let k = making.ranks-within net g.positions.now c.requires.ground.passable g.base g.resource c.args.walks.now c.args.pools.now p.0 p.1 p.2
     c.args.place a.0 a.1 c.requires.sealed c.in_ok-ranks.ranks.items all rank (subst (λ (rs : List ℕ). Member rs rank) c.deref.ensures.value m) in (
       subst (λ (ds : List Duty). rank < length ds) (sym (c.as_slice-duties.ensures ∙ c.duties.ensures)) k.0,
       k.1,
@@ -39,19 +38,18 @@ arrival_pool-requires-clause-within c rank m =
 pub arrival_pool-requires-clause-can : goal.arrival_pool-requires-clause-can
 arrival_pool-requires-clause-can c labels l item known m k =
     let g = c.args.ground.now in
-    let passed = c.args.passed.now in
     let p = c.requires.pools in
-    may-board g.net.now g.positions.now c.requires.ground.passable g.base g.resource passed.walks passed.pools p.0.made.items p.0.pools.items p.1
+    may-board g.net.now g.positions.now c.requires.ground.passable g.base g.resource c.args.walks.now c.args.pools.now p.0 p.1 p.2
     c.requires.ground.fits c.requires.ground.most labels l item known m (subst (λ (ds : List Duty). Member ds item) (c.as_slice-duties.ensures ∙ c.duties.ensures) k)
 
 pub arrival_pool-requires-clause-whole : goal.arrival_pool-requires-clause-whole
-arrival_pool-requires-clause-whole c labels m = c.requires.pools.1.whole labels m
+arrival_pool-requires-clause-whole c labels m = c.requires.pools.2.whole labels m
 
 pub returns : goal.returns
 returns c =
     let g = c.args.ground.now in
     let net = g.net.now in
-    let walks = c.args.passed.now.walks in
+    let walks = c.args.walks.now in
     let positions = g.positions.now in
     let ranks = c.in_ok-ranks.ranks.items in
     let duties = c.as_slice-duties.result.now in
@@ -60,8 +58,8 @@ returns c =
     both c.arrival_pool.result (λ pool local counts. record {
       ranks = ranks;
       all = all;
-      local = subst (λ (ds : List Duty). IsPoolOf is_at_most (boarded walks boards ds positions c.args.passed.now.pools ranks) (map (shown walks) pool)) (c.as_slice-duties.ensures ∙ c.duties.ensures)
-          (subst (λ (rs : List ℕ). IsPoolOf is_at_most (boarded walks boards duties positions c.args.passed.now.pools rs) (map (shown walks) pool)) c.deref.ensures.value local);
+      local = subst (λ (ds : List Duty). IsPoolOf is_at_most (boarded walks boards ds positions c.args.pools.now ranks) (map (shown walks) pool)) (c.as_slice-duties.ensures ∙ c.duties.ensures)
+          (subst (λ (rs : List ℕ). IsPoolOf is_at_most (boarded walks boards duties positions c.args.pools.now rs) (map (shown walks) pool)) c.deref.ensures.value local);
       counts = counts;
     }) c.arrival_pool.ensures.local c.arrival_pool.ensures.counts
   where
