@@ -20,6 +20,7 @@ use crate::batch::{LEAST_REST, batch_end};
 use crate::ground::Ground;
 use crate::passed::Passed;
 use crate::passing::Passing;
+use crate::prints::print_of;
 use crate::slides::Slides;
 use crate::windows::{Slid, SlideAhead, Waiting};
 use crew_anchor::AnchoredResource;
@@ -320,6 +321,7 @@ impl Arrivals {
         if self.made[place] {
             return;
         }
+        self.prints.note(place, Some(print_of(&pool)));
         self.pools[place] = pool;
         self.made[place] = true;
     }

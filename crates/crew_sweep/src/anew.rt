@@ -14,6 +14,7 @@ use crate::earlier::Earlier;
 use crate::ground::Ground;
 use crate::mending::is_unchanged;
 use crate::passed::Passed;
+use crate::prints::Prints;
 use crate::renewal::{Renewal, note};
 use crate::swept::Sweep;
 use crew_anchor::AnchoredResource;
@@ -25,6 +26,25 @@ use std::sync::Arc;
 use std::thread::Threads;
 
 impl Renewal {
+    // What the pass leaves, with the numbers of its arrivals: also of those that weren't made, where they
+    // are as they were.
+    fn into_left(self, earlier: &Earlier) -> (Passed, Prints)
+        requires alike { length self.alike.items ≡ length self.changed.items }
+        requires arrivals { length earlier.now.twins.now.arrivals ≡ length self.changed.items }
+        ensures { result.0 ≡ self.passing.passed }
+    {
+        let Renewal {
+            passing,
+            carrier: _,
+            changed,
+            alike,
+            differing: _,
+        } = self;
+        let (passed, mut prints) = passing.into_left();
+        prints.fill_in(earlier, &changed, &alike);
+        (passed, prints)
+    }
+
     // The pass goes on by one departure, whose pool is mended where it can be, or else made anew.
     fn make_departure(
         &mut self,
@@ -169,7 +189,8 @@ impl Renewal {
         requires beside { IsBeside earlier.now ground.now }
         requires stands { StandsBeside earlier.now ground.now self.old }
         requires none { length self.old.passing.passed.pools ≡ 0 }
-        ensures { OnOk result (HasPassedAll ground.now self.new.passing.passed) }
+        ensures all { OnOk result (HasPassedAll ground.now self.new.passing.passed) }
+        ensures stands { OnOk result (StandsBeside earlier.now ground.now self.new) }
     {
         for departure in ground.net.by_report() {
             let place = *departure as usize;
@@ -193,7 +214,8 @@ impl Renewal {
         requires beside { IsBeside earlier.now ground.now }
         requires stands { StandsBeside earlier.now ground.now self.old }
         requires none { length self.old.passing.passed.pools ≡ 0 }
-        ensures { OnOk result (HasPassedAll ground.now self.new.passing.passed) }
+        ensures all { OnOk result (HasPassedAll ground.now self.new.passing.passed) }
+        ensures stands { OnOk result (StandsBeside earlier.now ground.now self.new) }
     {
         for departure in ground.net.by_report() {
             let place = *departure as usize;
@@ -204,15 +226,19 @@ impl Renewal {
     }
 }
 
-// The pass over all departures.
-fn renew_all(alloc: Global, earlier: &Earlier, ground: &Ground) -> Result<Passed, AllocError>
+// The pass over all departures, with the numbers of its arrivals.
+fn renew_all(
+    alloc: Global,
+    earlier: &Earlier,
+    ground: &Ground,
+) -> Result<(Passed, Prints), AllocError>
     requires ground { IsGround ground.now }
     requires beside { IsBeside earlier.now ground.now }
-    ensures { IfOk result (HasPassedAll ground.now) }
+    ensures { IfOk result (λ left. HasPassedAll ground.now left.0) }
 {
     let mut renewal = Renewal::new(alloc, earlier, ground)?;
     renewal.go_over(alloc, earlier, ground)?;
-    Ok(renewal.passing.passed)
+    Ok(renewal.into_left(earlier))
 }
 
 // The same by threads, at most so many.
@@ -222,14 +248,14 @@ fn renew_all_by_threads<T: Threads + Sync>(
     sharing: &Sharing,
     earlier: &Earlier,
     ground: &Ground,
-) -> Result<Passed, AllocError>
+) -> Result<(Passed, Prints), AllocError>
     requires ground { IsGround ground.now }
     requires beside { IsBeside earlier.now ground.now }
-    ensures { IfOk result (HasPassedAll ground.now) }
+    ensures { IfOk result (λ left. HasPassedAll ground.now left.0) }
 {
     let mut renewal = Renewal::new(alloc, earlier, ground)?;
     renewal.go_over_by_threads(rt, alloc, sharing, earlier, ground)?;
-    Ok(renewal.passing.passed)
+    Ok(renewal.into_left(earlier))
 }
 
 /// The pools of a base over a network, as `sweep` makes them, beside an earlier sweep of that base at
@@ -256,8 +282,8 @@ pub fn renew(
     let full = AnchoredResource::new(net.settings(), price);
     let ground = Ground::of(&net, positions, base, &full);
     let before = Earlier::of(earlier, earlier_positions, twins, places, &ground, &full);
-    let passed = renew_all(alloc, &before, &ground)?;
-    Ok(Sweep::of(net, base, price, full, passed))
+    let (passed, prints) = renew_all(alloc, &before, &ground)?;
+    Ok(Sweep::of(net, base, price, full, passed, prints))
 }
 
 /// The same in at most so many threads, this one among them.
@@ -282,6 +308,6 @@ pub fn renew_by_threads<T: Threads + Sync>(
     let full = AnchoredResource::new(net.settings(), price);
     let ground = Ground::of(&net, positions, base, &full);
     let before = Earlier::of(earlier, earlier_positions, twins, places, &ground, &full);
-    let passed = renew_all_by_threads(rt, alloc, sharing, &before, &ground)?;
-    Ok(Sweep::of(net, base, price, full, passed))
+    let (passed, prints) = renew_all_by_threads(rt, alloc, sharing, &before, &ground)?;
+    Ok(Sweep::of(net, base, price, full, passed, prints))
 }

@@ -9,6 +9,7 @@ ghost use Rattle.crew_sweep.specs.declared.arrivals.Arrivals.{Arrivals as Arriva
 
 use crate::ground::Ground;
 use crate::passed::Passed;
+use crate::prints::{Prints, print_of};
 use crew_anchor::AnchoredResource;
 use crew_net::Window;
 use crew_pool::{Pool, Walks, Workspace};
@@ -16,11 +17,13 @@ use crew_step::{Pools, arrival_pool};
 use std::alloc::{AllocError, Global};
 use std::cmp::Reverse;
 
-/// The pools of arrivals, each made when it is first waited on: `made` tells which are.
+/// The pools of arrivals, each made when it is first waited on: `made` tells which are. `prints` has the
+/// numbers also of those that were let go of.
 #[derive(Drop)]
 pub(crate) struct Arrivals {
     pub(crate) pools: Vec<Pool<AnchoredResource>>,
     pub(crate) made: Vec<bool>,
+    pub(crate) prints: Prints,
 }
 
 // Ranks, those of the departures at the greatest positions first.
@@ -97,7 +100,22 @@ impl Arrivals {
             pools.push(Pool::new(alloc))?;
         }
         let made = vec![in alloc; false; count]?;
-        Ok(Arrivals { pools, made })
+        let prints = Prints::none(alloc, count)?;
+        Ok(Arrivals {
+            pools,
+            made,
+            prints,
+        })
+    }
+
+    /// The numbers of all that were made.
+    pub(crate) fn into_prints(self) -> Prints {
+        let Arrivals {
+            pools: _,
+            made: _,
+            prints,
+        } = self;
+        prints
     }
 
     /// Makes the pools of a window, from those of the departures so far.
@@ -145,6 +163,7 @@ impl Arrivals {
             return Ok(());
         }
         let pool = arrival_at(alloc, ground, place, room, passed)?;
+        self.prints.note(place, Some(print_of(&pool)));
         self.pools[place] = pool;
         self.made[place] = true;
         Ok(())

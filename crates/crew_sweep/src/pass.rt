@@ -10,6 +10,7 @@ ghost use Rattle.crew_sweep.specs.Sweeps.{IsSweepable, IsSwept};
 use crate::ground::Ground;
 use crate::passed::Passed;
 use crate::passing::Passing;
+use crate::prints::Prints;
 use crate::swept::Sweep;
 use crate::windows::Waiting;
 use crew_anchor::AnchoredResource;
@@ -118,14 +119,14 @@ impl Passing {
     }
 }
 
-// The pass over all departures.
-fn pass_all(alloc: Global, ground: &Ground) -> Result<Passed, AllocError>
+// The pass over all departures, with the numbers of its arrivals.
+fn pass_all(alloc: Global, ground: &Ground) -> Result<(Passed, Prints), AllocError>
     requires { IsGround ground.now }
-    ensures { IfOk result (HasPassedAll ground.now) }
+    ensures { IfOk result (λ left. HasPassedAll ground.now left.0) }
 {
     let mut passing = Passing::new(alloc, ground, Walks::new(alloc))?;
     passing.go_over(alloc, ground)?;
-    Ok(passing.passed)
+    Ok(passing.into_left())
 }
 
 // The same by threads, of those that are shared.
@@ -134,13 +135,13 @@ fn pass_all_by_threads<T: Threads + Sync>(
     alloc: Global,
     sharing: &Sharing,
     ground: &Ground,
-) -> Result<Passed, AllocError>
+) -> Result<(Passed, Prints), AllocError>
     requires { IsGround ground.now }
-    ensures { IfOk result (HasPassedAll ground.now) }
+    ensures { IfOk result (λ left. HasPassedAll ground.now left.0) }
 {
     let mut passing = Passing::new(alloc, ground, Walks::new(alloc))?;
     passing.go_over_by_threads(rt, alloc, sharing, ground)?;
-    Ok(passing.passed)
+    Ok(passing.into_left())
 }
 
 /// The pools of a base, one for each departure of its network: at each legal duty they show the
@@ -158,8 +159,8 @@ pub fn sweep(
 {
     let full = AnchoredResource::new(net.settings(), price);
     let ground = Ground::of(&net, positions, base, &full);
-    let passed = pass_all(alloc, &ground)?;
-    Ok(Sweep::of(net, base, price, full, passed))
+    let (passed, prints) = pass_all(alloc, &ground)?;
+    Ok(Sweep::of(net, base, price, full, passed, prints))
 }
 
 /// The same pass by threads, of those that are shared, this one among them: the pools of arrivals on
@@ -180,6 +181,6 @@ pub fn sweep_by_threads<T: Threads + Sync>(
 {
     let full = AnchoredResource::new(net.settings(), price);
     let ground = Ground::of(&net, positions, base, &full);
-    let passed = pass_all_by_threads(rt, alloc, sharing, &ground)?;
-    Ok(Sweep::of(net, base, price, full, passed))
+    let (passed, prints) = pass_all_by_threads(rt, alloc, sharing, &ground)?;
+    Ok(Sweep::of(net, base, price, full, passed, prints))
 }

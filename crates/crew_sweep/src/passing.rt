@@ -17,6 +17,7 @@ ghost use Rattle.crew_sweep.specs.Machinery.Passing.{AreMade, IsMade, IsPooled, 
 use crate::arrivals::Arrivals;
 use crate::ground::Ground;
 use crate::passed::Passed;
+use crate::prints::Prints;
 use crate::slides::Slides;
 use crate::windows::Waiting;
 use crew_anchor::{AnchoredResource, AnchoredVector};
@@ -180,6 +181,20 @@ impl Passing {
         let pool = pool_over(alloc, ground, room, place, &ahead.pool, walks)?;
         self.passed.pools.push(Arc::new(alloc, pool)?)?;
         Ok(())
+    }
+
+    /// What the pass leaves, with the numbers of its arrivals.
+    pub(crate) fn into_left(self) -> (Passed, Prints)
+        ensures { result.0 ≡ self.passed }
+    {
+        let Passing {
+            room: _,
+            slides: _,
+            arrivals,
+            passed,
+            batch_end: _,
+        } = self;
+        (passed, arrivals.into_prints())
     }
 
     /// The pass goes on by one departure: the arrivals on which it waits, and its pool.

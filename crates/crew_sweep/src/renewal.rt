@@ -14,10 +14,10 @@ ghost use Rattle.crew_sweep.specs.Machinery.Beside.{HasOldLabels, IsBeside, Stan
 ghost use Rattle.crew_sweep.specs.Machinery.Grounds.{IsGround};
 ghost use Rattle.crew_sweep.specs.Machinery.Renewing.{IsKeptPool};
 
+use crate::differing::Differing;
 use crate::earlier::Earlier;
 use crate::ground::Ground;
 use crate::passing::Passing;
-use crate::trials::Trials;
 use crew_anchor::AnchoredResource;
 use crew_carry::{Carrier, Twins, are_alike};
 use crew_pool::{Pool, Walks};
@@ -37,7 +37,7 @@ pub(crate) struct Renewal {
     pub(crate) carrier: Carrier,
     pub(crate) changed: Vec<bool>,
     pub(crate) alike: Vec<Option<usize>>,
-    pub(crate) trials: Trials,
+    pub(crate) differing: Differing,
 }
 
 // The pool of the departure at a place as the earlier pass left it, where all that it waits on is as
@@ -107,14 +107,14 @@ impl Renewal {
         let (carrier, walks) = walks_beside(alloc, earlier)?;
         let changed = vec![in alloc; false; ground.net.arrivals().len()]?;
         let alike = none_alike(alloc, ground.net.arrivals().len())?;
-        let trials = Trials::new(alloc, ground.net.arrivals().len())?;
+        let differing = Differing::none(alloc, ground.net.arrivals().len())?;
         let passing = Passing::new(alloc, ground, walks)?;
         Ok(Renewal {
             passing,
             carrier,
             changed,
             alike,
-            trials,
+            differing,
         })
     }
 

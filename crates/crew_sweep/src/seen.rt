@@ -1,5 +1,5 @@
 //! Arrivals that are seen to show what they showed: made from the pools of both networks, and compared.
-ghost use Rattle.std.specs.Prelude.{◌≡◌, ◌<◌, ◌≤◌, ◌+◌, ◌-◌, ◌↔◌, IfOk, IsTrue, List, Ok, OnOk, Some, false, length, slice_get, true};
+ghost use Rattle.std.specs.Prelude.{◌≡◌, ◌<◌, ◌≤◌, ◌+◌, ◌-◌, ◌↔◌, ℕ, IfOk, IsTrue, List, Ok, OnOk, Some, false, length, slice_get, true};
 ghost use Rattle.crew_pairing.specs.declared.vector.PairingVector.{PairingVector};
 ghost use Rattle.crew_pool.specs.Counted.{AreCounted};
 ghost use Rattle.crew_pool.specs.declared.label_walk.LabelWalk.{LabelWalk};
@@ -12,6 +12,7 @@ ghost use Rattle.crew_sweep.specs.Sweeps.{keyed};
 use crate::arrivals::arrival_from;
 use crate::earlier::{Earlier, is_as_it_was};
 use crate::ground::Ground;
+use crate::prints::may_be_same;
 use crate::renewal::Renewal;
 use crew_anchor::AnchoredResource;
 use crew_carry::are_alike;
@@ -117,7 +118,7 @@ impl Renewal {
         if is_as_it_was(earlier.twins, &self.changed, &self.alike, place, old) {
             return Ok(true);
         }
-        if !self.trials.is_open(place) {
+        if self.differing.has(place) {
             return Ok(false);
         }
         if !earlier.has_event(ground, place, old) {
@@ -128,11 +129,42 @@ impl Renewal {
         let room = &mut self.passing.room;
         let walks = &self.passing.passed.walks;
         let same = earlier.showed(alloc, ground, old, room, pool, walks)?;
-        self.trials.note(place, same);
         if same {
             self.alike[place] = Some(old);
+        } else {
+            self.differing.note(place);
         }
         Ok(same)
+    }
+
+    // Whether the arrival at a place may show what the old one at another showed, by their numbers. The
+    // answer is a hint: where they differ that is noted.
+    fn may_show(
+        &mut self,
+        alloc: Global,
+        earlier: &Earlier,
+        ground: &Ground,
+        place: usize,
+        old: usize,
+    ) -> Result<bool, AllocError>
+        requires ground { IsGround ground.now }
+        requires beside { IsBeside earlier.now ground.now }
+        requires stands { StandsBeside earlier.now ground.now self.old }
+        requires place { place < length ground.now.net.now.arrivals }
+        requires sealed { IsSealed ground.now.net.now (length self.old.passing.passed.pools) place }
+        ensures stands { OnOk result (StandsBeside earlier.now ground.now self.new) }
+        ensures passed { self.new.passing.passed ≡ self.old.passing.passed }
+    {
+        if is_as_it_was(earlier.twins, &self.changed, &self.alike, place, old) {
+            return Ok(true);
+        }
+        self.passing.make_arrival(alloc, ground, place)?;
+        let print = self.passing.arrivals.prints.at(place);
+        let may = may_be_same(print, earlier.sweep.print(old));
+        if !may {
+            self.differing.note(place);
+        }
+        Ok(may)
     }
 
     // Whether all of a window either is as it was, as far as is known, or can be looked at. No clause
@@ -148,12 +180,42 @@ impl Renewal {
             let here = now.from + offset;
             let there = was.from + offset;
             if !is_as_it_was(earlier.twins, &self.changed, &self.alike, here, there)
-                && !self.trials.is_open(here)
+                && self.differing.has(here)
             {
                 return false;
             }
         }
         true
+    }
+
+    // Whether all of a window may show what it showed, by numbers. The answer is a hint.
+    fn may_show_window(
+        &mut self,
+        alloc: Global,
+        earlier: &Earlier,
+        ground: &Ground,
+        now: Window,
+        was: Window,
+    ) -> Result<bool, AllocError>
+        requires ground { IsGround ground.now }
+        requires beside { IsBeside earlier.now ground.now }
+        requires stands { StandsBeside earlier.now ground.now self.old }
+        requires within { now.end ≤ length ground.now.net.now.arrivals }
+        requires sealed { (place : ℕ) → now.from ≤ place → place < now.end
+            → IsSealed ground.now.net.now (length self.old.passing.passed.pools) place }
+        requires ordered { now.from ≤ now.end }
+        requires was { was.from + (now.end - now.from) ≤ was.end }
+        ensures stands { OnOk result (StandsBeside earlier.now ground.now self.new) }
+        ensures passed { self.new.passing.passed ≡ self.old.passing.passed }
+    {
+        for offset in 0..now.end - now.from {
+            let here = now.from + offset;
+            let there = was.from + offset;
+            if !self.may_show(alloc, earlier, ground, here, there)? {
+                return Ok(false);
+            }
+        }
+        Ok(true)
     }
 
     /// Looks at the arrivals on which a departure waits that may have changed, up to one that has:
@@ -182,6 +244,9 @@ impl Renewal {
             return Ok(false);
         }
         if !self.can_look(earlier, now, was) {
+            return Ok(false);
+        }
+        if !self.may_show_window(alloc, earlier, ground, now, was)? {
             return Ok(false);
         }
         for offset in 0..now.end - now.from {

@@ -10,6 +10,7 @@ ghost use Rattle.crew_pool.specs.declared.label_walk.LabelWalk.{LabelWalk};
 ghost use Rattle.crew_resource.specs.Members.{Member};
 
 use crate::passed::Passed;
+use crate::prints::Prints;
 use crew_anchor::AnchoredResource;
 use crew_flights::Code;
 use crew_net::Net;
@@ -30,6 +31,7 @@ pub struct Sweep {
     resource: AnchoredResource,
     walks: Walks,
     pools: Pools<AnchoredResource>,
+    prints: Prints,
 }
 
 impl Drop for Sweep {
@@ -41,6 +43,7 @@ impl Drop for Sweep {
             resource: _,
             walks: _,
             pools: _,
+            prints: _,
         } = self;
     }
 }
@@ -85,6 +88,7 @@ impl Sweep {
         price: i64,
         resource: AnchoredResource,
         passed: Passed,
+        prints: Prints,
     ) -> Sweep
         requires price { IsBasePrice price }
         requires resource { resource ≡ anchored_resource (arc_value net).settings price }
@@ -108,6 +112,7 @@ impl Sweep {
             resource,
             walks: passed.walks,
             pools: passed.pools,
+            prints,
         }
     }
 
@@ -181,6 +186,12 @@ impl Sweep {
             (length self.now.net.duties) self.now.walks (arc_value result.now) }
     {
         self.pools.shared(index)
+    }
+
+    /// The number of the arrival at a place, if it is known. No clause says which, since it is there for
+    /// speed.
+    pub(crate) fn print(&self, place: usize) -> Option<u64> {
+        self.prints.at(place)
     }
 
     /// How many labels the pools have. No clause says so, since it is there for memory's sake.

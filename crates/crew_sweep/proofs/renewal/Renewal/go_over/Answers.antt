@@ -18,8 +18,8 @@ renew_departure-requires-clause-stands c = c.begin_batch.ensures.stands
 pub loop-departure-preserved : goal.loop-departure-preserved
 loop-departure-preserved c = (c.in_ok-renew_departure.ensures.stands, c.in_ok-renew_departure.ensures.more ∙ ap (λ n. n + 1) (ap (λ (p : Passed). length p.pools) c.begin_batch.ensures.passed ∙ c.loop-departure.invariant.1))
 
-pub returns : goal.returns
-returns c =
+pub returns-clause-all : goal.returns-clause-all
+returns-clause-all c =
     let all : c.loop-departure.departure-index ≡ length c.by_report-departure-items.result.now = omega arith in
     record {
       made = c.loop-departure.self.passing.arrivals.made.items;
@@ -27,3 +27,6 @@ returns c =
       all = c.loop-departure.invariant.1 ∙ (all ∙ ap length c.by_report-departure-items.ensures.places);
       passing = c.loop-departure.invariant.0.passing.pools;
     }
+
+pub returns-clause-stands : goal.returns-clause-stands
+returns-clause-stands c = c.loop-departure.invariant.0

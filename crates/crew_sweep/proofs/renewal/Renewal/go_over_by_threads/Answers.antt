@@ -15,8 +15,8 @@ renew_departure-requires-clause-place g c = at-position c.args.ground.now.net.no
 pub loop-departure-preserved : goal.loop-departure-preserved
 loop-departure-preserved g c = (c.in_ok-renew_departure.ensures.stands, c.in_ok-renew_departure.ensures.more ∙ ap (λ n. n + 1) (ap (λ (p : Passed). length p.pools) c.renew_ahead.ensures.passed ∙ c.loop-departure.invariant.1))
 
-pub returns : goal.returns
-returns g c =
+pub returns-clause-all : goal.returns-clause-all
+returns-clause-all g c =
     let all : c.loop-departure.departure-index ≡ length c.by_report-departure-items.result.now = omega arith in
     record {
       made = c.loop-departure.self.passing.arrivals.made.items;
@@ -24,3 +24,6 @@ returns g c =
       all = c.loop-departure.invariant.1 ∙ (all ∙ ap length c.by_report-departure-items.ensures.places);
       passing = c.loop-departure.invariant.0.passing.pools;
     }
+
+pub returns-clause-stands : goal.returns-clause-stands
+returns-clause-stands g c = c.loop-departure.invariant.0

@@ -1,4 +1,4 @@
-use Rattle.std.proofs.Common.{◌∙◌, ◌<◌, ◌+◌, arith, length, refl, subst, sym}
+use Rattle.std.proofs.Common.{◌∙◌, ◌<◌, ◌+◌, arith, length, subst, sym}
 use Rattle.crew_net.proofs.Orders.{place-within}
 use Rattle.crew_sweep.specs.Machinery.Passing.{IsSealed}
 use Rattle.crew_sweep.specs.declared.passed.Passed.{Passed}
@@ -12,7 +12,7 @@ departure-requires c =
     subst (λ n. c.args.place < n) (sym c.requires.beside.earlier.twins.departures_long) within
 
 pub loop-offset-init : goal.loop-offset-init
-loop-offset-init c = (c.requires.stands, refl)
+loop-offset-init c = (c.in_ok-may_show_window.ensures.stands, c.may_show_window.ensures.passed)
 
 pub see-requires-clause-stands : goal.see-requires-clause-stands
 see-requires-clause-stands c = c.loop-offset.invariant.0
@@ -40,3 +40,9 @@ returns-clause-stands c = c.loop-offset.invariant.0
 
 pub returns-clause-passed : goal.returns-clause-passed
 returns-clause-passed c = c.loop-offset.invariant.1
+
+pub may_show_window-requires-clause-sealed : goal.may_show_window-requires-clause-sealed
+may_show_window-requires-clause-sealed c place from end =
+    let g = c.args.ground.now in
+    let d = passable-proofs.departs-at g.net.now g.positions.now c.requires.ground.passable (length c.args.self.now.passing.passed.pools) c.args.place c.requires.place in
+    passable-proofs.window-sealed g.net.now g.positions.now c.requires.ground.passable (length c.args.self.now.passing.passed.pools) d.0 d.2 c.window-now.result (c.window-now.ensures d.0 d.1) place from end
