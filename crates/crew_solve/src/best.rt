@@ -355,7 +355,8 @@ fn comes_home(sweep: &Sweep, kept: &CheapestSoFar, ranks: &[u32]) -> bool {
     false
 }
 
-// A floor of a departure's labels, where one of its duties comes home.
+// A floor of a departure's labels, where one of its duties comes home. Where all pairings are asked for
+// the sweep knows it, and no label is looked at.
 fn floor_at(
     sweep: &Sweep,
     kept: &CheapestSoFar,
@@ -371,6 +372,9 @@ fn floor_at(
     let pool = sweep.pool(index);
     if !comes_home(sweep, kept, ranks) {
         return i64::MIN;
+    }
+    if kept.asks_for_all() {
+        return sweep.duty_pay_floor(index);
     }
     floor_of(sweep, kept, pool.as_slice(), marks)
 }

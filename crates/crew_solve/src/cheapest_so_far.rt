@@ -189,6 +189,12 @@ impl CheapestSoFar {
         }
     }
 
+    /// Whether all pairings are asked for, and not those alone that may be taken beside others. No clause
+    /// says so, since it is there for speed.
+    pub(crate) fn asks_for_all(&self) -> bool {
+        self.beside.is_none()
+    }
+
     /// Whether pairings that begin with a walk may be among those that are asked for. It takes no
     /// memory.
     pub(crate) fn may_begin(&self, walk: &WalkView<'_>) -> bool

@@ -2,6 +2,7 @@ pub mod Aheads
 pub mod Before
 pub mod Besides
 pub mod Ends
+pub mod Floors
 pub mod Fronts
 pub mod Gathered
 pub mod Gathering

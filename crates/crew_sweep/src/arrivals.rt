@@ -49,7 +49,14 @@ pub(crate) fn arrival_at(
     requires sealed { IsSealed ground.now.net.now (length passed.now.pools) place }
     ensures { IfOk result (IsPoolAt ground.now passed.now place) }
 {
-    arrival_from(alloc, ground, place, room, &passed.pools, &passed.walks)
+    arrival_from(
+        alloc,
+        ground,
+        place,
+        room,
+        passed.pools.all(),
+        &passed.walks,
+    )
 }
 
 /// The same from pools over walks, as a pass leaves them.

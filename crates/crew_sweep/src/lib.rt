@@ -25,6 +25,7 @@ mod passed;
 mod passing;
 mod prints;
 mod renewal;
+mod row;
 mod seen;
 mod slide;
 mod slides;

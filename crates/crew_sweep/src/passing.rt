@@ -18,6 +18,7 @@ use crate::arrivals::Arrivals;
 use crate::ground::Ground;
 use crate::passed::Passed;
 use crate::prints::Prints;
+use crate::row::Row;
 use crate::slides::Slides;
 use crate::windows::Waiting;
 use crew_anchor::{AnchoredResource, AnchoredVector};
@@ -26,7 +27,7 @@ use crew_net::Window;
 use crew_pairing::Departure;
 use crew_pool::{Pool, Walks, Workspace};
 use crew_resource::Staged;
-use crew_step::{Pools, departure_pool};
+use crew_step::departure_pool;
 use std::alloc::{AllocError, Global};
 use std::sync::Arc;
 
@@ -90,7 +91,7 @@ impl Passing {
         let net = ground.net;
         let slides = Slides::new(alloc, net.departures())?;
         let arrivals = Arrivals::new(alloc, net.arrivals().len())?;
-        let pools = Pools::with_capacity(alloc, net.departures().len())?;
+        let pools = Row::with_capacity(alloc, net.departures().len())?;
         Ok(Passing {
             room: Workspace::new(alloc),
             slides,

@@ -11,6 +11,7 @@ ghost use Rattle.crew_pool.specs.Counted.{AreCounted};
 ghost use Rattle.crew_resource.specs.Members.{Member};
 ghost use Rattle.crew_step.specs.Walks.{HasGrown};
 ghost use Rattle.crew_sweep.specs.Machinery.Beside.{HasOldLabels, IsBeside, StandsBeside};
+ghost use Rattle.crew_sweep.specs.Machinery.Floors.{IsFloor};
 ghost use Rattle.crew_sweep.specs.Machinery.Grounds.{IsGround};
 ghost use Rattle.crew_sweep.specs.Machinery.Renewing.{IsKeptPool};
 
@@ -40,6 +41,13 @@ pub(crate) struct Renewal {
     pub(crate) differing: Differing,
 }
 
+// A pool that is kept, and the least duty pay of its labels.
+#[derive(Drop)]
+struct Kept {
+    pool: Arc<Pool<AnchoredResource>, Global>,
+    floor: i64,
+}
+
 // The pool of the departure at a place as the earlier pass left it, where all that it waits on is as
 // it was.
 fn kept_pool(
@@ -51,16 +59,17 @@ fn kept_pool(
     alike: &[Option<usize>],
     carrier: &mut Carrier,
     walks: &mut Walks,
-) -> Result<Option<Arc<Pool<AnchoredResource>, Global>>, AllocError>
+) -> Result<Option<Kept>, AllocError>
     requires beside { IsBeside earlier.now ground.now }
     requires place { place < length ground.now.net.now.departures }
     requires marks { length changed.now ≡ length ground.now.net.now.arrivals }
     requires alike { length alike.now ≡ length ground.now.net.now.arrivals }
     requires carried { IsCarried earlier.now.twins.now.ranks earlier.now.sweep.now.walks walks.old
         carrier.old }
-    ensures kept { IfOk result (λ kept. IfSome kept (λ pool. IsKeptPool earlier.now.sweep.now
+    ensures kept { IfOk result (λ kept. IfSome kept (λ it. IsKeptPool earlier.now.sweep.now
         ground.now.net.now earlier.now.twins.now changed.now alike.now walks.new place
-        (arc_value pool))) }
+        (arc_value it.pool))) }
+    ensures floor { IfOk result (λ kept. IfSome kept (λ it. IsFloor it.floor (arc_value it.pool))) }
     ensures carried { OnOk result (IsCarried earlier.now.twins.now.ranks
         earlier.now.sweep.now.walks walks.new carrier.new) }
     ensures grown { HasGrown walks.old walks.new }
@@ -68,7 +77,11 @@ fn kept_pool(
     let Some(position) = earlier.kept_position(ground, changed, alike, place) else {
         return Ok(None);
     };
-    earlier.carried_pool(alloc, ground, position, carrier, walks)
+    let Some(pool) = earlier.carried_pool(alloc, ground, position, carrier, walks)? else {
+        return Ok(None);
+    };
+    let floor = earlier.sweep.duty_pay_floor(position);
+    Ok(Some(Kept { pool, floor }))
 }
 
 // Where the walks of the earlier pass stand, and the walks with which this one begins: each in its own
@@ -145,10 +158,11 @@ impl Renewal {
         let kept = kept_pool(
             alloc, earlier, ground, place, changed, alike, carrier, walks,
         )?;
-        let Some(pool) = kept else {
+        let Some(kept) = kept else {
             return Ok(false);
         };
-        passed.pools.push(pool)?;
+        let Kept { pool, floor } = kept;
+        passed.pools.push_with(pool, floor)?;
         Ok(true)
     }
 }

@@ -1,5 +1,5 @@
 //! What one pass leaves.
-ghost use Rattle.std.specs.Prelude.{◌≡◌, ◌<◌, ◌≤◌, ℕ, List, [], get_or, length, true};
+ghost use Rattle.std.specs.Prelude.{◌≡◌, ◌<◌, ◌≤◌, ◌≤ℤ◌, ℕ, List, [], get_or, length, true};
 ghost use Rattle.std.specs.Arc.{arc_value};
 ghost use Rattle.crew_anchor.specs.Stages.{anchored_resource};
 ghost use Rattle.crew_pairing.specs.Events.{IsSound};
@@ -11,6 +11,7 @@ ghost use Rattle.crew_resource.specs.Members.{Member};
 
 use crate::passed::Passed;
 use crate::prints::Prints;
+use crate::row::Row;
 use crew_anchor::AnchoredResource;
 use crew_flights::Code;
 use crew_net::Net;
@@ -30,7 +31,7 @@ pub struct Sweep {
     price: i64,
     resource: AnchoredResource,
     walks: Walks,
-    pools: Pools<AnchoredResource>,
+    pools: Row,
     prints: Prints,
 }
 
@@ -145,6 +146,16 @@ impl Sweep {
         self.price
     }
 
+    /// A floor of the duty pay of the labels that the departure's pool has that stands there in order of
+    /// report, in points: the least.
+    pub fn duty_pay_floor(&self, index: usize) -> i64
+        requires { index < length self.now.net.by_report }
+        ensures { (l : PairingVector × LabelWalk) → Member (get_or self.now.pools index []) l
+            → result ≤ℤ l.0.duty_pay }
+    {
+        self.pools.floor(index)
+    }
+
     // The pools of all departures, in order of report.
     pub(crate) fn pools(&self) -> &Pools<AnchoredResource>
         ensures all { result.now ≡ self.now.pools }
@@ -158,7 +169,7 @@ impl Sweep {
             → Member self.now.pools labels
             → AreCounted (λ (v : PairingVector). v.duties) self.now.walks true labels }
     {
-        &self.pools
+        self.pools.all()
     }
 
     /// The walks of the labels.
