@@ -44,13 +44,6 @@ pub same-arriving : (old new : Net) (x : Arrival) → map (slice_get old.duties)
     → HaveSameArriving old new x
 same-arriving old new x e d at = (one-way old.duties new.duties x d e at, one-way new.duties old.duties x d (sym e) at)
 
--- equal lists have equal duties at equal ranks
-pub same-listed : (a olds b news : List Duty) (rs rs' ks ks' : List ℕ) → a ≡ olds → b ≡ news → rs ≡ rs' → ks ≡ ks' → map (slice_get a) rs ≡ map (slice_get b) ks → map (slice_get olds) rs' ≡ map (slice_get news) ks'
-same-listed a olds b news rs rs' ks ks' p q r k e =
-    let left : map (slice_get a) rs ≡ map (slice_get olds) rs' = (λ i. map (slice_get (p i)) (r i)) in
-    let right : map (slice_get b) ks ≡ map (slice_get news) ks' = (λ i. map (slice_get (q i)) (k i)) in
-    sym left ∙ (e ∙ right)
-
 -- the duties of the ranks of those that pass a test are those that pass it
 listed : (p : Duty → Bool) (all : List Duty) (i : ℕ) (ds : List Duty) → ((k : ℕ) (d : Duty) → slice_get ds k ≡ Some d → slice_get all (i + k) ≡ Some d)
     → map (slice_get all) (places_from i p ds) ≡ map (λ d. Some d) (filter p ds)

@@ -3,6 +3,7 @@ pub mod Paired
 pub mod Matching
 pub mod Arriving
 pub mod Ties
+pub mod SameDuties
 pub mod Carrying
 pub mod CarriedLabels
 pub mod Permuted

@@ -1,11 +1,13 @@
 //! What two networks have alike.
-ghost use Rattle.std.specs.Prelude.{◌≡◌, ◌<◌, ℕ, IfOk, IfSome, IsTrue, ◌↔◌, Some, length, map, slice_get};
+ghost use Rattle.std.specs.Prelude.{◌≡◌, ◌<◌, ℕ, IfOk, IfSome, IsTrue, ◌↔◌, Some, length, slice_get};
+ghost use Rattle.crew_carry.specs.Carried.{AreTwinWalks, twin_of};
 ghost use Rattle.crew_carry.specs.Machinery.Matches.{AreMatches};
+ghost use Rattle.crew_carry.specs.Machinery.Sames.{AreSameDuties};
 ghost use Rattle.crew_carry.specs.Twins.{AreTwins, HasAllTwins, HaveSameArriving, IsInOrder};
-ghost use Rattle.crew_pairing.specs.Duties.{RiseByKey};
+ghost use Rattle.crew_pairing.specs.Keys.{key_cmp};
 ghost use Rattle.crew_pairing.specs.declared.events.Arrival.{Arrival};
-ghost use Rattle.crew_resource.specs.Members.{Member};
 
+use crate::carrier::twin;
 use crate::in_line::match_up;
 use crew_net::Net;
 use crew_pairing::Duty;
@@ -52,8 +54,11 @@ impl Twins {
             → HasAllTwins old.now new.now twins) }
     {
         let departures = match_up(alloc, new.departures(), old.departures())?;
-        let arrivals = arrival_twins(alloc, old, new)?;
-        let ranks = match_up(alloc, old.duties().as_slice(), new.duties().as_slice())?;
+        let olds = old.duties().as_slice();
+        let news = new.duties().as_slice();
+        let ranks = match_up(alloc, olds, news)?;
+        let same = same_ranks(alloc, olds, &ranks, news)?;
+        let arrivals = arrival_twins(alloc, old, new, &same)?;
         Ok(Twins {
             departures,
             arrivals,
@@ -106,13 +111,53 @@ fn wide(place: Option<u32>) -> Option<usize>
     }
 }
 
+// By rank of the old duties, the rank of the same duty among the new ones, with all its facts.
+//
+// Both lists are read in order, once. The duties of an arrival, which stand far apart, are then
+// compared by rank alone.
+fn same_ranks(
+    alloc: Global,
+    olds: &[Duty],
+    ranks: &[Option<u32>],
+    news: &[Duty],
+) -> Result<Vec<Option<u32>>, AllocError>
+    requires { AreMatches (λ d e. key_cmp d.key e.key) olds.now news.now ranks.now }
+    ensures { IfOk result (λ same. AreSameDuties olds.now news.now same.items) }
+{
+    let mut same = Vec::with_capacity(alloc, ranks.len())?;
+    for rank in 0..ranks.len() {
+        same.push(same_rank(&olds[rank], ranks[rank], news))?;
+    }
+    Ok(same)
+}
+
+// The rank, if the duty there is the same, with all its facts.
+fn same_rank(old: &Duty, found: Option<u32>, news: &[Duty]) -> Option<u32>
+    requires { IfSome found (λ rank. rank < length news.now) }
+    ensures same { IfSome result (λ rank. slice_get news.now rank ≡ Some old.now) }
+    ensures all { (rank : ℕ) → found ≡ Some rank → slice_get news.now rank ≡ Some old.now
+        → result ≡ Some rank }
+{
+    let rank = found?;
+    if is_same_duty(old, &news[rank as usize]) {
+        return Some(rank);
+    }
+    None
+}
+
 // By place of the new arrivals, where the old network has it with the same duties.
-fn arrival_twins(alloc: Global, old: &Net, new: &Net) -> Result<Vec<Option<u32>>, AllocError>
+fn arrival_twins(
+    alloc: Global,
+    old: &Net,
+    new: &Net,
+    same: &[Option<u32>],
+) -> Result<Vec<Option<u32>>, AllocError>
+    requires { AreSameDuties old.now.duties new.now.duties same.now }
     ensures long { IfOk result (λ twins. length twins.items ≡ length new.now.arrivals) }
     ensures same { IfOk result (λ twins. (p q : ℕ) → slice_get twins.items p ≡ Some (Some q)
         → (x : Arrival) × (slice_get old.now.arrivals q ≡ Some x)
         × (slice_get new.now.arrivals p ≡ Some x) × HaveSameArriving old.now new.now x) }
-    ensures all { IfOk result (λ twins. RiseByKey old.now.duties → RiseByKey new.now.duties
+    ensures all { IfOk result (λ twins. IsInOrder old.now → IsInOrder new.now
         → (p q : ℕ) (x : Arrival) → slice_get old.now.arrivals q ≡ Some x
         → slice_get new.now.arrivals p ≡ Some x → HaveSameArriving old.now new.now x
         → slice_get twins.items p ≡ Some (Some q)) }
@@ -120,53 +165,56 @@ fn arrival_twins(alloc: Global, old: &Net, new: &Net) -> Result<Vec<Option<u32>>
     let matches = match_up(alloc, new.arrivals(), old.arrivals())?;
     let mut twins = Vec::with_capacity(alloc, matches.len())?;
     for place in 0..matches.len() {
-        twins.push(arrival_twin(old, matches[place], new, place))?;
+        twins.push(arrival_twin(old, matches[place], new, place, same))?;
     }
     Ok(twins)
 }
 
 // The place in the old network, if the same duties arrive there.
-fn arrival_twin(old: &Net, found: Option<u32>, new: &Net, place: usize) -> Option<u32>
-    requires { IfSome found (λ q. (x : Arrival) × (slice_get old.now.arrivals q ≡ Some x)
+fn arrival_twin(
+    old: &Net,
+    found: Option<u32>,
+    new: &Net,
+    place: usize,
+    same: &[Option<u32>],
+) -> Option<u32>
+    requires found { IfSome found (λ q. (x : Arrival) × (slice_get old.now.arrivals q ≡ Some x)
         × (slice_get new.now.arrivals place ≡ Some x)) }
+    requires same { AreSameDuties old.now.duties new.now.duties same.now }
     ensures same { IfSome result (λ q. (x : Arrival) × (slice_get old.now.arrivals q ≡ Some x)
         × (slice_get new.now.arrivals place ≡ Some x) × HaveSameArriving old.now new.now x) }
-    ensures all { RiseByKey old.now.duties → RiseByKey new.now.duties → (q : ℕ) (x : Arrival)
+    ensures all { IsInOrder old.now → IsInOrder new.now → (q : ℕ) (x : Arrival)
         → found ≡ Some q → slice_get new.now.arrivals place ≡ Some x
         → HaveSameArriving old.now new.now x → result ≡ Some q }
 {
     let was = found?;
-    let olds = old.arriving(was as usize);
-    let news = new.arriving(place);
-    if are_same(old.duties().as_slice(), olds, new.duties().as_slice(), news) {
+    if are_same(same, old.arriving(was as usize), new.arriving(place)) {
         return Some(was);
     }
     None
 }
 
-// Whether the duties of some ranks are those of other ranks, one by one.
-fn are_same(olds: &[Duty], old_ranks: &[u32], news: &[Duty], new_ranks: &[u32]) -> bool
-    requires olds { (r : ℕ) → Member old_ranks.now r → r < length olds.now }
-    requires news { (r : ℕ) → Member new_ranks.now r → r < length news.now }
-    ensures { IsTrue result ↔ (map (slice_get olds.now) old_ranks.now
-        ≡ map (slice_get news.now) new_ranks.now) }
+// Whether the new ranks are those of the same duties as the old ones, one by one.
+fn are_same(same: &[Option<u32>], olds: &[u32], news: &[u32]) -> bool
+    ensures { IsTrue result ↔ AreTwinWalks same.now olds.now news.now }
 {
-    if old_ranks.len() != new_ranks.len() {
+    if olds.len() != news.len() {
         return false;
     }
-    for place in 0..old_ranks.len() {
-        if !is_same_at(olds, old_ranks[place], news, new_ranks[place]) {
+    for place in 0..olds.len() {
+        if !is_same(same, olds[place], news[place]) {
             return false;
         }
     }
     true
 }
 
-// Whether the duties of two ranks are the same, with all their facts.
-fn is_same_at(olds: &[Duty], old: u32, news: &[Duty], new: u32) -> bool
-    requires old { old < length olds.now }
-    requires new { new < length news.now }
-    ensures { IsTrue result ↔ (slice_get olds.now old ≡ slice_get news.now new) }
+// Whether the new rank is that of the same duty as the old one.
+fn is_same(same: &[Option<u32>], old: u32, new: u32) -> bool
+    ensures { IsTrue result ↔ (twin_of same.now old ≡ Some new) }
 {
-    is_same_duty(&olds[old as usize], &news[new as usize])
+    match twin(same, old) {
+        Some(found) => found == new,
+        None => false,
+    }
 }

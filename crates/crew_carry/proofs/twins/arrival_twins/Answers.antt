@@ -18,8 +18,8 @@ kept old new place p o q at e h =
     let At : ℕ → ℕ → Type 0 = λ k n. (x : Arrival) × (slice_get old.arrivals k ≡ Some x) × (slice_get new.arrivals n ≡ Some x) × HaveSameArriving old new x in
     subst (At q) (sym at) (subst (λ (z : Option ℕ). IfSome z (λ k. At k place)) e h)
 
-pub arrival_twin-requires : goal.arrival_twin-requires
-arrival_twin-requires c =
+pub arrival_twin-requires-clause-found : goal.arrival_twin-requires-clause-found
+arrival_twin-requires-clause-found c =
     let matches = c.in_ok-matches.matches.items in
     let i = c.loop-place.place in
     let here = item-at matches i c.index.result.now (let a = c.loop-place-test.true in let b = c.len-place-end.ensures in let d = c.in_ok-matches.matches.ok.0 in omega (arith, a, b, d)) c.index.ensures in

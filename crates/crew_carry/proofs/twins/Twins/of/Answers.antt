@@ -19,8 +19,8 @@ returns c =
     (subst (λ (ys : List Departure). AreMatches departure_cmp c.departures.result.now ys gs) c.departures-2.ensures.events c.in_ok-departures.ensures) in
     let by_key = λ (a b : Duty). key_cmp a.key b.key in
     let duties : AreMatches by_key old.duties new.duties rs =
-    subst (λ (xs : List Duty). AreMatches by_key xs new.duties rs) (c.as_slice.ensures ∙ c.duties.ensures)
-    (subst (λ (ys : List Duty). AreMatches by_key c.as_slice.result.now ys rs) (c.as_slice-2.ensures ∙ c.duties-2.ensures) c.in_ok-ranks.ensures) in
+    subst (λ (xs : List Duty). AreMatches by_key xs new.duties rs) (c.as_slice-olds.ensures ∙ c.duties.ensures)
+    (subst (λ (ys : List Duty). AreMatches by_key c.as_slice-olds.result.now ys rs) (c.as_slice-news.ensures ∙ c.duties-2.ensures) c.in_ok-ranks.ensures) in
     record {
       twins = record {
         departures_long = events.long;
@@ -33,7 +33,7 @@ returns c =
         departures = λ p q g at-old at-new.
             let few = c.departures-2.ensures.few in
             events.all c.departures.ensures.exact.rising c.departures-2.ensures.exact.rising (omega (arith, few)) p q (g, g, at-new, at-old, departure-tie g);
-        arrivals = c.in_ok-arrivals.ensures.all ro.0 rn.0;
+        arrivals = c.in_ok-arrivals.ensures.all ro rn;
         ranks = λ r k d e at-old at-new same.
             let few = rn.1 in
             duties.all (rises old.duties ro.0) (rises new.duties rn.0) (omega (arith, few)) r k (d, e, at-old, at-new, key-tie d e same);
