@@ -4,6 +4,7 @@ pub mod Matching
 pub mod Arriving
 pub mod Ties
 pub mod SameDuties
+pub mod Ends
 pub mod Carrying
 pub mod CarriedLabels
 pub mod Permuted

@@ -1,4 +1,5 @@
 pub mod Twins
 pub mod Carried
 pub mod Labels
+pub mod Spans
 pub mod Machinery

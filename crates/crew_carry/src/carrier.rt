@@ -1,8 +1,10 @@
 //! Pools that are carried from one list of walks to another.
 ghost use Rattle.std.specs.Arc.{arc_value};
-ghost use Rattle.std.specs.Prelude.{◌≡◌, ◌<◌, ℕ, ℤ, IfOk, IfSome, IsNone, List, OnOk, Option, Some, length, map, slice_get, true};
+ghost use Rattle.std.specs.Prelude.{◌≡◌, ◌<◌, ℕ, ℤ, IfOk, IfSome, IsNone, List, OnOk, Option, Some, get_or, length, map, slice_get, true};
 ghost use Rattle.crew_carry.specs.Carried.{AreTwinWalks, IsCarried, LacksTwin, twin_of};
 ghost use Rattle.crew_carry.specs.Labels.{AreCarriedLabels};
+ghost use Rattle.crew_carry.specs.Machinery.Ends.{AreEnds, AreKept};
+ghost use Rattle.crew_carry.specs.Spans.{StandsWithin};
 ghost use Rattle.crew_carry.specs.Twins.{AreRankTwins};
 ghost use Rattle.crew_pairing.specs.declared.duty.Duty.{Duty};
 ghost use Rattle.crew_pool.specs.Arena.{walk_at};
@@ -13,6 +15,7 @@ ghost use Rattle.crew_pool.specs.declared.label_walk.LabelWalk.{LabelWalk};
 ghost use Rattle.crew_resource.specs.Members.{Member};
 ghost use Rattle.crew_step.specs.Walks.{HasGrown};
 
+use crate::span::Span;
 use crew_pool::{LabelWalk, NO_DUTY, Pool, Walks};
 use crew_resource::Resource;
 use std::alloc::{AllocError, Global};
@@ -24,11 +27,14 @@ use std::sync::Arc;
 /// A contract sees, by place of an old walk, its place among the new ones.
 pub struct Carrier {
     places: Vec<Option<u32>>,
+    // By place of an old walk, the first place from there on whose walk wasn't carried to its own, or
+    // the number of places. `new` makes none.
+    ends: Vec<u32>,
 }
 
 impl Drop for Carrier {
     fn drop(self) {
-        let Self { places: _ } = self;
+        let Self { places: _, ends: _ } = self;
     }
 }
 
@@ -36,6 +42,8 @@ impl Model for Carrier {
     ghost Value = { List (Option ℕ) };
 
     ghost view = { λ c. c.places.items };
+
+    ghost invariant = { λ c. AreEnds c.ends.items c.places.items };
 }
 
 impl Carrier {
@@ -45,7 +53,8 @@ impl Carrier {
             → length from ≡ count → IsCarried ranks from to carrier) }
     {
         let places = vec![in alloc; None; count]?;
-        Ok(Carrier { places })
+        let ends = Vec::new(alloc);
+        Ok(Carrier { places, ends })
     }
 
     /// For all old walks, which are carried at once, with the new walks.
@@ -61,13 +70,17 @@ impl Carrier {
         ensures { IfOk result (λ made. IsCarried ranks.now from.now made.1 made.0) }
     {
         let mut to = Walks::new(alloc);
-        let mut carrier = Carrier::new(alloc, from.count())?;
-        carry_all(&mut carrier.places, from, ranks, &mut to)?;
-        Ok((carrier, to))
+        let mut places = vec![in alloc; None; from.count()]?;
+        carry_all(&mut places, from, ranks, &mut to)?;
+        let ends = ends_of(alloc, &places)?;
+        Ok((Carrier { places, ends }, to))
     }
 
     /// A pool over the new walks, as `carry` makes it: the old one itself, shared, where each of its
     /// walks is carried to its own place.
+    ///
+    /// All walks of the pool stand within the span. Where each walk of the span stands at its own place,
+    /// no label is looked at.
     ///
     /// On want of memory some walks may already have been added, and nothing else has changed.
     pub fn share<R: Resource>(
@@ -104,6 +117,16 @@ impl Carrier {
             return Ok(None);
         };
         Ok(Some(Arc::new(alloc, new)?))
+    }
+
+    /// Whether each walk of a span was carried to its own place, and the empty one too: so a pool whose
+    /// walks stand there can be shared as it stands, and no label is looked at. Never where none was
+    /// carried at once. It takes no memory.
+    pub fn stands(&self, span: Span) -> bool
+        ensures { result ≡ true → (walk : ℕ) → StandsWithin span walk
+            → slice_get self.now walk ≡ Some (Some walk) }
+    {
+        end_of(&self.ends, 0) > 0 && end_of(&self.ends, span.first) > span.last
     }
 
     /// A pool over the new walks, with the same vectors in the same order, each at its old walk's
@@ -194,14 +217,36 @@ fn carry_next(
 }
 
 // Whether a walk was carried to its own place.
-fn is_in_place(places: &[Option<u32>], walk: u32) -> bool
+fn is_in_place(places: &[Option<u32>], walk: usize) -> bool
     requires { walk < length places.now }
     ensures { result ≡ true → slice_get places.now walk ≡ Some (Some walk) }
 {
-    match places[walk as usize] {
-        Some(place) => place == walk,
+    match places[walk] {
+        Some(place) => place as usize == walk,
         None => false,
     }
+}
+
+// By place of a walk, the first from there on that wasn't carried to its own place.
+fn ends_of(alloc: Global, places: &[Option<u32>]) -> Result<Vec<u32>, AllocError>
+    ensures { IfOk result (λ ends. AreEnds ends.items places.now) }
+{
+    let mut ends = vec![in alloc; 0; places.len()]?;
+    let mut end = places.len();
+    for walk in (0..places.len()).rev() {
+        if !is_in_place(places, walk) {
+            end = walk;
+        }
+        ends[walk] = u32::try_from(end).unwrap_or(0);
+    }
+    Ok(ends)
+}
+
+// The end of a place, 0 where there is none.
+fn end_of(ends: &[u32], place: u32) -> u32
+    ensures { result ≡ get_or ends.now place 0 }
+{
+    ends.get(place as usize).copied().unwrap_or(0)
 }
 
 // Whether the walks of all labels were carried to their own places.
@@ -211,7 +256,7 @@ fn are_in_place<R: Resource>(places: &[Option<u32>], labels: &[(R::Value, LabelW
         → slice_get places.now l.1.walk ≡ Some (Some l.1.walk) }
 {
     for label in labels {
-        if !is_in_place(places, label.1.walk) {
+        if !is_in_place(places, label.1.walk as usize) {
             return false;
         }
     }
@@ -234,6 +279,7 @@ fn carry_labels<R: Resource>(
     requires carried { IsCarried ranks.now from.now to.old places.old }
     ensures carried { IsCarried ranks.now from.now to.new places.new }
     ensures grown { HasGrown to.old to.new }
+    ensures kept { AreKept places.old places.new }
     ensures labels { IfOk result (λ o. IfSome o (λ new.
         AreCarriedLabels ranks.now from.now to.new labels.now new.items)) }
     ensures none { IfOk result (λ o. IsNone o → (l : R.Value × LabelWalk) × Member labels.now l
@@ -264,6 +310,7 @@ fn carry_walk(
     requires carried { IsCarried ranks.now from.now to.old places.old }
     ensures carried { IsCarried ranks.now from.now to.new places.new }
     ensures grown { HasGrown to.old to.new }
+    ensures kept { AreKept places.old places.new }
     ensures walk { IfOk result (λ o. IfSome o (λ place. (place < length to.new)
         × AreTwinWalks ranks.now (walk_at from.now walk) (walk_at to.new place))) }
     ensures none { IfOk result (λ o. IsNone o → LacksTwin ranks.now (walk_at from.now walk)) }

@@ -2,7 +2,7 @@ pub mod Aheads
 pub mod Before
 pub mod Besides
 pub mod Ends
-pub mod Floors
+pub mod Lows
 pub mod Fronts
 pub mod Gathered
 pub mod Gathering
@@ -23,5 +23,6 @@ pub mod Renewed
 pub mod SeenOnes
 pub mod Shown
 pub mod Slidings
+pub mod Standing
 pub mod Steps
 pub mod Unders

@@ -1,7 +1,7 @@
 -- Events by number, the slides of windows, and what a sweep keeps of its labels and knows of its pools.
 pub mod Numbered
 pub mod Kept
-pub mod Floors
+pub mod Digests
 pub mod Passing
 pub mod Parts
 pub mod Sliding

@@ -49,14 +49,8 @@ pub(crate) fn arrival_at(
     requires sealed { IsSealed ground.now.net.now (length passed.now.pools) place }
     ensures { IfOk result (IsPoolAt ground.now passed.now place) }
 {
-    arrival_from(
-        alloc,
-        ground,
-        place,
-        room,
-        passed.pools.all(),
-        &passed.walks,
-    )
+    let pools = passed.pools.all();
+    arrival_from(alloc, ground, place, room, pools, &passed.walks)
 }
 
 /// The same from pools over walks, as a pass leaves them.

@@ -1,16 +1,18 @@
 //! What an earlier pass left.
 ghost use Rattle.std.specs.Arc.{arc_value};
-ghost use Rattle.std.specs.Prelude.{◌≡◌, ◌<◌, ◌≤◌, ℕ, Option, IfOk, IfSome, length, slice_get, true, Some, ◌-◌};
+ghost use Rattle.std.specs.Prelude.{◌≡◌, ◌<◌, ◌≤◌, ℕ, Option, IfOk, IfSome, [], get_or, length, slice_get, true, Some, ◌-◌};
 ghost use Rattle.crew_anchor.specs.Machinery.Bounds.{fits_in};
 ghost use Rattle.crew_anchor.specs.Stages.{anchored_resource};
 ghost use Rattle.crew_carry.specs.Carried.{IsCarried};
 ghost use Rattle.crew_net.specs.Positions.{ArePositions, in_order};
 ghost use Rattle.crew_step.specs.Walks.{HasGrown};
 ghost use Rattle.crew_sweep.specs.Machinery.Beside.{IsBeside};
+ghost use Rattle.crew_sweep.specs.Machinery.Digests.{IsDigest};
 ghost use Rattle.crew_sweep.specs.Machinery.Kept.{sparing_of};
 ghost use Rattle.crew_sweep.specs.Machinery.Renewing.{IsAsItWas, IsKeptPosition, IsPositionPool, IsWindowKept};
 ghost use Rattle.crew_sweep.specs.Sweeps.{IsEarlier};
 
+use crate::digest::Digest;
 use crate::ground::Ground;
 use crate::swept::Sweep;
 use crew_anchor::AnchoredResource;
@@ -29,6 +31,13 @@ pub(crate) struct Earlier<'a> {
     pub(crate) twins: &'a Twins,
     pub(crate) places: &'a [u32],
     pub(crate) ground: Ground<'a>,
+}
+
+/// A pool of the earlier sweep over the walks of another pass, and its digest.
+#[derive(Drop)]
+pub(crate) struct Kept {
+    pub(crate) pool: Arc<Pool<AnchoredResource>, Global>,
+    pub(crate) digest: Digest,
 }
 
 /// Whether the arrival at a place shows what the old one at another showed: no change is marked there
@@ -169,6 +178,33 @@ impl<'a> Earlier<'a> {
         position_of(self.sweep.net(), self.positions, old)
     }
 
+    // The pool of the departure that had a position, shared, where its walks stand at their own places
+    // among those of a pass beside the earlier one.
+    fn standing_pool(
+        &self,
+        ground: &Ground,
+        position: usize,
+        carrier: &Carrier,
+        walks: &Walks,
+    ) -> Result<Option<Arc<Pool<AnchoredResource>, Global>>, AllocError>
+        requires beside { IsBeside self.now ground.now }
+        requires position { position < length self.now.sweep.now.net.by_report }
+        requires carried { IsCarried self.now.twins.now.ranks self.now.sweep.now.walks walks.now
+            carrier.now }
+        ensures pool { IfOk result (λ standing. IfSome standing (λ pool. IsPositionPool
+            self.now.sweep.now ground.now.net.now walks.now position (arc_value pool))) }
+        ensures same { IfOk result (λ standing. IfSome standing (λ pool.
+            arc_value pool ≡ get_or self.now.sweep.now.pools position [])) }
+    {
+        let _walks = walks;
+        let sweep = self.sweep;
+        if !carrier.stands(sweep.digest(position).span) {
+            return Ok(None);
+        }
+        let pool = sweep.shared(position);
+        Ok(Some(Arc::try_clone(pool)?))
+    }
+
     /// The pool of the departure that had a position, over the walks of a pass beside the earlier one,
     /// where each duty of it is still there.
     pub(crate) fn carried_pool(
@@ -194,5 +230,37 @@ impl<'a> Earlier<'a> {
         let pool = sweep.shared(position);
         let from = sweep.walks();
         carrier.share(alloc, &ground.resource, pool, from, ranks, walks)
+    }
+
+    /// The same pool with its digest. Where its walks stand at their own places no label is looked at.
+    pub(crate) fn kept(
+        &self,
+        alloc: Global,
+        ground: &Ground,
+        position: usize,
+        carrier: &mut Carrier,
+        walks: &mut Walks,
+    ) -> Result<Option<Kept>, AllocError>
+        requires beside { IsBeside self.now ground.now }
+        requires position { position < length self.now.sweep.now.net.by_report }
+        requires carried { IsCarried self.now.twins.now.ranks self.now.sweep.now.walks walks.old
+            carrier.old }
+        ensures pool { IfOk result (λ kept. IfSome kept (λ it. IsPositionPool
+            self.now.sweep.now ground.now.net.now walks.new position (arc_value it.pool))) }
+        ensures digest { IfOk result (λ kept. IfSome kept
+            (λ it. IsDigest it.digest (arc_value it.pool))) }
+        ensures carried { IsCarried self.now.twins.now.ranks self.now.sweep.now.walks walks.new
+            carrier.new }
+        ensures grown { HasGrown walks.old walks.new }
+    {
+        if let Some(pool) = self.standing_pool(ground, position, carrier, walks)? {
+            let digest = self.sweep.digest(position);
+            return Ok(Some(Kept { pool, digest }));
+        }
+        let Some(pool) = self.carried_pool(alloc, ground, position, carrier, walks)? else {
+            return Ok(None);
+        };
+        let digest = Digest::of(&pool);
+        Ok(Some(Kept { pool, digest }))
     }
 }

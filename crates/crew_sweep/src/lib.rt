@@ -16,6 +16,7 @@ mod anew;
 mod arrivals;
 mod batch;
 mod differing;
+mod digest;
 mod earlier;
 mod ground;
 pub mod laws;

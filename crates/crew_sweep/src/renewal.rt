@@ -11,12 +11,12 @@ ghost use Rattle.crew_pool.specs.Counted.{AreCounted};
 ghost use Rattle.crew_resource.specs.Members.{Member};
 ghost use Rattle.crew_step.specs.Walks.{HasGrown};
 ghost use Rattle.crew_sweep.specs.Machinery.Beside.{HasOldLabels, IsBeside, StandsBeside};
-ghost use Rattle.crew_sweep.specs.Machinery.Floors.{IsFloor};
+ghost use Rattle.crew_sweep.specs.Machinery.Digests.{IsDigest};
 ghost use Rattle.crew_sweep.specs.Machinery.Grounds.{IsGround};
 ghost use Rattle.crew_sweep.specs.Machinery.Renewing.{IsKeptPool};
 
 use crate::differing::Differing;
-use crate::earlier::Earlier;
+use crate::earlier::{Earlier, Kept};
 use crate::ground::Ground;
 use crate::passing::Passing;
 use crew_anchor::AnchoredResource;
@@ -41,13 +41,6 @@ pub(crate) struct Renewal {
     pub(crate) differing: Differing,
 }
 
-// A pool that is kept, and the least duty pay of its labels.
-#[derive(Drop)]
-struct Kept {
-    pool: Arc<Pool<AnchoredResource>, Global>,
-    floor: i64,
-}
-
 // The pool of the departure at a place as the earlier pass left it, where all that it waits on is as
 // it was.
 fn kept_pool(
@@ -69,7 +62,8 @@ fn kept_pool(
     ensures kept { IfOk result (λ kept. IfSome kept (λ it. IsKeptPool earlier.now.sweep.now
         ground.now.net.now earlier.now.twins.now changed.now alike.now walks.new place
         (arc_value it.pool))) }
-    ensures floor { IfOk result (λ kept. IfSome kept (λ it. IsFloor it.floor (arc_value it.pool))) }
+    ensures digest { IfOk result (λ kept. IfSome kept
+        (λ it. IsDigest it.digest (arc_value it.pool))) }
     ensures carried { OnOk result (IsCarried earlier.now.twins.now.ranks
         earlier.now.sweep.now.walks walks.new carrier.new) }
     ensures grown { HasGrown walks.old walks.new }
@@ -77,11 +71,7 @@ fn kept_pool(
     let Some(position) = earlier.kept_position(ground, changed, alike, place) else {
         return Ok(None);
     };
-    let Some(pool) = earlier.carried_pool(alloc, ground, position, carrier, walks)? else {
-        return Ok(None);
-    };
-    let floor = earlier.sweep.duty_pay_floor(position);
-    Ok(Some(Kept { pool, floor }))
+    earlier.kept(alloc, ground, position, carrier, walks)
 }
 
 // Where the walks of the earlier pass stand, and the walks with which this one begins: each in its own
@@ -161,8 +151,8 @@ impl Renewal {
         let Some(kept) = kept else {
             return Ok(false);
         };
-        let Kept { pool, floor } = kept;
-        passed.pools.push_with(pool, floor)?;
+        let Kept { pool, digest } = kept;
+        passed.pools.push_with(pool, digest)?;
         Ok(true)
     }
 }

@@ -9,6 +9,7 @@ ghost use Rattle.crew_pool.specs.Counted.{AreCounted};
 ghost use Rattle.crew_pool.specs.declared.label_walk.LabelWalk.{LabelWalk};
 ghost use Rattle.crew_resource.specs.Members.{Member};
 
+use crate::digest::Digest;
 use crate::passed::Passed;
 use crate::prints::Prints;
 use crate::row::Row;
@@ -76,6 +77,7 @@ impl Sweep {
     ghost use Rattle.crew_anchor.specs.Machinery.Bounds.{fits_in};
     ghost use Rattle.crew_flights.specs.Timetable.{IsBasePrice, IsSound as IsSoundTable, Timetable};
     ghost use Rattle.crew_pairing.specs.Duties.{AreDuties};
+    ghost use Rattle.crew_sweep.specs.Machinery.Digests.{IsDigest};
     ghost use Rattle.crew_sweep.specs.Machinery.Grounds.{IsLeft};
     ghost use Rattle.crew_sweep.specs.Machinery.Kept.{AreKept, keyed_pools, sparing_of};
     ghost use Rattle.crew_sweep.specs.Machinery.Numbered.{AreLocal};
@@ -153,7 +155,7 @@ impl Sweep {
         ensures { (l : PairingVector × LabelWalk) → Member (get_or self.now.pools index []) l
             → result ≤ℤ l.0.duty_pay }
     {
-        self.pools.floor(index)
+        self.digest(index).floor
     }
 
     // The pools of all departures, in order of report.
@@ -203,6 +205,14 @@ impl Sweep {
     /// speed.
     pub(crate) fn print(&self, place: usize) -> Option<u64> {
         self.prints.at(place)
+    }
+
+    /// The digest of the pool of the departure that stands there in order of report.
+    pub(crate) fn digest(&self, index: usize) -> Digest
+        requires { index < length self.now.net.by_report }
+        ensures { IsDigest result (get_or self.now.pools index []) }
+    {
+        self.pools.digest(index)
     }
 
     /// How many labels the pools have. No clause says so, since it is there for memory's sake.

@@ -6,7 +6,7 @@ use Rattle.crew_pairing.specs.declared.vector.PairingVector.{PairingVector}
 use Rattle.crew_pool.specs.declared.label_walk.LabelWalk.{LabelWalk}
 use Rattle.crew_sweep.specs.Machinery.Passing.{IsPassing}
 use Rattle.crew_sweep.specs.Machinery.Renewing.{IsKeptPool, IsRenewing}
-use Rattle.crew_sweep.specs.declared.renewal.Kept.{Kept}
+use Rattle.crew_sweep.specs.declared.earlier.Kept.{Kept}
 use Rattle.crew_sweep.proofs.Besides as besides
 use Rattle.crew_sweep.proofs.renewal.Renewal.keep_departure.Goals as goal
 

@@ -3,8 +3,8 @@ use Rattle.std.specs.Prelude.{◌≤ℤ◌}
 use Rattle.std.proofs.lemmas.Int.{ints}
 use Rattle.crew_pairing.specs.declared.vector.PairingVector.{PairingVector}
 use Rattle.crew_pool.specs.declared.label_walk.LabelWalk.{LabelWalk}
-use Rattle.crew_sweep.proofs.Floors.{floor-more}
-use Rattle.crew_sweep.proofs.row.floor_of.Goals as goal
+use Rattle.crew_sweep.proofs.Lows.{floor-more}
+use Rattle.crew_sweep.proofs.digest.floor_of.Goals as goal
 
 pub loop-label-preserved : goal.loop-label-preserved
 loop-label-preserved c =
@@ -18,4 +18,4 @@ loop-label-preserved c =
     let less : next ≤ℤ floor = subst (λ z. z ≤ℤ floor) (sym value) c.min-floor.ensures.self_bound in
     let own : next ≤ℤ label.0.duty_pay = subst (λ z. z ≤ℤ label.0.duty_pay) (sym value) (subst (λ z. c.min-floor.result ≤ℤ z) (same ∙ c.duty_pay.ensures) c.min-floor.ensures.other_bound) in
     floor-more labels i label floor next c.loop-label-test.true c.loop-label.invariant less
-        (subst (λ (z : PairingVector × LabelWalk). next ≤ℤ z.0.duty_pay) c.label-item.is own)
+    (subst (λ (z : PairingVector × LabelWalk). next ≤ℤ z.0.duty_pay) c.label-item.is own)

@@ -1,6 +1,6 @@
 use Rattle.std.proofs.Common.{take}
-use Rattle.crew_sweep.specs.Machinery.Floors.{IsFloor}
-use Rattle.crew_sweep.proofs.row.floor_of.Given as goal
+use Rattle.crew_sweep.specs.Machinery.Digests.{IsFloor}
+use Rattle.crew_sweep.proofs.digest.floor_of.Given as goal
 
 -- none of the labels so far is less
 abbrev pub invariant-loop-label : goal.invariant-loop-label
