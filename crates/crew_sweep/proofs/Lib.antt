@@ -20,6 +20,7 @@ pub mod Passable
 pub mod Prices
 pub mod Redone
 pub mod Renewed
+pub mod SamePools
 pub mod SeenOnes
 pub mod Shown
 pub mod Slidings

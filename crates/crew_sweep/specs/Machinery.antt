@@ -11,3 +11,4 @@ pub mod Renewing
 pub mod Beside
 pub mod Mending
 pub mod Ahead
+pub mod Same

@@ -45,7 +45,8 @@ impl Renewal {
         (passed, prints)
     }
 
-    // The pass goes on by one departure, whose pool is mended where it can be, or else made anew.
+    // The pass goes on by one departure, which shares the pool of the one before it, or else has its own
+    // mended where it can be, or else made anew.
     fn make_departure(
         &mut self,
         alloc: Global,
@@ -67,6 +68,9 @@ impl Renewal {
         ensures made { OnOk result ((pool : List (PairingVector × LabelWalk))
             × (self.new.passing.passed.pools ≡ self.old.passing.passed.pools ++ pool ∷ [])) }
     {
+        if self.passing.can_share(ground, place) {
+            return self.passing.go_on_alike(alloc, ground, place);
+        }
         if self.mend_departure(alloc, earlier, ground, place)? {
             return Ok(());
         }

@@ -90,8 +90,8 @@ fn is_kept(
     true
 }
 
-// The position of the departure at a place.
-fn position_of(net: &Net, positions: &[u32], departure: usize) -> Option<usize>
+/// The position of the departure at a place.
+pub(crate) fn position_of(net: &Net, positions: &[u32], departure: usize) -> Option<usize>
     requires departure { departure < length net.now.departures }
     requires positions { ArePositions net.now positions.now }
     ensures { IfSome result (λ position. slice_get (in_order net.now) position

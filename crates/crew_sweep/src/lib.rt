@@ -27,6 +27,7 @@ mod passing;
 mod prints;
 mod renewal;
 mod row;
+mod same;
 mod seen;
 mod slide;
 mod slides;

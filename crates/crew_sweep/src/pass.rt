@@ -34,7 +34,7 @@ impl Passing {
         for departure in ground.net.by_report() {
             let place = *departure as usize;
             self.begin_batch(alloc, ground);
-            self.go_on(alloc, ground, place)?;
+            self.go_on_alike(alloc, ground, place)?;
         }
         Ok(())
     }
@@ -89,6 +89,9 @@ impl Passing {
         ensures grown { HasGrown self.old.passed.walks self.new.passed.walks }
         ensures arrivals { IfSome waiting (λ _. self.new.arrivals ≡ self.old.arrivals) }
     {
+        if self.share_departure(ground, place)? {
+            return Ok(());
+        }
         match waiting {
             Some(waiting) => self.go_on_with(alloc, ground, &waiting),
             None => self.go_on(alloc, ground, place),

@@ -42,8 +42,8 @@ pub(crate) struct Passing {
     pub(crate) batch_end: usize,
 }
 
-// The empty label of a departure: where the base is.
-fn idle_label(
+/// The empty label of a departure: where the base is.
+pub(crate) fn idle_label(
     resource: &AnchoredResource,
     base: Code,
     departure: &Departure,

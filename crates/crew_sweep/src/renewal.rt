@@ -82,7 +82,8 @@ fn walks_beside(alloc: Global, earlier: &Earlier) -> Result<(Carrier, Walks), Al
 {
     let sweep = earlier.sweep;
     let from = sweep.walks();
-    if from.count() / SPARE > sweep.label_count() {
+    let labels = sweep.label_count(alloc)?;
+    if from.count() / SPARE > labels {
         let carrier = Carrier::new(alloc, from.count())?;
         return Ok((carrier, Walks::new(alloc)));
     }

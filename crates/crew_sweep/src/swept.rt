@@ -18,7 +18,7 @@ use crew_flights::Code;
 use crew_net::Net;
 use crew_pool::{Pool, Walks};
 use crew_step::Pools;
-use std::alloc::Global;
+use std::alloc::{AllocError, Global};
 use std::marker::Model;
 use std::sync::Arc;
 
@@ -215,12 +215,23 @@ impl Sweep {
         self.pools.digest(index)
     }
 
-    /// How many labels the pools have. No clause says so, since it is there for memory's sake.
-    pub(crate) fn label_count(&self) -> usize {
-        let mut count: usize = 0;
+    /// How many labels the pools have, those of departures that share one once: their walks stand at the
+    /// same places. No clause says so, since it is there for memory's sake.
+    pub(crate) fn label_count(&self, alloc: Global) -> Result<usize, AllocError> {
+        let mut spans = Vec::with_capacity(alloc, self.pools.len())?;
         for position in 0..self.pools.len() {
-            count = count.saturating_add(self.pools.get(position).len());
+            let span = self.pools.digest(position).span;
+            spans.push((span.first, span.last, self.pools.get(position).len()))?;
         }
-        count
+        spans.sort_unstable();
+        let mut count: usize = 0;
+        let mut last = (0, 0, 0);
+        for span in spans {
+            if span != last {
+                count = count.saturating_add(span.2);
+                last = span;
+            }
+        }
+        Ok(count)
     }
 }
