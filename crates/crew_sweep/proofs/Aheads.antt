@@ -28,6 +28,10 @@ pub pooled-by : (net : Net) (base : List ℕ) (r : AnchoredResource) (before aft
 pooled-by net base r before after place w held labels pool ordered part over g at =
     over g at (flat_map (map (shown before)) (take (w.end - w.from) (drop w.from held))) (part-listed before held w.from w.end labels ordered part)
 
+some-by : {A : Type 0} (o : Option A) (P Q : A → Type 0) → ((a : A) → P a → Q a) → IfSome o P → IfSome o Q
+some-by None P Q f p = tt
+some-by (Some a) P Q f p = f a p
+
 module _ (net : Net) where
   -- one more at the end
   pub ahead-more : (walks : List (List ℕ)) (made : List Bool) (held : List Labels) (position : ℕ) (ws : List Waiting) (w : Waiting) → AreAhead net walks made held position ws
@@ -45,7 +49,7 @@ module _ (net : Net) where
           place = one.place;
           window = one.window;
           are_made = one.are_made;
-          part = part-grown before after grown held pending w.window.from w.window.end w.pool one.part;
+          part = some-by w.pool _ _ (λ pool. part-grown before after grown held pending w.window.from w.window.end pool) one.part;
         },
         ahead-grown before after grown made held pending (suc position) ws all.1,
       )
@@ -60,7 +64,7 @@ module _ (net : Net) where
           place = one.place;
           window = one.window;
           are_made = λ p from end. (stayed p (one.are_made p from end)).0;
-          part = part-framed walks held held' w.window.from w.window.end w.pool (λ p from end. (stayed p (one.are_made p from end)).1) one.part;
+          part = some-by w.pool _ _ (λ pool. part-framed walks held held' w.window.from w.window.end pool (λ p from end. (stayed p (one.are_made p from end)).1)) one.part;
         },
         ahead-stayed walks made held made' held' stayed (suc position) ws all.1,
       )

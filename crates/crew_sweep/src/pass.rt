@@ -93,7 +93,7 @@ impl Passing {
             return Ok(());
         }
         match waiting {
-            Some(waiting) => self.go_on_with(alloc, ground, &waiting),
+            Some(waiting) => self.go_on_ahead(alloc, ground, &waiting),
             None => self.go_on(alloc, ground, place),
         }
     }

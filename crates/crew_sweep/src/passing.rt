@@ -12,6 +12,7 @@ ghost use Rattle.crew_step.specs.Walks.{HasGrown};
 ghost use Rattle.crew_sweep.specs.Machinery.Grounds.{IsGround, Stands, Stay};
 ghost use Rattle.crew_sweep.specs.Machinery.Numbered.{idle_at};
 ghost use Rattle.crew_sweep.specs.Machinery.Ahead.{IsAhead};
+ghost use Rattle.crew_sweep.specs.Machinery.Parts.{IsPart};
 ghost use Rattle.crew_sweep.specs.Machinery.Passing.{AreMade, IsMade, IsPooled, IsPooledOver, IsSealed};
 
 use crate::arrivals::Arrivals;
@@ -158,8 +159,64 @@ impl Passing {
         pool_over(alloc, ground, &mut self.room, place, waiting, walks)
     }
 
-    /// The pass goes on by the departure of which it is merged what stands in its window.
-    pub(crate) fn go_on_with(
+    // The pass goes on by the departure of which it is merged what stands in its window.
+    fn go_on_with(
+        &mut self,
+        alloc: Global,
+        ground: &Ground,
+        ahead: &Waiting,
+        waiting: &Pool<AnchoredResource>,
+    ) -> Result<(), AllocError>
+        requires ground { IsGround ground.now }
+        requires stands { Stands ground.now self.old }
+        requires ahead { IsAhead ground.now.net.now self.old.passed.walks
+            self.old.arrivals.made.items self.old.arrivals.pools.items
+            (length self.old.passed.pools) ahead.now }
+        requires part { IsPart self.old.passed.walks self.old.arrivals.pools.items
+            ahead.now.window.from ahead.now.window.end waiting.now }
+        ensures stands { OnOk result (Stands ground.now self.new) }
+        ensures more { OnOk result (length self.new.passed.pools
+            ≡ length self.old.passed.pools + 1) }
+        ensures grown { HasGrown self.old.passed.walks self.new.passed.walks }
+        ensures arrivals { self.new.arrivals ≡ self.old.arrivals }
+    {
+        let place = ahead.place;
+        let room = &mut self.room;
+        let walks = &mut self.passed.walks;
+        let pool = pool_over(alloc, ground, room, place, waiting, walks)?;
+        self.passed.pools.push(Arc::new(alloc, pool)?)?;
+        Ok(())
+    }
+
+    // The pass goes on by the departure at a place, of whose window all is made.
+    fn go_on_at(
+        &mut self,
+        alloc: Global,
+        ground: &Ground,
+        place: usize,
+        window: Window,
+    ) -> Result<(), AllocError>
+        requires ground { IsGround ground.now }
+        requires stands { Stands ground.now self.old }
+        requires place { slice_get ground.now.net.now.by_report
+            (length self.old.passed.pools) ≡ Some place }
+        requires window { (g : Departure) → slice_get ground.now.net.now.departures place ≡ Some g
+            → IsWindow (λ x. may_wait ground.now.net.now.settings x g)
+            ground.now.net.now.arrivals window }
+        requires made { AreMade self.old.arrivals.made.items window }
+        ensures stands { OnOk result (Stands ground.now self.new) }
+        ensures more { OnOk result (length self.new.passed.pools
+            ≡ length self.old.passed.pools + 1) }
+        ensures grown { HasGrown self.old.passed.walks self.new.passed.walks }
+        ensures arrivals { self.new.arrivals ≡ self.old.arrivals }
+    {
+        let pool = self.pool_at(alloc, ground, place, window)?;
+        self.passed.pools.push(Arc::new(alloc, pool)?)?;
+        Ok(())
+    }
+
+    /// The pass goes on by a departure of whose window all is made, and which may be merged.
+    pub(crate) fn go_on_ahead(
         &mut self,
         alloc: Global,
         ground: &Ground,
@@ -176,12 +233,10 @@ impl Passing {
         ensures grown { HasGrown self.old.passed.walks self.new.passed.walks }
         ensures arrivals { self.new.arrivals ≡ self.old.arrivals }
     {
-        let place = ahead.place;
-        let room = &mut self.room;
-        let walks = &mut self.passed.walks;
-        let pool = pool_over(alloc, ground, room, place, &ahead.pool, walks)?;
-        self.passed.pools.push(Arc::new(alloc, pool)?)?;
-        Ok(())
+        match &ahead.pool {
+            Some(waiting) => self.go_on_with(alloc, ground, ahead, waiting),
+            None => self.go_on_at(alloc, ground, ahead.place, ahead.window),
+        }
     }
 
     /// What the pass leaves, with the numbers of its arrivals.

@@ -47,6 +47,15 @@ fn same_position(ground: &Ground, place: usize) -> Option<usize>
     position_of(ground.net, ground.positions, before)
 }
 
+/// Whether the departure at a place has the pool of the one before it at its airport. No clause says so,
+/// since it is there for speed.
+pub(crate) fn shares_pool(ground: &Ground, place: usize) -> bool
+    requires ground { IsGround ground.now }
+    requires place { place < length ground.now.net.now.departures }
+{
+    same_position(ground, place).is_some()
+}
+
 impl Passing {
     /// The pass goes on by the departure at a place, where it shares the pool of the one before it at its
     /// airport: `false` where not.

@@ -12,6 +12,7 @@ ghost use Rattle.crew_sweep.specs.Machinery.Slides.{AreUnderWay};
 use crate::arrivals::Arrivals;
 use crate::ground::Ground;
 use crate::passed::Passed;
+use crate::same::shares_pool;
 use crate::slides::Slides;
 use crew_anchor::AnchoredResource;
 use crew_claims::Work;
@@ -19,12 +20,13 @@ use crew_net::Window;
 use crew_pool::Pool;
 use std::alloc::{AllocError, Global};
 
-/// What stands in the window of the departure at a place, merged before the pass comes to it.
+/// What stands in the window of the departure at a place, merged before the pass comes to it, unless the
+/// departure shares the pool of another.
 #[derive(Drop)]
 pub(crate) struct Waiting {
     pub(crate) place: usize,
     pub(crate) window: Window,
-    pub(crate) pool: Pool<AnchoredResource>,
+    pub(crate) pool: Option<Pool<AnchoredResource>>,
 }
 
 /// Slides that have gone on to the windows of departures in a row, and what stands in each.
@@ -74,6 +76,13 @@ impl Slides {
         if !arrivals.have_made(window) {
             return Ok(None);
         }
+        if shares_pool(ground, place) {
+            return Ok(Some(Waiting {
+                place,
+                window,
+                pool: None,
+            }));
+        }
         let resource = &ground.resource;
         let held = &arrivals.pools;
         let number = self.slide_to(alloc, resource, place, held, window, &passed.walks)?;
@@ -81,7 +90,7 @@ impl Slides {
         Ok(Some(Waiting {
             place,
             window,
-            pool,
+            pool: Some(pool),
         }))
     }
 

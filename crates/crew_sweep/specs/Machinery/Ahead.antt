@@ -1,5 +1,5 @@
 -- What stands in the windows of departures that a pass has yet to come to.
-use Rattle.std.specs.Prelude.{◌≡◌, ℕ, suc, Bool, List, [], ◌∷◌, Some, slice_get}
+use Rattle.std.specs.Prelude.{◌≡◌, ℕ, suc, Bool, IfSome, List, [], ◌∷◌, Some, slice_get}
 use Rattle.crew_net.specs.Events.{IsWindow}
 use Rattle.crew_net.specs.Nets.{Net}
 use Rattle.crew_pairing.specs.Events.{may_wait}
@@ -14,13 +14,13 @@ use Rattle.crew_sweep.specs.declared.windows.Waiting.{Waiting}
 
 module _ (net : Net) (walks : List (List ℕ)) (made : List Bool)
     (held : List (List (PairingVector × LabelWalk))) where
-  -- of the departure at a position: its window, of which all is made, and the pool of that
+  -- of the departure at a position: its window, of which all is made, and the pool of that, if it is merged
   pub record IsAhead (position : ℕ) (w : Waiting) : Type 0 where
     pub place : slice_get net.by_report position ≡ Some w.place
     pub window : (g : Departure) → slice_get net.departures w.place ≡ Some g
         → IsWindow (λ x. may_wait net.settings x g) net.arrivals w.window
     pub are_made : AreMade made w.window
-    pub part : IsPart walks held w.window.from w.window.end w.pool
+    pub part : IfSome w.pool (IsPart walks held w.window.from w.window.end)
 
   -- of departures in a row
   abbrev pub AreAhead : ℕ → List Waiting → Type 0

@@ -31,7 +31,7 @@ returns-clause-stands c =
     let put : Labels = arc_value c.in_ok-new.field-0 in
     let all : c.push.new.self ≡ was.pools ++ pool ∷ [] = c.in_ok-push.ensures.added ∙ ap (λ (p : Labels). was.pools ++ p ∷ []) c.in_ok-new.ensures.ok in
     let d = passable.departs-at net g.positions.now c.requires.ground.passable (length was.pools) ahead.place is.place in
-    let pooled = pooled-by net g.base g.resource was.walks after ahead.place ahead.window held ahead.pool pool (is.window d.0 d.1).ordered is.part c.in_ok-pool.ensures.pooled in
+    let pooled = pooled-by net g.base g.resource was.walks after ahead.place ahead.window held c.args.waiting.now pool (is.window d.0 d.1).ordered c.requires.part c.in_ok-pool.ensures.pooled in
     let passing = passable.passed net g.positions.now c.requires.ground.passable g.base g.resource was.walks after grown was.pools made held c.requires.stands.pools ahead.place is.place ahead.window is.window is.are_made pool pooled c.in_ok-pool.ensures.counts in
     record {
       pools = subst (λ (ps : List Labels). IsPassing net g.base g.resource after ps made held) (sym all) passing;

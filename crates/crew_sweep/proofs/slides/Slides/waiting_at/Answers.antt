@@ -85,3 +85,19 @@ returns-clause-ahead c =
       are_made = c.have_made.ensures c.if-not-have_made.false;
       part = subst (λ (ls : Labels). IsPart walks held w.from w.end ls) (sym c.in_ok-pool.ensures) shown;
     }
+
+pub shares_pool-requires-clause-place : goal.shares_pool-requires-clause-place
+shares_pool-requires-clause-place c =
+    let net = c.args.ground.now.net.now in
+    let positions = c.args.ground.now.positions.now in
+    let place = get_or c.by_report.result.now c.args.position 0 in
+    let within : place < length net.departures = subst (λ (ps : List ℕ). get_or ps c.args.position 0 < length net.departures) (sym c.by_report.ensures.places) (stands-at net positions c.requires.ground.passable c.args.position c.requires.position) in
+    within
+
+pub returns-then-shares_pool-clause-ahead : goal.returns-then-shares_pool-clause-ahead
+returns-then-shares_pool-clause-ahead c = record {
+  place = at-within c.args.ground.now.net.now.by_report c.args.position 0 c.requires.position ∙ ap (λ (ps : List ℕ). Some (get_or ps c.args.position 0)) (sym c.by_report.ensures.places);
+  window = c.window-window.ensures;
+  are_made = c.have_made.ensures c.if-not-have_made.false;
+  part = tt;
+}
