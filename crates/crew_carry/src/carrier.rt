@@ -79,9 +79,6 @@ impl Carrier {
     /// A pool over the new walks, as `carry` makes it: the old one itself, shared, where each of its
     /// walks is carried to its own place.
     ///
-    /// All walks of the pool stand within the span. Where each walk of the span stands at its own place,
-    /// no label is looked at.
-    ///
     /// On want of memory some walks may already have been added, and nothing else has changed.
     pub fn share<R: Resource>(
         &mut self,
@@ -119,9 +116,10 @@ impl Carrier {
         Ok(Some(Arc::new(alloc, new)?))
     }
 
-    /// Whether each walk of a span was carried to its own place, and the empty one too: so a pool whose
-    /// walks stand there can be shared as it stands, and no label is looked at. Never where none was
-    /// carried at once. It takes no memory.
+    /// Whether each walk of a span is known to have been carried to its own place, and the empty one
+    /// too: so a pool whose walks stand there can be shared as it stands, and no label is looked at. It
+    /// takes no memory. `false` promises nothing: it is the answer wherever the walks weren't carried at
+    /// once, by `in_place`.
     pub fn stands(&self, span: Span) -> bool
         ensures { result ≡ true → (walk : ℕ) → StandsWithin span walk
             → slice_get self.now walk ≡ Some (Some walk) }

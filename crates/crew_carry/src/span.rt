@@ -16,8 +16,9 @@ pub struct Span {
 }
 
 impl Span {
-    /// The least span of the walks of a pool's labels. Where none has a walk but the empty one, the first
-    /// place is greater than the last.
+    /// A span in which the walks of a pool's labels stand, the least one. Where none has a walk but the
+    /// empty one, the first place is greater than the last. The clause says that they stand within, and
+    /// not that no other span is less, since that is there for speed.
     pub fn of<R: Resource>(pool: &Pool<R>) -> Span
         ensures { AreWithin result pool.now }
     {
@@ -31,7 +32,7 @@ impl Span {
         span
     }
 
-    // The least span of these places and another.
+    // A span of these places and another.
     fn with(self, walk: u32) -> Span
         ensures before { (w : ℕ) → StandsWithin self w → StandsWithin result w }
         ensures own { StandsWithin result walk }

@@ -88,11 +88,11 @@ impl<R: Resource> Pool<R> {
         self.labels.clear();
     }
 
-    /// An equal pool.
+    /// An equal pool, with room for one label more.
     pub fn copy(&self, alloc: Global, resource: &R) -> Result<Pool<R>, AllocError>
         ensures { IfOk result (λ pool. pool ≡ self.now) }
     {
-        let mut labels = Vec::new(alloc);
+        let mut labels = Vec::with_capacity(alloc, self.labels.len().saturating_add(1))?;
         for label in &self.labels {
             let value = resource.copy(&label.0)?;
             labels.push((value, label.1))?;

@@ -19,6 +19,7 @@ use crate::differing::Differing;
 use crate::earlier::{Earlier, Kept};
 use crate::ground::Ground;
 use crate::passing::Passing;
+use crate::same::shares_pool;
 use crew_anchor::AnchoredResource;
 use crew_carry::{Carrier, Twins, are_alike};
 use crew_pool::{Pool, Walks};
@@ -42,7 +43,8 @@ pub(crate) struct Renewal {
 }
 
 // The pool of the departure at a place as the earlier pass left it, where all that it waits on is as
-// it was.
+// it was. One that would have to be copied isn't kept where the pool of the departure before can be
+// shared in its place.
 fn kept_pool(
     alloc: Global,
     earlier: &Earlier,
@@ -53,6 +55,7 @@ fn kept_pool(
     carrier: &mut Carrier,
     walks: &mut Walks,
 ) -> Result<Option<Kept>, AllocError>
+    requires ground { IsGround ground.now }
     requires beside { IsBeside earlier.now ground.now }
     requires place { place < length ground.now.net.now.departures }
     requires marks { length changed.now ≡ length ground.now.net.now.arrivals }
@@ -71,6 +74,10 @@ fn kept_pool(
     let Some(position) = earlier.kept_position(ground, changed, alike, place) else {
         return Ok(None);
     };
+    let span = earlier.sweep.digest(position).span;
+    if !carrier.stands(span) && shares_pool(ground, place) {
+        return Ok(None);
+    }
     earlier.kept(alloc, ground, position, carrier, walks)
 }
 

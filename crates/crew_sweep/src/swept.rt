@@ -149,7 +149,8 @@ impl Sweep {
     }
 
     /// A floor of the duty pay of the labels that the departure's pool has that stands there in order of
-    /// report, in points: the least.
+    /// report, in points: none is less. It is the least of them, which no clause says, since that is
+    /// there for speed.
     pub fn duty_pay_floor(&self, index: usize) -> i64
         requires { index < length self.now.net.by_report }
         ensures { (l : PairingVector × LabelWalk) → Member (get_or self.now.pools index []) l

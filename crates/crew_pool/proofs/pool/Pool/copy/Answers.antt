@@ -6,7 +6,7 @@ use Rattle.crew_pool.specs.declared.label_walk.LabelWalk.{LabelWalk}
 use Rattle.crew_pool.proofs.pool.Pool.copy.Goals as goal
 
 pub loop-label-init : goal.loop-label-init
-loop-label-init g c = c.new-labels.ensures.items
+loop-label-init g c = c.in_ok-labels.ensures.items
 
 pub loop-label-preserved : goal.loop-label-preserved
 loop-label-preserved g c =
