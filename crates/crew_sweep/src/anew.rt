@@ -13,6 +13,7 @@ use crate::ahead::Wanted;
 use crate::earlier::Earlier;
 use crate::ground::Ground;
 use crate::mending::is_unchanged;
+use crate::pass::{pass_all, pass_all_by_threads};
 use crate::passed::Passed;
 use crate::prints::Prints;
 use crate::renewal::{Renewal, note};
@@ -230,7 +231,8 @@ impl Renewal {
     }
 }
 
-// The pass over all departures, with the numbers of its arrivals.
+// The pass over all departures, with the numbers of its arrivals. Where little is alike, as after new
+// prices for all flights, it goes as if there were nothing earlier.
 fn renew_all(
     alloc: Global,
     earlier: &Earlier,
@@ -240,6 +242,9 @@ fn renew_all(
     requires beside { IsBeside earlier.now ground.now }
     ensures { IfOk result (λ left. HasPassedAll ground.now left.0) }
 {
+    if earlier.has_little_alike(ground) {
+        return pass_all(alloc, ground);
+    }
     let mut renewal = Renewal::new(alloc, earlier, ground)?;
     renewal.go_over(alloc, earlier, ground)?;
     Ok(renewal.into_left(earlier))
@@ -257,6 +262,9 @@ fn renew_all_by_threads<T: Threads + Sync>(
     requires beside { IsBeside earlier.now ground.now }
     ensures { IfOk result (λ left. HasPassedAll ground.now left.0) }
 {
+    if earlier.has_little_alike(ground) {
+        return pass_all_by_threads(rt, alloc, sharing, ground);
+    }
     let mut renewal = Renewal::new(alloc, earlier, ground)?;
     renewal.go_over_by_threads(rt, alloc, sharing, earlier, ground)?;
     Ok(renewal.into_left(earlier))

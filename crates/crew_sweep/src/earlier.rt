@@ -22,6 +22,9 @@ use crew_pool::{Pool, Walks};
 use std::alloc::{AllocError, Global};
 use std::sync::Arc;
 
+// Of so many arrivals the same duties arrive at fewer than one where little is alike.
+const LITTLE: usize = 8;
+
 /// An earlier sweep, the positions of its duties' departures, what its network has alike with another,
 /// the places at which the other's duties arrive, and the ground over which it went.
 #[derive(Drop)]
@@ -134,6 +137,21 @@ impl<'a> Earlier<'a> {
             places,
             ground: Ground::of(net, positions, sweep.base(), full),
         }
+    }
+
+    /// Whether at so few arrivals the same duties arrive that next to nothing can be kept. No clause says
+    /// so, since it is there for speed.
+    pub(crate) fn has_little_alike(&self, ground: &Ground) -> bool
+        requires beside { IsBeside self.now ground.now }
+    {
+        let count = ground.net.arrivals().len();
+        let mut alike: usize = 0;
+        for place in 0..count {
+            if self.twins.arrival(place).is_some() {
+                alike = alike.saturating_add(1);
+            }
+        }
+        alike < count / LITTLE
     }
 
     /// The position that the departure at a place had in the earlier sweep, where all that it waits on

@@ -122,8 +122,8 @@ impl Passing {
     }
 }
 
-// The pass over all departures, with the numbers of its arrivals.
-fn pass_all(alloc: Global, ground: &Ground) -> Result<(Passed, Prints), AllocError>
+/// The pass over all departures, with the numbers of its arrivals.
+pub(crate) fn pass_all(alloc: Global, ground: &Ground) -> Result<(Passed, Prints), AllocError>
     requires { IsGround ground.now }
     ensures { IfOk result (λ left. HasPassedAll ground.now left.0) }
 {
@@ -132,8 +132,8 @@ fn pass_all(alloc: Global, ground: &Ground) -> Result<(Passed, Prints), AllocErr
     Ok(passing.into_left())
 }
 
-// The same by threads, of those that are shared.
-fn pass_all_by_threads<T: Threads + Sync>(
+/// The same by threads, of those that are shared.
+pub(crate) fn pass_all_by_threads<T: Threads + Sync>(
     rt: &T,
     alloc: Global,
     sharing: &Sharing,
