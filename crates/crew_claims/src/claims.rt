@@ -1,22 +1,70 @@
 //! Calls of a function at many indices, by threads that take the indices one by one.
 //!
-//! The threads share a counter, of which no contract says anything, so it is no more than a hint of
-//! which index to call next. Each thread hands out its results with their indices; each result goes
-//! to its place; and for a place that has none the calling thread makes the call itself. So the
-//! results are right whatever the counter says.
+//! The threads share a counter, of which no contract says anything but that what it gives is in
+//! bounds, so it is no more than a hint of which index to call next. Each thread hands out its
+//! results with their indices; each result goes to its place; and for a place that has none the
+//! calling thread makes the call itself. So the results are right whatever the counter says.
 ghost use Rattle.std.specs.Prelude.{◌≡◌, ◌<◌, ◌++◌, ◌∷◌, [], ℕ, All, IfOk, IfSome, None, Ok, length, vec_len};
 ghost use Rattle.std.specs.Fn.{FnReturns};
-ghost use Rattle.std.specs.Fork.{GivesEach};
+ghost use Rattle.std.specs.Fork.{AcceptsJobs, GivesEach, GivesJobs};
+ghost use Rattle.std.specs.Fork.Halves.{GivesFor};
 ghost use Rattle.std.specs.Thread.{IsSend, IsSync};
 ghost use Rattle.crew_claims.specs.Machinery.Claims.{ArePlaced, IsMade};
 
-use crate::work::{Nothing, Work};
 use std::alloc::{AllocError, Global};
+use std::marker::Model;
 use std::sync::atomic::{AtomicUsize, Ordering};
 use std::thread::{Threads, join};
 
-// What threads made: of each the results with their indices, or want of memory.
-type Lists<X> = Vec<Result<Vec<(usize, X)>, AllocError>>;
+/// Indices that threads take one by one, so that a thread whose calls take long keeps no other
+/// waiting. Which index is next is a hint: an index may be given more than once, or never.
+///
+/// A contract sees how many indices there are.
+#[derive(Drop)]
+pub struct Claims {
+    next: AtomicUsize,
+    count: usize,
+}
+
+impl Model for Claims {
+    ghost use Rattle.std.specs.Prelude.{ℕ};
+
+    ghost Value = { ℕ };
+
+    ghost view = { λ c. c.count };
+}
+
+impl Claims {
+    /// So many indices, none of which is taken.
+    pub fn new(count: usize) -> Claims
+        ensures { result ≡ count }
+    {
+        let next = AtomicUsize::new(0);
+        Claims { next, count }
+    }
+
+    /// How many indices there are.
+    pub fn count(&self) -> usize
+        ensures { result ≡ self.now }
+    {
+        self.count
+    }
+
+    /// The next index that nobody has taken yet: `None` where all are taken.
+    pub fn next(&self) -> Option<usize>
+        ensures { IfSome result (λ index. index < self.now) }
+    {
+        let index = self.next.fetch_add(1, Ordering::SeqCst);
+        if index < self.count {
+            Some(index)
+        } else {
+            None
+        }
+    }
+}
+
+// What a thread made: its results with their indices, or want of memory.
+type Made<X> = Result<Vec<(usize, X)>, AllocError>;
 
 /// All calls, made in order by the calling thread.
 pub fn map_in_turn<X: Drop, F: Fn(usize) -> X>(
@@ -35,23 +83,17 @@ pub fn map_in_turn<X: Drop, F: Fn(usize) -> X>(
     Ok(made)
 }
 
-// The calls of one thread, which takes the next index from the counter until all are taken: the
-// results, each with its index.
-fn claim<X: Drop, F: Fn(usize) -> X>(
-    alloc: Global,
-    next: &AtomicUsize,
-    count: usize,
-    f: &F,
-) -> Result<Vec<(usize, X)>, AllocError>
-    requires { (i : ℕ) → i < count → F.pre f.now i }
-    ensures { IfOk result (λ made. All (IsMade F.Fn f.now count) made.items) }
+// The calls of one thread, which takes indices until all are taken: the results, each with its
+// index.
+fn claim<X: Drop, F: Fn(usize) -> X>(alloc: Global, claims: &Claims, f: &F) -> Made<X>
+    requires { (i : ℕ) → i < claims.now → F.pre f.now i }
+    ensures { IfOk result (λ made. All (IsMade F.Fn f.now claims.now) made.items) }
 {
     let mut made = Vec::new(alloc);
-    for _ in 0..count {
-        let index = next.fetch_add(1, Ordering::SeqCst);
-        if index >= count {
+    for _ in 0..claims.count() {
+        let Some(index) = claims.next() else {
             break;
-        }
+        };
         made.push((index, f(index)))?;
     }
     Ok(made)
@@ -103,7 +145,7 @@ fn complete<X: Drop, F: Fn(usize) -> X>(
 fn in_order<X: Drop, F: Fn(usize) -> X>(
     alloc: Global,
     count: usize,
-    lists: Lists<X>,
+    lists: Vec<Made<X>>,
     f: &F,
 ) -> Result<Vec<X>, AllocError>
     requires made { All (λ list. IfOk list
@@ -121,70 +163,70 @@ fn in_order<X: Drop, F: Fn(usize) -> X>(
     complete(alloc, places, f)
 }
 
-// Lists, and one more.
-fn with_list<X: Drop>(
-    lists: Result<Lists<X>, AllocError>,
-    made: Result<Vec<(usize, X)>, AllocError>,
-) -> Result<Lists<X>, AllocError>
-    ensures { IfOk result (λ all. (before : _) × (lists ≡ Ok before)
-        × (all.items ≡ before.items ++ made ∷ [])) }
+// What came of the jobs before, and of one more.
+fn with_one<Y: Drop>(before: Result<Vec<Y>, AllocError>, y: Y) -> Result<Vec<Y>, AllocError>
+    ensures { IfOk result (λ all. (was : _) × (before ≡ Ok was)
+        × (all.items ≡ was.items ++ y ∷ [])) }
 {
-    let mut lists = lists?;
-    lists.push(made)?;
-    Ok(lists)
+    let mut all = before?;
+    all.push(y)?;
+    Ok(all)
 }
 
-// The calls of so many threads, this one among them, which starts each of the others itself, and
-// does some work before it takes indices.
-#[cycle(claims)]
-fn claim_by_threads<
-    T: Threads + Sync,
-    X: Send + Drop,
-    F: Fn(usize) -> X + Sync,
-    Y: Drop,
-    W: Work<Output = Y> + Drop,
->(
+// Calls g at each job, in as many threads.
+#[cycle(jobs)]
+fn start_each<T: Threads + Sync, J: Send + Drop, Y: Send + Drop, G: Fn(J) -> Y + Sync>(
     rt: &T,
     alloc: Global,
-    threads: usize,
-    next: &AtomicUsize,
-    count: usize,
-    f: &F,
-    work: W,
-) -> (Y, Result<Lists<X>, AllocError>)
-    requires each { (i : ℕ) → i < count → F.pre f.now i }
-    requires work { W.can_run work }
-    ensures work { W.run_gives work result.0 }
-    ensures each { IfOk result.1 (λ lists. All (λ list. IfOk list
-        (λ made. All (IsMade F.Fn f.now count) made.items)) lists.items) }
+    mut jobs: Vec<J>,
+    g: &G,
+) -> Result<Vec<Y>, AllocError>
+    requires { AcceptsJobs G.Fn g.now jobs.items }
+    ensures { IfOk result (λ all. GivesFor G.Fn g.now jobs.items all.items) }
 {
-    if threads < 2 {
-        let y = work.run();
-        let made = claim(alloc, next, count, f);
-        return (y, with_list(Ok(Vec::new(alloc)), made));
+    let Some(job) = jobs.pop() else {
+        return Ok(Vec::new(alloc));
+    };
+    let one = move || -> Y
+        requires { G.pre g.now job }
+        ensures { FnReturns G.Fn g.entry.now (job, tt) result }
+    { g(job) };
+    if jobs.is_empty() {
+        return with_one(Ok(Vec::new(alloc)), one());
     }
-    let other = || -> Result<Vec<(usize, X)>, AllocError>
-        requires { (i : ℕ) → i < count → F.pre f.now i }
-        ensures { IfOk result (λ made. All (IsMade F.Fn f.entry.now count) made.items) }
-    { claim(alloc, next, count, f) };
-    let fewer = threads - 1;
-    let rest = move || -> (Y, Result<Lists<X>, AllocError>)
-        requires { IsSync T.row × IsSync F.row × IsSend X.row
-            × ((i : ℕ) → i < count → F.pre f.now i) × W.can_run work }
-        ensures { W.run_gives work result.0 × IfOk result.1 (λ lists. All (λ list. IfOk list
-            (λ made. All (IsMade F.Fn f.entry.now count) made.items)) lists.items) }
-    { claim_by_threads(rt, alloc, fewer, next, count, f, work) };
-    let (made, (y, lists)) = join(rt, other, rest);
-    (y, with_list(lists, made))
+    let rest = move || -> Result<Vec<Y>, AllocError>
+        requires { IsSync T.row × IsSync G.row × IsSend J.row × IsSend Y.row
+            × AcceptsJobs G.Fn g.now jobs.items }
+        ensures { IfOk result (λ all. GivesFor G.Fn g.entry.now jobs.items all.items) }
+    { start_each(rt, alloc, jobs, g) };
+    let (y, others) = join(rt, one, rest);
+    with_one(others, y)
+}
+
+/// Calls g at each job, each in a thread of its own, this one among them, and gives the results in
+/// order.
+///
+/// This thread starts each of the others itself: threads that are started one by another may stay on
+/// one processor for a while.
+///
+/// On `Err`, which means that memory ran out, the results so far are dropped.
+pub fn map_jobs<T: Threads + Sync, J: Send + Drop, Y: Send + Drop, G: Fn(J) -> Y + Sync>(
+    rt: &T,
+    alloc: Global,
+    jobs: Vec<J>,
+    g: &G,
+) -> Result<Vec<Y>, AllocError>
+    requires { AcceptsJobs G.Fn g.now jobs.items }
+    ensures len { IfOk result (λ all. vec_len all ≡ vec_len jobs) }
+    ensures each { IfOk result (λ all. GivesJobs G.Fn g.now jobs.items all.items) }
+{
+    start_each(rt, alloc, jobs, g)
 }
 
 /// Calls f(0) to f(count - 1), in at most so many threads, this one among them, each of which takes
 /// the next index that nobody has taken yet, and gives the results in order. So a call that takes
 /// long keeps no other thread waiting. With 0 or 1 threads, or fewer than two calls, the calling
 /// thread makes them all, in order.
-///
-/// This thread starts each of the others itself: threads that are started one by another may stay on
-/// one processor for a while.
 ///
 /// On `Err`, which means that memory ran out, the results so far are dropped, and some calls may
 /// not have been made.
@@ -202,38 +244,12 @@ pub fn map_claimed<T: Threads + Sync, X: Send + Drop, F: Fn(usize) -> X + Sync>(
     if threads < 2 || count < 2 {
         return map_in_turn(alloc, count, f);
     }
-    let next = AtomicUsize::new(0);
-    let ((), lists) = claim_by_threads(rt, alloc, threads.min(count), &next, count, f, Nothing);
-    in_order(alloc, count, lists?, f)
-}
-
-/// The same beside some work, which this thread does before it takes indices, while the others take
-/// them from the start: what comes of it, and the results in order or want of memory.
-pub fn map_claimed_beside<
-    T: Threads + Sync,
-    X: Send + Drop,
-    F: Fn(usize) -> X + Sync,
-    Y: Drop,
-    W: Work<Output = Y> + Drop,
->(
-    rt: &T,
-    alloc: Global,
-    threads: usize,
-    count: usize,
-    f: &F,
-    work: W,
-) -> (Y, Result<Vec<X>, AllocError>)
-    requires each { (i : ℕ) → i < count → F.pre f.now i }
-    requires work { W.can_run work }
-    ensures work { W.run_gives work result.0 }
-    ensures len { IfOk result.1 (λ made. vec_len made ≡ count) }
-    ensures each { IfOk result.1 (λ made. GivesEach F.Fn f.now count made.items) }
-{
-    let next = AtomicUsize::new(0);
-    let threads = threads.min(count.saturating_add(1));
-    let (y, lists) = claim_by_threads(rt, alloc, threads, &next, count, f, work);
-    match lists {
-        Ok(lists) => (y, in_order(alloc, count, lists, f)),
-        Err(refused) => (y, Err(refused)),
-    }
+    let claims = Claims::new(count);
+    let idle = vec![in alloc; (); threads.min(count)]?;
+    let one = |_: ()| -> Made<X>
+        requires { (i : ℕ) → i < claims → F.pre f.now i }
+        ensures { IfOk result (λ made. All (IsMade F.Fn f.entry.now claims) made.items) }
+    { claim(alloc, &claims, f) };
+    let lists = map_jobs(rt, alloc, idle, &one)?;
+    in_order(alloc, count, lists, f)
 }

@@ -12,10 +12,11 @@ use crate::label_walk::LabelWalk;
 use crate::labels::Labels;
 use crate::marks::Marked;
 use crate::merge::merge_labels;
-use crate::pool::Pool;
+use crate::pool::{Pool, copy_labels};
 use crate::workspace::Workspace;
 use std::alloc::{AllocError, Global};
 use std::marker::Model;
+use std::mem;
 
 /// A pool that others join: its labels, of which none is at most another, with their marks.
 ///
@@ -47,6 +48,46 @@ impl<R: Marked> GrowingPool<R> {
         GrowingPool {
             labels: Labels::new(alloc),
         }
+    }
+
+    /// No labels, in memory that a room has kept.
+    pub fn begin(alloc: Global, room: &mut Workspace<R>) -> Self
+        ensures { result ≡ [] }
+    {
+        let mut labels = mem::replace(&mut room.spare, Labels::new(alloc));
+        labels.clear();
+        GrowingPool { labels }
+    }
+
+    /// The labels of a pool, which others may join, in memory that a room has kept.
+    pub fn begin_with(
+        alloc: Global,
+        resource: &R,
+        room: &mut Workspace<R>,
+        pool: &Pool<R>,
+    ) -> Result<Self, AllocError>
+        ensures { IfOk result (λ growing. growing ≡ pool.now) }
+    {
+        let mut labels = mem::replace(&mut room.spare, Labels::new(alloc));
+        labels.clear();
+        labels.copy_in(resource, pool.as_slice())?;
+        Ok(GrowingPool { labels })
+    }
+
+    /// The pool, which nothing joins any more, in a list of its size, with room for one label more.
+    /// Its own memory is kept in a room.
+    pub fn copy_out(
+        self,
+        alloc: Global,
+        resource: &R,
+        room: &mut Workspace<R>,
+    ) -> Result<Pool<R>, AllocError>
+        ensures { IfOk result (λ pool. pool ≡ self) }
+    {
+        let Self { labels } = self;
+        let copied = copy_labels(alloc, resource, labels.as_slice())?;
+        room.spare = labels;
+        Ok(Pool::from_apart(copied))
     }
 
     /// A pool that others may join.

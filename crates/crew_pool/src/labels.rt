@@ -59,6 +59,22 @@ impl<R: Marked> Labels<R> {
         })
     }
 
+    /// Adds labels like those of a list. On want of memory some may have been added.
+    pub(crate) fn copy_in(
+        &mut self,
+        resource: &R,
+        list: &[(R::Value, LabelWalk)],
+    ) -> Result<(), AllocError>
+        ensures { OnOk result (self.new ≡ self.old ++ list.now) }
+    {
+        for label in list {
+            let marks = resource.marks(&label.0);
+            let value = resource.copy(&label.0)?;
+            self.push((value, label.1), marks)?;
+        }
+        Ok(())
+    }
+
     /// The list of the labels alone.
     pub(crate) fn into_vec(self) -> Vec<(R::Value, LabelWalk)>
         ensures { result.items ≡ self }

@@ -92,20 +92,32 @@ impl<R: Resource> Pool<R> {
     pub fn copy(&self, alloc: Global, resource: &R) -> Result<Pool<R>, AllocError>
         ensures { IfOk result (λ pool. pool ≡ self.now) }
     {
-        let mut labels = Vec::with_capacity(alloc, self.labels.len().saturating_add(1))?;
-        for label in &self.labels {
-            let value = resource.copy(&label.0)?;
-            labels.push((value, label.1))?;
-        }
+        let labels = copy_labels(alloc, resource, &self.labels)?;
         Ok(Pool { labels })
     }
 
-    // The list of the labels alone.
-    pub(crate) fn into_vec(self) -> Vec<(R::Value, LabelWalk)>
+    /// The list of the labels alone.
+    pub fn into_vec(self) -> Vec<(R::Value, LabelWalk)>
         ensures all { result.items ≡ self }
         ensures apart { AreApart R.below (vectors_of self) }
     {
         let Self { labels } = self;
         labels
     }
+}
+
+/// Equal labels, in a list of its size with room for one more.
+pub(crate) fn copy_labels<R: Resource>(
+    alloc: Global,
+    resource: &R,
+    labels: &[(R::Value, LabelWalk)],
+) -> Result<Vec<(R::Value, LabelWalk)>, AllocError>
+    ensures { IfOk result (λ copied. copied.items ≡ labels.now) }
+{
+    let mut copied = Vec::with_capacity(alloc, labels.len().saturating_add(1))?;
+    for label in labels {
+        let value = resource.copy(&label.0)?;
+        copied.push((value, label.1))?;
+    }
+    Ok(copied)
 }

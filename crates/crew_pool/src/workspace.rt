@@ -5,14 +5,16 @@ use std::alloc::Global;
 
 /// Working space that is used again.
 ///
-/// What it holds is cleared before it is used.
+/// What it holds is cleared before it is used: a place for labels that wait to join a pool, and one
+/// for a pool under way.
 pub struct Workspace<R: Marked> {
     pub(crate) free: Labels<R>,
+    pub(crate) spare: Labels<R>,
 }
 
 impl<R: Marked> Drop for Workspace<R> {
     fn drop(self) {
-        let Self { free: _ } = self;
+        let Self { free: _, spare: _ } = self;
     }
 }
 
@@ -21,6 +23,7 @@ impl<R: Marked> Workspace<R> {
     pub fn new(alloc: Global) -> Self {
         Workspace {
             free: Labels::new(alloc),
+            spare: Labels::new(alloc),
         }
     }
 }

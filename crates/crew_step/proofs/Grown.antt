@@ -7,6 +7,7 @@ use Rattle.crew_pool.specs.Arena.{walk_at}
 use Rattle.crew_pool.specs.Counted.{AreCounted, IsCounted}
 use Rattle.crew_pool.specs.LabelWalks.{duty_of, shown, walk_of_label}
 use Rattle.crew_pool.specs.declared.label_walk.LabelWalk.{LabelWalk}
+use Rattle.crew_resource.specs.Members.{Member}
 use Rattle.crew_pool.proofs.LabelWalkLemmas.{duty_some}
 use Rattle.crew_step.specs.Walks.{HasGrown}
 use Rattle.crew_step.proofs.Loops.{append-none, take-grown}
@@ -38,12 +39,17 @@ counted-grown count before after whole h l c =
       counts = c.counts ∙ ap (λ w. pos (length (w ++ duty_of l.1.duty))) (sym (h.same l.1.walk c.there));
     }
 
+-- labels whose walks were there show what they showed
+pub all-shown-there : {V : Type 0} (before after : List (List ℕ)) → HasGrown before after → (ls : List (V × LabelWalk)) → ((l : V × LabelWalk) → Member ls l → l.1.walk < length before)
+    → map (shown after) ls ≡ map (shown before) ls
+all-shown-there before after h [] c = refl
+all-shown-there before after h (l ∷ ls) c =
+    ap (λ z. z ∷ map (shown after) ls) (shown-grown before after h l (c l (inl refl)))
+    ∙ ap (λ zs. shown before l ∷ zs) (all-shown-there before after h ls (λ m k. c m (inr k)))
+
 pub all-shown-grown : {V : Type 0} (count : V → ℤ) (before after : List (List ℕ)) (whole : Bool) → HasGrown before after → (ls : List (V × LabelWalk)) → AreCounted count before whole ls
     → map (shown after) ls ≡ map (shown before) ls
-all-shown-grown count before after whole h [] c = refl
-all-shown-grown count before after whole h (l ∷ ls) c =
-    ap (λ z. z ∷ map (shown after) ls) (shown-grown before after h l (c l (inl refl)).there)
-    ∙ ap (λ zs. shown before l ∷ zs) (all-shown-grown count before after whole h ls (λ m k. c m (inr k)))
+all-shown-grown count before after whole h ls c = all-shown-there before after h ls (λ l m. (c l m).there)
 
 -- a label whose walk has been added
 module _ {V : Type 0} (walks : List (List ℕ)) (value : V) (before : LabelWalk) (has : nat_eq before.duty 4294967295 ≡ false) where

@@ -41,11 +41,11 @@ pub fn arrival_pool<P: Placed, R: Staged<P> + Marked>(
         (map (shown walks.now) pool)) }
     ensures counts { IfOk result (AreCounted (R.count_of resource.now) walks.now false) }
 {
-    let mut pool = GrowingPool::new(alloc);
+    let mut pool = GrowingPool::begin(alloc, room);
     for rank in ranks {
         let item = &items[*rank as usize];
         let from = pools.get(positions[*rank as usize] as usize);
         absorb_boarding(resource, &mut pool, room, from, item, *rank, walks)?;
     }
-    Ok(pool.into_pool())
+    pool.copy_out(alloc, resource, room)
 }

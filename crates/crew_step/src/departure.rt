@@ -20,20 +20,20 @@ pub fn departure_pool<P: Placed, R: Staged<P> + Marked>(
     alloc: Global,
     resource: &R,
     room: &mut Workspace<R>,
-    gathered: &Pool<R>,
+    gathered: Pool<R>,
     idle: Option<R::Value>,
     walks: &mut Walks,
 ) -> Result<Pool<R>, AllocError>
-    requires gathered { AreCounted (R.count_of resource.now) walks.old false gathered.now }
+    requires gathered { AreCounted (R.count_of resource.now) walks.old false gathered }
     requires idle { (value : R.Value) → idle ≡ Some value
         → R.count_of resource.now value ≡ pos 0 }
     ensures local { IfOk result (λ pool. (candidates : List (R.Value × List ℕ))
-        → IsPoolOf R.below candidates (map (shown walks.old) gathered.now)
+        → IsPoolOf R.below candidates (map (shown walks.old) gathered)
         → IsPoolOf R.below (candidates ++ labelled idle []) (map (shown walks.new) pool)) }
     ensures counts { IfOk result (AreCounted (R.count_of resource.now) walks.new true) }
     ensures grown { HasGrown walks.old walks.new }
 {
-    let pool = waiting_labels::<P, R>(alloc, resource, gathered, walks)?;
+    let pool = waiting_labels(gathered, walks)?;
     match idle {
         Some(value) => with_idle::<P, R>(alloc, resource, room, pool, value, walks),
         None => Ok(pool),

@@ -2,6 +2,7 @@ pub mod Aheads
 pub mod Before
 pub mod Besides
 pub mod Ends
+pub mod Listing
 pub mod Lows
 pub mod Fronts
 pub mod Gathered

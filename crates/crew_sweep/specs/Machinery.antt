@@ -11,4 +11,5 @@ pub mod Renewing
 pub mod Beside
 pub mod Mending
 pub mod Ahead
+pub mod Lanes
 pub mod Same

@@ -6,25 +6,27 @@
 //! they wait, and the pools of these can be made side by side. Which arrivals are made ahead is a
 //! hint: a pool comes out the same whenever it is made, and what wasn't made ahead is made when it
 //! is first waited on.
-ghost use Rattle.std.specs.Prelude.{◌≡◌, ◌<◌, ◌≤◌, ℕ, IfOk, List, OnOk, length, set, slice_index_or, true, vec_len};
-ghost use Rattle.crew_pairing.specs.declared.vector.PairingVector.{PairingVector};
-ghost use Rattle.crew_pool.specs.declared.label_walk.LabelWalk.{LabelWalk};
+ghost use Rattle.std.specs.Prelude.{◌≡◌, ◌<◌, ◌≤◌, ℕ, IfOk, OnOk, length, set, true};
 ghost use Rattle.crew_sweep.specs.Machinery.Ahead.{AreAhead, IsSlid};
+ghost use Rattle.crew_sweep.specs.Machinery.Lanes.{AllMadeAt, AreDone, AreGrouped, AreLanes, AreMadeAt, IsDone};
 ghost use Rattle.crew_sweep.specs.Machinery.Slides.{AreUnderWay};
-ghost use Rattle.crew_sweep.specs.Machinery.Grounds.{ArePools, IsGround, IsPoolAt, Stands, Stay};
+ghost use Rattle.crew_sweep.specs.Machinery.Grounds.{ArePools, IsGround, Stands, Stay};
 ghost use Rattle.crew_sweep.specs.Machinery.Passing.{AreSealed, IsMade, IsSealed};
 ghost use Rattle.crew_sweep.specs.declared.arrivals.Arrivals.{Arrivals as ArrivalsSpec};
+ghost use Rattle.crew_sweep.specs.declared.ground.Ground.{Ground as GroundSpec};
+ghost use Rattle.crew_sweep.specs.declared.passing.Passing.{Passing as PassingSpec};
 
 use crate::arrivals::{Arrivals, arrival_at};
 use crate::batch::{LEAST_REST, batch_end};
 use crate::ground::Ground;
+use crate::lanes::{Lane, Slid, empty_groups, go_on_each, lanes_in_groups, slid_from};
 use crate::passed::Passed;
 use crate::passing::Passing;
 use crate::prints::print_of;
 use crate::slides::Slides;
-use crate::windows::{Slid, SlideAhead, Waiting};
+use crate::windows::{Waiting, made_until};
 use crew_anchor::AnchoredResource;
-use crew_claims::{Sharing, map_claimed, map_claimed_beside};
+use crew_claims::{Claims, Sharing, map_jobs};
 use crew_net::Window;
 use crew_pool::{Pool, Workspace};
 use std::alloc::{AllocError, Global};
@@ -35,8 +37,13 @@ use std::thread::Threads;
 // The fewest pools for each thread: with fewer a thread costs more than it gives.
 const SHARE: usize = 4;
 
-// Pools that threads made, or want of memory.
-type MadePools = Vec<Result<Pool<AnchoredResource>, AllocError>>;
+// The pool of the arrival at a place, with its number.
+#[derive(Drop)]
+struct Made {
+    place: usize,
+    print: u64,
+    pool: Pool<AnchoredResource>,
+}
 
 // Whether all duties that arrive at a place left with the departures so far.
 fn is_sealed(ground: &Ground, passed: usize, place: usize) -> bool
@@ -224,132 +231,165 @@ fn threads_for(threads: usize, pools: usize) -> usize {
     threads.min(pools / SHARE)
 }
 
-// The pools of the arrivals at some places, by threads, at most so many.
-fn made_at_once<T: Threads + Sync>(
-    rt: &T,
+// In how many threads so many pools are made and so many windows merged beside them: one at least.
+fn threads_beside(threads: usize, pools: usize, windows: usize) -> usize {
+    let work = pools.saturating_add(windows);
+    threads_for(threads, work).max(1)
+}
+
+// What a thread has done: the lanes that it let go on, and the pools of arrivals that it made.
+#[derive(Drop)]
+struct Done {
+    lanes: Vec<Lane>,
+    pools: Vec<Made>,
+}
+
+// The pools of the arrivals at some places that a thread takes one by one.
+fn make_claimed(
     alloc: Global,
-    threads: usize,
     ground: &Ground,
-    places: &[usize],
     passed: &Passed,
-) -> Result<MadePools, AllocError>
+    room: &mut Workspace<AnchoredResource>,
+    places: &[usize],
+    claims: &Claims,
+) -> Result<Vec<Made>, AllocError>
     requires ground { IsGround ground.now }
     requires pools { (arrivals : ArrivalsSpec) × ArePools ground.now passed.now arrivals }
     requires sealed { AreSealed ground.now.net.now (length passed.now.pools) places.now }
-    ensures long { IfOk result (λ made. vec_len made ≡ length places.now) }
-    ensures each { IfOk result (λ made. (i : ℕ) (d : _) → i < length places.now
-        → IfOk (slice_index_or made.items i d) (IsPoolAt ground.now passed.now
-        (slice_index_or places.now i 0))) }
+    requires claims { claims.now ≡ length places.now }
+    ensures { IfOk result (λ made. AreMadeAt ground.now passed.now made.items) }
 {
-    let part = |index: usize| -> Result<Pool<AnchoredResource>, AllocError>
-        requires { (index < length places.now) × IsGround ground.now
-            × ((arrivals : ArrivalsSpec) × ArePools ground.now passed.now arrivals)
-            × AreSealed ground.now.net.now (length passed.now.pools) places.now }
-        ensures { IfOk result (IsPoolAt ground.entry.now passed.entry.now
-            (slice_index_or places.entry.now index 0)) }
-    {
-        let mut room = Workspace::new(alloc);
-        arrival_at(alloc, ground, places[index], &mut room, passed)
-    };
-    let threads = threads_for(threads, places.len());
-    map_claimed(rt, alloc, threads, places.len(), &part)
+    let mut made = Vec::new(alloc);
+    for _ in 0..places.len() {
+        let Some(index) = claims.next() else {
+            break;
+        };
+        let place = places[index];
+        let pool = arrival_at(alloc, ground, place, room, passed)?;
+        let print = print_of(&pool);
+        made.push(Made { place, print, pool })?;
+    }
+    Ok(made)
 }
 
-// The same beside slides, which this thread lets go on up to a position before it helps the others.
-fn made_beside<T: Threads + Sync>(
-    rt: &T,
+// Lets lanes go on, and makes the pools of the arrivals at some places that nobody else takes.
+fn do_part(
     alloc: Global,
-    threads: usize,
     ground: &Ground,
-    places: &[usize],
     passing: &Passing,
-    slides: Slides,
-    end: usize,
-) -> (Result<Slid, AllocError>, Result<MadePools, AllocError>)
+    places: &[usize],
+    claims: &Claims,
+    lanes: Vec<Lane>,
+) -> Result<Done, AllocError>
     requires ground { IsGround ground.now }
     requires pools { ArePools ground.now passing.now.passed passing.now.arrivals }
     requires sealed { AreSealed ground.now.net.now (length passing.now.passed.pools) places.now }
-    requires slides { AreUnderWay ground.now.net.now passing.now.passed.walks
-        passing.now.arrivals.made.items passing.now.arrivals.pools.items slides }
-    requires end { end ≤ length ground.now.net.now.by_report }
-    ensures slid { IfOk result.0 (IsSlid ground.now.net.now passing.now.passed.walks
-        passing.now.arrivals.made.items passing.now.arrivals.pools.items
-        (length passing.now.passed.pools)) }
-    ensures long { IfOk result.1 (λ made. vec_len made ≡ length places.now) }
-    ensures each { IfOk result.1 (λ made. (i : ℕ) (d : _) → i < length places.now
-        → IfOk (slice_index_or made.items i d) (IsPoolAt ground.now passing.now.passed
-        (slice_index_or places.now i 0))) }
+    requires claims { claims.now ≡ length places.now }
+    requires lanes { AreLanes ground.now.net.now passing.now.passed.walks
+        passing.now.arrivals.made.items passing.now.arrivals.pools.items lanes.items }
+    ensures { IfOk result (IsDone ground.now passing.now) }
 {
     let passed = &passing.passed;
     let arrivals = &passing.arrivals;
-    let part = |index: usize| -> Result<Pool<AnchoredResource>, AllocError>
-        requires { (index < length places.now) × IsGround ground.now
-            × ((arrivals : ArrivalsSpec) × ArePools ground.now passed.now arrivals)
-            × AreSealed ground.now.net.now (length passed.now.pools) places.now }
-        ensures { IfOk result (IsPoolAt ground.entry.now passed.entry.now
-            (slice_index_or places.entry.now index 0)) }
-    {
-        let mut room = Workspace::new(alloc);
-        arrival_at(alloc, ground, places[index], &mut room, passed)
-    };
-    let work = SlideAhead {
-        slides,
-        alloc,
-        ground,
-        passed,
-        arrivals,
-        end,
-    };
-    let threads = threads_for(threads, places.len())
-        .saturating_add(1)
-        .min(threads);
-    map_claimed_beside(rt, alloc, threads, places.len(), &part, work)
+    let mut room = Workspace::new(alloc);
+    let lanes = go_on_each(alloc, ground, passed, arrivals, &mut room, lanes)?;
+    let pools = make_claimed(alloc, ground, passed, &mut room, places, claims)?;
+    Ok(Done { lanes, pools })
+}
+
+// In as many threads as there are groups of lanes: each lets its lanes go on before it helps to make the
+// pools of the arrivals at some places.
+fn done_by_threads<T: Threads + Sync>(
+    rt: &T,
+    alloc: Global,
+    ground: &Ground,
+    passing: &Passing,
+    places: &[usize],
+    groups: Vec<Vec<Lane>>,
+) -> Result<Vec<Result<Done, AllocError>>, AllocError>
+    requires ground { IsGround ground.now }
+    requires pools { ArePools ground.now passing.now.passed passing.now.arrivals }
+    requires sealed { AreSealed ground.now.net.now (length passing.now.passed.pools) places.now }
+    requires groups { AreGrouped ground.now.net.now passing.now.passed.walks
+        passing.now.arrivals.made.items passing.now.arrivals.pools.items groups.items }
+    ensures { IfOk result (λ all. AreDone ground.now passing.now all.items) }
+{
+    let claims = Claims::new(places.len());
+    let part = |lanes: Vec<Lane>| -> Result<Done, AllocError>
+        requires { IsGround ground.now × ArePools ground.now passing.now.passed passing.now.arrivals
+            × AreSealed ground.now.net.now (length passing.now.passed.pools) places.now
+            × (claims ≡ length places.now) × AreLanes ground.now.net.now
+            passing.now.passed.walks passing.now.arrivals.made.items
+            passing.now.arrivals.pools.items lanes.items }
+        ensures { IfOk result (IsDone ground.entry.now passing.entry.now) }
+    { do_part(alloc, ground, passing, places, &claims, lanes) };
+    map_jobs(rt, alloc, groups, &part)
+}
+
+// What threads have done, apart: the lanes, and the pools.
+fn apart(
+    alloc: Global,
+    all: Vec<Result<Done, AllocError>>,
+) -> Result<(Vec<Vec<Lane>>, Vec<Vec<Made>>), AllocError>
+    ensures { (g : GroundSpec) (p : PassingSpec) → AreDone g p all.items
+        → IfOk result (λ both. AreGrouped g.net.now p.passed.walks p.arrivals.made.items
+        p.arrivals.pools.items both.0.items × AllMadeAt g p.passed both.1.items) }
+{
+    let mut groups = Vec::with_capacity(alloc, all.len())?;
+    let mut made = Vec::with_capacity(alloc, all.len())?;
+    for done in all {
+        let Done { lanes, pools } = done?;
+        groups.push(lanes)?;
+        made.push(pools)?;
+    }
+    Ok((groups, made))
 }
 
 impl Arrivals {
-    // Puts a pool at a place that has none.
-    fn put(&mut self, place: usize, pool: Pool<AnchoredResource>)
-        requires made { place < length self.old.made.items }
-        requires pools { place < length self.old.pools.items }
-        ensures kept { IsMade self.old.made.items place
+    // Puts a pool at its place, where that has none.
+    fn put(&mut self, made: Made)
+        requires made { made.place < length self.old.made.items }
+        requires pools { made.place < length self.old.pools.items }
+        ensures kept { IsMade self.old.made.items made.place
             → (self.new.made.items ≡ self.old.made.items)
             × (self.new.pools.items ≡ self.old.pools.items) }
-        ensures put { (IsMade self.old.made.items place → ⊥)
-            → (self.new.made.items ≡ set self.old.made.items place true)
-            × (self.new.pools.items ≡ set self.old.pools.items place pool) }
+        ensures put { (IsMade self.old.made.items made.place → ⊥)
+            → (self.new.made.items ≡ set self.old.made.items made.place true)
+            × (self.new.pools.items ≡ set self.old.pools.items made.place made.pool) }
     {
+        let Made { place, print, pool } = made;
         if self.made[place] {
             return;
         }
-        self.prints.note(place, Some(print_of(&pool)));
+        self.prints.note(place, Some(print));
         self.pools[place] = pool;
         self.made[place] = true;
     }
 
-    // Puts what was made of the arrivals at some places there.
-    fn put_each(
-        &mut self,
-        ground: &Ground,
-        places: &[usize],
-        made: MadePools,
-        passed: &Passed,
-    ) -> Result<(), AllocError>
+    // Puts what a thread made of arrivals in their places.
+    fn put_each(&mut self, ground: &Ground, passed: &Passed, made: Vec<Made>)
         requires ground { IsGround ground.now }
         requires pools { ArePools ground.now passed.now self.old }
-        requires sealed { AreSealed ground.now.net.now (length passed.now.pools) places.now }
-        requires long { vec_len made ≡ length places.now }
-        requires each { (i : ℕ) (d : _) → i < length places.now
-            → IfOk (slice_index_or made.items i d) (IsPoolAt ground.now passed.now
-            (slice_index_or places.now i 0)) }
-        ensures pools { OnOk result (ArePools ground.now passed.now self.new) }
-        ensures stayed { OnOk result (Stay self.old self.new) }
+        requires made { AreMadeAt ground.now passed.now made.items }
+        ensures pools { ArePools ground.now passed.now self.new }
+        ensures stayed { Stay self.old self.new }
     {
-        let mut index = 0;
-        for pool in made {
-            self.put(places[index], pool?);
-            index += 1;
+        for it in made {
+            self.put(it);
         }
-        Ok(())
+    }
+
+    // The same of what several threads made.
+    fn put_all(&mut self, ground: &Ground, passed: &Passed, all: Vec<Vec<Made>>)
+        requires ground { IsGround ground.now }
+        requires pools { ArePools ground.now passed.now self.old }
+        requires made { AllMadeAt ground.now passed.now all.items }
+        ensures pools { ArePools ground.now passed.now self.new }
+        ensures stayed { Stay self.old self.new }
+    {
+        for made in all {
+            self.put_each(ground, passed, made);
+        }
     }
 }
 
@@ -378,16 +418,52 @@ impl Passing {
         let Some(end) = self.begin_batch(alloc, ground) else {
             return Ok(());
         };
-        let threads = sharing.share();
+        let share = sharing.share();
+        let threads = share.threads();
         if threads < 2 {
             return Ok(());
         }
         let made = &self.arrivals.made;
         let passed = &self.passed;
         let places = places_ahead(alloc, ground, passed, end, wanted, spared, made)?;
-        let made = made_at_once(rt, alloc, threads, ground, &places, &self.passed)?;
-        self.arrivals.put_each(ground, &places, made, &self.passed)?;
+        let threads = threads_for(threads, places.len());
+        let groups = empty_groups(alloc, threads)?;
+        let all = done_by_threads(rt, alloc, ground, self, &places, groups)?;
+        let (_, made) = apart(alloc, all)?;
+        self.arrivals.put_all(ground, &self.passed, made);
         Ok(())
+    }
+
+    // Slides that have gone on to the windows of the departures that come next, up to a position; and
+    // beside it, in at most so many threads, the pools of the arrivals at some places.
+    fn slid_beside<T: Threads + Sync>(
+        &self,
+        rt: &T,
+        alloc: Global,
+        threads: usize,
+        ground: &Ground,
+        places: &[usize],
+        slides: Slides,
+        end: usize,
+    ) -> Result<(Slid, Vec<Vec<Made>>), AllocError>
+        requires ground { IsGround ground.now }
+        requires pools { ArePools ground.now self.now.passed self.now.arrivals }
+        requires sealed { AreSealed ground.now.net.now (length self.now.passed.pools) places.now }
+        requires slides { AreUnderWay ground.now.net.now self.now.passed.walks
+            self.now.arrivals.made.items self.now.arrivals.pools.items slides }
+        requires end { end ≤ length ground.now.net.now.by_report }
+        ensures slid { IfOk result (λ all. IsSlid ground.now.net.now self.now.passed.walks
+            self.now.arrivals.made.items self.now.arrivals.pools.items all.0) }
+        ensures made { IfOk result (λ all. AllMadeAt ground.now self.now.passed all.1.items) }
+    {
+        let from = self.passed.pools.len();
+        let (airports, slides) = slides.apart();
+        let count = slides.len();
+        let groups = lanes_in_groups(alloc, ground, &airports, slides, from, end, threads)?;
+        let all = done_by_threads(rt, alloc, ground, self, places, groups)?;
+        let (groups, made) = apart(alloc, all)?;
+        let slid = slid_from(alloc, airports, count, from, end, groups)?;
+        Ok((slid, made))
     }
 
     /// What stands in the windows of the departures that come next, where all of it is made; and
@@ -400,31 +476,31 @@ impl Passing {
         alloc: Global,
         sharing: &Sharing,
         ground: &Ground,
-    ) -> Result<Vec<Waiting>, AllocError>
+    ) -> Result<Vec<Option<Waiting>>, AllocError>
         requires ground { IsGround ground.now }
         requires stands { Stands ground.now self.old }
         requires left { length self.old.passed.pools < length ground.now.net.now.by_report }
         ensures stands { OnOk result (Stands ground.now self.new) }
         ensures passed { OnOk result (self.new.passed ≡ self.old.passed) }
         ensures ahead { IfOk result (λ ahead. AreAhead ground.now.net.now self.new.passed.walks
-            self.new.arrivals.made.items self.new.arrivals.pools.items
-            (length self.new.passed.pools) ahead.items) }
+            self.new.arrivals.made.items self.new.arrivals.pools.items ahead.items) }
     {
         let from = self.passed.pools.len();
         self.let_go(alloc, ground, from);
         let end = batch_end(ground, from, LEAST_REST);
         let next = batch_end(ground, from, LEAST_REST / 2);
+        let next = made_until(ground, &self.arrivals, from, next);
         let all = |_: usize| -> Wanted { Wanted::Window };
         let none = |_: usize| -> bool { false };
         let made = &self.arrivals.made;
         let places = places_ahead(alloc, ground, &self.passed, end, &all, &none, made)?;
         let slides = mem::replace(&mut self.slides, Slides::none(alloc));
-        let threads = sharing.share();
-        let (slid, made) = made_beside(rt, alloc, threads, ground, &places, self, slides, next);
-        let Slid { slides, waiting } = slid?;
+        let share = sharing.share();
+        let threads = threads_beside(share.threads(), places.len(), next.saturating_sub(from));
+        let (slid, made) = self.slid_beside(rt, alloc, threads, ground, &places, slides, next)?;
+        let Slid { slides, ahead } = slid;
         self.slides = slides;
-        self.arrivals
-            .put_each(ground, &places, made?, &self.passed)?;
-        Ok(waiting)
+        self.arrivals.put_all(ground, &self.passed, made);
+        Ok(ahead)
     }
 }

@@ -250,7 +250,7 @@ fn renew_all(
     Ok(renewal.into_left(earlier))
 }
 
-// The same by threads, at most so many.
+// The same by threads, of those that are shared.
 fn renew_all_by_threads<T: Threads + Sync>(
     rt: &T,
     alloc: Global,
@@ -274,7 +274,8 @@ fn renew_all_by_threads<T: Threads + Sync>(
 /// the same price over another network, with what the two networks have alike. The pool of a
 /// departure is kept where the arrivals in its window are those that were, and each has the same
 /// duties from pools that have the labels that they had, or is seen to show what it showed; and it is
-/// mended where that is so but for a few.
+/// mended where that is so but for a few. Where little of the two networks is alike, as after new
+/// prices for all flights, nothing is looked for, and nothing kept.
 pub fn renew(
     alloc: Global,
     earlier: &Sweep,

@@ -19,6 +19,7 @@ mod differing;
 mod digest;
 mod earlier;
 mod ground;
+mod lanes;
 pub mod laws;
 mod mending;
 mod pass;

@@ -186,13 +186,13 @@ fn gathered(
     ensures { IfOk result (IsChangedPart twins.now changed.now walks.now held.now window.from
         window.end) }
 {
-    let mut growing = GrowingPool::new(alloc);
+    let mut growing = GrowingPool::begin(alloc, room);
     for place in window.from..window.end {
         if !is_unchanged(twins, changed, place) {
             growing.merge(resource, room, held[place].as_slice(), walks)?;
         }
     }
-    Ok(growing.into_pool())
+    growing.copy_out(alloc, resource, room)
 }
 
 // A pool that an older one has joined.
@@ -210,9 +210,9 @@ fn mended(
     requires old { AreCounted (λ (v : PairingVector). v.duties) walks.now true old.now }
     ensures { IfOk result (IsMended walks.now fresh old.now) }
 {
-    let mut growing = GrowingPool::of(alloc, resource, fresh)?;
+    let mut growing = GrowingPool::begin_with(alloc, resource, room, &fresh)?;
     growing.merge(resource, room, old.as_slice(), walks)?;
-    Ok(growing.into_pool())
+    growing.copy_out(alloc, resource, room)
 }
 
 // Whether each label's walk is one of those added last, or ends where nothing has changed.
@@ -301,7 +301,7 @@ impl Passing {
         let room = &mut self.room;
         let walks = &mut self.passed.walks;
         let part = gathered(alloc, resource, room, twins, changed, held, window, walks)?;
-        waiting_labels(alloc, resource, &part, walks)
+        waiting_labels(part, walks)
     }
 }
 

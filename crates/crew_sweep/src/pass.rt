@@ -4,7 +4,7 @@ ghost use Rattle.std.specs.Arc.{arc_value};
 ghost use Rattle.crew_flights.specs.Timetable.{IsBasePrice};
 ghost use Rattle.crew_step.specs.Walks.{HasGrown};
 ghost use Rattle.crew_sweep.specs.Machinery.Ahead.{AreAhead, IsAhead};
-ghost use Rattle.crew_sweep.specs.Machinery.Grounds.{HasPassedAll, IsGround, Stands};
+ghost use Rattle.crew_sweep.specs.Machinery.Grounds.{HasPassedAll, IsGround, Stands, Stay};
 ghost use Rattle.crew_sweep.specs.Sweeps.{IsSweepable, IsSwept};
 
 use crate::ground::Ground;
@@ -46,19 +46,17 @@ impl Passing {
         alloc: Global,
         sharing: &Sharing,
         ground: &Ground,
-        ahead: IntoIter<Waiting>,
-    ) -> Result<IntoIter<Waiting>, AllocError>
+        ahead: IntoIter<Option<Waiting>>,
+    ) -> Result<IntoIter<Option<Waiting>>, AllocError>
         requires ground { IsGround ground.now }
         requires stands { Stands ground.now self.old }
         requires left { length self.old.passed.pools < length ground.now.net.now.by_report }
         requires ahead { AreAhead ground.now.net.now self.old.passed.walks
-            self.old.arrivals.made.items self.old.arrivals.pools.items
-            (length self.old.passed.pools) ahead.rest.items }
+            self.old.arrivals.made.items self.old.arrivals.pools.items ahead.rest.items }
         ensures stands { OnOk result (Stands ground.now self.new) }
         ensures passed { OnOk result (self.new.passed ≡ self.old.passed) }
         ensures ahead { IfOk result (λ next. AreAhead ground.now.net.now self.new.passed.walks
-            self.new.arrivals.made.items self.new.arrivals.pools.items
-            (length self.new.passed.pools) next.rest.items) }
+            self.new.arrivals.made.items self.new.arrivals.pools.items next.rest.items) }
     {
         if ahead.len() > 0 {
             return Ok(ahead);
@@ -81,25 +79,24 @@ impl Passing {
             (length self.old.passed.pools) ≡ Some place }
         requires stands { Stands ground.now self.old }
         requires ahead { IfSome waiting (IsAhead ground.now.net.now self.old.passed.walks
-            self.old.arrivals.made.items self.old.arrivals.pools.items
-            (length self.old.passed.pools)) }
+            self.old.arrivals.made.items self.old.arrivals.pools.items) }
         ensures stands { OnOk result (Stands ground.now self.new) }
         ensures more { OnOk result (length self.new.passed.pools
             ≡ length self.old.passed.pools + 1) }
         ensures grown { HasGrown self.old.passed.walks self.new.passed.walks }
-        ensures arrivals { IfSome waiting (λ _. self.new.arrivals ≡ self.old.arrivals) }
+        ensures stayed { OnOk result (Stay self.old.arrivals self.new.arrivals) }
     {
         if self.share_departure(ground, place)? {
             return Ok(());
         }
         match waiting {
-            Some(waiting) => self.go_on_ahead(alloc, ground, &waiting),
-            None => self.go_on(alloc, ground, place),
+            Some(waiting) if waiting.place == place => self.go_on_ahead(alloc, ground, waiting),
+            _ => self.go_on(alloc, ground, place),
         }
     }
 
-    // The same by threads, of those that are shared: one merges what stands in the windows of the
-    // departures that come next, while others make what later ones wait on.
+    // The same by threads, of those that are shared: they merge what stands in the windows of the
+    // departures that come next, each those of other airports, and make what later ones wait on.
     fn go_over_by_threads<T: Threads + Sync>(
         &mut self,
         rt: &T,
@@ -115,7 +112,7 @@ impl Passing {
         let mut ahead = Vec::new(alloc).into_iter();
         for departure in ground.net.by_report() {
             ahead = self.or_look_ahead(rt, alloc, sharing, ground, ahead)?;
-            let waiting = ahead.next();
+            let waiting = ahead.next().flatten();
             self.go_on_from(alloc, ground, *departure as usize, waiting)?;
         }
         Ok(())
@@ -167,8 +164,8 @@ pub fn sweep(
 }
 
 /// The same pass by threads, of those that are shared, this one among them: the pools of arrivals on
-/// which departures wait that report less than the least rest after one another are made at once,
-/// while this thread merges what stands in the windows of the next ones.
+/// which departures wait that report less than the least rest after one another are made at once, and
+/// beside them is merged what stands in the windows of the next ones, airport by airport.
 pub fn sweep_by_threads<T: Threads + Sync>(
     rt: &T,
     alloc: Global,

@@ -66,14 +66,14 @@ fn pool_over(
     ground: &Ground,
     room: &mut Workspace<AnchoredResource>,
     place: usize,
-    waiting: &Pool<AnchoredResource>,
+    waiting: Pool<AnchoredResource>,
     walks: &mut Walks,
 ) -> Result<Pool<AnchoredResource>, AllocError>
     requires ground { IsGround ground.now }
     requires place { place < length ground.now.net.now.departures }
-    requires gathered { AreCounted (λ (v : PairingVector). v.duties) walks.old false waiting.now }
+    requires gathered { AreCounted (λ (v : PairingVector). v.duties) walks.old false waiting }
     ensures pooled { IfOk result (IsPooledOver ground.now.net.now ground.now.base
-        ground.now.resource walks.old walks.new place waiting.now) }
+        ground.now.resource walks.old walks.new place waiting) }
     ensures counts { IfOk result (AreCounted (λ (v : PairingVector). v.duties) walks.new true) }
     ensures grown { HasGrown walks.old walks.new }
 {
@@ -155,32 +155,35 @@ impl Passing {
         let number = self
             .slides
             .slide_to(alloc, resource, place, held, window, walks)?;
-        let waiting = self.slides.pool(number);
+        let waiting = self.slides.pool(number).copy(alloc, resource)?;
         pool_over(alloc, ground, &mut self.room, place, waiting, walks)
     }
 
-    // The pass goes on by the departure of which it is merged what stands in its window.
+    // The pass goes on by the departure at a place, of which it is merged what stands in its window.
     fn go_on_with(
         &mut self,
         alloc: Global,
         ground: &Ground,
-        ahead: &Waiting,
-        waiting: &Pool<AnchoredResource>,
+        place: usize,
+        window: Window,
+        waiting: Pool<AnchoredResource>,
     ) -> Result<(), AllocError>
         requires ground { IsGround ground.now }
         requires stands { Stands ground.now self.old }
-        requires ahead { IsAhead ground.now.net.now self.old.passed.walks
-            self.old.arrivals.made.items self.old.arrivals.pools.items
-            (length self.old.passed.pools) ahead.now }
-        requires part { IsPart self.old.passed.walks self.old.arrivals.pools.items
-            ahead.now.window.from ahead.now.window.end waiting.now }
+        requires place { slice_get ground.now.net.now.by_report
+            (length self.old.passed.pools) ≡ Some place }
+        requires window { (g : Departure) → slice_get ground.now.net.now.departures place ≡ Some g
+            → IsWindow (λ x. may_wait ground.now.net.now.settings x g)
+            ground.now.net.now.arrivals window }
+        requires made { AreMade self.old.arrivals.made.items window }
+        requires part { IsPart self.old.passed.walks self.old.arrivals.pools.items window.from
+            window.end waiting }
         ensures stands { OnOk result (Stands ground.now self.new) }
         ensures more { OnOk result (length self.new.passed.pools
             ≡ length self.old.passed.pools + 1) }
         ensures grown { HasGrown self.old.passed.walks self.new.passed.walks }
         ensures arrivals { self.new.arrivals ≡ self.old.arrivals }
     {
-        let place = ahead.place;
         let room = &mut self.room;
         let walks = &mut self.passed.walks;
         let pool = pool_over(alloc, ground, room, place, waiting, walks)?;
@@ -220,22 +223,29 @@ impl Passing {
         &mut self,
         alloc: Global,
         ground: &Ground,
-        ahead: &Waiting,
+        ahead: Waiting,
     ) -> Result<(), AllocError>
         requires ground { IsGround ground.now }
         requires stands { Stands ground.now self.old }
+        requires place { slice_get ground.now.net.now.by_report
+            (length self.old.passed.pools) ≡ Some ahead.place }
         requires ahead { IsAhead ground.now.net.now self.old.passed.walks
-            self.old.arrivals.made.items self.old.arrivals.pools.items
-            (length self.old.passed.pools) ahead.now }
+            self.old.arrivals.made.items self.old.arrivals.pools.items ahead }
         ensures stands { OnOk result (Stands ground.now self.new) }
         ensures more { OnOk result (length self.new.passed.pools
             ≡ length self.old.passed.pools + 1) }
         ensures grown { HasGrown self.old.passed.walks self.new.passed.walks }
         ensures arrivals { self.new.arrivals ≡ self.old.arrivals }
     {
-        match &ahead.pool {
-            Some(waiting) => self.go_on_with(alloc, ground, ahead, waiting),
-            None => self.go_on_at(alloc, ground, ahead.place, ahead.window),
+        let Waiting {
+            position: _,
+            place,
+            window,
+            pool,
+        } = ahead;
+        match pool {
+            Some(waiting) => self.go_on_with(alloc, ground, place, window, waiting),
+            None => self.go_on_at(alloc, ground, place, window),
         }
     }
 
@@ -270,6 +280,7 @@ impl Passing {
         ensures grown { HasGrown self.old.passed.walks self.new.passed.walks }
         ensures added { OnOk result ((pool : List (PairingVector × LabelWalk))
             × (self.new.passed.pools ≡ self.old.passed.pools ++ pool ∷ [])) }
+        ensures stayed { OnOk result (Stay self.old.arrivals self.new.arrivals) }
     {
         let window = ground.net.window(place);
         self.arrivals

@@ -47,10 +47,9 @@ fn joined(
         (map (shown walks.now) pool)) }
     ensures counts { IfOk result (AreCounted (λ (v : PairingVector). v.duties) walks.now false) }
 {
-    let first = first.copy(alloc, resource)?;
-    let mut pool = GrowingPool::of(alloc, resource, first)?;
+    let mut pool = GrowingPool::begin_with(alloc, resource, room, first)?;
     pool.merge(resource, room, second, walks)?;
-    Ok(pool.into_pool())
+    pool.copy_out(alloc, resource, room)
 }
 
 // The pools from each place of a window up to its end, and that of no place, the nearest first.

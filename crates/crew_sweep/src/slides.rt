@@ -64,6 +64,32 @@ impl Slides {
         }
     }
 
+    /// Slides of which these are the numbers by departure.
+    pub(crate) fn of(alloc: Global, airports: Vec<usize>, slides: Vec<Slide>) -> Slides
+        ensures airports { result.airports ≡ airports }
+        ensures slides { result.slides ≡ slides }
+    {
+        let room = Workspace::new(alloc);
+        Slides {
+            airports,
+            slides,
+            room,
+        }
+    }
+
+    /// The numbers by departure, and the slides.
+    pub(crate) fn apart(self) -> (Vec<usize>, Vec<Slide>)
+        ensures airports { result.0 ≡ self.airports }
+        ensures slides { result.1 ≡ self.slides }
+    {
+        let Slides {
+            airports,
+            slides,
+            room: _,
+        } = self;
+        (airports, slides)
+    }
+
     /// Slides the slide of a departure's airport to a window, and gives its number.
     pub(crate) fn slide_to(
         &mut self,

@@ -14,6 +14,12 @@ pub record AreSliding (walks : List (List ℕ)) (held : List (List (PairingVecto
   pub numbers : (n : ℕ) → Member s.airports.items n → n < length s.slides.items
   pub each : (slide : Slide) → Member s.slides.items slide → IsSliding walks held slide
 
+-- a slide over what is made
+pub record IsOver (walks : List (List ℕ)) (made : List Bool)
+    (held : List (List (PairingVector × LabelWalk))) (s : Slide) : Type 0 where
+  pub sliding : IsSliding walks held s
+  pub covered : (place : ℕ) → Covers s place → IsMade made place
+
 -- slides that have merged nothing yet
 abbrev pub AreIdle : List Slide → Type 0
 AreIdle slides = (slide : Slide) → Member slides slide

@@ -3,4 +3,4 @@ use Rattle.crew_claims.specs.Machinery.Claims.{IsMade}
 use Rattle.crew_claims.proofs.claims.claim.Given as goal
 
 abbrev pub invariant-loop : goal.invariant-loop
-invariant-loop g l = All (IsMade g.F.Fn l.f l.count) l.made.items
+invariant-loop g l = All (IsMade g.F.Fn l.f l.claims) l.made.items

@@ -2,6 +2,7 @@ use Rattle.std.proofs.Common.{◌≡◌, ◌∙◌, ◌+◌, ◌++◌, [], List,
 use Rattle.std.specs.Prelude.{slice_get}
 use Rattle.std.proofs.lemmas.List.{take_all}
 use Rattle.std.proofs.lemmas.Option.{slice_get-get_or}
+use Rattle.std.proofs.lemmas.Result.{IfOk-weaker}
 use Rattle.crew_pool.specs.Counted.{AreCounted}
 use Rattle.crew_pool.specs.LabelWalks.{IsPoolOf, shown}
 use Rattle.crew_pool.specs.declared.label_walk.LabelWalk.{LabelWalk}
@@ -65,7 +66,7 @@ loop-rank-init g c =
     let count = g.R.Staged.count_of c.args.resource.now in
     let none : IsPoolOf {V = V} g.R.Resource.below [] (map (shown {V = V} ws) []) × AreCounted {V = V} count ws false [] =
     (record { among = λ v w m. absurd m; covers = λ v w m. absurd m; alone = λ v w x y m. absurd m }, λ l m. absurd m) in
-    subst (λ (es : List (V × LabelWalk)). IsPoolOf {V = V} g.R.Resource.below [] (map (shown {V = V} ws) es) × AreCounted {V = V} count ws false es) (sym c.new-pool.ensures) none
+    subst (λ (es : List (V × LabelWalk)). IsPoolOf {V = V} g.R.Resource.below [] (map (shown {V = V} ws) es) × AreCounted {V = V} count ws false es) (sym c.begin-pool.ensures) none
 
 pub loop-rank-preserved : goal.loop-rank-preserved
 loop-rank-preserved g c =
@@ -102,10 +103,12 @@ returns-clause-local g c =
     let ws = c.args.walks.now in
     let brought = boarded {V = V} ws (g.R.Staged.boards c.args.resource.now) c.args.items.now c.args.positions.now c.args.pools.now in
     let all = take_all c.loop-rank.rank-index c.args.ranks.now (omega arith) in
-    subst (λ (es : List (V × LabelWalk)). IsPoolOf g.R.Resource.below (brought c.args.ranks.now) (map (shown {V = V} ws) es)) (sym c.into_pool.ensures)
-    (subst (λ (ranks : List ℕ). IsPoolOf g.R.Resource.below (brought ranks) (map (shown {V = V} ws) c.loop-rank.pool)) all c.loop-rank.invariant.0)
+    IfOk-weaker c.copy_out.result _ _
+    (λ pool same. subst (λ (es : List (V × LabelWalk)). IsPoolOf g.R.Resource.below (brought c.args.ranks.now) (map (shown {V = V} ws) es)) (sym same)
+    (subst (λ (ranks : List ℕ). IsPoolOf g.R.Resource.below (brought ranks) (map (shown {V = V} ws) c.loop-rank.pool)) all c.loop-rank.invariant.0)) c.copy_out.ensures
 
 pub returns-clause-counts : goal.returns-clause-counts
 returns-clause-counts g c =
     let V = g.row.R-Value.Denot in
-    subst (λ (es : List (V × LabelWalk)). AreCounted {V = V} (g.R.Staged.count_of c.args.resource.now) c.args.walks.now false es) (sym c.into_pool.ensures) c.loop-rank.invariant.1
+    IfOk-weaker c.copy_out.result _ _
+    (λ pool same. subst (λ (es : List (V × LabelWalk)). AreCounted {V = V} (g.R.Staged.count_of c.args.resource.now) c.args.walks.now false es) (sym same) c.loop-rank.invariant.1) c.copy_out.ensures

@@ -1,89 +1,107 @@
-use Rattle.std.proofs.Common.{◌≡◌, ◌++◌, ◌+◌, ◌∷◌, ◌∙◌, [], List, ap, arith, false, map, refl, subst, sym, take, true, ⊎_elim}
-use Rattle.std.proofs.lemmas.List.{take_all}
+use Rattle.std.proofs.Common.{◌≡◌, ◌<◌, ◌+◌, ◌++◌, ◌∷◌, ◌∙◌, [], List, ℕ, ℤ, ◌≤◌, ap, arith, drop, false, get_or, length, map, set, subst, sym, take, true, ⊎_elim}
+use Rattle.std.proofs.lemmas.List.{drop-set-lt, get_or-drop, length-drop, take_all, take_more_set}
+use Rattle.std.proofs.lemmas.Grind.{drop_more_same}
 use Rattle.crew_resource.specs.Members.{Member}
 use Rattle.crew_resource.proofs.Members.{Member-append}
 use Rattle.crew_pool.specs.Apart.{AreApart}
 use Rattle.crew_pool.specs.Counted.{AreCounted, IsCounted}
 use Rattle.crew_pool.specs.LabelWalks.{shown}
 use Rattle.crew_pool.specs.declared.label_walk.LabelWalk.{LabelWalk}
-use Rattle.crew_step.proofs.Grown.{all-shown-grown, counted-grown, grown-itself, grown-through, one-more-shown, shown-grown, vectors-shown}
+use Rattle.crew_step.proofs.Grown.{all-shown-there, counted-grown, grown-through, one-more-shown, shown-grown, vectors-shown}
 use Rattle.crew_step.proofs.Loops.{item-at, item-known}
 use Rattle.crew_step.proofs.waiting.waiting_labels.Goals as goal
 
-pub loop-label-init : goal.loop-label-init
-loop-label-init g c =
-    let Label = g.row.R-Value.Denot × LabelWalk in
-    let count = g.R.Staged.count_of c.args.resource.now in
-    let first = c.args.walks.now in
-    let none : (map (shown first) c.in_ok-labels.labels.items ≡ []) × ((l : Label) → Member c.in_ok-labels.labels.items l → IsCounted count first true l) =
-    subst (λ (es : List Label). (map (shown first) es ≡ []) × ((l : Label) → Member es l → IsCounted count first true l)) (sym c.in_ok-labels.ensures.items) (refl, λ l m. absurd m) in
-    (grown-itself first, none.0, none.1)
+-- what comes next is as it was
+still : {X : Type 0} (now old : List X) (i : ℕ) (x : X) → drop i now ≡ drop i old → i < length old → x ≡ get_or now i x → (i < length now) × (x ≡ get_or old i x)
+still now old i x same inside is =
+    let here : i + 0 ≡ i = omega arith in (
+      omega (arith, inside, ap length same, length-drop i now, length-drop i old),
+      is ∙ (ap (λ k. get_or now k x) (sym here) ∙ (sym (get_or-drop i now 0 x) ∙ (ap (λ xs. get_or xs 0 x) same ∙ (get_or-drop i old 0 x ∙ ap (λ k. get_or old k x) here)))),
+    )
 
-pub whole_label-requires : goal.whole_label-requires
-whole_label-requires g c =
-    let p = c.label-item.result in
-    let items = c.as_slice-label-items.result.now in
-    let known = subst (λ (es : List (g.row.R-Value.Denot × LabelWalk)). Member es p) c.as_slice-label-items.ensures.all (item-known items c.loop-label.label-index p c.loop-label-test.true c.label-item.is) in
-    counted-grown (g.R.Staged.count_of c.args.resource.now) c.args.walks.now c.loop-label.walks false c.loop-label.invariant.0 p (c.requires p known)
+pub make_whole-requires-clause-there : goal.make_whole-requires-clause-there
+make_whole-requires-clause-there g c =
+    let inside : c.loop-place.place < length c.args.pool = omega (arith, ap length c.into_vec-labels.ensures.all) in
+    let p = c.index_mut.result.now in
+    let inv = c.loop-place.invariant in
+    let was = still c.loop-place.labels.items c.args.pool c.loop-place.place p inv.2 inside c.index_mut.ensures.value in
+    let there = (c.requires p (item-known c.args.pool c.loop-place.place p inside was.1)).0 in
+    let longer = inv.0.longer in
+    omega (arith, there, longer)
 
-pub loop-label-preserved : goal.loop-label-preserved
-loop-label-preserved g c =
+pub make_whole-requires-clause-pending : goal.make_whole-requires-clause-pending
+make_whole-requires-clause-pending g c =
+    let inside : c.loop-place.place < length c.args.pool = omega (arith, ap length c.into_vec-labels.ensures.all) in
+    let p = c.index_mut.result.now in
+    let was = still c.loop-place.labels.items c.args.pool c.loop-place.place p c.loop-place.invariant.2 inside c.index_mut.ensures.value in
+    (c.requires p (item-known c.args.pool c.loop-place.place p inside was.1)).1
+
+pub loop-place-preserved : goal.loop-place-preserved
+loop-place-preserved g c =
+    let inside : c.loop-place.place < length c.args.pool = omega (arith, ap length c.into_vec-labels.ensures.all) in
     let Label = g.row.R-Value.Denot × LabelWalk in
-    let count = g.R.Staged.count_of c.args.resource.now in
-    let p = c.label-item.result in
-    let i = c.loop-label.label-index in
-    let items = c.as_slice-label-items.result.now in
-    let known = subst (λ (es : List Label). Member es p) c.as_slice-label-items.ensures.all (item-known items i p c.loop-label-test.true c.label-item.is) in
-    let inv = c.loop-label.invariant in
+    let p = c.index_mut.result.now in
+    let i = c.loop-place.place in
+    let ls = c.loop-place.labels.items in
+    let pool = c.args.pool in
+    let inv = c.loop-place.invariant in
+    let at = still ls pool i p inv.2 inside c.index_mut.ensures.value in
+    let known = item-known pool i p inside at.1 in
     let first = c.args.walks.now in
-    let was = c.loop-label.walks in
-    let now = c.whole_label.new.walks in
-    let ls = c.loop-label.labels.items in
-    let x = c.in_ok-whole.whole in
-    let step = c.in_ok-whole.ensures in
-    let same = one-more-shown first now ls items i x p (item-at items i p c.loop-label-test.true c.label-item.is) (all-shown-grown count was now true step.grown ls inv.2 ∙ inv.1) (step.same ∙ shown-grown first was inv.0 p (c.requires p known).there)
+    let was = c.loop-place.walks in
+    let now = c.make_whole.new.walks in
+    let x = c.make_whole.new.label in
+    let step = c.in_ok-make_whole.ensures in
+    let more : take (i + 1) (set ls i x) ≡ take i ls ++ x ∷ [] = take_more_set ls i x at.0 in
+    let longer = step.grown.longer in
+    let same = one-more-shown first now (take i ls) pool i x p (item-at pool i p inside at.1) (all-shown-there was now step.grown (take i ls) inv.3 ∙ inv.1)
+    (step.same ∙ shown-grown first was inv.0 p (c.requires p known).0)
     in
-    let counts = λ (l : Label) (m : Member (ls ++ x ∷ []) l).
-    ⊎_elim {C = IsCounted count now true l} (λ o. counted-grown count was now true step.grown l (inv.2 l o))
-    (λ n. ⊎_elim {C = IsCounted count now true l} (λ e. subst (IsCounted count now true) e step.counts) (λ b. absurd b) n) (Member-append ls (x ∷ []) l m)
+    let there : (l : Label) → Member (take i ls ++ x ∷ []) l → l.1.walk < length now = λ l m. ⊎_elim {C = l.1.walk < length now} (λ o. let h = inv.3 l o in omega (arith, h, longer))
+    (λ n. ⊎_elim {C = l.1.walk < length now} (λ e. subst (λ (y : Label). y.1.walk < length now) e step.there) (λ b. absurd b) n) (Member-append (take i ls) (x ∷ []) l m)
     in
-    let whole : (map (shown now) c.push.new.self.items ≡ map (shown first) (take (i + 1) items)) × ((l : Label) → Member c.push.new.self.items l → IsCounted count now true l) =
-    subst (λ (es : List Label). (map (shown now) es ≡ map (shown first) (take (i + 1) items)) × ((l : Label) → Member es l → IsCounted count now true l)) (sym c.in_ok-push.ensures.items) (same, counts)
-    in
-    (grown-through first was now inv.0 step.grown, whole.0, whole.1)
+    let counts : (count : g.row.R-Value.Denot → ℤ) → AreCounted count first false pool → AreCounted count now true (take i ls ++ x ∷ []) = λ count all l m.
+    ⊎_elim {C = IsCounted count now true l} (λ o. counted-grown count was now true step.grown l (inv.4 count all l o))
+    (λ n. ⊎_elim {C = IsCounted count now true l} (λ e. subst (IsCounted count now true) e (step.counts count (counted-grown count first was false inv.0 p (all p known)))) (λ b. absurd b) n) (Member-append (take i ls) (x ∷ []) l m)
+    in (
+      grown-through first was now inv.0 step.grown,
+      ap (map (shown now)) more ∙ same,
+      drop-set-lt (i + 1) ls i x (omega arith) ∙ drop_more_same ls pool i inv.2,
+      subst (λ (es : List Label). (l : Label) → Member es l → l.1.walk < length now) (sym more) there,
+      subst (λ (es : List Label). (count : g.row.R-Value.Denot → ℤ) → AreCounted count first false pool → AreCounted count now true es) (sym more) counts,
+    )
+
+-- when the loop is over all labels are whole
+all-whole : {X : Type 0} (now old : List X) (i : ℕ) → drop i now ≡ drop i old → length old ≤ i → (take i now ≡ now) × (take i old ≡ old)
+all-whole now old i same past = (
+  take_all i now (omega (arith, past, ap length same, length-drop i now, length-drop i old)),
+  take_all i old past,
+)
 
 pub from_apart-requires : goal.from_apart-requires
 from_apart-requires g c =
     let V = g.row.R-Value.Denot in
     let first = c.args.walks.now in
-    let items = c.as_slice-label-items.result.now in
-    let ls = c.loop-label.labels.items in
-    let all = take_all c.loop-label.label-index items (omega arith) ∙ c.as_slice-label-items.ensures.all in
-    let vectors : map (λ (l : V × LabelWalk). l.0) ls ≡ map (λ (l : V × LabelWalk). l.0) c.args.pool.now =
-    sym (vectors-shown c.loop-label.walks ls) ∙ (ap (map (λ e. e.0)) (c.loop-label.invariant.1 ∙ ap (map (shown first)) all) ∙ vectors-shown first c.args.pool.now) in
-    subst (AreApart g.R.Resource.below) (sym vectors) c.as_slice-label-items.ensures.apart
+    let ls = c.loop-place.labels.items in
+    let inv = c.loop-place.invariant in
+    let all = all-whole ls c.args.pool c.loop-place.place inv.2 (omega (arith, ap length c.into_vec-labels.ensures.all)) in
+    let shows : map (shown c.loop-place.walks) ls ≡ map (shown first) c.args.pool = ap (map (shown c.loop-place.walks)) (sym all.0) ∙ (inv.1 ∙ ap (map (shown first)) all.1) in
+    let vectors : map (λ (l : V × LabelWalk). l.0) ls ≡ map (λ (l : V × LabelWalk). l.0) c.args.pool =
+    sym (vectors-shown c.loop-place.walks ls) ∙ (ap (map (λ e. e.0)) shows ∙ vectors-shown first c.args.pool) in
+    subst (AreApart g.R.Resource.below) (sym vectors) c.into_vec-labels.ensures.apart
 
 pub returns-clause-same : goal.returns-clause-same
 returns-clause-same g c =
     let first = c.args.walks.now in
-    let all = take_all c.loop-label.label-index c.as_slice-label-items.result.now (omega arith) ∙ c.as_slice-label-items.ensures.all in
-    ap (map (shown c.loop-label.walks)) c.from_apart.ensures ∙ (c.loop-label.invariant.1 ∙ ap (map (shown first)) all)
+    let ls = c.loop-place.labels.items in
+    let inv = c.loop-place.invariant in
+    let all = all-whole ls c.args.pool c.loop-place.place inv.2 (omega (arith, ap length c.into_vec-labels.ensures.all)) in
+    ap (map (shown c.loop-place.walks)) (c.from_apart.ensures ∙ sym all.0) ∙ (inv.1 ∙ ap (map (shown first)) all.1)
 
 pub returns-clause-counts : goal.returns-clause-counts
-returns-clause-counts g c =
-    let counted = λ (ls : List (g.row.R-Value.Denot × LabelWalk)). AreCounted (g.R.Staged.count_of c.args.resource.now) c.loop-label.walks true ls in
-    subst counted (sym c.from_apart.ensures) c.loop-label.invariant.2
-
-pub returns-clause-grown : goal.returns-clause-grown
-returns-clause-grown g c = c.loop-label.invariant.0
-
-pub returns-in_err-labels-clause-grown : goal.returns-in_err-labels-clause-grown
-returns-in_err-labels-clause-grown g c = grown-itself c.args.walks.now
-
-pub returns-in_err-whole-clause-grown : goal.returns-in_err-whole-clause-grown
-returns-in_err-whole-clause-grown g c =
-    grown-through c.args.walks.now c.loop-label.walks c.whole_label.new.walks c.loop-label.invariant.0 c.in_err-whole.ensures.grown
-
-pub returns-in_err-push-clause-grown : goal.returns-in_err-push-clause-grown
-returns-in_err-push-clause-grown g c =
-    grown-through c.args.walks.now c.loop-label.walks c.whole_label.new.walks c.loop-label.invariant.0 c.in_ok-whole.ensures.grown
+returns-clause-counts g c = λ count counted.
+    let V = g.row.R-Value.Denot in
+    let ls = c.loop-place.labels.items in
+    let inv = c.loop-place.invariant in
+    let all = all-whole ls c.args.pool c.loop-place.place inv.2 (omega (arith, ap length c.into_vec-labels.ensures.all)) in
+    subst (λ (es : List (V × LabelWalk)). AreCounted count c.loop-place.walks true es) (all.0 ∙ sym c.from_apart.ensures) (inv.4 count counted)

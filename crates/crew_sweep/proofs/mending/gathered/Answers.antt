@@ -1,4 +1,5 @@
 use Rattle.std.proofs.Common.{◌≡◌, ◌∙◌, ◌<◌, ◌+◌, List, Some, arith, false, length, refl, subst, sym, ⊎_elim}
+use Rattle.std.proofs.lemmas.Result.{IfOk-weaker}
 use Rattle.crew_net.proofs.Slices.{item-in}
 use Rattle.crew_pairing.specs.declared.vector.PairingVector.{PairingVector}
 use Rattle.crew_pool.specs.Counted.{AreCounted, IsCounted}
@@ -14,7 +15,7 @@ abbrev Labels : Type 0
 Labels = List (PairingVector × LabelWalk)
 
 pub loop-place-init : goal.loop-place-init
-loop-place-init c = subst (IsChangedPart c.args.twins.now c.args.changed.now c.args.walks.now c.args.held.now c.args.window.from c.args.window.from) (sym c.new-growing.ensures) (changed-none c.args.twins.now c.args.changed.now c.args.walks.now c.args.held.now c.args.window.from)
+loop-place-init c = subst (IsChangedPart c.args.twins.now c.args.changed.now c.args.walks.now c.args.held.now c.args.window.from c.args.window.from) (sym c.begin-growing.ensures) (changed-none c.args.twins.now c.args.changed.now c.args.walks.now c.args.held.now c.args.window.from)
 
 pub merge-requires-clause-between : goal.merge-requires-clause-between
 merge-requires-clause-between c a b m n e =
@@ -65,4 +66,4 @@ returns c =
     let ordered = c.requires.ordered in
     let end : c.loop-place.place ≡ c.args.window.end = omega (arith, test, auto, ordered) in
     let Goal = IsChangedPart c.args.twins.now c.args.changed.now c.args.walks.now c.args.held.now c.args.window.from in
-    subst (λ n. Goal n c.into_pool.result) end (subst (Goal c.loop-place.place) (sym c.into_pool.ensures) c.loop-place.invariant)
+    IfOk-weaker c.copy_out.result _ _ (λ pool same. subst (λ n. Goal n pool) end (subst (Goal c.loop-place.place) (sym same) c.loop-place.invariant)) c.copy_out.ensures

@@ -1,4 +1,5 @@
 use Rattle.std.proofs.Common.{◌++◌, ◌⊎◌, List, inl, inr, map, subst, sym, true, ⊎_elim}
+use Rattle.std.proofs.lemmas.Result.{IfOk-weaker}
 use Rattle.crew_pairing.specs.declared.vector.PairingVector.{PairingVector}
 use Rattle.crew_pool.specs.Apart.{AreApart}
 use Rattle.crew_pool.specs.Counted.{AreCounted, IsCounted}
@@ -43,4 +44,5 @@ returns c =
     let local = subst (λ (ls : Labels). IsPoolOf is_at_most (map (shown walks) fresh ++ map (shown walks) ls) (map (shown walks) c.merge.new.self)) c.as_slice.ensures.all (c.in_ok-merge.ensures.local (map (shown walks) fresh) first) in
     let from : (l : PairingVector × LabelWalk) → Member c.merge.new.self l → Member fresh l ⊎ Member old l = λ l m. ⊎_elim {C = Member fresh l ⊎ Member old l}
     (λ k. inl (subst (λ (ls : Labels). Member ls l) c.in_ok-growing.ensures k)) (λ k. inr (subst (λ (ls : Labels). Member ls l) c.as_slice.ensures.all k)) (c.in_ok-merge.ensures.from l m) in
-    subst (IsMended walks fresh old) (sym c.into_pool.ensures) (record { local = local; from = from; counts = λ l m. ⊎_elim {C = counted l} (c.requires.fresh l) (c.requires.old l) (from l m) })
+    let all : IsMended walks fresh old c.merge.new.self = record { local = local; from = from; counts = λ l m. ⊎_elim {C = counted l} (c.requires.fresh l) (c.requires.old l) (from l m) } in
+    IfOk-weaker c.copy_out.result _ _ (λ pool same. subst (IsMended walks fresh old) (sym same) all) c.copy_out.ensures

@@ -14,6 +14,9 @@ use Rattle.crew_sweep.proofs.passing.Passing.fresh_labels.Goals as goal
 abbrev Labels : Type 0
 Labels = List (PairingVector × LabelWalk)
 
+pub waiting_labels-requires : goal.waiting_labels-requires
+waiting_labels-requires c l m = let counted = c.in_ok-part.ensures.counts l m in (counted.there, counted.stands)
+
 pub returns-clause-stands : goal.returns-clause-stands
 returns-clause-stands c =
     let g = c.args.ground.now in
@@ -39,7 +42,7 @@ returns-clause-fresh c =
     let after = c.waiting_labels.new.walks in
     let part = subst (λ (hs : List Labels). IsChangedPart t changed before hs w.from w.end c.in_ok-part.part) c.deref.ensures.value c.in_ok-part.ensures in
     if-both c.waiting_labels.result (λ (whole : Labels). map (shown after) whole ≡ map (shown before) c.in_ok-part.part) (AreCounted (λ (v : PairingVector). v.duties) after true)
-    (IsFresh t changed after made.arrivals.made.items held w) c.waiting_labels.ensures.same c.waiting_labels.ensures.counts
+    (IsFresh t changed after made.arrivals.made.items held w) c.waiting_labels.ensures.same (c.waiting_labels.ensures.counts (λ (v : PairingVector). v.duties) part.counts)
     (λ whole same counts. record {
       local = changed-grown t changed before after c.waiting_labels.ensures.grown held stands.pools.pending w.from w.end c.in_ok-part.part whole part same;
       counts = counts;

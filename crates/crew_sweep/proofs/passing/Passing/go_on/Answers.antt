@@ -2,7 +2,7 @@ use Rattle.std.specs.Arc.{arc_value}
 use Rattle.std.proofs.Common.{◌≡◌, ◌∙◌, ◌++◌, ◌∷◌, [], List, ap, length, subst, sym}
 use Rattle.crew_pairing.specs.declared.vector.PairingVector.{PairingVector}
 use Rattle.crew_pool.specs.declared.label_walk.LabelWalk.{LabelWalk}
-use Rattle.crew_sweep.specs.Machinery.Passing.{IsPassing}
+use Rattle.crew_sweep.specs.Machinery.Passing.{HaveStayed, IsPassing}
 use Rattle.crew_sweep.specs.declared.arrivals.Arrivals.{Arrivals}
 use Rattle.crew_sweep.proofs.MadeAhead.{under-way-stayed}
 use Rattle.crew_sweep.proofs.Passable as passable
@@ -61,3 +61,6 @@ returns-clause-stands c =
           (subst (λ (a : Arrivals). IsPassing g.net.now g.base g.resource now.passed.walks (was.pools ++ pool ∷ []) a.made.items a.pools.items) (sym c.pool_at.ensures.arrivals) passing);
       slides = c.in_ok-pool.ensures.stands.slides;
     }
+
+pub returns-clause-stayed : goal.returns-clause-stayed
+returns-clause-stayed c = subst (λ (a : Arrivals). HaveStayed c.args.self.now.arrivals.made.items c.args.self.now.arrivals.pools.items a.made.items a.pools.items) (sym c.pool_at.ensures.arrivals) c.in_ok-make_window.ensures.stayed

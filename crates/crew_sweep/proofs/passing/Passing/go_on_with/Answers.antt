@@ -14,7 +14,7 @@ Labels = List (PairingVector × LabelWalk)
 pub pool_over-requires-clause-place : goal.pool_over-requires-clause-place
 pool_over-requires-clause-place c =
     let g = c.args.ground.now in
-    passable.within g.net.now g.positions.now c.requires.ground.passable (length c.args.self.now.passed.pools) c.args.ahead.now.place c.requires.ahead.place
+    passable.within g.net.now g.positions.now c.requires.ground.passable (length c.args.self.now.passed.pools) c.args.place c.requires.place
 
 pub returns-clause-stands : goal.returns-clause-stands
 returns-clause-stands c =
@@ -23,16 +23,16 @@ returns-clause-stands c =
     let was = c.args.self.now.passed in
     let made = c.args.self.now.arrivals.made.items in
     let held = c.args.self.now.arrivals.pools.items in
-    let ahead = c.args.ahead.now in
-    let is = c.requires.ahead in
+    let place = c.args.place in
+    let window = c.args.window in
     let after = c.pool_over.new.walks in
     let grown = c.pool_over.ensures.grown in
     let pool = c.in_ok-pool.pool in
     let put : Labels = arc_value c.in_ok-new.field-0 in
     let all : c.push.new.self ≡ was.pools ++ pool ∷ [] = c.in_ok-push.ensures.added ∙ ap (λ (p : Labels). was.pools ++ p ∷ []) c.in_ok-new.ensures.ok in
-    let d = passable.departs-at net g.positions.now c.requires.ground.passable (length was.pools) ahead.place is.place in
-    let pooled = pooled-by net g.base g.resource was.walks after ahead.place ahead.window held c.args.waiting.now pool (is.window d.0 d.1).ordered c.requires.part c.in_ok-pool.ensures.pooled in
-    let passing = passable.passed net g.positions.now c.requires.ground.passable g.base g.resource was.walks after grown was.pools made held c.requires.stands.pools ahead.place is.place ahead.window is.window is.are_made pool pooled c.in_ok-pool.ensures.counts in
+    let d = passable.departs-at net g.positions.now c.requires.ground.passable (length was.pools) place c.requires.place in
+    let pooled = pooled-by net g.base g.resource was.walks after place window held c.args.waiting pool (c.requires.window d.0 d.1).ordered c.requires.part c.in_ok-pool.ensures.pooled in
+    let passing = passable.passed net g.positions.now c.requires.ground.passable g.base g.resource was.walks after grown was.pools made held c.requires.stands.pools place c.requires.place window c.requires.window c.requires.made pool pooled c.in_ok-pool.ensures.counts in
     record {
       pools = subst (λ (ps : List Labels). IsPassing net g.base g.resource after ps made held) (sym all) passing;
       slides = under-way-grown net was.walks after grown made held c.requires.stands.pools.pending c.args.self.now.slides c.requires.stands.slides;

@@ -1,4 +1,4 @@
-use Rattle.std.proofs.Common.{◌≤◌, List, false, length, subst, sym}
+use Rattle.std.proofs.Common.{◌∙◌, ◌≤◌, List, false, length, subst, sym}
 use Rattle.std.proofs.lemmas.Result.{IfOk-weaker}
 use Rattle.crew_net.proofs.Slices.{stands}
 use Rattle.crew_pairing.specs.declared.vector.PairingVector.{PairingVector}
@@ -37,7 +37,7 @@ slide_to-requires-clause-sliding c = subst (λ (hs : List Labels). AreSliding c.
 pub pool_over-requires-clause-gathered : goal.pool_over-requires-clause-gathered
 pool_over-requires-clause-gathered c =
     let slide = stands c.slide_to.new.self.slides.items c.in_ok-number.number c.in_ok-number.ensures.number in
-    subst (λ (ls : Labels). AreCounted (λ (v : PairingVector). v.duties) c.args.self.now.passed.walks false ls) (sym (c.pool-waiting.ensures slide.0 slide.1)) (c.in_ok-number.ensures.part slide.0 slide.1).counts
+    subst (λ (ls : Labels). AreCounted (λ (v : PairingVector). v.duties) c.args.self.now.passed.walks false ls) (sym (c.in_ok-waiting.ensures ∙ c.pool.ensures slide.0 slide.1)) (c.in_ok-number.ensures.part slide.0 slide.1).counts
 
 pub returns-clause-pooled : goal.returns-clause-pooled
 returns-clause-pooled c =
@@ -48,9 +48,9 @@ returns-clause-pooled c =
     let g = stands ground.net.now.departures c.args.place c.requires.place in
     let slide = stands c.slide_to.new.self.slides.items c.in_ok-number.number c.in_ok-number.ensures.number in
     let part : IsPart walks held w.from w.end slide.0.pool = subst (λ (hs : List Labels). IsPart walks hs w.from w.end slide.0.pool) c.deref.ensures.value (c.in_ok-number.ensures.part slide.0 slide.1) in
-    let waiting = subst (λ (ls : Labels). IsPart walks held w.from w.end ls) (sym (c.pool-waiting.ensures slide.0 slide.1)) part in
+    let waiting = subst (λ (ls : Labels). IsPart walks held w.from w.end ls) (sym (c.in_ok-waiting.ensures ∙ c.pool.ensures slide.0 slide.1)) part in
     IfOk-weaker c.pool_over.result _ _
-    (λ pool. pooled-by ground.net.now ground.base ground.resource walks c.pool_over.new.walks c.args.place w held c.pool-waiting.result.now pool (c.requires.window g.0 g.1).ordered waiting)
+    (λ pool. pooled-by ground.net.now ground.base ground.resource walks c.pool_over.new.walks c.args.place w held c.in_ok-waiting.waiting pool (c.requires.window g.0 g.1).ordered waiting)
     c.pool_over.ensures.pooled
 
 pub returns-clause-stands : goal.returns-clause-stands
