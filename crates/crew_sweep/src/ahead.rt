@@ -155,20 +155,23 @@ fn label_count(ground: &Ground, passed: &Passed, place: usize) -> usize
     count
 }
 
-// The marked arrivals, each after how many labels may board into it, most first: a long one that a
-// thread begins late keeps the others waiting. No clause says so, since it is there for speed.
+// The marked arrivals whose pools aren't made, each after how many labels may board into it, most first:
+// a long one that a thread begins late keeps the others waiting. No clause says so, since it is there
+// for speed.
 fn longest_first(
     alloc: Global,
     ground: &Ground,
     passed: &Passed,
     marks: &[bool],
+    made: &[bool],
 ) -> Result<Vec<(usize, usize)>, AllocError>
     requires ground { IsGround ground.now }
     requires marks { length marks.now ≡ length ground.now.net.now.arrivals }
+    requires made { length made.now ≡ length ground.now.net.now.arrivals }
 {
     let mut places = Vec::new(alloc);
     for place in 0..marks.len() {
-        if marks[place] {
+        if marks[place] && !made[place] {
             places.push((label_count(ground, passed, place), place))?;
         }
     }
@@ -193,7 +196,7 @@ fn unmade(
 {
     let position = passed.pools.len();
     let mut places = Vec::new(alloc);
-    for it in longest_first(alloc, ground, passed, marks)? {
+    for it in longest_first(alloc, ground, passed, marks, made)? {
         if is_wanted(ground, position, marks, made, it.1) {
             places.push(it.1)?;
         }

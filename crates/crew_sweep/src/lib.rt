@@ -4,10 +4,11 @@
 //! each legal duty's front. The windows of an airport slide, so an arrival's labels are merged a
 //! constant number of times, and its pool is let go of where windows have gone past it.
 //! `sweep_by_threads` makes the pools of arrivals several at a time, since departures that report
-//! less than the least rest after one another don't wait on each other's duties; no result depends
-//! on the number of threads. `renew` and `renew_by_threads` are the same beside an earlier sweep,
-//! whose pools they keep where nothing changed, or where the arrivals that may have changed are seen
-//! to show what they showed, and mend where little did.
+//! less than the least rest after one another don't wait on each other's duties, and merges beside
+//! them what stands in the windows of the departures that come next, airport by airport; no result
+//! depends on the number of threads. `renew` and `renew_by_threads` are the same beside an earlier
+//! sweep, whose pools they keep where nothing changed, or where the arrivals that may have changed
+//! are seen to show what they showed, and mend where little did.
 //! `laws` has what this rests on.
 #![tactic(auto)]
 
