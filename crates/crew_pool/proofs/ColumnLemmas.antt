@@ -1,13 +1,14 @@
 -- Marks by column.
-use Rattle.std.proofs.Common.{◌≡◌, ℕ, zero, suc, ◌+◌, ◌<◌, ◌≤◌, List, [], ◌∷◌, ◌++◌, length, take, map, get_or, set, refl, sym, ◌∙◌, ap, arith, ℤ}
+use Rattle.std.proofs.Common.{◌≡◌, ℕ, zero, suc, ◌+◌, ◌<◌, ◌≤◌, ◌≤ℤ◌, pos, true, List, [], ◌∷◌, ◌++◌, length, take, map, get_or, set, refl, sym, ◌∙◌, ap, arith, ℤ}
 use Rattle.std.specs.List.{swap}
 use Rattle.std.specs.Simd.Lanes.{chunk, zip2}
 use Rattle.std.proofs.Math.ListN.{get_or-map}
 use Rattle.std.proofs.lemmas.List.{length-map, map-append, take-map}
 use Rattle.std.proofs.lemmas.Simd.{length-zip2, get_or-zip2}
-use Rattle.crew_pool.specs.Marks.{mark_at}
+use Rattle.crew_pool.specs.Marks.{are_at_most, mark_at}
 use Rattle.crew_pool.specs.Machinery.Columns.{AreLevel, Rows, before_each, least, rows_of}
 use Rattle.crew_pool.proofs.LabelLemmas.{map-swap}
+use Rattle.crew_pool.proofs.MarkLemmas.{and_true, le_yes}
 
 -- ---- lists side by side
 module _ {X Y Z : Type 0} (f : X → Y → Z) where
@@ -71,6 +72,22 @@ module _ {a b c d : List ℤ} (level : AreLevel a b c d) where
       ∙ ap (put (get_or a k x)) (get_or-zip2 put b rest_c k y (z ∷ w ∷ []) (y ∷ z ∷ w ∷ []) (omega (arith, h, level.second)) (omega (arith, h, long_c))
       ∙ ap (put (get_or b k y)) (get_or-zip2 put c (map one d) k z (one w) (z ∷ w ∷ []) (omega (arith, h, level.third)) (omega (arith, h, long_d))
       ∙ ap (put (get_or c k z)) (get_or-map one d k w)))
+
+  -- marks that are at most the numbers of each column are at most those of each row
+  pub below_rows : (x y z w : ℤ) → ((k : ℕ) → k < length a → x ≤ℤ get_or a k (pos 0)) → ((k : ℕ) → k < length b → y ≤ℤ get_or b k (pos 0))
+      → ((k : ℕ) → k < length c → z ≤ℤ get_or c k (pos 0)) → ((k : ℕ) → k < length d → w ≤ℤ get_or d k (pos 0))
+      → (k : ℕ) → k < length a → are_at_most (x ∷ y ∷ z ∷ w ∷ []) (get_or (rows_of a b c d) k []) ≡ true
+  unfolding are_at_most
+  below_rows x y z w p q r s k h =
+      let zero = pos 0 in
+      let four = get_or a k zero ∷ get_or b k zero ∷ get_or c k zero ∷ get_or d k zero ∷ [] in
+      let below : are_at_most (x ∷ y ∷ z ∷ w ∷ []) four ≡ true =
+      and_true (and_true (and_true (and_true refl (le_yes x (get_or a k zero) (p k h)))
+      (le_yes y (get_or b k zero) (q k (omega (arith, h, level.second)))))
+      (le_yes z (get_or c k zero) (r k (omega (arith, h, level.third)))))
+      (le_yes w (get_or d k zero) (s k (omega (arith, h, level.fourth))))
+      in
+      ap (are_at_most (x ∷ y ∷ z ∷ w ∷ [])) (row_at k zero zero zero zero [] h) ∙ below
 
   pub rows_taken : (n : ℕ) → rows_of (take n a) (take n b) (take n c) (take n d) ≡ take n (rows_of a b c d)
   rows_taken n =

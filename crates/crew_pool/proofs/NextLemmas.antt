@@ -1,6 +1,6 @@
 -- The next place whose marks are at most others.
 use Rattle.std.proofs.Common.{refl, get_or, true, ◌≡◌, ℕ, ◌+◌, ◌*◌, ◌<◌, ◌≤◌, ◌⊎◌, Bool, false, not, cond, List, [], ◌∷◌, length, map, Option, Some, None, sym, subst, ◌∙◌, ap, arith, ℤ, ⊎_elim, true≢false}
-use Rattle.std.specs.Prelude.{MatchOption, slice_get}
+use Rattle.std.specs.Prelude.{MatchOption, slice_get, slice_index_or}
 use Rattle.std.specs.List.{position, prefix_len}
 use Rattle.std.proofs.lemmas.List.{length-map}
 use Rattle.std.proofs.lemmas.Option.{same_Some}
@@ -11,6 +11,7 @@ use lib.Count.{count_trailing_zeros}
 use Rattle.crew_pool.specs.Marks.{are_at_most}
 use Rattle.crew_pool.proofs.LabelLemmas.{NoneOf, first-found, label-at, mark-at, none-found, none-more}
 use Rattle.crew_pool.specs.Machinery.Columns.{IsNext, NoneBetween, is_at_most}
+use Rattle.crew_pool.proofs.MarkLemmas.{at_most_between}
 
 module _ (rows : List (List ℤ)) (m : List ℤ) where
   pub none_yet : (i : ℕ) → NoneBetween rows m i i
@@ -90,6 +91,13 @@ module _ {X : Type 0} (f : X → List ℤ) (test : X → Bool) (m v : List ℤ) 
     where
       side : (k i : ℕ) → (k < i) ⊎ (i ≤ k)
       side k i = grind (arith)
+
+  -- where marks that are at most all aren't at most these, none passes
+  pub none_at_all : (least : List ℤ) → ((k : ℕ) → k < length (map f xs) → are_at_most least (slice_index_or (map f xs) k []) ≡ true) → are_at_most least m ≡ false → NoneOf f test xs (length xs)
+  none_at_all least below apart k x l at =
+      let mark : get_or (map f xs) k [] ≡ f x = mark-at f test xs k x [] at in
+      let low : are_at_most least (f x) ≡ true = ap (are_at_most least) (sym mark) ∙ below k (omega (arith, l, length-map xs f)) in
+      not_so (test x) (λ t. true≢false (sym (at_most_between least (f x) v low (rise x t)) ∙ (ap (are_at_most least) (sym same) ∙ apart)))
 
   module _ (i place : ℕ) (x : X) (passes : Bool) (none : NoneOf f test xs i) (next : IsNext rows m i place)
       (is : x ≡ get_or items place x) (told : passes ≡ test x) where

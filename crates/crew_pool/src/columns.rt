@@ -1,9 +1,9 @@
 //! Marks by column.
-ghost use Rattle.std.specs.Prelude.{◌≡◌, ◌<◌, ◌≤◌, ◌+◌, ◌++◌, ◌∷◌, [], length, map, take, if◌then◌else◌, int_lt, negsuc, pos, slice_get, vec_capacity, vec_len, OnErr, OnOk, MatchOption, Some};
+ghost use Rattle.std.specs.Prelude.{◌≡◌, ◌<◌, ◌≤◌, ◌≤ℤ◌, ◌+◌, ◌++◌, ◌∷◌, ℕ, [], length, map, take, if◌then◌else◌, int_lt, negsuc, pos, slice_get, slice_index_or, vec_capacity, vec_len, OnErr, OnOk, MatchOption, Some};
 ghost use Rattle.std.specs.List.{swap};
 ghost use Rattle.std.specs.Simd.Lanes.{chunk, mask_l};
 ghost use Rattle.crew_pool.specs.Marks.{are_at_most};
-ghost use Rattle.crew_pool.specs.Machinery.Columns.{AreLevel, IsNext, NoneBetween, Rows, least, rows_of};
+ghost use Rattle.crew_pool.specs.Machinery.Columns.{AreLevel, IsBelowAll, IsNext, NoneBetween, Rows, least, rows_of};
 
 use crate::marks::are_at_most;
 use std::alloc::{AllocError, Global};
@@ -95,6 +95,18 @@ impl Columns {
             self.second[place],
             self.third[place],
             self.fourth[place],
+        ]
+    }
+
+    /// Marks that are at most those of each row: the least of each column.
+    pub(crate) fn least(&self) -> [i32; 4]
+        ensures { IsBelowAll result self.now.rows }
+    {
+        [
+            least_of(&self.first),
+            least_of(&self.second),
+            least_of(&self.third),
+            least_of(&self.fourth),
         ]
     }
 
@@ -195,6 +207,17 @@ fn above(column: &[i32], at: usize, mark: i32) -> mask32x4
     // the reads.
     let _fitting = [column[at], column[at + 1], column[at + 2], column[at + 3]];
     i32x4::from_slice(&column[at..]).simd_gt(i32x4::splat(mark))
+}
+
+// The least number of a column, or the greatest there is.
+fn least_of(column: &[i32]) -> i32
+    ensures { (k : ℕ) → k < length column.now → result ≤ℤ slice_index_or column.now k (pos 0) }
+{
+    let mut least = i32::MAX;
+    for number in column {
+        least = least.min(*number);
+    }
+    least
 }
 
 // Takes in the numbers of another column, for which there is room.

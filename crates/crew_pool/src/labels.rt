@@ -1,13 +1,14 @@
 //! Labels with their marks.
 ghost use Rattle.std.specs.Prelude.{◌≡◌, ◌<◌, ◌≤◌, ◌++◌, ◌∷◌, ◌↔◌, List, [], length, map, not, slice_get, slice_set, vec_capacity, vec_len, OnErr, OnOk, IfOk, IsTrue, Some};
 ghost use Rattle.std.specs.List.{SwappedAt, filter, list_any, position, swap};
+ghost use Rattle.crew_pool.specs.Machinery.Columns.{IsBelowAll};
 ghost use Rattle.crew_pool.specs.LabelWalks.{AreAlike, lesser_label_walk};
 ghost use Rattle.crew_pool.specs.declared.label_walk.LabelWalk.{LabelWalk};
 
 use crate::arena::Walks;
 use crate::columns::Columns;
 use crate::label_walk::{LabelWalk, compare_label_walks};
-use crate::marks::Marked;
+use crate::marks::{Marked, are_at_most};
 use std::alloc::{AllocError, Global};
 use std::marker::Model;
 
@@ -67,6 +68,8 @@ impl<R: Marked> Labels<R> {
     ) -> Result<(), AllocError>
         ensures { OnOk result (self.new ≡ self.old ++ list.now) }
     {
+        self.labels.reserve(list.len())?;
+        self.marks.reserve(list.len())?;
         for label in list {
             let marks = resource.marks(&label.0);
             let value = resource.copy(&label.0)?;
@@ -195,6 +198,22 @@ impl<R: Marked> Labels<R> {
     }
 }
 
+// Whether one of some labels is at most a value, which has these marks. `least` is at most the marks of
+// each of them: a value whose marks it isn't at most needs no search.
+fn reach<R: Marked>(
+    resource: &R,
+    joins: &Labels<R>,
+    least: &[i32; 4],
+    value: &R::Value,
+    marks: &[i32; 4],
+) -> bool
+    requires least { IsBelowAll least.now (map (λ e. R.marks_of e.0) joins.now) }
+    requires marks { marks.now ≡ R.marks_of value.now }
+    ensures { result ≡ list_any (λ l. R.below l.0 value.now) joins.now }
+{
+    are_at_most(least, marks) && joins.first_at_most(resource, value, marks).is_some()
+}
+
 // Lets go of the labels that one of others is at most, and of their marks.
 fn drop_reached<R: Marked>(
     resource: &R,
@@ -210,12 +229,10 @@ fn drop_reached<R: Marked>(
     ensures room { (vec_capacity labels.new ≡ vec_capacity labels.old)
         × (marks.new.room ≡ marks.old.room) }
 {
+    let least = joins.marks.least();
     let mut kept = 0;
     for place in 0..labels.len() {
-        if joins
-            .first_at_most(resource, &labels[place].0, &marks.at(place))
-            .is_none()
-        {
+        if !reach(resource, joins, &least, &labels[place].0, &marks.at(place)) {
             bring_forward::<R>(labels, marks, place, kept);
             kept += 1;
         }

@@ -35,6 +35,11 @@ abbrev pub NoneBetween : List (List ℤ) → List ℤ → ℕ → ℕ → Type 0
 NoneBetween rows marks first end = (k : ℕ) → first ≤ k → k < end
     → is_at_most rows marks k ≡ false
 
+-- marks are at most those of each row
+abbrev pub IsBelowAll : List ℤ → List (List ℤ) → Type 0
+IsBelowAll marks rows = (k : ℕ) → k < length rows
+    → are_at_most marks (slice_index_or rows k []) ≡ true
+
 -- the first place from one on whose marks are at most these
 pub record IsNext (rows : List (List ℤ)) (marks : List ℤ) (first place : ℕ) : Type 0 where
   pub there : place < length rows

@@ -1,28 +1,25 @@
-use Rattle.std.proofs.Common.{◌∙◌, ap, arith, false, map, not, sym, take, true}
-use Rattle.std.proofs.lemmas.Bool.{not_from_false}
-use Rattle.std.specs.List.{list_any}
+use Rattle.std.proofs.Common.{◌∙◌, ap, arith, map, not, sym, take}
 use Rattle.std.proofs.lemmas.List.{take-map}
 use Rattle.std.proofs.lemmas.List.Filters.{FiltersInPlace-more_no, FiltersInPlace-more_swap}
 use Rattle.crew_pool.specs.declared.label_walk.LabelWalk.{LabelWalk}
-use Rattle.crew_pool.proofs.LabelLemmas.{found_any}
 use Rattle.crew_pool.proofs.labels.drop_reached.Goals as goal
-use Rattle.crew_pool.proofs.labels.drop_reached.Goals.{then-is_none, else-is_none}
+use Rattle.crew_pool.proofs.labels.drop_reached.Goals.{then-not-reach, else-not-reach}
 
 pub loop-place-preserved : goal.loop-place-preserved
 loop-place-preserved g c =
     let held = c.index.result.now in
     let joins = c.args.joins.now in
     let hits = λ (j : g.row.R-Value.Denot × LabelWalk). g.R.Resource.below j.0 held.0 in
-    elim c.if-is_none.branch [
-      | then-is_none w ↦ rw (w.labels-is, w.marks-is, w.kept-is) (record {
+    elim c.if-not-reach.branch [
+      | then-not-reach w ↦ rw (w.labels-is, w.marks-is, w.kept-is) (record {
         marked = w.bring_forward.ensures.marked;
-        kept = FiltersInPlace-more_swap c.loop-place.invariant.kept (omega arith) (not_from_false (list_any hits joins) (found_any hits joins c.first_at_most.result false c.first_at_most.ensures w.if-is_none.ensures)) c.index.ensures w.bring_forward.ensures.moved;
+        kept = FiltersInPlace-more_swap c.loop-place.invariant.kept (omega arith) (ap not (sym c.reach.ensures ∙ w.if-not-reach.true)) c.index.ensures w.bring_forward.ensures.moved;
         label_room = w.bring_forward.ensures.room.0 ∙ c.loop-place.invariant.label_room;
         mark_room = w.bring_forward.ensures.room.1 ∙ c.loop-place.invariant.mark_room;
       })
-      | else-is_none w ↦ rw (w.labels-is, w.marks-is, w.kept-is) (record {
+      | else-not-reach w ↦ rw (w.labels-is, w.marks-is, w.kept-is) (record {
         marked = c.loop-place.invariant.marked;
-        kept = FiltersInPlace-more_no c.loop-place.invariant.kept (omega arith) (ap not (found_any hits joins c.first_at_most.result true c.first_at_most.ensures w.if-is_none.ensures)) c.index.ensures;
+        kept = FiltersInPlace-more_no c.loop-place.invariant.kept (omega arith) (ap not (sym c.reach.ensures ∙ w.if-not-reach.false)) c.index.ensures;
         label_room = c.loop-place.invariant.label_room;
         mark_room = c.loop-place.invariant.mark_room;
       })
