@@ -43,7 +43,7 @@ fn are_same_if_before(marks: &Marks, net: &Net, duty: &Duty, first: usize, arriv
     if ranks.is_empty() {
         return true;
     }
-    let before = &net.duties().as_slice()[ranks[0] as usize];
+    let before = net.duty(ranks[0] as usize);
     let may = may_follow(net.settings(), before, duty);
     if !may {
         return true;

@@ -345,7 +345,7 @@ impl Round {
         let _nodes = self.marks.len();
         let net = self.ground.net();
         let rank = place % net.duty_count();
-        let duty = &net.duties().as_slice()[rank];
+        let duty = net.duty(rank);
         are_same_before(&self.marks, net, duty, place - rank)
     }
 

@@ -69,8 +69,10 @@ impl Carrier {
     ) -> Result<(Carrier, Walks), AllocError>
         ensures { IfOk result (λ made. IsCarried ranks.now from.now made.1 made.0) }
     {
+        let count = from.count();
         let mut to = Walks::new(alloc);
-        let mut places = vec![in alloc; None; from.count()]?;
+        to.reserve_exact(count.saturating_add(count / 8))?;
+        let mut places = vec![in alloc; None; count]?;
         carry_all(&mut places, from, ranks, &mut to)?;
         let ends = ends_of(alloc, &places)?;
         Ok((Carrier { places, ends }, to))

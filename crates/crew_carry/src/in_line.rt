@@ -6,9 +6,8 @@ ghost use Rattle.std.specs.declared.cmp.Ordering.TheVariants.{Equal, Less};
 ghost use Rattle.crew_carry.specs.Machinery.Matches.{AreMatches};
 ghost use Rattle.crew_flights.specs.Codes.{code_cmp_total};
 ghost use Rattle.crew_net.specs.Events.{arrival_cmp, departure_cmp};
-ghost use Rattle.crew_pairing.specs.Keys.{key_cmp, key_total};
 
-use crew_pairing::{Arrival, Departure, Duty};
+use crew_pairing::{Arrival, Departure};
 use std::alloc::{AllocError, Global};
 use std::cmp::Ordering;
 
@@ -46,16 +45,6 @@ impl InLine for Arrival {
         self.airport
             .cmp(&other.airport)
             .then(self.release.cmp(&other.release))
-    }
-}
-
-impl InLine for Duty {
-    ghost order = { λ a b. key_cmp a.key b.key };
-
-    ghost total = { on_total (λ d. d.key) key_total };
-
-    fn order(&self, other: &Duty) -> Ordering {
-        self.key.cmp(&other.key)
     }
 }
 

@@ -9,8 +9,9 @@ ghost use Rattle.crew_pairing.specs.declared.events.Arrival.{Arrival};
 
 use crate::carrier::twin;
 use crate::in_line::match_up;
+use crate::ranks::match_ranks;
 use crew_net::Net;
-use crew_pairing::Duty;
+use crew_pairing::{Duties, Duty};
 use crew_step::is_same_duty;
 use std::alloc::{AllocError, Global};
 use std::marker::Model;
@@ -54,9 +55,9 @@ impl Twins {
             → HasAllTwins old.now new.now twins) }
     {
         let departures = match_up(alloc, new.departures(), old.departures())?;
-        let olds = old.duties().as_slice();
-        let news = new.duties().as_slice();
-        let ranks = match_up(alloc, olds, news)?;
+        let olds = old.duties();
+        let news = new.duties();
+        let ranks = match_ranks(alloc, olds, news)?;
         let same = same_ranks(alloc, olds, &ranks, news)?;
         let arrivals = arrival_twins(alloc, old, new, &same)?;
         Ok(Twins {
@@ -117,29 +118,29 @@ fn wide(place: Option<u32>) -> Option<usize>
 // compared by rank alone.
 fn same_ranks(
     alloc: Global,
-    olds: &[Duty],
+    olds: &Duties,
     ranks: &[Option<u32>],
-    news: &[Duty],
+    news: &Duties,
 ) -> Result<Vec<Option<u32>>, AllocError>
     requires { AreMatches (λ d e. key_cmp d.key e.key) olds.now news.now ranks.now }
     ensures { IfOk result (λ same. AreSameDuties olds.now news.now same.items) }
 {
     let mut same = Vec::with_capacity(alloc, ranks.len())?;
     for rank in 0..ranks.len() {
-        same.push(same_rank(&olds[rank], ranks[rank], news))?;
+        same.push(same_rank(olds.at(rank), ranks[rank], news))?;
     }
     Ok(same)
 }
 
 // The rank, if the duty there is the same, with all its facts.
-fn same_rank(old: &Duty, found: Option<u32>, news: &[Duty]) -> Option<u32>
+fn same_rank(old: &Duty, found: Option<u32>, news: &Duties) -> Option<u32>
     requires { IfSome found (λ rank. rank < length news.now) }
     ensures same { IfSome result (λ rank. slice_get news.now rank ≡ Some old.now) }
     ensures all { (rank : ℕ) → found ≡ Some rank → slice_get news.now rank ≡ Some old.now
         → result ≡ Some rank }
 {
     let rank = found?;
-    if is_same_duty(old, &news[rank as usize]) {
+    if is_same_duty(old, news.at(rank as usize)) {
         return Some(rank);
     }
     None

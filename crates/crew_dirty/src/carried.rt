@@ -140,7 +140,7 @@ impl Carried {
             → MatchOption result (AreKeptFrom t u old net.now from)
             (IsNextDirty t u old net.now from) }
     {
-        let count = net.duties().as_slice().len();
+        let count = net.duty_count();
         for place in from..net.len() {
             let kept = self.is_kept_at(place / count, place % count);
             if !kept {

@@ -13,7 +13,7 @@ pub(crate) fn departure_places(alloc: Global, net: &Net) -> Result<Vec<u32>, All
         → slice_get net.now.duties rank ≡ Some d
         → slice_get net.now.departures (get_or places.items rank 0) ≡ Some (departure_of d)) }
 {
-    let mut places = vec![in alloc; 0; net.duties().as_slice().len()]?;
+    let mut places = vec![in alloc; 0; net.duty_count()]?;
     for departure in 0..net.departures().len() {
         write_at(&mut places, net.leaving(departure), departure as u32);
     }

@@ -27,7 +27,7 @@ pub(crate) fn unreached_duties(
         AreFlags (AreSameUpTo old net.now) net.now.duties unreached.items) }
 {
     let places = arrival_places(alloc, net)?;
-    let mut unreached = vec![in alloc; false; net.duties().as_slice().len()]?;
+    let mut unreached = vec![in alloc; false; net.duty_count()]?;
     let mut marks = vec![in alloc; false; net.arrivals().len()]?;
     let _departures = net.departures();
     for departure in net.by_report() {

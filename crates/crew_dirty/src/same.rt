@@ -10,24 +10,24 @@ use crate::flags::put_flags;
 use crate::windows::waits_alike;
 use crew_carry::Twins;
 use crew_net::Net;
-use crew_pairing::Duty;
+use crew_pairing::Duties;
 use crew_step::is_same_duty;
 use std::alloc::{AllocError, Global};
 
 // Whether the old duty of a rank is the new one of another, with all its facts.
-fn is_same_at(olds: &[Duty], old: usize, news: &[Duty], new: usize) -> bool
+fn is_same_at(olds: &Duties, old: usize, news: &Duties, new: usize) -> bool
     requires old { old < length olds.now }
     requires new { new < length news.now }
     ensures { (result ≡ true) ↔ (slice_get olds.now old ≡ slice_get news.now new) }
 {
-    is_same_duty(&olds[old], &news[new])
+    is_same_duty(olds.at(old), news.at(new))
 }
 
 // The flags of the new duties that the old network has with all their facts.
 fn held_duties(
     alloc: Global,
-    olds: &[Duty],
-    news: &[Duty],
+    olds: &Duties,
+    news: &Duties,
     ranks: &[Option<u32>],
 ) -> Result<Vec<bool>, AllocError>
     requires long { length ranks.now ≡ length olds.now }
@@ -45,7 +45,7 @@ fn held_duties(
 }
 
 // Flags the new duty of a rank, if it is the old one of another.
-fn note(flags: &mut [bool], olds: &[Duty], old: usize, news: &[Duty], new: Option<u32>)
+fn note(flags: &mut [bool], olds: &Duties, old: usize, news: &Duties, new: Option<u32>)
     requires old { old < length olds.now }
     requires new { (k : ℕ) → new ≡ Some k → k < length news.now }
     requires long { length flags.old ≡ length news.now }
@@ -80,8 +80,8 @@ pub(crate) fn same_duties(
         AreFlags (IsSameDuty old.now new.now) new.now.duties flags.items) }
 {
     let _olds = old.departures();
-    let news = new.duties().as_slice();
-    let held = held_duties(alloc, old.duties().as_slice(), news, twins.ranks())?;
+    let news = new.duties();
+    let held = held_duties(alloc, old.duties(), news, twins.ranks())?;
     let mut same = vec![in alloc; false; news.len()]?;
     for departure in 0..new.departures().len() {
         let alike = waits_alike(old, new, twins, departure);

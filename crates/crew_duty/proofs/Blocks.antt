@@ -1,15 +1,15 @@
 -- Where the duties of a flight stand among earlier ones.
 use Rattle.std.proofs.Common.{◌≡◌, ◌≤◌, ◌<◌, ◌+◌, ◌-◌, ℕ, zero, suc, ℤ, List, [], ◌∷◌, ◌++◌, Bool, true, false, Some, None, Option, nat_lt, nat_eq, length, refl, sym, ap, ◌∙◌, arith, filter, take, drop, get_or}
 use Rattle.std.specs.Prelude.{IfSome, slice_get}
-use Rattle.std.specs.List.Sorted.{IsPartitionedBy, IsPartitionPoint}
 use Rattle.std.proofs.lemmas.Bool.Decides.{nat_tests}
-use Rattle.std.proofs.lemmas.List.{get_or-drop, get_or-take, get_or_default, length-drop, take_more}
+use Rattle.std.proofs.lemmas.List.{get_or-drop, get_or_default, length-drop, take_more}
 use Rattle.crew_flights.specs.declared.flight.Flight.{Flight}
 use Rattle.crew_rules.specs.declared.settings.Settings.{Settings}
 use Rattle.crew_resource.specs.Members.{Member}
+use Rattle.crew_pairing.specs.Machinery.Blocks.{part_of}
 use Rattle.crew_pairing.specs.Machinery.Listing.{from_flight, from_place}
 use Rattle.crew_pairing.specs.declared.duty.Duty.{Duty}
-use Rattle.crew_duty.specs.Machinery.Kept.{AreKept, ClimbByFirst, IsKept, IsPast, IsStart, MayBeKept, begins_with, first_of, taken}
+use Rattle.crew_duty.specs.Machinery.Kept.{AreKept, ClimbByFirst, IsKept, IsPast, IsStart, MayBeKept, begins_with, first_of}
 use Rattle.crew_duty.specs.declared.past.Block.{Block}
 use Rattle.crew_duty.proofs.Parts.{place-gives, there}
 use Rattle.crew_pairing.proofs.Windows.{window}
@@ -29,68 +29,35 @@ none-lesser duties n place e up h k d o within =
     let above = up place k d o within in
     omega (arith, h, there, above)
 
+-- what stands at a place
+pub got : {X : Type 0} (xs : List X) (i : ℕ) (x d : X) → slice_get xs i ≡ Some x → get_or xs i d ≡ x
+got [] i x d e = absurd (let q : ⊥ = (cc) in q)
+got (y ∷ xs) zero x d e = cc
+got (y ∷ xs) (suc i) x d e = got xs i x d e
+
 -- between two places
-length-between : (duties : List Duty) (from to : ℕ) → from ≤ to → to ≤ length duties → length (take (to - from) (drop from duties)) ≡ to - from
-length-between duties from to h k =
+length-of : {X : Type 0} (n : ℕ) (xs : List X) → n ≤ length xs → length (take n xs) ≡ n
+length-of zero xs h = refl
+length-of (suc n) [] h = absurd (omega (arith, h))
+length-of (suc n) (x ∷ xs) h = ap suc (length-of n xs (omega (arith, h)))
+
+pub length-part : (duties : List Duty) (from to : ℕ) → from ≤ to → to ≤ length duties → length (part_of duties from to) ≡ to - from
+length-part duties from to h k =
     let all = length-drop from duties in
-    omega (arith, length-take-at (to - from) (drop from duties) (omega (arith, all, h, k)))
-  where
-    length-take-at : (n : ℕ) (ds : List Duty) → n ≤ length ds → length (take n ds) ≡ n
-    length-take-at zero ds h = refl
-    length-take-at (suc n) [] h = absurd (omega (arith, h))
-    length-take-at (suc n) (d ∷ ds) h = ap suc (length-take-at n ds (omega (arith, h)))
+    length-of (to - from) (drop from duties) (omega (arith, all, h, k))
 
-between-at : (duties : List Duty) (from to j : ℕ) (d : Duty) → j < to - from → get_or (take (to - from) (drop from duties)) j d ≡ get_or duties (from + j) d
-between-at duties from to j d h = get_or-take (to - from) (drop from duties) j d h ∙ get_or-drop from duties j d
+take-none : (n : ℕ) → take {A = Duty} n [] ≡ []
+take-none zero = refl
+take-none (suc n) = refl
 
-pub parted-between : (duties : List Duty) (n from to : ℕ) → from ≤ to → to ≤ length duties → ClimbByFirst duties → IsPartitionedBy (λ d. nat_lt (first_of d.key) n) (take (to - from) (drop from duties))
-parted-between duties n from to h k up i j d a b =
-    let long = length-between duties from to h k in
-    let first = ap (λ (x : Duty). first_of x.key) (between-at duties from to i d (omega (arith, a, b, long))) in
-    let second = ap (λ (x : Duty). first_of x.key) (between-at duties from to j d (omega (arith, b, long))) in
-    let climbs = up (from + i) (from + j) d (omega (arith, a)) (omega (arith, b, long, h, k)) in
-    λ e. by (first_of (get_or (take (to - from) (drop from duties)) i d).key) (first_of (get_or (take (to - from) (drop from duties)) j d).key) (omega (arith, first, second, climbs)) e
-  where
-    by : (x y : ℕ) → x ≤ y → nat_lt y n ≡ true → nat_lt x n ≡ true
-    by x y o e = grind (arith, nat_tests)
-
-pub start-between : (duties : List Duty) (n from to i : ℕ) → from ≤ to → to ≤ length duties → i ≤ length (take (to - from) (drop from duties))
-    → ((k : ℕ) (d : Duty) → k < from → first_of (get_or duties k d).key < n)
-    → ((k : ℕ) (d : Duty) → to ≤ k → k < length duties → n ≤ first_of (get_or duties k d).key)
-    → IsPartitionPoint (λ d. nat_lt (first_of d.key) n ≡ true) (λ d. nat_lt (first_of d.key) n ≡ false) (take (to - from) (drop from duties)) i → IsStart duties n (from + i)
-start-between duties n from to i h k within before after part =
-    let long = length-between duties from to h k in
-    record {
-      within = omega (arith, within, long, h, k);
-      before = λ j d o. early j d o (nat_lt j from) refl;
-      after = λ j d o p. late j d o p (nat_lt j to) refl;
-    }
-  where
-    is-less : (x : ℕ) → nat_lt x n ≡ true → x < n
-    is-less x e = grind (arith, nat_tests)
-
-    is-none : (x : ℕ) → nat_lt x n ≡ false → n ≤ x
-    is-none x e = grind (arith, nat_tests)
-
-    early : (j : ℕ) (d : Duty) → j < from + i → (b : Bool) → nat_lt j from ≡ b → first_of (get_or duties j d).key < n
-    early j d o true e = before j d (grind (arith, nat_tests, e))
-    early j d o false e =
-        let past : from ≤ j = grind (arith, nat_tests, e) in
-        let long = length-between duties from to h k in
-        let place : from + (j - from) ≡ j = omega (arith, past) in
-        let read = between-at duties from to (j - from) d (omega (arith, o, past, within, long)) ∙ ap (λ (m : ℕ). get_or duties m d) place in
-        let less = is-less (first_of (get_or (take (to - from) (drop from duties)) (j - from) d).key) (part.0 (j - from) d (omega arith) (omega (arith, o, past))) in
-        omega (arith, less, ap (λ (x : Duty). first_of x.key) read)
-
-    late : (j : ℕ) (d : Duty) → from + i ≤ j → j < length duties → (b : Bool) → nat_lt j to ≡ b → n ≤ first_of (get_or duties j d).key
-    late j d o p true e =
-        let under : j < to = grind (arith, nat_tests, e) in
-        let long = length-between duties from to h k in
-        let place : from + (j - from) ≡ j = omega (arith, o) in
-        let read = between-at duties from to (j - from) d (omega (arith, o, under)) ∙ ap (λ (m : ℕ). get_or duties m d) place in
-        let none = is-none (first_of (get_or (take (to - from) (drop from duties)) (j - from) d).key) (part.1 (j - from) d (omega (arith, o)) (omega (arith, o, under, long))) in
-        omega (arith, none, ap (λ (x : Duty). first_of x.key) read)
-    late j d o p false e = after j d (grind (arith, nat_tests, e)) p
+-- up to a later place
+pub take-part : (duties : List Duty) (from to : ℕ) → from ≤ to → take to duties ≡ take from duties ++ part_of duties from to
+take-part duties zero to h = ap (λ (n : ℕ). take n duties) {x = to} {y = to - 0} (omega arith)
+take-part [] (suc from) to h = take-none to ∙ sym (take-none (to - suc from))
+take-part (d ∷ duties) (suc from) zero h = absurd (omega (arith, h))
+take-part (d ∷ duties) (suc from) (suc to) h =
+    let long : to - from ≡ suc to - suc from = omega arith in
+    ap (λ (ds : List Duty). d ∷ ds) (take-part duties from to (omega (arith, h)) ∙ ap (λ (n : ℕ). take from duties ++ take n (drop from duties)) long)
 
 -- the starts of two neighbours
 pub starts-ordered : (duties : List Duty) (n from to : ℕ) → IsStart duties n from → IsStart duties (n + 1) to → from ≤ to
@@ -167,7 +134,7 @@ AreKept-at s flights duties (g ∷ fs) (b ∷ blocks) (suc i) f block h e k = Ar
 
 -- a kept block at a place
 pub kept-at : (s : Settings) (flights : List Flight) (duties : List Duty) (blocks : List (Option Block)) (place : ℕ) (block : Block) → AreKept s flights duties flights blocks → place < length flights → slice_get blocks place ≡ Some (Some block)
-    → (block.from ≤ block.to) × (block.to ≤ length duties) × (taken duties block ≡ from_place s flights place)
+    → (block.from ≤ block.to) × (block.to ≤ length duties) × (part_of duties block.from block.to ≡ from_place s flights place)
 kept-at s flights duties blocks place block h within k =
     let f = (there flights place within).0 in
     let e = (there flights place within).1 in

@@ -42,16 +42,6 @@ exact-append F from (m ∷ ms) ns h k =
     let e : from + suc (length ms) ≡ (from + 1) + length ms = omega arith in
     (h.0, exact-append F (from + 1) ms ns h.1 (rw e at k))
 
-pub exact-front : (F : ℕ → List Duty) (from : ℕ) (ms ns : List ℕ) → AreExact F from (ms ++ ns) → AreExact F from ms
-exact-front F from [] ns h = tt
-exact-front F from (m ∷ ms) ns h = (h.0, exact-front F (from + 1) ms ns h.1)
-
-pub exact-back : (F : ℕ → List Duty) (from : ℕ) (ms ns : List ℕ) → AreExact F from (ms ++ ns) → AreExact F (from + length ms) ns
-exact-back F from [] ns h = let e : from + 0 ≡ from = omega arith in rw (← e) at h
-exact-back F from (m ∷ ms) ns h =
-    let e : from + suc (length ms) ≡ (from + 1) + length ms = omega arith in
-    rw (← e) at (exact-back F (from + 1) ms ns h.1)
-
 -- exact counts come to the length of all
 pub exact-total : (F : ℕ → List Duty) (from : ℕ) (ns : List ℕ) → AreExact F from ns → sum ns ≡ length (flat_map F (range_with_len from (length ns)))
 exact-total F from [] h = refl
@@ -158,3 +148,13 @@ exact-at F from (n ∷ ns) (suc i) d h e =
     let r = exact-at F (from + 1) ns i d (omega (arith, h)) e.1 in
     let on : from + suc i ≡ (from + 1) + i = omega arith in
     (rw on r.0, omega (arith, r.1, e.0, sum-cons n ns, length-append (F from) (flat_map F (range_with_len (from + 1) i))))
+
+-- the lists before one, and that one, are no longer than all
+pub length-at : (F : ℕ → List Duty) (i many : ℕ) → i < many → length (flat_map F (range_with_len 0 i)) + length (F i) ≤ length (flat_map F (range_with_len 0 many))
+length-at F i many h =
+    let rest : many ≡ (i + 1) + (many - (i + 1)) = omega (arith, h) in
+    let cut = ap (λ (n : ℕ). flat_map F (range_with_len 0 n)) rest ∙ ap (flat_map F) (range-append 0 (i + 1) (many - (i + 1))) ∙ flat_map-append F (range_with_len 0 (i + 1)) (range_with_len (0 + (i + 1)) (many - (i + 1))) in
+    let long = length-append (flat_map F (range_with_len 0 (i + 1))) (flat_map F (range_with_len (0 + (i + 1)) (many - (i + 1)))) in
+    let here : 0 + i ≡ i = omega arith in
+    let more = all-more F 0 i ∙ ap (λ (n : ℕ). flat_map F (range_with_len 0 i) ++ F n) here in
+    omega (arith, ap length cut, long, ap length more, length-append (flat_map F (range_with_len 0 i)) (F i))

@@ -3,6 +3,7 @@ pub mod Counts
 pub mod Facts
 pub mod Filling
 pub mod InPlace
+pub mod InRooms
 pub mod Kept
 pub mod Leads
 pub mod NewPrices

@@ -263,9 +263,10 @@ held-set fs prices i f rise within at room held =
 pub all-held : (fs : List Flight) (prices : List ℤ) (n : ℕ) → length fs ≤ n → HavePricesTo n prices fs → HavePrices prices fs
 all-held fs prices n all held = each-of (λ f. price_at prices f.id ≡ f.price) fs (λ k d h. held k (omega (arith, h, all)) d h)
 
--- as many duties as before
-pub count-priced : (prices : List ℤ) (ds es : List Duty) → es ≡ map (under_prices prices) ds → length es ≡ length ds
-count-priced prices ds es same = ap length same ∙ length-map ds (under_prices prices)
+-- a duty whose price stays
+pub keeps-price : (prices : List ℤ) (d : Duty) → total (leg_price prices) d.key ≡ d.price → under_prices prices d ≡ d
+keeps-price prices d e =
+    ap (λ (price : ℤ). record { key = d.key; from = d.from; to = d.to; report = d.report; release = d.release; fdp = d.fdp; fly = d.fly; pay = d.pay; price = price }) e
 
 pub flight-at : (fs : List Flight) (i : ℕ) (d : Flight) → Each (λ f. IsFlight f.id f) fs → i < length fs → IsFlight (get_or fs i d).id (get_or fs i d)
 flight-at fs i d each k = Each-member (λ f. IsFlight f.id f) fs (get_or fs i d) each (Member-get fs i d k)

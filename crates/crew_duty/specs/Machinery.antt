@@ -7,5 +7,6 @@ pub mod Limits
 pub mod Paths
 pub mod Plans
 pub mod Prices
+pub mod Rooms
 pub mod Running
 pub mod Slots

@@ -5,22 +5,25 @@ ghost use Rattle.std.specs.List.{flat_map, range_with_len};
 ghost use Rattle.crew_flights.specs.declared.flight.Flight.{Flight};
 ghost use Rattle.crew_rules.specs.declared.settings.Settings.{Settings};
 ghost use Rattle.crew_duty.specs.Machinery.Counts.{AreCounts, AreExact};
+ghost use Rattle.std.specs.Arc.{arc_value};
+ghost use Rattle.crew_pairing.specs.Machinery.Blocks.{part_of};
 ghost use Rattle.crew_pairing.specs.Machinery.Listing.{from_place};
 ghost use Rattle.crew_rules.specs.Settings.{IsChecked};
-ghost use Rattle.crew_duty.specs.Machinery.Kept.{AreKept, ClimbInTime, taken};
+ghost use Rattle.crew_duty.specs.Machinery.Kept.{AreKept, ClimbInTime};
 ghost use Rattle.crew_duty.specs.Machinery.Plans.{AreNext, IsNext, IsPlan};
 ghost use Rattle.crew_duty.specs.Machinery.Slots.{IsIndex};
 
 use crate::changes::are_apart;
 use crate::departures::Slot;
 use crate::past::Block;
-use crate::pieces::append_walk;
+use crate::pieces::block_at;
 use crate::plan::{Next, Plan, next_of};
 use crate::search::{DUTIES, walk_from};
 use crew_flights::Flight;
-use crew_pairing::Duty;
+use crew_pairing::{Duties, Duty};
 use crew_rules::Settings;
 use std::alloc::{AllocError, Global};
+use std::sync::Arc;
 
 // Legs of one duty depart within so many minutes.
 const SPAN: i64 = 840;
@@ -28,30 +31,22 @@ const SPAN: i64 = 840;
 /// Earlier duties, and of each flight where its duties stand among them, where they do.
 #[derive(Drop)]
 pub(crate) struct EarlierDuties<'a> {
-    pub(crate) duties: &'a [Duty],
+    pub(crate) duties: &'a Duties,
     pub(crate) stands: &'a [Option<Block>],
-}
-
-// The duties between two places.
-fn part_of(duties: &[Duty], block: Block) -> &[Duty]
-    requires ordered { block.from ≤ block.to }
-    requires within { block.to ≤ length duties.now }
-    ensures { result.now ≡ taken duties.now block }
-{
-    &duties[block.from..block.to]
 }
 
 impl<'a> EarlierDuties<'a> {
     // The duties that begin with the flight at a place, where they stand among these.
-    fn at(&self, place: usize) -> Option<&'a [Duty]>
+    fn at(&self, place: usize) -> Option<Block>
         requires { (s : Settings) × (flights : List Flight) × AreKept s flights
             self.now.duties.now flights self.now.stands.now × (place < length flights) }
         ensures { IfSome result (λ block. (s : Settings) (flights : List Flight) → AreKept s flights
             self.now.duties.now flights self.now.stands.now → place < length flights
-            → block.now ≡ from_place s flights place) }
+            → (block.from ≤ block.to) × (block.to ≤ length self.now.duties.now)
+            × (part_of self.now.duties.now block.from block.to ≡ from_place s flights place)) }
     {
         match self.stands.get(place) {
-            Some(Some(block)) => Some(part_of(self.duties, *block)),
+            Some(Some(block)) => Some(*block),
             _ => None,
         }
     }
@@ -123,7 +118,7 @@ fn count_from(
         + length (from_place plan.now.settings.now plan.now.flights.now place)) 200_001) }
 {
     if let Some(block) = kept.at(place) {
-        return Ok(so_far.saturating_add(block.len()).min(DUTIES + 1));
+        return Ok(so_far.saturating_add(block.to - block.from).min(DUTIES + 1));
     }
     walk_from(alloc, &mut [], plan, place, so_far)
 }
@@ -152,25 +147,15 @@ pub(crate) fn count_beside(
     Ok(counts)
 }
 
-// Appends duties.
-fn append_copies(list: &mut Vec<Duty>, block: &[Duty]) -> Result<(), AllocError>
-    ensures { OnOk result (list.new.items ≡ list.old.items ++ block.now) }
-{
-    for duty in block {
-        list.push(duty.copy())?;
-    }
-    Ok(())
-}
-
-// Appends the duties that begin with the flight at a place, of which there are so many.
-fn append_from(
+// The duties that begin with the flight at a place, of which there are so many, as a block: that of
+// the earlier ones where they are kept.
+fn block_beside(
     alloc: Global,
-    list: &mut Vec<Duty>,
     plan: &Plan<'_>,
     kept: &EarlierDuties<'_>,
     place: usize,
     count: usize,
-) -> Result<(), AllocError>
+) -> Result<Arc<Vec<Duty>, Global>, AllocError>
     requires plan { IsPlan plan.now.settings.now plan.now.flights.now plan.now.slots.now
         plan.now.next.now }
     requires kept { AreKept plan.now.settings.now plan.now.flights.now kept.now.duties.now
@@ -178,14 +163,14 @@ fn append_from(
     requires place { place < length plan.now.flights.now }
     requires count { count
         ≡ length (from_place plan.now.settings.now plan.now.flights.now place) }
-    requires room { length list.old.items + count ≤ 200_000 }
-    ensures { OnOk result (list.new.items ≡ list.old.items
-        ++ from_place plan.now.settings.now plan.now.flights.now place) }
+    requires room { count ≤ 200_000 }
+    ensures { IfOk result (λ block. (arc_value block).items
+        ≡ from_place plan.now.settings.now plan.now.flights.now place) }
 {
     if let Some(block) = kept.at(place) {
-        return append_copies(list, block);
+        return kept.duties.part(alloc, block.from, block.to);
     }
-    append_walk(alloc, list, plan, place, count)
+    block_at(alloc, plan, place, count)
 }
 
 /// All duties, those of each first flight after those of the flights before it.
@@ -195,7 +180,7 @@ pub(crate) fn fill_beside(
     kept: &EarlierDuties<'_>,
     counts: &[usize],
     total: usize,
-) -> Result<Vec<Duty>, AllocError>
+) -> Result<Duties, AllocError>
     requires plan { IsPlan plan.now.settings.now plan.now.flights.now plan.now.slots.now
         plan.now.next.now }
     requires kept { AreKept plan.now.settings.now plan.now.flights.now kept.now.duties.now
@@ -204,13 +189,14 @@ pub(crate) fn fill_beside(
     requires counts { AreExact (from_place plan.now.settings.now plan.now.flights.now) 0
         counts.now }
     requires few { sum counts.now ≤ 200_000 }
-    ensures { IfOk result (λ found. found.items
+    ensures { IfOk result (λ found. found
         ≡ flat_map (from_place plan.now.settings.now plan.now.flights.now)
         (range_with_len 0 (length counts.now))) }
 {
-    let mut list = Vec::with_capacity(alloc, total)?;
+    let mut list = Duties::new(alloc);
+    list.reserve(counts.len(), total)?;
     for place in 0..counts.len() {
-        append_from(alloc, &mut list, plan, kept, place, counts[place])?;
+        list.push(block_beside(alloc, plan, kept, place, counts[place])?)?;
     }
     Ok(list)
 }

@@ -55,6 +55,5 @@ pub fn list_duties<R: Threads + Sync>(
     if total > DUTIES {
         return Err(DutyFault::TooManyDuties);
     }
-    let list = list_all(rt, alloc, &plan, &counts, total)?;
-    Ok(Duties::of(list))
+    Ok(list_all(rt, alloc, &plan, &counts, total)?)
 }

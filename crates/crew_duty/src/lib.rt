@@ -15,6 +15,7 @@ mod past;
 mod pieces;
 mod plan;
 mod priced;
+mod rooms;
 mod search;
 mod totals;
 

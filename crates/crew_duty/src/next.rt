@@ -60,8 +60,7 @@ fn list_beside(
     if total > DUTIES {
         return Err(DutyFault::TooManyDuties);
     }
-    let list = fill_beside(alloc, &plan, kept, &counts, total)?;
-    Ok(Duties::of(list))
+    Ok(fill_beside(alloc, &plan, kept, &counts, total)?)
 }
 
 /// The legal duties of a timetable, as `list_duties` lists them, beside those of an earlier one.
@@ -88,13 +87,12 @@ pub fn list_next<R: Threads + Sync>(
 {
     let before = held_flights(alloc, earlier)?;
     let flights = held_flights(alloc, timetable)?;
-    if can_reprice(duties.as_slice(), &flights, &before) {
-        let list = list_priced(alloc, &flights, duties.as_slice())?;
-        return Ok(Duties::of(list));
+    if can_reprice(duties, &flights, &before) {
+        return Ok(list_priced(alloc, &flights, duties)?);
     }
     let minutes = changes_between(alloc, &flights, &before)?;
     let past = Past {
-        duties: duties.as_slice(),
+        duties,
         minutes: &minutes,
     };
     let blocks = past.blocks(alloc, settings, &flights)?;

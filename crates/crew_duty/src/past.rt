@@ -9,7 +9,7 @@ ghost use Rattle.crew_duty.specs.Machinery.Kept.{AreKept, ClimbByFirst, IsKept, 
 
 use crate::changes::are_apart;
 use crew_flights::Flight;
-use crew_pairing::Duty;
+use crew_pairing::{Duties, Duty};
 use crew_rules::{Settings, table_b};
 use std::alloc::{AllocError, Global};
 
@@ -29,7 +29,7 @@ pub(crate) struct Block {
 /// changed since, in order.
 #[derive(Drop)]
 pub(crate) struct Past<'a> {
-    pub(crate) duties: &'a [Duty],
+    pub(crate) duties: &'a Duties,
     pub(crate) minutes: &'a [i64],
 }
 
@@ -44,25 +44,25 @@ fn first_number(duty: &Duty) -> u32
 }
 
 // Whether each duty before a place begins with a lesser number.
-fn are_lesser_before(duties: &[Duty], place: usize, number: u32) -> bool
+fn are_lesser_before(duties: &Duties, place: usize, number: u32) -> bool
     requires { ClimbByFirst duties.now }
     ensures { IsTrue result → ((k : ℕ) (d : Duty) → k < place
         → first_of (get_or duties.now k d).key < number) }
 {
-    place == 0 || (place <= duties.len() && first_number(&duties[place - 1]) < number)
+    place == 0 || (place <= duties.len() && first_number(duties.at(place - 1)) < number)
 }
 
 // Whether no duty from a place on begins with a lesser number.
-fn is_none_lesser_from(duties: &[Duty], place: usize, number: u32) -> bool
+fn is_none_lesser_from(duties: &Duties, place: usize, number: u32) -> bool
     requires { ClimbByFirst duties.now }
     ensures { IsTrue result → ((k : ℕ) (d : Duty) → place ≤ k → k < length duties.now
         → number ≤ first_of (get_or duties.now k d).key) }
 {
-    place >= duties.len() || number <= first_number(&duties[place])
+    place >= duties.len() || number <= first_number(duties.at(place))
 }
 
 // A place from which on no duty begins with a lesser number: often this one, or one soon after it.
-fn end_near(duties: &[Duty], from: usize, number: u32) -> usize
+fn end_near(duties: &Duties, from: usize, number: u32) -> usize
     requires climb { ClimbByFirst duties.now }
     requires from { from ≤ length duties.now }
     ensures least { from ≤ result }
@@ -84,7 +84,7 @@ fn end_near(duties: &[Duty], from: usize, number: u32) -> usize
 }
 
 // This place, where the duties before it begin with lesser numbers, and else the first of all.
-fn begin_at(duties: &[Duty], guess: usize, number: u32) -> usize
+fn begin_at(duties: &Duties, guess: usize, number: u32) -> usize
     requires climb { ClimbByFirst duties.now }
     ensures most { result ≤ length duties.now }
     ensures before { (k : ℕ) (d : Duty) → k < result
@@ -100,14 +100,23 @@ fn begin_at(duties: &[Duty], guess: usize, number: u32) -> usize
 }
 
 // The first place of a duty that begins with no lesser number, looked for from a place on.
-fn start_of(duties: &[Duty], guess: usize, number: u32) -> usize
+fn start_of(duties: &Duties, guess: usize, number: u32) -> usize
     requires { ClimbByFirst duties.now }
     ensures { IsStart duties.now number result }
 {
     let from = begin_at(duties, guess, number);
     let to = end_near(duties, from, number);
-    let within = &duties[from..to];
-    from + within.partition_point(|duty| first_number(duty) < number)
+    let mut low = from;
+    let mut high = to;
+    while low < high {
+        let middle = low + (high - low) / 2;
+        if first_number(duties.at(middle)) < number {
+            low = middle + 1;
+        } else {
+            high = middle;
+        }
+    }
+    low
 }
 
 // The latest departure of a leg of a duty that begins with a flight.

@@ -1,19 +1,21 @@
-//! All duties of a timetable, counted and then listed by as many threads as there are processors,
-//! each with a range of first flights.
+//! All duties of a timetable, counted and then listed by as many threads as there are processors, each
+//! of which takes first flights that stand beside one another.
 
-ghost use Rattle.std.specs.Prelude.{◌≡◌, ◌+◌, ◌++◌, ◌≤◌, ◌<◌, [], IfOk, OnOk, length, min, sum, take};
-ghost use Rattle.std.specs.List.{flat_map, range_with_len};
+ghost use Rattle.std.specs.Prelude.{◌≡◌, ◌+◌, ◌≤◌, ◌<◌, All, IfOk, OnOk, length, map, min, sum};
 ghost use Rattle.std.specs.Thread.{IsSync};
+ghost use Rattle.std.specs.Arc.{arc_value};
 ghost use Rattle.crew_duty.specs.Machinery.Counts.{AreCounts, AreExact};
 ghost use Rattle.crew_pairing.specs.Machinery.Listing.{all_duties, from_place};
 ghost use Rattle.crew_duty.specs.Machinery.Plans.{IsPlan};
+ghost use Rattle.crew_duty.specs.Machinery.Rooms.{IsRoom};
 
 use crate::plan::Plan;
+use crate::rooms::{Room, cut_at, fill_each, join_rooms, rooms_for};
 use crate::search::walk_from;
-use crew_flights::Flight;
-use crew_pairing::{Duty, Key, Leg};
+use crew_pairing::{Duties, Duty};
 use rayon::current_num_threads;
 use std::alloc::{AllocError, Global};
+use std::sync::Arc;
 use std::thread::{Threads, join_mut};
 
 // The fewest first flights that a thread of their own is started for.
@@ -130,211 +132,92 @@ pub(crate) fn total_of(counts: &[usize]) -> usize
     total
 }
 
-// Puts the duties of some first flights in their places, in turn.
-fn fill_piece(
+/// The duties that begin with the flight at a place, of which there are so many, as a block.
+pub(crate) fn block_at(
     alloc: Global,
-    plan: &Plan<'_>,
-    from: usize,
-    flights: usize,
-    found: &mut [Duty],
-) -> Result<(), AllocError>
-    requires plan { IsPlan plan.now.settings.now plan.now.flights.now plan.now.slots.now
-        plan.now.next.now }
-    requires within { from + flights ≤ length plan.now.flights.now }
-    requires size { length found.old
-        ≡ length (flat_map (from_place plan.now.settings.now plan.now.flights.now)
-        (range_with_len from flights)) }
-    requires room { length found.old ≤ 200_000 }
-    ensures { OnOk result (found.new
-        ≡ flat_map (from_place plan.now.settings.now plan.now.flights.now)
-        (range_with_len from flights)) }
-{
-    let mut total = 0;
-    for place in 0..flights {
-        total = walk_from(alloc, found, plan, from + place, total)?;
-    }
-    Ok(())
-}
-
-// How many of these flights have so many duties or more, and how many they have.
-fn cut_at(counts: &[usize], share: usize) -> (usize, usize)
-    requires long { 2 ≤ length counts.now }
-    requires few { sum counts.now ≤ 200_000 }
-    ensures least { 1 ≤ result.0 }
-    ensures most { result.0 < length counts.now }
-    ensures before { result.1 ≡ sum (take result.0 counts.now) }
-{
-    let mut before = counts[0];
-    for place in 1..counts.len() - 1 {
-        if before >= share {
-            return (place, before);
-        }
-        before += counts[place];
-    }
-    (counts.len() - 1, before)
-}
-
-// Puts the duties of some first flights in their places, by as many threads as there are pieces,
-// which have like numbers of duties. This thread starts each of the others itself, in a row, as where
-// they are counted.
-fn fill_in<R: Threads + Sync>(
-    rt: &R,
-    alloc: Global,
-    plan: &Plan<'_>,
-    from: usize,
-    pieces: usize,
-    counts: &[usize],
-    found: &mut [Duty],
-) -> Result<(), AllocError>
-    requires plan { IsPlan plan.now.settings.now plan.now.flights.now plan.now.slots.now
-        plan.now.next.now }
-    requires within { from + length counts.now ≤ length plan.now.flights.now }
-    requires counts { AreExact (from_place plan.now.settings.now plan.now.flights.now) from
-        counts.now }
-    requires size { length found.old ≡ sum counts.now }
-    requires room { length found.old ≤ 200_000 }
-    ensures { OnOk result (found.new
-        ≡ flat_map (from_place plan.now.settings.now plan.now.flights.now)
-        (range_with_len from (length counts.now))) }
-{
-    if pieces < 2 || counts.len() < 2 {
-        return fill_piece(alloc, plan, from, counts.len(), found);
-    }
-    let others = pieces - 1;
-    let (middle, before) = cut_at(counts, found.len() / pieces);
-    let (these, those) = counts.split_at(middle);
-    let (front, back) = found.split_at_mut(before);
-    let (early, late) = join_mut(
-        rt,
-        &mut || -> Result<(), AllocError>
-            requires { IsPlan plan.now.settings.now plan.now.flights.now plan.now.slots.now
-                plan.now.next.now × (from + length these.now ≤ length plan.now.flights.now)
-                × AreExact (from_place plan.now.settings.now plan.now.flights.now) from
-                these.now × (length front.now ≡ sum these.now) × (length front.now ≤ 200_000) }
-            ensures { OnOk result (front.exit.now
-                ≡ flat_map (from_place plan.entry.now.settings.now plan.entry.now.flights.now)
-                (range_with_len from (length these.entry.now))) }
-        { fill_piece(alloc, plan, from, these.len(), front) },
-        &mut || -> Result<(), AllocError>
-            requires { IsSync R.row × IsPlan plan.now.settings.now plan.now.flights.now
-                plan.now.slots.now plan.now.next.now
-                × (from + middle + length those.now ≤ length plan.now.flights.now)
-                × AreExact (from_place plan.now.settings.now plan.now.flights.now) (from + middle)
-                those.now × (length back.now ≡ sum those.now) × (length back.now ≤ 200_000) }
-            ensures { OnOk result (back.exit.now
-                ≡ flat_map (from_place plan.entry.now.settings.now plan.entry.now.flights.now)
-                (range_with_len (from + middle) (length those.entry.now))) }
-        { fill_in(rt, alloc, plan, from + middle, others, those, back) },
-    );
-    early?;
-    late?;
-    Ok(())
-}
-
-// Appends so many duties, which others will replace.
-fn grow(list: &mut Vec<Duty>, flight: &Flight, many: usize) -> Result<(), AllocError>
-    ensures longer { OnOk result (length list.new.items ≡ length list.old.items + many) }
-    ensures kept { OnOk result (take (length list.old.items) list.new.items ≡ list.old.items) }
-{
-    let blank = Duty {
-        key: Key::of(Leg::new(flight.id, false)),
-        from: flight.from,
-        to: flight.to,
-        report: 0,
-        release: 0,
-        fdp: 0,
-        fly: 0,
-        pay: 0,
-        price: 0,
-    };
-    for made in 0..many {
-        list.push(blank.copy())?;
-    }
-    Ok(())
-}
-
-// A list of so many duties, which others will replace.
-fn blank_list(alloc: Global, flights: &[Flight], total: usize) -> Result<Vec<Duty>, AllocError>
-    requires { flights.now ≡ [] → total ≡ 0 }
-    ensures { IfOk result (λ list. length list.items ≡ total) }
-{
-    let Some(flight) = flights.first() else {
-        return Ok(Vec::new(alloc));
-    };
-    let mut list = Vec::with_capacity(alloc, total)?;
-    grow(&mut list, flight, total)?;
-    Ok(list)
-}
-
-/// Appends the duties that begin with the flight at a place, of which there are so many.
-pub(crate) fn append_walk(
-    alloc: Global,
-    list: &mut Vec<Duty>,
     plan: &Plan<'_>,
     place: usize,
     count: usize,
-) -> Result<(), AllocError>
+) -> Result<Arc<Vec<Duty>, Global>, AllocError>
     requires plan { IsPlan plan.now.settings.now plan.now.flights.now plan.now.slots.now
         plan.now.next.now }
     requires place { place < length plan.now.flights.now }
     requires count { count
         ≡ length (from_place plan.now.settings.now plan.now.flights.now place) }
-    requires room { length list.old.items + count ≤ 200_000 }
-    ensures { OnOk result (list.new.items ≡ list.old.items
-        ++ from_place plan.now.settings.now plan.now.flights.now place) }
+    requires room { count ≤ 200_000 }
+    ensures { IfOk result (λ block. (arc_value block).items
+        ≡ from_place plan.now.settings.now plan.now.flights.now place) }
 {
-    let start = list.len();
-    grow(list, &plan.flights[place], count)?;
-    walk_from(alloc, list, plan, place, start)?;
+    let mut room = Room::new(alloc, place, count)?;
+    room.fill(alloc, plan)?;
+    room.into_block(alloc)
+}
+
+// Fills some rooms, by as many threads as there are pieces: each but the last fills rooms for a share of
+// the duties, or somewhat more. This thread starts each of the others itself, as where they are counted.
+fn fill_in<R: Threads + Sync>(
+    rt: &R,
+    alloc: Global,
+    plan: &Plan<'_>,
+    pieces: usize,
+    share: usize,
+    rooms: &mut [Room],
+) -> Result<(), AllocError>
+    requires plan { IsPlan plan.now.settings.now plan.now.flights.now plan.now.slots.now
+        plan.now.next.now }
+    requires rooms { All (IsRoom plan.now.settings.now plan.now.flights.now) rooms.old }
+    ensures { OnOk result (map (λ room. room.duties.items) rooms.new ≡ map
+        (λ room. from_place plan.now.settings.now plan.now.flights.now room.place) rooms.old) }
+{
+    if pieces < 2 {
+        return fill_each(alloc, plan, rooms);
+    }
+    let others = pieces - 1;
+    let middle = cut_at(rooms, share);
+    let (front, back) = rooms.split_at_mut(middle);
+    let (these, those) = join_mut(
+        rt,
+        &mut || -> Result<(), AllocError>
+            requires { IsPlan plan.now.settings.now plan.now.flights.now plan.now.slots.now
+                plan.now.next.now
+                × All (IsRoom plan.now.settings.now plan.now.flights.now) front.now }
+            ensures { OnOk result (map (λ room. room.duties.items) front.exit.now ≡ map
+                (λ room. from_place plan.entry.now.settings.now plan.entry.now.flights.now
+                room.place) front.entry.now) }
+        { fill_each(alloc, plan, front) },
+        &mut || -> Result<(), AllocError>
+            requires { IsSync R.row × IsPlan plan.now.settings.now plan.now.flights.now
+                plan.now.slots.now plan.now.next.now
+                × All (IsRoom plan.now.settings.now plan.now.flights.now) back.now }
+            ensures { OnOk result (map (λ room. room.duties.items) back.exit.now ≡ map
+                (λ room. from_place plan.entry.now.settings.now plan.entry.now.flights.now
+                room.place) back.entry.now) }
+        { fill_in(rt, alloc, plan, others, share, back) },
+    );
+    these?;
+    those?;
     Ok(())
 }
 
-// All duties, by one thread: what it writes twice is still at hand the second time.
-fn list_in_turn(
-    alloc: Global,
-    plan: &Plan<'_>,
-    counts: &[usize],
-    total: usize,
-) -> Result<Vec<Duty>, AllocError>
-    requires plan { IsPlan plan.now.settings.now plan.now.flights.now plan.now.slots.now
-        plan.now.next.now }
-    requires all { length counts.now ≡ length plan.now.flights.now }
-    requires counts { AreExact (from_place plan.now.settings.now plan.now.flights.now) 0
-        counts.now }
-    requires few { sum counts.now ≤ 200_000 }
-    ensures { IfOk result (λ found. found.items
-        ≡ flat_map (from_place plan.now.settings.now plan.now.flights.now)
-        (range_with_len 0 (length counts.now))) }
-{
-    let mut list = Vec::with_capacity(alloc, total)?;
-    for place in 0..counts.len() {
-        append_walk(alloc, &mut list, plan, place, counts[place])?;
-    }
-    Ok(list)
-}
-
-/// All duties, those of each first flight after those of the flights before it.
+/// All duties, those of each first flight after those of the flights before it: a block for each.
 pub(crate) fn list_all<R: Threads + Sync>(
     rt: &R,
     alloc: Global,
     plan: &Plan<'_>,
     counts: &[usize],
     total: usize,
-) -> Result<Vec<Duty>, AllocError>
+) -> Result<Duties, AllocError>
     requires plan { IsPlan plan.now.settings.now plan.now.flights.now plan.now.slots.now
         plan.now.next.now }
     requires counts { AreCounts (from_place plan.now.settings.now plan.now.flights.now) 0
         (length plan.now.flights.now) counts.now }
     requires total { total ≡ sum counts.now }
     requires few { total ≤ 200_000 }
-    ensures { IfOk result (λ found. found.items
+    ensures { IfOk result (λ found. found
         ≡ all_duties plan.now.settings.now plan.now.flights.now) }
 {
-    let pieces = pieces_of(rt, total, LISTED);
-    if pieces < 2 {
-        return list_in_turn(alloc, plan, counts, total);
-    }
-    let mut found = blank_list(alloc, plan.flights, total)?;
-    fill_in(rt, alloc, plan, 0, pieces, counts, &mut found)?;
-    Ok(found)
+    let pieces = pieces_of(rt, total, LISTED).max(1);
+    let mut rooms = rooms_for(alloc, counts)?;
+    fill_in(rt, alloc, plan, pieces, total / pieces, &mut rooms)?;
+    join_rooms(alloc, total, rooms)
 }

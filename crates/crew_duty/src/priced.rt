@@ -5,7 +5,9 @@
 ghost use Rattle.std.specs.Prelude.{◌≡◌, ◌≤◌, ◌<◌, ◌≤ℤ◌, ℕ, List, IsTrue, IfOk, get_or, length, map, negsuc, pos};
 ghost use Rattle.crew_flights.specs.declared.flight.Flight.{Flight};
 ghost use Rattle.crew_rules.specs.declared.settings.Settings.{Settings};
+ghost use Rattle.std.specs.Arc.{arc_value};
 ghost use Rattle.crew_pairing.specs.Duties.{AreDutiesOver};
+ghost use Rattle.crew_pairing.specs.Machinery.Blocks.{part_of};
 ghost use Rattle.crew_pairing.specs.Legality.{total};
 ghost use Rattle.crew_pairing.specs.Machinery.Beginnings.{AreFlights};
 ghost use Rattle.crew_duty.specs.Machinery.Prices as Spec;
@@ -13,8 +15,9 @@ ghost use Rattle.crew_duty.specs.Machinery.Prices.{AreInLimits, AreSameButPrices
 
 use crate::search::DUTIES;
 use crew_flights::Flight;
-use crew_pairing::{Duty, Leg};
+use crew_pairing::{Duties, Duty, Leg};
 use std::alloc::{AllocError, Global};
+use std::sync::Arc;
 
 // Whether two flights are the same but for their prices.
 fn is_same_but_price(flight: &Flight, before: &Flight) -> bool
@@ -44,7 +47,7 @@ fn are_same_but_prices(flights: &[Flight], before: &[Flight]) -> bool
 
 /// Whether flights are those of before, one by one, but for their prices, and the duties of before
 /// are no more than may be listed.
-pub(crate) fn can_reprice(duties: &[Duty], flights: &[Flight], before: &[Flight]) -> bool
+pub(crate) fn can_reprice(duties: &Duties, flights: &[Flight], before: &[Flight]) -> bool
     ensures same { IsTrue result → AreSameButPrices flights.now before.now }
     ensures few { IsTrue result → length duties.now ≤ 200_000 }
 {
@@ -120,17 +123,46 @@ fn duty_under(prices: &[i64], duty: &Duty) -> Duty
     }
 }
 
-// Duties under these prices.
-fn all_under(alloc: Global, prices: &[i64], duties: &[Duty]) -> Result<Vec<Duty>, AllocError>
+// Whether the duties between two places have the prices that they have under these.
+fn keep_prices(prices: &[i64], duties: &Duties, from: usize, to: usize) -> bool
     requires limits { AreInLimits prices.now }
     requires few { HaveFewLegs duties.now }
-    ensures { IfOk result (λ list. list.items ≡ map (under_prices prices.now) duties.now) }
+    requires within { to ≤ length duties.now }
+    ensures { IsTrue result → map (under_prices prices.now) (part_of duties.now from to)
+        ≡ part_of duties.now from to }
 {
-    let mut list = Vec::with_capacity(alloc, duties.len())?;
-    for duty in duties {
-        list.push(duty_under(prices, duty))?;
+    for place in from..to {
+        let duty = duties.at(place);
+        if price_of(prices, duty.key.legs()) != duty.price {
+            return false;
+        }
     }
-    Ok(list)
+    true
+}
+
+// The duties between two places under these prices, as a block, which stays where their prices do.
+fn part_under(
+    alloc: Global,
+    prices: &[i64],
+    duties: &Duties,
+    from: usize,
+    to: usize,
+) -> Result<Arc<Vec<Duty>, Global>, AllocError>
+    requires limits { AreInLimits prices.now }
+    requires few { HaveFewLegs duties.now }
+    requires ordered { from ≤ to }
+    requires within { to ≤ length duties.now }
+    ensures { IfOk result (λ block. (arc_value block).items
+        ≡ map (under_prices prices.now) (part_of duties.now from to)) }
+{
+    if keep_prices(prices, duties, from, to) {
+        return duties.part(alloc, from, to);
+    }
+    let mut list = Vec::with_capacity(alloc, to - from)?;
+    for place in from..to {
+        list.push(duty_under(prices, duties.at(place)))?;
+    }
+    Ok(Arc::new(alloc, list)?)
 }
 
 /// Duties under the prices of these flights: where these were all legal ones over flights that are
@@ -138,15 +170,24 @@ fn all_under(alloc: Global, prices: &[i64], duties: &[Duty]) -> Result<Vec<Duty>
 pub(crate) fn list_priced(
     alloc: Global,
     flights: &[Flight],
-    duties: &[Duty],
-) -> Result<Vec<Duty>, AllocError>
+    duties: &Duties,
+) -> Result<Duties, AllocError>
     requires flights { AreFlights flights.now }
     requires few { HaveFewLegs duties.now }
+    requires room { length duties.now ≤ 200_000 }
     ensures listed { IfOk result (λ list. (s : Settings) (before : List Flight)
         → AreSameButPrices flights.now before → AreDutiesOver s before duties.now
-        → AreDutiesOver s flights.now list.items) }
-    ensures count { IfOk result (λ list. length list.items ≡ length duties.now) }
+        → AreDutiesOver s flights.now list) }
+    ensures count { IfOk result (λ list. length list ≡ length duties.now) }
 {
     let prices = prices_by_number(alloc, flights)?;
-    all_under(alloc, &prices, duties)
+    let mut list = Duties::new(alloc);
+    list.reserve(flights.len(), duties.len())?;
+    let mut from = 0;
+    while from < duties.len() {
+        let to = duties.block_end(from);
+        list.push(part_under(alloc, &prices, duties, from, to)?)?;
+        from = to;
+    }
+    Ok(list)
 }

@@ -10,7 +10,7 @@ use crate::vector::Vector;
 use crate::walk_view::WalkView;
 use crew_answers::{LongResource, LongValue};
 use crew_label::{Label, Table};
-use crew_pairing::Duty;
+use crew_pairing::{Duties, Duty};
 use crew_rules::Settings;
 use std::marker::Model;
 
@@ -20,7 +20,7 @@ use std::marker::Model;
 #[derive(Drop)]
 pub(crate) struct PassedFront<'a> {
     table: &'a Table<LongResource>,
-    duties: &'a [Duty],
+    duties: &'a Duties,
     settings: &'a Settings,
     duty: &'a Duty,
     labels: &'a [Label<LongValue>],
@@ -65,7 +65,7 @@ impl<'a> PassedFront<'a> {
     // The front of a duty that labels show.
     pub(crate) fn new(
         table: &'a Table<LongResource>,
-        duties: &'a [Duty],
+        duties: &'a Duties,
         settings: &'a Settings,
         duty: &'a Duty,
         labels: &'a [Label<LongValue>],

@@ -172,13 +172,13 @@ impl PassedFronts {
     {
         let net = self.fronts.net();
         let _ = net.duty_count();
-        let duties = net.duties().as_slice();
+        let duties = net.duties();
         let labels = self.fronts.front(rank).as_slice();
         PassedFront::new(
             self.fronts.table(),
             duties,
             net.settings(),
-            &duties[rank],
+            duties.at(rank),
             labels,
         )
     }

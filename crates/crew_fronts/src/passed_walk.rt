@@ -6,7 +6,7 @@ ghost use Rattle.crew_label.specs.Walks.{Leads, walk_of};
 
 use crew_answers::{LongResource, LongValue};
 use crew_label::{Label, Link, Table, Trails};
-use crew_pairing::{Duty, Key};
+use crew_pairing::{Duties, Key};
 use std::marker::Model;
 
 /// The walk of a label of a pass's fronts, read along its links.
@@ -15,7 +15,7 @@ use std::marker::Model;
 #[derive(Drop)]
 pub(crate) struct PassedWalk<'a> {
     table: &'a Table<LongResource>,
-    duties: &'a [Duty],
+    duties: &'a Duties,
     label: &'a Label<LongValue>,
 }
 
@@ -51,7 +51,7 @@ impl<'a> PassedWalk<'a> {
     // The walk of a label.
     pub(crate) fn new(
         table: &'a Table<LongResource>,
-        duties: &'a [Duty],
+        duties: &'a Duties,
         label: &'a Label<LongValue>,
     ) -> PassedWalk<'a>
         requires { Spec.IsRead table.now duties.now label.now }
@@ -76,6 +76,6 @@ impl<'a> PassedWalk<'a> {
         ensures { option_copied result ≡ slice_get self.now place }
     {
         let rank = rank_at(self.table, self.label.before, self.len(), place)?;
-        Some(&self.duties[rank as usize].key)
+        Some(&self.duties.at(rank as usize).key)
     }
 }

@@ -26,7 +26,7 @@ pub(crate) fn duty_rank(net: &Net, duty: &Duty) -> Option<usize>
 {
     let _count = net.duty_count();
     let rank = net.rank_of_key(&duty.key)?;
-    if is_same_duty(&net.duties().as_slice()[rank], duty) {
+    if is_same_duty(net.duty(rank), duty) {
         Some(rank)
     } else {
         None
@@ -53,7 +53,8 @@ fn are_all_before_in(settings: &Settings, net: &Net, other: &Net, duty: &Duty) -
     ensures { IsTrue result ↔ ((e : DutySpec) → may_stand_after settings.now e duty.now ≡ true
         → Member net.now.duties e → Member other.now.duties e) }
 {
-    for before in net.duties().as_slice() {
+    for rank in 0..net.duty_count() {
+        let before = net.duty(rank);
         if !is_there_if_before(settings, other, before, duty) {
             return false;
         }

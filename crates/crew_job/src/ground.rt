@@ -126,7 +126,7 @@ fn empty_net(alloc: Global, sealed: &Version) -> Result<Net, AllocError>
     ensures { IfOk result (λ net. (net.settings ≡ sealed.now.settings)
         × IsNetOver (timetable_of sealed.now.entries) net) }
 {
-    match Arc::new(alloc, Duties::of(Vec::new(alloc))) {
+    match Arc::new(alloc, Duties::new(alloc)) {
         Ok(duties) => Net::build(alloc, sealed.settings(), sealed.timetable(), duties),
         Err(_) => Err(AllocError),
     }

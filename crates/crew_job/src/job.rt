@@ -120,7 +120,7 @@ impl Job {
         ensures duty { slice_get self.now.ground.plan.net.duties self.now.rank ≡ Some result.now }
         ensures placed { IsPlaced self.now }
     {
-        &self.ground.net().duties().as_slice()[self.rank]
+        self.ground.net().duty(self.rank)
     }
 
     /// The place of the node in the ground's network, in node order.

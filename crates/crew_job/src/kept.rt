@@ -65,7 +65,7 @@ impl Ground {
         let Some((base, rank)) = node_in(net, place) else {
             return false;
         };
-        let duty = &net.duties().as_slice()[rank];
+        let duty = net.duty(rank);
         has_front(self.sealed(), net.bases()[base], duty, front)
     }
 }

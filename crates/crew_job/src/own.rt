@@ -46,8 +46,7 @@ fn is_same_node(job: &Job, ground: &Ground, base: usize, rank: usize) -> bool
     ensures { IsTrue result ↔ (job_node job.now ≡ node_at ground.now.plan.net base rank) }
 {
     let net = ground.net();
-    is_same_code(job.code(), net.bases()[base])
-        && is_same_duty(job.duty(), &net.duties().as_slice()[rank])
+    is_same_code(job.code(), net.bases()[base]) && is_same_duty(job.duty(), net.duty(rank))
 }
 
 // Whether two prices are the same, or neither is there.
@@ -92,7 +91,7 @@ fn has_same_front_at(
         → HasSameFront job.now.ground ground.now (record { base = code; duty = e })) }
 {
     let _own = job.ground();
-    let before = &ground.net().duties().as_slice()[rank];
+    let before = ground.net().duty(rank);
     if !may_follow(ground.settings(), before, duty) {
         return true;
     }

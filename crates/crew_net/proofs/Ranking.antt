@@ -1,5 +1,6 @@
 -- The place of a key among duties by key.
-use Rattle.std.proofs.Common.{◌≡◌, ◌≤◌, ◌<◌, inl, inr, ℕ, zero, suc, List, [], ◌∷◌, Bool, true, false, Option, Some, None, Ordering, length, refl, ap, subst, ◌∙◌, arith, get_or}
+use Rattle.std.proofs.Common.{◌≡◌, ◌≤◌, ◌<◌, inl, inr, ℕ, zero, suc, List, [], ◌∷◌, Bool, true, false, Option, Some, None, Ordering, length, refl, sym, ap, subst, ◌∙◌, ◌+◌, arith, get_or, true≢false}
+use Rattle.std.specs.Prelude.{slice_get}
 use Rattle.std.specs.Ordering.{bool_cmp, eq_by_cmp, is_eq, is_lt, nat_cmp, ordering_reverse, ordering_then}
 use Rattle.std.specs.declared.cmp.Ordering.TheVariants.{Less, Equal, Greater}
 use Rattle.std.specs.Cmp.{eq_by_cmp_equiv}
@@ -9,6 +10,7 @@ use Rattle.crew_pairing.specs.Duties.{RiseByKey}
 use Rattle.crew_pairing.specs.Keys.{leg_cmp, key_cmp, key_total}
 use Rattle.crew_pairing.specs.Legs.{Leg}
 use Rattle.crew_pairing.specs.declared.duty.Duty.{Duty}
+use Rattle.crew_pairing.proofs.Blocks.{slice-within}
 use Rattle.crew_pairing.proofs.Tree.{Each-member}
 use Rattle.crew_resource.specs.Members.{Member}
 use Rattle.crew_resource.proofs.ListOrder.{lists_exact}
@@ -18,6 +20,7 @@ use Rattle.crew_net.specs.Nets.{IsRank, IsRankOfKey, Net}
 use Rattle.crew_net.specs.declared.node.Node.{Node}
 use Rattle.std.proofs.lemmas.Option.{slice_get-get_or}
 use Rattle.crew_net.proofs.EventOrder.{Member-index}
+use Rattle.crew_net.proofs.Slices.{get-at}
 use Rattle.crew_net.proofs.Segments.{le-or-lt}
 
 then_equal : (o r : Ordering) → ordering_then o r ≡ Equal → (o ≡ Equal) × (r ≡ Equal)
@@ -75,6 +78,24 @@ key-parted ds key up i j d a b h = elim (le-or-lt j i) [
   | inl l ↦ subst (λ (n : ℕ). is_lt (key_cmp (get_or ds n d).key key) ≡ true) (omega (arith, a, l)) h
   | inr l ↦ less-is (key_cmp (get_or ds i d).key key) (key_total.trans (get_or ds i d).key (get_or ds j d).key key (key-less ds up i j d l b) (is-less (key_cmp (get_or ds j d).key key) h))
 ]
+
+-- before a duty of a lesser key stand such alone
+pub lesser-before : (ds : List Duty) (key : List Leg) → RiseByKey ds → (m : ℕ) (x : Duty) → slice_get ds m ≡ Some x → is_lt (key_cmp x.key key) ≡ true
+    → (k : ℕ) (d : Duty) → k < m + 1 → is_lt (key_cmp (get_or ds k d).key key) ≡ true
+lesser-before ds key up m x at less k d h =
+    key-parted ds key up k m d (omega (arith, h)) (slice-within ds m x at) (subst (λ (y : Duty). is_lt (key_cmp y.key key) ≡ true) (sym (get-at ds m x d at)) less)
+
+-- and from one of no lesser key on no such
+pub none-lesser-from : (ds : List Duty) (key : List Leg) → RiseByKey ds → (m : ℕ) (x : Duty) → slice_get ds m ≡ Some x → is_lt (key_cmp x.key key) ≡ false
+    → (k : ℕ) (d : Duty) → m ≤ k → k < length ds → is_lt (key_cmp (get_or ds k d).key key) ≡ false
+none-lesser-from ds key up m x at not k d h within = by (is_lt (key_cmp (get_or ds k d).key key)) refl
+  where
+    by : (b : Bool) → is_lt (key_cmp (get_or ds k d).key key) ≡ b → b ≡ false
+    by false e = refl
+    by true e =
+        let less = key-parted ds key up m k d h within e in
+        let there : is_lt (key_cmp x.key key) ≡ true = subst (λ (y : Duty). is_lt (key_cmp y.key key) ≡ true) (get-at ds m x d at) less in
+        absurd (true≢false (sym there ∙ not))
 
 -- a duty of the key stands nowhere but at its start
 pub stands-at : (ds : List Duty) (key : List Leg) (start : ℕ) → RiseByKey ds → IsKeyStart ds key start → (d : Duty) → Member ds d → d.key ≡ key → (start < length ds) × ((e : Duty) → get_or ds start e ≡ d)

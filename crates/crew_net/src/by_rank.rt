@@ -11,7 +11,7 @@ use std::alloc::{AllocError, Global};
 pub fn arrival_places(alloc: Global, net: &Net) -> Result<Vec<u32>, AllocError>
     ensures { IfOk result (λ places. AreArrivalPlaces net.now places.items) }
 {
-    let mut places = vec![in alloc; 0; net.duties().as_slice().len()]?;
+    let mut places = vec![in alloc; 0; net.duty_count()]?;
     for arrival in 0..net.arrivals().len() {
         write_at(&mut places, net.arriving(arrival), arrival as u32);
     }
@@ -23,7 +23,7 @@ pub fn arrival_places(alloc: Global, net: &Net) -> Result<Vec<u32>, AllocError>
 pub fn departure_positions(alloc: Global, net: &Net) -> Result<Vec<u32>, AllocError>
     ensures { IfOk result (λ positions. ArePositions net.now positions.items) }
 {
-    let mut positions = vec![in alloc; 0; net.duties().as_slice().len()]?;
+    let mut positions = vec![in alloc; 0; net.duty_count()]?;
     let places = net.by_report();
     for position in 0..net.departures().len() {
         write_at(

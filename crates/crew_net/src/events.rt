@@ -13,7 +13,7 @@ ghost use Rattle.crew_resource.specs.Members.{Each};
 
 use crate::runs::gathered;
 use crate::timeline::{Timeline, moment, places_of, slot_key};
-use crew_pairing::{Arrival, Departure, Duty};
+use crew_pairing::{Arrival, Departure, Duties, Duty};
 use crew_resource::Placed;
 use std::alloc::{AllocError, Global};
 
@@ -48,7 +48,7 @@ fn arrive_at(duty: &Duty) -> i64
 }
 
 // The keys of when and where duties leave, and of when and where they arrive.
-fn event_keys(alloc: Global, duties: &[Duty]) -> Result<(Vec<u64>, Vec<u64>), AllocError>
+fn event_keys(alloc: Global, duties: &Duties) -> Result<(Vec<u64>, Vec<u64>), AllocError>
     requires { length duties.now ≤ 200_000 }
     ensures left { IfOk result (λ keys. Each Spec.IsLeft duties.now) }
     ensures reached { IfOk result (λ keys. Each Spec.IsReached duties.now) }
@@ -59,7 +59,8 @@ fn event_keys(alloc: Global, duties: &[Duty]) -> Result<(Vec<u64>, Vec<u64>), Al
 {
     let mut leave = Vec::with_capacity(alloc, duties.len())?;
     let mut arrive = Vec::with_capacity(alloc, duties.len())?;
-    for (rank, duty) in duties.iter().enumerate() {
+    for rank in 0..duties.len() {
+        let duty = duties.at(rank);
         leave.push(slot_key(leave_at(duty), rank))?;
         arrive.push(slot_key(arrive_at(duty), rank))?;
     }
@@ -67,7 +68,7 @@ fn event_keys(alloc: Global, duties: &[Duty]) -> Result<(Vec<u64>, Vec<u64>), Al
 }
 
 // The first duty of a moment.
-fn first_of<'a>(duties: &'a [Duty], timeline: &Timeline, event: usize) -> &'a Duty
+fn first_of<'a>(duties: &'a Duties, timeline: &Timeline, event: usize) -> &'a Duty
     requires timeline { Spec.HasTimeline (length duties.now) timeline.now }
     requires event { event < length timeline.now.moments.items }
     ensures { (ats : List ℤ) → IsTimeline ats timeline.now → Spec.IsAtMoment ats duties.now
@@ -75,13 +76,13 @@ fn first_of<'a>(duties: &'a [Duty], timeline: &Timeline, event: usize) -> &'a Du
 {
     let start = timeline.starts[event] as usize;
     let rank = timeline.places[start] as usize;
-    &duties[rank]
+    duties.at(rank)
 }
 
 // The departure events of duties.
 fn departures_of(
     alloc: Global,
-    duties: &[Duty],
+    duties: &Duties,
     leaving: &Timeline,
 ) -> Result<Vec<Departure>, AllocError>
     requires { IsTimeline (map Spec.leave_at duties.now) leaving.now }
@@ -98,7 +99,7 @@ fn departures_of(
 // The arrival events of duties.
 fn arrivals_of(
     alloc: Global,
-    duties: &[Duty],
+    duties: &Duties,
     arriving: &Timeline,
 ) -> Result<Vec<Arrival>, AllocError>
     requires { IsTimeline (map Spec.arrive_at duties.now) arriving.now }
@@ -137,7 +138,7 @@ fn by_report(alloc: Global, departures: &[Departure]) -> Result<Vec<u32>, AllocE
 }
 
 /// When and where duties leave and arrive, with the ranks of those that do.
-pub(crate) fn events_of(alloc: Global, duties: &[Duty]) -> Result<Events, AllocError>
+pub(crate) fn events_of(alloc: Global, duties: &Duties) -> Result<Events, AllocError>
     requires { length duties.now ≤ 200_000 }
     ensures { IfOk result (AreEventsOf duties.now) }
 {
@@ -179,14 +180,14 @@ fn has_same_events(before: &Duty, after: &Duty) -> bool
 }
 
 /// Whether the duties of two lists leave alike and arrive alike, one by one.
-pub(crate) fn have_same_events(before: &[Duty], after: &[Duty]) -> bool
+pub(crate) fn have_same_events(before: &Duties, after: &Duties) -> bool
     ensures { IsTrue result ↔ HaveSameEvents before.now after.now }
 {
     if before.len() != after.len() {
         return false;
     }
     for rank in 0..before.len() {
-        if !has_same_events(&before[rank], &after[rank]) {
+        if !has_same_events(before.at(rank), after.at(rank)) {
             return false;
         }
     }

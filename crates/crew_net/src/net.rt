@@ -89,17 +89,18 @@ fn held_bases(alloc: Global, timetable: &Timetable) -> Result<Vec<Code>, AllocEr
 }
 
 // The node at a place among those of some bases and duties.
-fn node_at(bases: &[Code], duties: &[Duty], place: usize) -> Option<Node>
+fn node_at(bases: &[Code], duties: &Duties, place: usize) -> Option<Node>
     ensures { result ≡ slice_get (nodes_of bases.now duties.now) place }
 {
     if duties.is_empty() {
         return None;
     }
-    let row = place / duties.len();
+    let count = duties.len();
+    let row = place / count;
     if row >= bases.len() {
         return None;
     }
-    let key = duties[place % duties.len()].key.copy();
+    let key = duties.at(place % count).key.copy();
     Some(Node {
         base: bases[row],
         key,
@@ -119,7 +120,7 @@ impl Net {
         requires few { length (arc_value duties) ≤ 200_000 }
         ensures { IfOk result (IsNetOf settings.now timetable.now (arc_value duties)) }
     {
-        let events = events_of(alloc, duties.as_slice())?;
+        let events = events_of(alloc, &duties)?;
         let events = Arc::new(alloc, events)?;
         let bases = held_bases(alloc, timetable)?;
         Ok(Net {
@@ -143,7 +144,7 @@ impl Net {
         requires few { length (arc_value duties) ≤ 200_000 }
         ensures { IfOk result (IsNetOf self.now.settings timetable.now (arc_value duties)) }
     {
-        if have_same_events(self.duties.as_slice(), duties.as_slice()) {
+        if have_same_events(&self.duties, &duties) {
             self.sharing(alloc, timetable, duties)
         } else {
             Net::build(alloc, &self.settings, timetable, duties)
@@ -192,6 +193,15 @@ impl Net {
         ensures { result.now ≡ self.now.duties }
     {
         &self.duties
+    }
+
+    /// The duty of a rank.
+    #[inline]
+    pub fn duty(&self, rank: usize) -> &Duty
+        requires { rank < length self.now.duties }
+        ensures { slice_get self.now.duties rank ≡ Some result.now }
+    {
+        self.duties.at(rank)
     }
 
     /// The events at which duties leave, by airport and report.
@@ -271,7 +281,7 @@ impl Net {
         ensures few { length self.now.duties ≤ 200_000 }
         ensures rising { RiseByKey self.now.duties }
     {
-        self.duties.as_slice().len()
+        self.duties.len()
     }
 
     /// How many crew bases there are.
@@ -294,7 +304,7 @@ impl Net {
     pub fn node(&self, place: usize) -> Option<Node>
         ensures { result ≡ slice_get (nodes_of self.now.bases self.now.duties) place }
     {
-        node_at(&self.bases, self.duties.as_slice(), place)
+        node_at(&self.bases, &self.duties, place)
     }
 
     /// The rank of a node's duty, and `None` where it isn't a node of the network.
@@ -304,14 +314,14 @@ impl Net {
         if !self.bases.contains(&node.base) {
             return None;
         }
-        rank_of(self.duties.as_slice(), &node.key)
+        rank_of(&self.duties, &node.key)
     }
 
     /// The rank of the duty with a key, and `None` where no duty has it.
     pub fn rank_of_key(&self, key: &Key) -> Option<usize>
         ensures { IsRankOfKey self.now.duties key.now result }
     {
-        rank_of(self.duties.as_slice(), key)
+        rank_of(&self.duties, key)
     }
 
     /// The layer of each duty, by rank.
@@ -339,7 +349,7 @@ impl Net {
         ensures { IfOk result (λ ranks. (d : Duty) → slice_get self.now.duties rank ≡ Some d
             → ranks.items ≡ ranks_before self.now.settings self.now.duties d) }
     {
-        let event = self.duties.as_slice()[rank].departure();
+        let event = self.duty(rank).departure();
         let window = waiting(&self.settings, &self.events.arrive.moments, &event);
         let mut ranks = Vec::from_slice(alloc, self.events.arrive.places_in(window))?;
         ranks.sort_unstable();

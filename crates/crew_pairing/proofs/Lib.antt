@@ -1,3 +1,4 @@
+pub mod Blocks
 pub mod Sums
 pub mod Paid
 pub mod Times

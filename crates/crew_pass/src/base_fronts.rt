@@ -10,7 +10,7 @@ ghost use Rattle.crew_pass.specs.Passes.{AreTold, keyed_entries};
 
 use crew_label::{Label, Link, Pool, Table, Trails};
 use crew_net::Net;
-use crew_pairing::{Duty, Key, Walk};
+use crew_pairing::{Duties, Duty, Key, Walk};
 use crew_resource::Resource;
 use std::alloc::{AllocError, Global};
 use std::marker::Model;
@@ -127,7 +127,7 @@ impl<R: Resource> BaseFronts<R> {
             (walk_of (trail_in self.now.positions self.now.pools) label.now.before)) }
     {
         let ranks = self.ranks(alloc, label)?;
-        let keys = keys_of(alloc, self.net.duties().as_slice(), &ranks)?;
+        let keys = keys_of(alloc, self.net.duties(), &ranks)?;
         Ok(Walk::new(keys))
     }
 
@@ -170,13 +170,13 @@ fn push_walk<T: Trails>(
 }
 
 // The keys of the duties of some ranks.
-fn keys_of(alloc: Global, duties: &[Duty], ranks: &[u32]) -> Result<Vec<Key>, AllocError>
+fn keys_of(alloc: Global, duties: &Duties, ranks: &[u32]) -> Result<Vec<Key>, AllocError>
     requires { Each (λ rank. rank < length duties.now) ranks.now }
     ensures { IfOk result (λ keys. keys.items ≡ map (key_at duties.now) ranks.now) }
 {
     let mut keys = Vec::with_capacity(alloc, ranks.len())?;
     for rank in ranks {
-        keys.push(duties[*rank as usize].key.copy())?;
+        keys.push(duties.at(*rank as usize).key.copy())?;
     }
     Ok(keys)
 }

@@ -46,7 +46,7 @@ fn duty_front<R: Lapses<Duty>>(
     ensures held { IfOk result (HaveArrived
         (terms R.Lapses.own R.Staged.own R.Forgets.own R.Resource.own ground.now) table.now) }
 {
-    let duty = &ground.net.duties().as_slice()[rank as usize];
+    let duty = ground.net.duty(rank as usize);
     front_aboard::<Duty, R, Table<R>>(alloc, ground.resource, table, pool, duty, rank)
 }
 

@@ -6,7 +6,7 @@ ghost use Rattle.crew_net.specs.Nets.{IsNetOf};
 
 use crew_flights::Code;
 use crew_net::Net;
-use crew_pairing::{Duties, Duty};
+use crew_pairing::Duties;
 use crew_rules::Settings;
 use crew_step::is_same_duty;
 
@@ -18,14 +18,14 @@ pub(crate) fn is_under(net: &Net, settings: &Settings) -> bool
 }
 
 // Whether two lists of duties are one.
-fn are_same_duties(one: &[Duty], other: &[Duty]) -> bool
+fn are_same_duties(one: &Duties, other: &Duties) -> bool
     ensures { result ≡ true → one.now ≡ other.now }
 {
     if one.len() != other.len() {
         return false;
     }
     for place in 0..one.len() {
-        if !is_same_duty(&one[place], &other[place]) {
+        if !is_same_duty(one.at(place), other.at(place)) {
             return false;
         }
     }
@@ -59,5 +59,5 @@ pub(crate) fn is_of(net: &Net, settings: &Settings, bases: &[(Code, i64)], dutie
     let _places = net.by_report();
     is_under(net, settings)
         && are_same_bases(net.bases(), bases)
-        && are_same_duties(net.duties().as_slice(), duties.as_slice())
+        && are_same_duties(net.duties(), duties)
 }

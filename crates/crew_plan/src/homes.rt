@@ -113,7 +113,7 @@ fn keep_of_rank(
     ensures { OnOk result ((d : Duty) → slice_get base.now.net.duties rank ≡ Some d
         → kept.new ≡ keep_all kept.old (home_at trip_rig base.now d)) }
 {
-    let duty = &base.net().duties().as_slice()[rank];
+    let duty = base.net().duty(rank);
     if duty.to != base.base() {
         return Ok(());
     }

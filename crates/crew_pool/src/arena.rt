@@ -14,6 +14,9 @@ use std::marker::Model;
 // The most walks with a duty, so that a place is a u32.
 const MOST: usize = 0xffff_ffff;
 
+// So many links or more grow by a quarter.
+const MANY: usize = 8_192;
+
 /// A walk's last duty, and the place of the walk before it.
 #[derive(Clone, Copy)]
 struct Link {
@@ -52,6 +55,13 @@ impl Walks {
         }
     }
 
+    /// Makes room for exactly so many more walks. On want of memory nothing changes.
+    pub fn reserve_exact(&mut self, more: usize) -> Result<(), AllocError>
+        ensures { self.new ≡ self.old }
+    {
+        self.links.reserve_exact(more)
+    }
+
     /// Adds the walk at a place with one duty more, and gives its place.
     ///
     /// On want of memory, or where there are 2^32 walks, nothing changes.
@@ -66,7 +76,7 @@ impl Walks {
         if count >= MOST {
             return Err(AllocError);
         }
-        self.links.push(Link { before, duty })?;
+        push_link(&mut self.links, Link { before, duty })?;
         Ok(count as u32 + 1)
     }
 
@@ -119,6 +129,20 @@ impl Walks {
     {
         ranks_of(alloc, &self.links, label)
     }
+}
+
+// Adds a link; on want of memory, none. Room for many grows by a quarter, and not, as by `push` alone, to
+// twice what it was: links stay as long as a version, and of what it has of its own they may be the most.
+fn push_link(links: &mut Vec<Link>, link: Link) -> Result<(), AllocError>
+    ensures ok { OnOk result (links.new.items ≡ links.old.items ++ link ∷ []) }
+    ensures err { OnErr result (links.new.items ≡ links.old.items) }
+{
+    let len = links.len();
+    if len >= MANY && len == links.capacity() {
+        links.reserve_exact(len / 4)?;
+    }
+    links.push(link)?;
+    Ok(())
 }
 
 // Compares two walks from their last duties back to where they meet.

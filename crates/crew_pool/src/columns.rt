@@ -98,7 +98,8 @@ impl Columns {
         ]
     }
 
-    /// Marks that are at most those of each row: the least of each column.
+    /// Marks that are at most those of each row: the least of each column. That they are no less than
+    /// that no clause says: callers lose time by it, and nothing else.
     pub(crate) fn least(&self) -> [i32; 4]
         ensures { IsBelowAll result self.now.rows }
     {

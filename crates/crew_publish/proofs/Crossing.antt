@@ -33,6 +33,7 @@ use Rattle.crew_fronts.specs.contracts.passed_fronts.PassedFronts as PassedFront
 use Rattle.crew_label.specs.contracts.label.Label as Label
 use Rattle.crew_label.specs.contracts.pool.Pool as Pool
 use Rattle.crew_label.specs.contracts.table.Table as Labels
+use Rattle.crew_net.specs.contracts.net.Net as Net
 use Rattle.crew_pass.specs.contracts.base_fronts.BaseFronts as Passed
 use Rattle.crew_plan.specs.contracts.solution.Solution as Solution
 use Rattle.crew_pool.specs.contracts.pool.Pool as SweptPool
@@ -46,6 +47,12 @@ use Rattle.crew_version.specs.contracts.version.Version as Version
 ruleset parts = (sendable, crosses, maps_cross)
 
 -- ---- what a version holds
+
+net-send : IsSend Net.the_row
+net-send = search parts depth 40 fits 30000
+
+net-sync : IsSync Net.the_row
+net-sync = search parts depth 40 fits 30000
 
 swept-pool-send : (R V F : RattleType) (g : ResourceGhosts R.Denot V.Denot F.Denot) (o : OrdGhosts V.Denot) (e : EqGhosts V.Denot) (p : PartialOrdGhosts V.Denot) → IsSend V → IsSend (SweptPool.the_row R V F g o e p)
 swept-pool-send R V F g o e p s = search parts depth 40 fits 30000
@@ -61,7 +68,7 @@ swept-pools-send R V F g o e p s y = search with_swept_pool depth 40 fits 30000
 swept-pools-sync : (R V F : RattleType) (g : ResourceGhosts R.Denot V.Denot F.Denot) (o : OrdGhosts V.Denot) (e : EqGhosts V.Denot) (p : PartialOrdGhosts V.Denot) → IsSend V → IsSync V → IsSync (SweptPools.the_row R V F g o e p)
 swept-pools-sync R V F g o e p s y = search with_swept_pool depth 40 fits 30000
 
-ruleset with_swept_pools = (parts, swept-pools-send, swept-pools-sync)
+ruleset with_swept_pools = (parts, net-send, net-sync, swept-pools-send, swept-pools-sync)
 
 swept-fronts-send : IsSend SweptFronts.the_row
 swept-fronts-send = search with_swept_pools depth 40 fits 30000
@@ -109,7 +116,7 @@ pass-send R V F g o e p s y = search with_labels depth 40 fits 30000
 pass-sync : (R V F : RattleType) (g : ResourceGhosts R.Denot V.Denot F.Denot) (o : OrdGhosts V.Denot) (e : EqGhosts V.Denot) (p : PartialOrdGhosts V.Denot) → IsSend V → IsSync V → IsSync (Passed.the_row R V F g o e p)
 pass-sync R V F g o e p s y = search with_labels depth 40 fits 30000
 
-ruleset with_pass = (parts, pass-send, pass-sync)
+ruleset with_pass = (parts, net-send, net-sync, pass-send, pass-sync)
 
 passed-send : IsSend PassedFronts.the_row
 passed-send = search with_pass depth 40 fits 30000
@@ -125,7 +132,7 @@ fronts-send = search with_passed depth 40 fits 30000
 fronts-sync : IsSync BaseFronts.the_row
 fronts-sync = search with_passed depth 40 fits 30000
 
-ruleset with_fronts = (parts, fronts-send, fronts-sync, swept-send, swept-sync)
+ruleset with_fronts = (parts, net-send, net-sync, fronts-send, fronts-sync, swept-send, swept-sync)
 
 solution-send : IsSend Solution.the_row
 solution-send = search with_fronts depth 40 fits 30000

@@ -20,9 +20,8 @@ fn rank_near(net: &Net, key: &Key, near: usize) -> Option<usize>
     ensures found { IsFoundAt (map (λ d. d.key) net.now.duties) key.now result }
     ensures few { IfSome result (λ rank. rank < 200_000) }
 {
-    let duties = net.duties().as_slice();
     if near < net.duty_count() {
-        let same = duties[near].key == *key;
+        let same = net.duty(near).key == *key;
         if same {
             return Some(near);
         }
@@ -72,11 +71,10 @@ fn kept_duties(
     ensures { IfOk result (λ kept. AreKeptOf (map (λ d. d.key) old.now.duties)
         (map (λ d. d.key) new.now.duties) places.now kept.items) }
 {
-    let duties = new.duties().as_slice();
-    let mut kept = Vec::with_capacity(alloc, duties.len())?;
+    let mut kept = Vec::with_capacity(alloc, new.duty_count())?;
     let mut near = 0;
-    for duty in duties {
-        let found = rank_near(old, &duty.key, near);
+    for rank in 0..new.duty_count() {
+        let found = rank_near(old, &new.duty(rank).key, near);
         kept.push(at_place(places, found))?;
         near = next_near(near, found);
     }

@@ -58,7 +58,7 @@ fn node_of(net: &Net, rank: usize, base: usize) -> Node
     ensures key { slice_get (map (λ d. d.key) net.now.duties) rank ≡ Some result.key }
     ensures base { slice_get net.now.bases base ≡ Some result.base }
 {
-    let duty = &net.duties().as_slice()[rank];
+    let duty = net.duty(rank);
     Node {
         base: net.bases()[base],
         key: duty.key.copy(),

@@ -1,5 +1,5 @@
 -- Walks from the last duty back.
-use Rattle.std.proofs.Common.{◌≡◌, ◌∙◌, ◌<◌, ◌++◌, ℕ, zero, suc, List, [], ◌∷◌, refl, ap, arith, get_or, length, map}
+use Rattle.std.proofs.Common.{◌≡◌, ◌∙◌, ◌<◌, ◌++◌, Some, slice_get, ℕ, zero, suc, List, [], ◌∷◌, refl, ap, arith, get_or, length, map}
 use Rattle.std.proofs.lemmas.List.{map-append}
 use Rattle.crew_pairing.specs.Legs.{Leg}
 use Rattle.crew_pairing.specs.declared.duty.Duty.{Duty}
@@ -20,6 +20,11 @@ key-there : (ds : List Duty) (rank : ℕ) (d : Duty) → rank < length ds → ke
 key-there [] rank d h = absurd (omega (arith, h))
 key-there (x ∷ ds) zero d h = refl
 key-there (x ∷ ds) (suc rank) d h = key-there ds rank d (omega (arith, h))
+
+pub key-got : (ds : List Duty) (rank : ℕ) (d : Duty) → slice_get ds rank ≡ Some d → key_at ds rank ≡ d.key
+key-got [] rank d h = absurd (let q : ⊥ = (cc) in q)
+key-got (x ∷ ds) zero d h = let same : x ≡ d = (cc) in ap (λ (z : Duty). z.key) same
+key-got (x ∷ ds) (suc rank) d h = key-got ds rank d h
 
 pub keys-last : (ds : List Duty) (walk before : List ℕ) (rank : ℕ) (d : Duty) → walk ≡ before ++ rank ∷ [] → rank < length ds → map (key_at ds) walk ≡ map (key_at ds) before ++ (get_or ds rank d).key ∷ []
 keys-last ds walk before rank d is h =

@@ -110,7 +110,7 @@ impl BaseFronts {
             → IsPermutation (front_at self.now d) result × RiseByVector result }
     {
         let sweep = &self.sweep;
-        let duty = &sweep.net().duties().as_slice()[rank];
+        let duty = sweep.net().duty(rank);
         let index = place_of(sweep.net(), duty);
         FrontView::new(sweep, index, rank as u32, duty)
     }

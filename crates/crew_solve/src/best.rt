@@ -54,10 +54,9 @@ pub(crate) fn walk_of(alloc: Global, sweep: &Sweep, label: LabelWalk) -> Result<
     ensures { IfOk result (λ walk. walk ≡ Spec.walk_by_key sweep.now label) }
 {
     let ranks = sweep.walks().ranks(alloc, label)?;
-    let duties = sweep.net().duties().as_slice();
     let mut keys = Vec::with_capacity(alloc, ranks.len())?;
     for &rank in &ranks {
-        keys.push(duties[rank as usize].key.copy())?;
+        keys.push(sweep.net().duty(rank as usize).key.copy())?;
     }
     Ok(Walk::new(keys))
 }
@@ -251,7 +250,7 @@ fn keep_of_rank(
     ensures floor { IfOk result (λ floor.
         CostFrom kept.old.beside floor (Spec.home_at sweep.now index rank)) }
 {
-    let duty = &sweep.net().duties().as_slice()[rank as usize];
+    let duty = sweep.net().duty(rank as usize);
     if duty.to != sweep.base() {
         return Ok(i64::MAX);
     }
@@ -344,9 +343,10 @@ fn floor_of(
 // Whether one of the duties of these ranks ends at the base, and may end a pairing that is asked for.
 // Where none does no label of theirs needs to be looked at.
 fn comes_home(sweep: &Sweep, kept: &CheapestSoFar, ranks: &[u32]) -> bool {
-    let duties = sweep.net().duties().as_slice();
+    let net = sweep.net();
     for &rank in ranks {
-        if let Some(duty) = duties.get(rank as usize) {
+        if (rank as usize) < net.duty_count() {
+            let duty = net.duty(rank as usize);
             if duty.to == sweep.base() && kept.may_end(&duty.key) {
                 return true;
             }

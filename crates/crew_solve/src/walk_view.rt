@@ -6,7 +6,7 @@ ghost use Rattle.crew_pool.specs.LabelWalks.{duty_of, walk_of_label};
 ghost use Rattle.crew_resource.specs.Members.{Each};
 ghost use Rattle.crew_solve.specs.Machinery.Homes.{walk_by_key};
 
-use crew_pairing::{Duty, Key};
+use crew_pairing::{Duties, Key};
 use crew_pool::{LabelWalk, NO_DUTY, Walks};
 use crew_sweep::Sweep;
 use std::marker::Model;
@@ -17,7 +17,7 @@ use std::marker::Model;
 #[derive(Drop)]
 pub struct WalkView<'a> {
     walks: &'a Walks,
-    duties: &'a [Duty],
+    duties: &'a Duties,
     label: LabelWalk,
 }
 
@@ -126,7 +126,7 @@ impl<'a> WalkView<'a> {
     {
         WalkView {
             walks: sweep.walks(),
-            duties: sweep.net().duties().as_slice(),
+            duties: sweep.net().duties(),
             label,
         }
     }
@@ -148,7 +148,7 @@ impl<'a> WalkView<'a> {
         ensures { option_copied result ≡ slice_get self.now place }
     {
         let rank = rank_of(self.walks, self.label, place)?;
-        Some(&self.duties[rank as usize].key)
+        Some(&self.duties.at(rank as usize).key)
     }
 
     // The walk without its last duty, and the key of that; `None` for a walk of no duty.
@@ -158,7 +158,7 @@ impl<'a> WalkView<'a> {
     {
         let (walks, duties) = (self.walks, self.duties);
         let (label, rank) = split_label(walks, self.label)?;
-        let key = &duties[rank as usize].key;
+        let key = &duties.at(rank as usize).key;
         let before = WalkView {
             walks,
             duties,

@@ -73,7 +73,7 @@ pub(crate) fn arrival_from(
 {
     let positions = ground.positions;
     let ranks = last_first(alloc, ground.net.arriving(place), positions)?;
-    let duties = ground.net.duties().as_slice();
+    let duties = ground.net.duties();
     arrival_pool(
         alloc,
         &ground.resource,

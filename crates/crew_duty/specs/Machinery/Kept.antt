@@ -1,9 +1,10 @@
 -- What the duties of an earlier timetable tell of those of a later one.
-use Rattle.std.specs.Prelude.{◌≡◌, ◌⊎◌, ◌-◌, ◌≤◌, ◌<◌, ◌≤ℤ◌, ◌&&◌, int_le, nat_eq, Bool, false, ℕ, ℤ, List, [], ◌∷◌, None, Option, Some, drop, filter, get_or, length, take}
+use Rattle.std.specs.Prelude.{◌≡◌, ◌⊎◌, ◌≤◌, ◌<◌, ◌≤ℤ◌, ◌&&◌, int_le, nat_eq, Bool, false, ℕ, ℤ, List, [], ◌∷◌, None, Option, Some, filter, get_or, length}
 use Rattle.crew_flights.specs.declared.flight.Flight.{Flight}
 use Rattle.crew_rules.specs.declared.settings.Settings.{Settings}
 use Rattle.crew_resource.specs.Members.{Each, Member}
 use Rattle.crew_pairing.specs.Legs.{Leg}
+use Rattle.crew_pairing.specs.Machinery.Blocks.{part_of}
 use Rattle.crew_pairing.specs.Machinery.Listing.{from_flight, timed}
 use Rattle.crew_pairing.specs.declared.duty.Duty.{Duty}
 use Rattle.crew_duty.specs.Machinery.Limits.{latest_departure}
@@ -70,16 +71,12 @@ pub record IsStart (duties : List Duty) (number place : ℕ) : Type 0 where
   pub after : (k : ℕ) (d : Duty) → place ≤ k → k < length duties
       → number ≤ first_of (get_or duties k d).key
 
--- the duties from one place up to another
-abbrev pub taken : List Duty → Block → List Duty
-taken duties block = take (block.to - block.from) (drop block.from duties)
-
 -- earlier duties, between two places, that are those of a flight still
 pub record IsKept (s : Settings) (flights : List Flight) (duties : List Duty) (f : Flight)
     (block : Block) : Type 0 where
   pub ordered : block.from ≤ block.to
   pub within : block.to ≤ length duties
-  pub same : taken duties block ≡ from_flight s flights f
+  pub same : part_of duties block.from block.to ≡ from_flight s flights f
 
 -- the same, where they are known to be
 abbrev pub MayBeKept : Settings → List Flight → List Duty → Flight → Option Block → Type 0

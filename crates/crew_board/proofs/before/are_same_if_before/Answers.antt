@@ -1,6 +1,7 @@
 use Rattle.std.specs.Ordering.{eq_by_cmp}
 use Rattle.crew_flights.specs.Codes.{code_cmp}
-use Rattle.std.proofs.Common.{◌≡◌, ◌∙◌, ◌<◌, ℕ, List, ap, arith, get_or, length, refl, subst, sym, true, true≢false}
+use Rattle.std.proofs.Common.{◌≡◌, ◌∙◌, ℕ, List, ap, arith, get_or, length, refl, subst, sym, true, true≢false}
+use Rattle.std.proofs.lemmas.Option.{get_or_from_slice_get}
 use Rattle.crew_board.proofs.Arriving.{first-waits, none-among, same-airport}
 use Rattle.crew_job.proofs.Lots.{some-first}
 use Rattle.crew_machine.proofs.Cells.{Some-same}
@@ -9,7 +10,6 @@ use Rattle.crew_net.proofs.InTime.{item-at}
 use Rattle.crew_pairing.specs.Events.{departure_of, may_wait}
 use Rattle.crew_pairing.specs.declared.events.Arrival.{Arrival}
 use Rattle.crew_pairing.specs.Pairings.{may_stand_after}
-use Rattle.crew_pairing.specs.declared.duty.Duty.{Duty}
 use Rattle.crew_resource.proofs.Members.{Member-get}
 use Rattle.crew_resource.specs.Members.{Member}
 use Rattle.crew_rules.specs.declared.settings.Settings.{Settings}
@@ -38,15 +38,14 @@ returns-then-is_empty c = (
   λ all. refl,
 )
 
-pub bounds-as_slice-ranks : goal.bounds-as_slice-ranks
-bounds-as_slice-ranks c =
+pub duty-before-requires : goal.duty-before-requires
+duty-before-requires c =
     let net = c.args.net.now in
     let ranks = c.arriving-ranks.result.now in
     let low = some-first (length ranks) c.if-is_empty.ensures in
-    let duties : c.as_slice.result.now ≡ net.duties = c.as_slice.ensures ∙ c.duties.ensures in
     let x = item-at net.arrivals c.args.arrival c.requires.arrival in
     let there = subst (λ (rs : List ℕ). Member rs (get_or ranks 0 0)) (c.arriving-ranks.ensures x.0 x.1) (Member-get ranks 0 0 low) in
-    subst (λ (ds : List Duty). get_or ranks 0 0 < length ds) (sym duties) (rank-within x.0 net.duties (get_or ranks 0 0) there)
+    rank-within x.0 net.duties (get_or ranks 0 0) there
 
 pub returns-then-not-may : goal.returns-then-not-may
 returns-then-not-may c = (
@@ -54,9 +53,8 @@ returns-then-not-may c = (
       let net = c.args.net.now in
       let ranks = c.arriving-ranks.result.now in
       let low = some-first (length ranks) c.if-is_empty.ensures in
-      let duties : c.as_slice.result.now ≡ net.duties = c.as_slice.ensures ∙ c.duties.ensures in
-      let e = c.index-as_slice-ranks.result in
-      let is : e ≡ get_or net.duties (get_or ranks 0 0) e = c.index-as_slice-ranks.is ∙ ap (λ (ds : List Duty). get_or ds (get_or ranks 0 0) e) duties in
+      let e = c.duty-before.result.now in
+      let is : e ≡ get_or net.duties (get_or ranks 0 0) e = sym (get_or_from_slice_get net.duties (get_or ranks 0 0) e e c.duty-before.ensures) in
       let told = c.may_follow-may.ensures ∙ ap (λ (s : Settings). may_stand_after s e c.args.duty.now) c.settings.ensures.value in
       let waits = first-waits net x c.args.duty.now e ranks (c.arriving-ranks.ensures x at) low is in
       absurd (true≢false (sym may ∙ (waits ∙ (sym told ∙ c.if-not-may.true))))),
@@ -79,9 +77,8 @@ returns c = (
       let net = c.args.net.now in
       let ranks = c.arriving-ranks.result.now in
       let low = some-first (length ranks) c.if-is_empty.ensures in
-      let duties : c.as_slice.result.now ≡ net.duties = c.as_slice.ensures ∙ c.duties.ensures in
-      let e = c.index-as_slice-ranks.result in
-      let is : e ≡ get_or net.duties (get_or ranks 0 0) e = c.index-as_slice-ranks.is ∙ ap (λ (ds : List Duty). get_or ds (get_or ranks 0 0) e) duties in
+      let e = c.duty-before.result.now in
+      let is : e ≡ get_or net.duties (get_or ranks 0 0) e = sym (get_or_from_slice_get net.duties (get_or ranks 0 0) e e c.duty-before.ensures) in
       let told = c.may_follow-may.ensures ∙ ap (λ (s : Settings). may_stand_after s e c.args.duty.now) c.settings.ensures.value in
       let x = item-at net.arrivals c.args.arrival c.requires.arrival in
       let are = c.arriving-ranks.ensures x.0 x.1 in

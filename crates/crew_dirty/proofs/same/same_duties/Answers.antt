@@ -27,7 +27,7 @@ put_flags-requires-clause-others c rank m =
     let g = item-at net.departures k within in
     let bound = leaver-within net g.0 c.leaving.result.now (c.leaving.ensures g.0 g.1) rank m in
     let long = c.in_ok-held.ensures.long in
-    let news = ap length (c.as_slice-news.ensures ∙ c.duties.ensures) in
+    let news = ap length c.duties-news.ensures in
     let same = ap length c.deref.ensures.value in
     omega (arith, bound, long, news, same)
 
@@ -47,8 +47,8 @@ loop-departure-preserved c =
     let len : length now ≡ c.loop-departure.same.len = c.put_flags.ensures.long ∙ c.deref_mut.ensures.len in
     let whole : take c.loop-departure.same.len (now ++ drop (length now) was) ≡ now = ap (λ (n : ℕ). take n (now ++ drop (length now) was)) (sym len) ∙ take-append_seam now (drop (length now) was) in
     let flags : AreFlags (Member old.duties) net.duties held =
-    subst (λ (ds : List Duty). AreFlags (Member ds) net.duties held) (c.as_slice.ensures ∙ c.duties-2.ensures)
-    (subst (λ (ds : List Duty). AreFlags (Member c.as_slice.result.now) ds held) (c.as_slice-news.ensures ∙ c.duties.ensures) c.in_ok-held.ensures.flags) in
+    subst (λ (ds : List Duty). AreFlags (Member ds) net.duties held) c.duties.ensures
+    (subst (λ (ds : List Duty). AreFlags (Member c.duties.result.now) ds held) c.duties-news.ensures c.in_ok-held.ensures.flags) in
     let next : AreSameTo old net (k + 1) now = same-more net k g.0 g.1 c.leaving.result.now (c.leaving.ensures g.0 g.1) old was now held alike c.departures-olds.ensures.exact flags
     (λ e. c.waits_alike-alike.ensures.alike e g.0 g.1)
     (λ m waits. c.waits_alike-alike.ensures.all g.0 g.1 m waits)

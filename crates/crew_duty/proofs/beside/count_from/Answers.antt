@@ -1,10 +1,15 @@
-use Rattle.std.proofs.Common.{◌≡◌, ap, arith, length}
-use Rattle.crew_pairing.specs.Machinery.Listing.{from_place}
+use Rattle.std.proofs.Common.{ap, arith, length}
+use Rattle.crew_duty.proofs.Blocks.{length-part}
 use Rattle.crew_duty.proofs.beside.count_from.Goals as goal
+
+pub overflow_sub-block : goal.overflow_sub-block
+overflow_sub-block c =
+    let kept = c.in-Some.ensures c.args.plan.now.settings.now c.args.plan.now.flights.now c.requires.kept c.requires.place in
+    omega (arith, kept.0)
 
 pub returns-in-Some : goal.returns-in-Some
 returns-in-Some c =
-    let s = c.args.plan.now.settings.now in
-    let flights = c.args.plan.now.flights.now in
-    let block : c.in-Some.block.now ≡ from_place s flights c.args.place = c.in-Some.ensures s flights c.requires.kept c.requires.place in
-    omega (arith, c.min.ensures, c.saturating_add.ensures, ap length block, c.requires.so_far)
+    let block = c.in-Some.block in
+    let kept = c.in-Some.ensures c.args.plan.now.settings.now c.args.plan.now.flights.now c.requires.kept c.requires.place in
+    let long = length-part c.args.kept.now.duties.now block.from block.to kept.0 kept.1 in
+    omega (arith, c.min.ensures, c.saturating_add.ensures, ap length kept.2, long, kept.0, c.requires.so_far)

@@ -1,7 +1,6 @@
-use Rattle.std.proofs.Common.{◌≡◌, ◌+◌, ◌++◌, ◌∙◌, List, ℕ, ap, sym, length, arith}
+use Rattle.std.proofs.Common.{◌≡◌, ◌+◌, ◌++◌, ◌∙◌, ℕ, ap, ap₂, sym, length, arith}
 use Rattle.std.specs.List.{flat_map, range_with_len}
 use Rattle.crew_pairing.specs.Machinery.Listing.{from_place}
-use Rattle.crew_pairing.specs.declared.duty.Duty.{Duty}
 use Rattle.crew_duty.proofs.Counts.{all-more, exact-at}
 use Rattle.crew_duty.proofs.beside.fill_beside.Goals as goal
 
@@ -11,18 +10,26 @@ loop-place-preserved c =
     let i = c.loop-place.place in
     let here : 0 + i ≡ i = omega arith in
     let more : flat_map F (range_with_len 0 (i + 1)) ≡ flat_map F (range_with_len 0 i) ++ F i = all-more F 0 i ∙ ap (λ (k : ℕ). flat_map F (range_with_len 0 i) ++ F k) here in
-    c.in_ok-append_from.ensures ∙ ap (λ (l : List Duty). l ++ F i) c.loop-place.invariant ∙ sym more
+    c.in_ok-push.ensures.ok ∙ ap₂ ◌++◌ c.loop-place.invariant c.in_ok-block_beside.ensures ∙ sym more
 
-pub append_from-requires-clause-count : goal.append_from-requires-clause-count
-append_from-requires-clause-count c =
+pub block_beside-requires-clause-count : goal.block_beside-requires-clause-count
+block_beside-requires-clause-count c =
     let F = from_place c.args.plan.now.settings.now c.args.plan.now.flights.now in
     let i = c.loop-place.place in
     let at = exact-at F 0 c.args.counts.now i 0 c.loop-place-test.true c.requires.counts in
     let here : 0 + i ≡ i = omega arith in
     at.0 ∙ ap (λ (k : ℕ). length (F k)) here
 
-pub append_from-requires-clause-room : goal.append_from-requires-clause-room
-append_from-requires-clause-room c =
+pub block_beside-requires-clause-room : goal.block_beside-requires-clause-room
+block_beside-requires-clause-room c =
     let F = from_place c.args.plan.now.settings.now c.args.plan.now.flights.now in
     let at = exact-at F 0 c.args.counts.now c.loop-place.place 0 c.loop-place-test.true c.requires.counts in
-    omega (arith, at.1, c.requires.few, ap length c.loop-place.invariant)
+    omega (arith, at.1, c.requires.few)
+
+pub push-requires : goal.push-requires
+push-requires c =
+    let F = from_place c.args.plan.now.settings.now c.args.plan.now.flights.now in
+    let i = c.loop-place.place in
+    let at = exact-at F 0 c.args.counts.now i 0 c.loop-place-test.true c.requires.counts in
+    let here : 0 + i ≡ i = omega arith in
+    omega (arith, at.0, at.1, ap (λ (k : ℕ). length (F k)) here, c.requires.few, ap length c.loop-place.invariant, ap length c.in_ok-block_beside.ensures)

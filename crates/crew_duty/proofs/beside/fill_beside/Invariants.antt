@@ -4,4 +4,4 @@ use Rattle.crew_pairing.specs.Machinery.Listing.{from_place}
 use Rattle.crew_duty.proofs.beside.fill_beside.Given as goal
 
 abbrev pub invariant-loop-place : goal.invariant-loop-place
-invariant-loop-place l = l.list.items ≡ flat_map (from_place l.plan.settings.now l.plan.flights.now) (range_with_len 0 l.place)
+invariant-loop-place l = l.list ≡ flat_map (from_place l.plan.settings.now l.plan.flights.now) (range_with_len 0 l.place)

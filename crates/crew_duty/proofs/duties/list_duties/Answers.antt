@@ -66,8 +66,8 @@ returns-clause-listed g c =
     let s = c.args.settings.now in
     let t = c.args.timetable.now in
     let same : c.deref-4.result.now ≡ flights_of t = c.deref-4.ensures.value ∙ c.in_ok-flights.ensures.held in
-    let listed : c.in_ok-list.list.items ≡ all_duties s (flights_of t) = c.in_ok-list.ensures ∙ ap (λ (fs : List Flight). all_duties s fs) same in
-    rw (c.of.ensures ∙ listed) (all-duties s (flights_of t) (flights-of-timetable t c.held_flights.ensures.sound))
+    let listed : c.in_ok-list_all.field-0 ≡ all_duties s (flights_of t) = c.in_ok-list_all.ensures ∙ ap (λ (fs : List Flight). all_duties s fs) same in
+    rw listed (all-duties s (flights_of t) (flights-of-timetable t c.held_flights.ensures.sound))
 
 pub returns-clause-few : goal.returns-clause-few
 returns-clause-few g c =
@@ -75,7 +75,7 @@ returns-clause-few g c =
     let seen = ap sum c.deref-7.ensures.value in
     let few : sum counts ≤ 200_000 = omega (arith, seen, c.total_of-total.ensures, c.if-total-gt-DUTIES.false) in
     let all = counts-few c.args.settings.now c.deref-4.result.now counts c.in_ok-counts.ensures few in
-    omega (arith, ap length c.of.ensures, ap length c.in_ok-list.ensures, all, few)
+    omega (arith, ap length c.in_ok-list_all.ensures, all, few)
 
 pub next_flights-requires-clause-index : goal.next_flights-requires-clause-index
 next_flights-requires-clause-index g c =

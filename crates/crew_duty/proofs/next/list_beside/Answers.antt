@@ -37,8 +37,8 @@ returns-clause-listed c =
     let flights = c.args.flights.now in
     let F = from_place s flights in
     let all : length c.deref-5.result.now ≡ length flights = ap length c.deref-5.ensures.value ∙ c.in_ok-counts.ensures.all in
-    let listed : c.in_ok-list.list.items ≡ all_duties s flights = c.in_ok-list.ensures ∙ ap (λ (n : ℕ). flat_map F (range_with_len 0 n)) all ∙ all-listed s flights in
-    rw (c.of.ensures ∙ listed) (all-duties s flights c.requires.flights)
+    let listed : c.in_ok-fill_beside.field-0 ≡ all_duties s flights = c.in_ok-fill_beside.ensures ∙ ap (λ (n : ℕ). flat_map F (range_with_len 0 n)) all ∙ all-listed s flights in
+    rw listed (all-duties s flights c.requires.flights)
 
 pub returns-clause-few : goal.returns-clause-few
 returns-clause-few c =
@@ -47,7 +47,7 @@ returns-clause-few c =
     let F = from_place s flights in
     let counts = c.in_ok-counts.counts.items in
     let all : length c.deref-5.result.now ≡ length flights = ap length c.deref-5.ensures.value ∙ c.in_ok-counts.ensures.all in
-    let listed : c.in_ok-list.list.items ≡ all_duties s flights = c.in_ok-list.ensures ∙ ap (λ (n : ℕ). flat_map F (range_with_len 0 n)) all ∙ all-listed s flights in
+    let listed : c.in_ok-fill_beside.field-0 ≡ all_duties s flights = c.in_ok-fill_beside.ensures ∙ ap (λ (n : ℕ). flat_map F (range_with_len 0 n)) all ∙ all-listed s flights in
     let few : sum counts ≤ 200_000 = omega (arith, ap sum c.deref-4.ensures.value, c.total_of-total.ensures, c.if-total-gt-DUTIES.false) in
     let total = counts-few s flights counts c.in_ok-counts.ensures few in
-    omega (arith, ap length c.of.ensures, ap length listed, total, few)
+    omega (arith, ap length listed, total, few)

@@ -1,4 +1,4 @@
-use Rattle.std.proofs.Common.{◌≡◌, ◌<◌, ◌∙◌, List, length, ap, arith, refl, rules, subst}
+use Rattle.std.proofs.Common.{◌≡◌, ◌<◌, ◌∙◌, List, length, arith, refl, rules, subst}
 use Rattle.crew_flights.specs.declared.flight.Flight.{Flight}
 use Rattle.crew_pairing.specs.Duties.{flights_of}
 use Rattle.crew_pairing.specs.Machinery.Listing.{all_duties}
@@ -9,7 +9,7 @@ use Rattle.crew_duty.proofs.NewPrices.{few-legs}
 use Rattle.crew_duty.proofs.next.list_next.Goals as goal
 
 pub list_priced-requires-clause-few : goal.list_priced-requires-clause-few
-list_priced-requires-clause-few g c = rw c.as_slice-then-can_reprice.ensures (few-legs c.args.settings.now (flights_of c.args.earlier.now) c.args.duties.now c.requires.earlier)
+list_priced-requires-clause-few g c = few-legs c.args.settings.now (flights_of c.args.earlier.now) c.args.duties.now c.requires.earlier
 
 pub list_priced-requires-clause-flights : goal.list_priced-requires-clause-flights
 list_priced-requires-clause-flights g c =
@@ -26,7 +26,7 @@ blocks-requires-clause-past g c =
     let told = rw (held, old) at c.in_ok-minutes.ensures in
     let past = past-of c.args.settings.now now before c.args.duties.now c.in_ok-minutes.minutes.items c.requires.checked c.held_flights-2.ensures.sound c.held_flights.ensures.sound c.requires.earlier told in
     let fs : c.deref-6.result.now ≡ flights_of now = c.deref-6.ensures.value ∙ c.in_ok-flights.ensures.held in
-    rw (fs, c.deref-5.ensures.value, c.as_slice-2.ensures) past
+    rw (fs, c.deref-5.ensures.value) past
 
 pub list_beside-requires-clause-flights : goal.list_beside-requires-clause-flights
 list_beside-requires-clause-flights g c =
@@ -59,13 +59,13 @@ returns-then-can_reprice-clause-listed g c =
     let old : c.deref-2.result.now ≡ flights_of before = c.deref-2.ensures.value ∙ c.in_ok-before.ensures.held in
     let same = rw (new, old) at c.if-can_reprice.ensures.same in
     let asked : c.deref-then-can_reprice.result.now ≡ flights_of now = c.deref-then-can_reprice.ensures.value ∙ c.in_ok-flights.ensures.held in
-    let listed = rw (asked, c.as_slice-then-can_reprice.ensures) at c.in_ok-list.ensures.listed in
-    rw c.of.ensures (listed s (flights_of before) (same refl) c.requires.earlier)
+    let listed = rw asked at c.in_ok-list_priced.ensures.listed in
+    listed s (flights_of before) (same refl) c.requires.earlier
 
 pub returns-then-can_reprice-clause-few : goal.returns-then-can_reprice-clause-few
 returns-then-can_reprice-clause-few g c =
     let few = c.if-can_reprice.ensures.few refl in
-    omega (arith, ap length c.of.ensures, c.in_ok-list.ensures.count, ap length c.as_slice-then-can_reprice.ensures, ap length c.as_slice.ensures, few)
+    omega (arith, c.in_ok-list_priced.ensures.count, few)
 
 pub list_beside-requires-clause-minutes : goal.list_beside-requires-clause-minutes
 list_beside-requires-clause-minutes g c = search rules

@@ -1,16 +1,29 @@
-use Rattle.std.proofs.Common.{◌≡◌, ◌∙◌, ap, map}
-use Rattle.std.proofs.lemmas.Result.{IfOk-weaker}
+use Rattle.std.proofs.Common.{◌≡◌, ◌++◌, ◌∙◌, List, ℤ, ap, ap₂, arith, map, sym, take}
+use Rattle.std.proofs.lemmas.List.{map-append, take_all}
+use Rattle.crew_pairing.specs.Machinery.Blocks.{part_of}
 use Rattle.crew_duty.specs.Machinery.Prices.{under_prices}
-use Rattle.crew_duty.proofs.NewPrices.{count-priced, duties-priced}
+use Rattle.crew_duty.proofs.Blocks.{take-part}
+use Rattle.crew_duty.proofs.NewPrices.{duties-priced}
 use Rattle.crew_duty.proofs.priced.list_priced.Goals as goal
 
-pub returns-clause-listed : goal.returns-clause-listed
-returns-clause-listed c =
-    let prices = c.in_ok-prices.prices.items in
-    let held = c.in_ok-prices.ensures.held in
-    IfOk-weaker c.all_under.result _ _ (λ list made s before same all.
-    let now : list.items ≡ map (under_prices prices) c.args.duties.now = made ∙ ap (λ ps. map (under_prices ps) c.args.duties.now) c.deref.ensures.value in
-    rw now (duties-priced s prices c.args.flights.now before c.args.duties.now same held all)) c.all_under.ensures
+pub loop-from-preserved : goal.loop-from-preserved
+loop-from-preserved c =
+    let u = under_prices c.in_ok-prices.prices.items in
+    let duties = c.args.duties.now in
+    let from = c.loop-from.from in
+    let to = c.block_end-to.result in
+    let part = c.in_ok-part_under.ensures ∙ ap (λ (ps : List ℤ). map (under_prices ps) (part_of duties from to)) c.deref.ensures.value in
+    let ordered = c.block_end-to.ensures.least in
+    record {
+      within = c.block_end-to.ensures.most;
+      list = c.in_ok-push.ensures.ok ∙ (ap₂ ◌++◌ c.loop-from.invariant.list part
+          ∙ (sym (map-append u (take from duties) (part_of duties from to)) ∙ ap (map u) (sym (take-part duties from to (omega (arith, ordered))))));
+    }
 
-pub returns-clause-count : goal.returns-clause-count
-returns-clause-count c = IfOk-weaker c.all_under.result _ _ (λ list made. count-priced c.deref.result.now c.args.duties.now list.items made) c.all_under.ensures
+pub returns-clause-listed : goal.returns-clause-listed
+returns-clause-listed c s before same all =
+    let prices = c.in_ok-prices.prices.items in
+    let duties = c.args.duties.now in
+    let whole = take_all c.loop-from.from duties (omega (arith, c.loop-from-test.false, c.len-in-loop-from.ensures)) in
+    let now : c.loop-from.list ≡ map (under_prices prices) duties = c.loop-from.invariant.list ∙ ap (map (under_prices prices)) whole in
+    rw now (duties-priced s prices c.args.flights.now before duties same c.in_ok-prices.ensures.held all)

@@ -4,5 +4,5 @@ use Rattle.crew_pairing.specs.declared.duty.Duty.{Duty}
 use Rattle.crew_resource.specs.Members.{Member}
 use Rattle.crew_job.proofs.before.are_all_before_in.Given as goal
 
-abbrev pub invariant-loop-before : goal.invariant-loop-before
-invariant-loop-before l = (k : ℕ) (e : Duty) → k < l.before-index → slice_get l.before-items k ≡ Some e → may_stand_after l.settings e l.duty ≡ true → Member l.other.duties e
+abbrev pub invariant-loop-rank : goal.invariant-loop-rank
+invariant-loop-rank l = (k : ℕ) (e : Duty) → k < l.rank → slice_get l.net.duties k ≡ Some e → may_stand_after l.settings e l.duty ≡ true → Member l.other.duties e

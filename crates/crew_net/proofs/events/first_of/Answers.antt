@@ -1,6 +1,6 @@
-use Rattle.std.proofs.Common.{◌<◌, ◌∙◌, ℕ, length, rules, sym, subst}
-use Rattle.std.proofs.lemmas.List.{get_or_default}
+use Rattle.std.proofs.Common.{◌<◌, ℕ, length, rules, subst}
 use Rattle.crew_net.proofs.Firsts.{read-rank, read-start}
+use Rattle.crew_net.proofs.Slices.{get-at}
 use Rattle.crew_net.proofs.events.first_of.Goals as goal
 
 pub index-requires-2 : goal.index-requires-2
@@ -9,8 +9,8 @@ index-requires-2 c =
     let p : c.index.result.now < length c.args.timeline.now.places.items = read-start t.0 c.args.timeline.now t.2 c.args.event c.index.result.now c.requires.event c.index.ensures in
     search rules
 
-pub bounds-duties-rank : goal.bounds-duties-rank
-bounds-duties-rank c =
+pub at-requires : goal.at-requires
+at-requires c =
     let t = c.requires.timeline in
     let p = read-rank t.0 c.args.timeline.now t.2 c.args.event c.index.result.now c.index-2.result.now c.requires.event c.index.ensures c.index-2.ensures in
     subst (λ (n : ℕ). c.index-2.result.now < n) t.1 p.0
@@ -22,4 +22,4 @@ returns c = λ ats it.
     let few = read-rank t.0 c.args.timeline.now t.2 c.args.event c.index.result.now rank c.requires.event c.index.ensures c.index-2.ensures in
     let p = read-rank ats c.args.timeline.now it c.args.event c.index.result.now rank c.requires.event c.index.ensures c.index-2.ensures in
     let within : rank < length c.args.duties.now = subst (λ (n : ℕ). rank < n) t.1 few.0 in
-    (rank, within, λ e. get_or_default c.args.duties.now rank e c.index-duties-rank.result within ∙ sym c.index-duties-rank.is, p.1)
+    (rank, within, λ e. get-at c.args.duties.now rank c.at.result.now e c.at.ensures, p.1)

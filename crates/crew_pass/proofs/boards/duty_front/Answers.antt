@@ -1,11 +1,11 @@
-use Rattle.std.proofs.Common.{◌≡◌, ◌∙◌, ◌≤◌, ℕ, suc, List, Some, length, map, arith, subst}
+use Rattle.std.proofs.Common.{◌≡◌, ◌≤◌, ℕ, suc, List, Some, length, map, arith, subst}
 use Rattle.std.specs.Prelude.{slice_get}
 use Rattle.std.proofs.lemmas.Result.{IfOk-weaker}
 use Rattle.crew_label.specs.Boarding.{boarded_from}
 use Rattle.crew_label.specs.Walks.{ranks_at_most, shown}
 use Rattle.crew_label.specs.declared.label.Label.{Label}
 use Rattle.crew_label.proofs.Boarded.{boarded_counted, boarded_entries}
-use Rattle.crew_net.proofs.Slices.{item-in, member-got, some-same}
+use Rattle.crew_net.proofs.Slices.{member-got, some-same}
 use Rattle.crew_pairing.specs.declared.duty.Duty.{Duty}
 use Rattle.crew_resource.specs.Labels.{IsLocal}
 use Rattle.crew_resource.specs.Members.{Member}
@@ -18,16 +18,16 @@ use Rattle.crew_pass.proofs.boards.duty_front.Goals as goal
 pub front_aboard-requires-clause-sound : goal.front_aboard-requires-clause-sound
 front_aboard-requires-clause-sound g c =
     let duties = c.args.ground.now.net.now.duties in
-    let d = c.index-as_slice-rank.result in
-    let here = item-in duties c.as_slice.result.now c.args.rank d c.requires.rank (c.as_slice.ensures ∙ c.duties.ensures) c.index-as_slice-rank.is in
+    let d = c.duty-duty.result.now in
+    let here = c.duty-duty.ensures in
     c.requires.terms.passable.sound d (member-got duties c.args.rank d here)
 
 pub front_aboard-requires-clause-boards : goal.front_aboard-requires-clause-boards
 front_aboard-requires-clause-boards g c l m =
     let r = c.args.ground.now.resource.now in
     let duties = c.args.ground.now.net.now.duties in
-    let d = c.index-as_slice-rank.result in
-    let here = item-in duties c.as_slice.result.now c.args.rank d c.requires.rank (c.as_slice.ensures ∙ c.duties.ensures) c.index-as_slice-rank.is in
+    let d = c.duty-duty.result.now in
+    let here = c.duty-duty.ensures in
     let k = (c.requires.pool l m).entry in
     let n = length (shown (trail_of c.args.table.now) l).1 in
     let few : n ≤ c.requires.terms.counts.limit = k.few c.requires.terms.counts.limit c.requires.terms.counts.has_most in
@@ -43,9 +43,9 @@ returns-clause-front g c =
     let r = c.args.ground.now.resource.now in
     let duties = c.args.ground.now.net.now.duties in
     let t = c.args.table.now in
-    let first = c.index-as_slice-rank.result in
+    let first = c.duty-duty.result.now in
     let w = terms g.R.Lapses g.R.Staged g.R.Forgets g.R.Resource c.args.ground.now in
-    let here = item-in duties c.as_slice.result.now c.args.rank first c.requires.rank (c.as_slice.ensures ∙ c.duties.ensures) c.index-as_slice-rank.is in
+    let here = c.duty-duty.ensures in
     let is = boarded_entries (λ v. g.R.Staged.boards r v first) c.args.rank (leads_of t) (trail_of t) c.args.pool.now c.requires.into in
     IfOk-weaker c.front_aboard.result _ _ (λ front local (d : Duty) (at : slice_get duties c.args.rank ≡ Some d).
     subst (λ (z : Duty). IsLocal g.R.Resource.below ranks_at_most (λ v k. Member (boarding w z c.args.rank (map (shown (trail_of t)) c.args.pool.now)) (v, k)) (map (shown (trail_of t)) front))
@@ -58,8 +58,8 @@ returns-clause-held g c =
     let r = c.args.ground.now.resource.now in
     let duties = c.args.ground.now.net.now.duties in
     let t = c.args.table.now in
-    let d = c.index-as_slice-rank.result in
-    let here = item-in duties c.as_slice.result.now c.args.rank d c.requires.rank (c.as_slice.ensures ∙ c.duties.ensures) c.index-as_slice-rank.is in
+    let d = c.duty-duty.result.now in
+    let here = c.duty-duty.ensures in
     let sound = c.requires.terms.passable.sound d (member-got duties c.args.rank d here) in
     let board = λ (v : g.row.R-Value.Denot). g.R.Staged.boards r v d in
     let counting = g.met.R.Staged.counting r c.requires.terms.counts.limit c.requires.terms.counts.has_most in

@@ -3,4 +3,4 @@ use Rattle.crew_pool.specs.Ranks.{key_at}
 use Rattle.crew_solve.proofs.best.walk_of.Given as goal
 
 abbrev pub invariant-loop-rank : goal.invariant-loop-rank
-invariant-loop-rank l = l.keys.items ≡ map (key_at l.duties) (take l.rank-index l.rank-items)
+invariant-loop-rank l = l.keys.items ≡ map (key_at l.sweep.net.duties) (take l.rank-index l.rank-items)

@@ -7,19 +7,13 @@ use Rattle.crew_pool.specs.Counted.{AreCounted}
 use Rattle.crew_pool.specs.LabelWalks.{IsPoolOf, shown}
 use Rattle.crew_pool.specs.declared.label_walk.LabelWalk.{LabelWalk}
 use Rattle.crew_resource.specs.Members.{Member}
-use Rattle.crew_resource.proofs.Members.{Member-get, Member-get_or}
+use Rattle.crew_resource.proofs.Members.{Member-at, Member-get}
 use Rattle.crew_step.specs.Pools.{boarded, boarding}
-use Rattle.crew_step.proofs.Loops.{flat-more, item-at}
+use Rattle.crew_step.proofs.Loops.{flat-more}
 use Rattle.crew_step.proofs.arrival.arrival_pool.Goals as goal
 
-pub offset_bounds-items-rank : goal.offset_bounds-items-rank
-offset_bounds-items-rank g c =
-    let ranks = c.args.ranks.now in
-    let within = (c.requires.within (get_or ranks c.loop-rank.rank-index 0) (Member-get ranks c.loop-rank.rank-index 0 c.loop-rank-test.true)).0 in
-    omega (arith, within)
-
-pub bounds-items-rank : goal.bounds-items-rank
-bounds-items-rank g c =
+pub at-duty-requires : goal.at-duty-requires
+at-duty-requires g c =
     let ranks = c.args.ranks.now in
     (c.requires.within (get_or ranks c.loop-rank.rank-index 0) (Member-get ranks c.loop-rank.rank-index 0 c.loop-rank-test.true)).0
 
@@ -45,11 +39,11 @@ absorb_boarding-requires-clause-can g c l m =
     let ranks = c.args.ranks.now in
     let rank = get_or ranks c.loop-rank.rank-index 0 in
     let within = c.requires.within rank (Member-get ranks c.loop-rank.rank-index 0 c.loop-rank-test.true) in
-    let item = c.index-items-rank.result in
+    let duty = c.at-duty.result.now in
     let from = c.get-from.result.now in
-    c.requires.can from l item
+    c.requires.can from l duty
     (subst (Member c.args.pools.now) (sym c.get-from.ensures) (Member-get c.args.pools.now (get_or c.args.positions.now rank 0) [] within.1)) m
-    (Member-get_or c.args.items.now rank item within.0 (sym c.index-items-rank.is))
+    (Member-at c.args.duties.now rank duty c.at-duty.ensures)
 
 pub absorb_boarding-requires-clause-list_counts : goal.absorb_boarding-requires-clause-list_counts
 absorb_boarding-requires-clause-list_counts g c =
@@ -78,19 +72,19 @@ loop-rank-preserved g c =
     let rank = get_or ranks i 0 in
     let within = c.requires.within rank (Member-get ranks i 0 c.loop-rank-test.true) in
     let position = get_or c.args.positions.now rank 0 in
-    let item = c.index-items-rank.result in
+    let duty = c.at-duty.result.now in
     let from = c.get-from.result.now in
     let board = g.R.Staged.boards c.args.resource.now in
     let now = c.absorb_boarding.new.pool in
-    let one : ℕ → List (V × List ℕ) = λ r. boarding board (slice_get c.args.items.now r) r (map (shown {V = V} ws) (get_or c.args.pools.now (get_or c.args.positions.now r 0) [])) in
-    let before : List (V × List ℕ) = boarded {V = V} ws board c.args.items.now c.args.positions.now c.args.pools.now (take i ranks) in
-    let known = item-at c.args.items.now rank item within.0 c.index-items-rank.is in
+    let one : ℕ → List (V × List ℕ) = λ r. boarding board (slice_get c.args.duties.now r) r (map (shown {V = V} ws) (get_or c.args.pools.now (get_or c.args.positions.now r 0) [])) in
+    let before : List (V × List ℕ) = boarded {V = V} ws board c.args.duties.now c.args.positions.now c.args.pools.now (take i ranks) in
+    let known = c.at-duty.ensures in
     let labels : List (V × LabelWalk) → List (V × List ℕ) = map (shown {V = V} ws) in
     let there : get_or c.args.pools.now position [] ≡ from = sym c.get-from.ensures in
-    let brings : boarding board (Some item) rank (labels from) ≡ one rank =
-    sym (ap (λ o. boarding board o rank (labels from)) known) ∙ sym (ap (λ (es : List (V × LabelWalk)). boarding board (slice_get c.args.items.now rank) rank (labels es)) there) in
+    let brings : boarding board (Some duty) rank (labels from) ≡ one rank =
+    sym (ap (λ o. boarding board o rank (labels from)) known) ∙ sym (ap (λ (es : List (V × LabelWalk)). boarding board (slice_get c.args.duties.now rank) rank (labels es)) there) in
     let step = c.in_ok-absorb_boarding.ensures.local before c.loop-rank.invariant.0 in
-    let more : before ++ one rank ≡ boarded {V = V} ws board c.args.items.now c.args.positions.now c.args.pools.now (take (i + 1) ranks) =
+    let more : before ++ one rank ≡ boarded {V = V} ws board c.args.duties.now c.args.positions.now c.args.pools.now (take (i + 1) ranks) =
     flat-more one [] ranks i rank (slice_get-get_or ranks i 0 c.loop-rank-test.true) in (
       subst (λ (es : List (V × List ℕ)). IsPoolOf below es (labels now)) more
           (subst (λ (es : List (V × List ℕ)). IsPoolOf below (before ++ es) (labels now)) brings step),
@@ -101,7 +95,7 @@ pub returns-clause-local : goal.returns-clause-local
 returns-clause-local g c =
     let V = g.row.R-Value.Denot in
     let ws = c.args.walks.now in
-    let brought = boarded {V = V} ws (g.R.Staged.boards c.args.resource.now) c.args.items.now c.args.positions.now c.args.pools.now in
+    let brought = boarded {V = V} ws (g.R.Staged.boards c.args.resource.now) c.args.duties.now c.args.positions.now c.args.pools.now in
     let all = take_all c.loop-rank.rank-index c.args.ranks.now (omega arith) in
     IfOk-weaker c.copy_out.result _ _
     (λ pool same. subst (λ (es : List (V × LabelWalk)). IsPoolOf g.R.Resource.below (brought c.args.ranks.now) (map (shown {V = V} ws) es)) (sym same)

@@ -31,7 +31,7 @@ arrival_pool-requires-clause-within c rank m =
     let all = subst (λ (rs : List ℕ). IsPermutation rs c.in_ok-ranks.ranks.items) (c.arriving.ensures a.0 a.1) c.in_ok-ranks.ensures in
     let k = making.ranks-within net g.positions.now c.requires.ground.passable g.base g.resource c.args.walks.now c.args.pools.now p.0 p.1 p.2
     c.args.place a.0 a.1 c.requires.sealed c.in_ok-ranks.ranks.items all rank (subst (λ (rs : List ℕ). Member rs rank) c.deref.ensures.value m) in (
-      subst (λ (ds : List Duty). rank < length ds) (sym (c.as_slice-duties.ensures ∙ c.duties.ensures)) k.0,
+      subst (λ (ds : List Duty). rank < length ds) (sym c.duties-duties.ensures) k.0,
       k.1,
     )
 
@@ -40,7 +40,7 @@ arrival_pool-requires-clause-can c labels l item known m k =
     let g = c.args.ground.now in
     let p = c.requires.pools in
     may-board g.net.now g.positions.now c.requires.ground.passable g.base g.resource c.args.walks.now c.args.pools.now p.0 p.1 p.2
-    c.requires.ground.fits c.requires.ground.most labels l item known m (subst (λ (ds : List Duty). Member ds item) (c.as_slice-duties.ensures ∙ c.duties.ensures) k)
+    c.requires.ground.fits c.requires.ground.most labels l item known m (subst (λ (ds : List Duty). Member ds item) c.duties-duties.ensures k)
 
 pub arrival_pool-requires-clause-whole : goal.arrival_pool-requires-clause-whole
 arrival_pool-requires-clause-whole c labels m = c.requires.pools.2.whole labels m
@@ -52,13 +52,13 @@ returns c =
     let walks = c.args.walks.now in
     let positions = g.positions.now in
     let ranks = c.in_ok-ranks.ranks.items in
-    let duties = c.as_slice-duties.result.now in
+    let duties = c.duties-duties.result.now in
     let boards = anchored_board g.resource in
     let all = λ (x : Arrival) (at : slice_get net.arrivals c.args.place ≡ Some x). subst (λ (rs : List ℕ). IsPermutation rs ranks) (c.arriving.ensures x at) c.in_ok-ranks.ensures in
     both c.arrival_pool.result (λ pool local counts. record {
       ranks = ranks;
       all = all;
-      local = subst (λ (ds : List Duty). IsPoolOf is_at_most (boarded walks boards ds positions c.args.pools.now ranks) (map (shown walks) pool)) (c.as_slice-duties.ensures ∙ c.duties.ensures)
+      local = subst (λ (ds : List Duty). IsPoolOf is_at_most (boarded walks boards ds positions c.args.pools.now ranks) (map (shown walks) pool)) c.duties-duties.ensures
           (subst (λ (rs : List ℕ). IsPoolOf is_at_most (boarded walks boards duties positions c.args.pools.now rs) (map (shown walks) pool)) c.deref.ensures.value local);
       counts = counts;
     }) c.arrival_pool.ensures.local c.arrival_pool.ensures.counts

@@ -1,4 +1,4 @@
-use Rattle.std.proofs.Common.{arith, ◌∙◌, List, subst}
+use Rattle.std.proofs.Common.{arith, List, subst}
 use Rattle.crew_net.specs.Events.{departure_cmp}
 use Rattle.crew_pairing.specs.Keys.{key_cmp}
 use Rattle.crew_pairing.specs.declared.duty.Duty.{Duty}
@@ -19,8 +19,8 @@ returns c =
     (subst (λ (ys : List Departure). AreMatches departure_cmp c.departures.result.now ys gs) c.departures-2.ensures.events c.in_ok-departures.ensures) in
     let by_key = λ (a b : Duty). key_cmp a.key b.key in
     let duties : AreMatches by_key old.duties new.duties rs =
-    subst (λ (xs : List Duty). AreMatches by_key xs new.duties rs) (c.as_slice-olds.ensures ∙ c.duties.ensures)
-    (subst (λ (ys : List Duty). AreMatches by_key c.as_slice-olds.result.now ys rs) (c.as_slice-news.ensures ∙ c.duties-2.ensures) c.in_ok-ranks.ensures) in
+    subst (λ (xs : List Duty). AreMatches by_key xs new.duties rs) c.duties-olds.ensures
+    (subst (λ (ys : List Duty). AreMatches by_key c.duties-olds.result.now ys rs) c.duties-news.ensures c.in_ok-ranks.ensures) in
     record {
       twins = record {
         departures_long = events.long;

@@ -1,4 +1,4 @@
-use Rattle.std.proofs.Common.{◌≡◌, ◌∙◌, sym}
+use Rattle.std.proofs.Common.{◌∙◌, sym}
 use Rattle.crew_dirty.proofs.Nodes.{kept-at}
 use Rattle.crew_dirty.proofs.carried.Carried.is_kept.Goals as goal
 

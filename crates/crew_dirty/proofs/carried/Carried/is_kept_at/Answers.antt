@@ -1,4 +1,4 @@
-use Rattle.std.proofs.Common.{◌≡◌, ◌∙◌, ◌&&◌, ℕ, false, get_or, refl, sym, ap}
+use Rattle.std.proofs.Common.{◌≡◌, ◌∙◌, ◌&&◌, false, get_or, refl, sym, ap}
 use Rattle.crew_dirty.proofs.Nodes.{kept-at}
 use Rattle.crew_dirty.proofs.carried.Carried.is_kept_at.Goals as goal
 

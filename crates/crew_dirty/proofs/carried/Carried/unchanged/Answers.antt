@@ -1,4 +1,4 @@
-use Rattle.std.proofs.Common.{◌≡◌, ◌∙◌, ◌&&◌, ℕ, Some, true, false, get_or, length, sym, ap, arith}
+use Rattle.std.proofs.Common.{◌≡◌, ◌∙◌, ◌&&◌, Some, true, false, get_or, length, sym, ap, arith}
 use Rattle.std.specs.Prelude.{slice_get}
 use Rattle.crew_net.proofs.InTime.{item-at}
 use Rattle.crew_pairing.proofs.Tree.{slice_get-within}

@@ -26,9 +26,10 @@ is-front c d at =
     let p = c.self.inside.fronts in
     let net : c.deref-2.result.now ≡ p.net = c.deref-2.ensures ∙ c.net-net.ensures in
     let settings : c.settings.result.now ≡ p.net.settings = c.settings.ensures.value ∙ ap (λ (n : Net). n.settings) (c.deref-4.ensures ∙ c.net-net.ensures) in
-    let duties : c.as_slice-duties.result.now ≡ p.net.duties = c.as_slice-duties.ensures ∙ (c.duties.ensures ∙ ap (λ (n : Net). n.duties) net) in
-    let duty = c.index-duties-rank.result in
-    let own : duty ≡ d = c.index-duties-rank.is ∙ (ap (λ ds. get_or ds c.args.rank duty) duties ∙ get-at p.net.duties c.args.rank d duty at) in
+    let duties : c.duties-duties.result.now ≡ p.net.duties = c.duties-duties.ensures ∙ ap (λ (n : Net). n.duties) net in
+    let duty = c.at.result.now in
+    let here : slice_get p.net.duties c.args.rank ≡ Some duty = subst (λ (ds : List Duty). slice_get ds c.args.rank ≡ Some duty) duties c.at.ensures in
+    let own : duty ≡ d = sym (get-at p.net.duties c.args.rank duty duty here) ∙ get-at p.net.duties c.args.rank d duty at in
     let labels : c.as_slice-labels.result.now ≡ get_or p.fronts c.args.rank [] = c.as_slice-labels.ensures.all ∙ (c.deref-3.ensures ∙ c.front.ensures.front) in
     c.new.ensures ∙ same-entries _ (record { leaves = p.positions; pools = p.pools }) _ p.net.duties _ p.net.settings _ d _ (get_or p.fronts c.args.rank []) c.table.ensures duties settings own labels
 

@@ -30,7 +30,6 @@ returns c =
     let any : list_any test n.bases.items ≡ true = ap (list_any test) (sym c.deref.ensures.value) ∙ (sym c.contains.ensures.value ∙ c.if-not-contains.false) in
     let found = list_any_true test n.bases.items any in
     let member : Member n.bases.items base = subst (Member n.bases.items) (code-equal found.0 base found.2) found.1 in
-    let list : c.as_slice.result.now ≡ n.duties.value = c.as_slice.ensures ∙ c.deref-2.ensures in
-    let rank = subst (λ (l : List Duty). IsRankOf l c.args.node.now.key c.rank_of.result) list c.rank_of.ensures in
+    let rank = subst (λ (l : List Duty). IsRankOf l c.args.node.now.key c.rank_of.result) c.deref-2.ensures c.rank_of.ensures in
     let show : Net = record { settings = n.settings; bases = n.bases.items; duties = n.duties.value; departures = n.events.value.departures.items; arrivals = n.events.value.arrivals.items; by_report = n.events.value.by_report.items } in
     subst (λ (net : Net). IsRank net c.args.node.now c.rank_of.result) c.self.view_is (is-rank show c.args.node.now member c.rank_of.result rank)

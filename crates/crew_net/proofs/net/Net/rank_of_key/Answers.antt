@@ -1,4 +1,4 @@
-use Rattle.std.proofs.Common.{◌≡◌, ◌∙◌, List, subst}
+use Rattle.std.proofs.Common.{List, subst}
 use Rattle.crew_net.specs.Machinery.Ranking.{IsRankOf}
 use Rattle.crew_net.specs.Nets.{IsRankOfKey, Net}
 use Rattle.crew_net.proofs.Ranking.{rank-of-key}
@@ -9,6 +9,5 @@ pub returns : goal.returns
 returns c =
     let n = c.self.inside in
     let key = c.args.key.now in
-    let list : c.as_slice.result.now ≡ n.duties.value = c.as_slice.ensures ∙ c.deref.ensures in
-    let rank = subst (λ (l : List Duty). IsRankOf l key c.rank_of.result) list c.rank_of.ensures in
+    let rank = subst (λ (l : List Duty). IsRankOf l key c.rank_of.result) c.deref.ensures c.rank_of.ensures in
     subst (λ (net : Net). IsRankOfKey net.duties key c.rank_of.result) c.self.view_is (rank-of-key n.duties.value key c.rank_of.result rank)

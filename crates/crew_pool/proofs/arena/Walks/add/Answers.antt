@@ -11,7 +11,7 @@ invariant_of-self-2 c =
     let l : Link = record { before = c.args.before; duty = c.args.duty } in
     let long : length (all_walks links) ≡ length c.args.self.now = ap length c.self.view_is in
     let n = length-all_walks links in
-    let now : c.push.new.self.items ≡ links ++ l ∷ [] = c.in_ok-push.ensures.items in
+    let now : c.push_link.new.links.items ≡ links ++ l ∷ [] = c.in_ok-push_link.ensures.ok in
     subst (AreLinked 0) (sym now) (AreLinked-more 0 links l c.self.invariant (omega (arith, c.requires)))
 
 pub returns-clause-ok : goal.returns-clause-ok
@@ -25,7 +25,7 @@ pub returns-clause-added : goal.returns-clause-added
 returns-clause-added c =
     let links = c.self.inside.links.items in
     let l : Link = record { before = c.args.before; duty = c.args.duty } in
-    let now : c.push.new.self.items ≡ links ++ l ∷ [] = c.in_ok-push.ensures.items in
+    let now : c.push_link.new.links.items ≡ links ++ l ∷ [] = c.in_ok-push_link.ensures.ok in
     ap all_walks now
     ∙ (all_walks-more links l
     ∙ ap (λ ws. ws ++ (walk_at ws c.args.before ++ c.args.duty ∷ []) ∷ []) c.self.view_is)

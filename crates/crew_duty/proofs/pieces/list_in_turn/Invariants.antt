@@ -1,7 +1,0 @@
-use Rattle.std.proofs.Common.{◌≡◌}
-use Rattle.std.specs.List.{flat_map, range_with_len}
-use Rattle.crew_pairing.specs.Machinery.Listing.{from_place}
-use Rattle.crew_duty.proofs.pieces.list_in_turn.Given as goal
-
-abbrev pub invariant-loop-place : goal.invariant-loop-place
-invariant-loop-place l = l.list.items ≡ flat_map (from_place l.plan.settings.now l.plan.flights.now) (range_with_len 0 l.place)
