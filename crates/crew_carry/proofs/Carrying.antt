@@ -4,6 +4,7 @@ use Rattle.std.specs.Prelude.{slice_get}
 use Rattle.std.proofs.Math.Seq.{get_or-append_seam}
 use Rattle.std.proofs.lemmas.List.{length-set, map-append}
 use Rattle.crew_pool.specs.Arena.{walk_at}
+use Rattle.crew_step.specs.Walks.{HasGrown}
 use Rattle.crew_step.proofs.Grown.{grown-more}
 use Rattle.crew_carry.specs.Carried.{AreTwinWalks, IsCarried, twin_of}
 use Rattle.crew_carry.proofs.Pushed.{some-once}
@@ -25,6 +26,14 @@ pub twins-more : (ranks : List (Option ℕ)) (w v : List ℕ) (r k : ℕ) → Ar
 twins-more ranks w v r k h t =
     let some : ℕ → Option ℕ = λ n. Some n in
     map-append (twin_of ranks) w (r ∷ []) ∙ ((λ i. h i ++ t i ∷ []) ∙ sym (map-append some v (k ∷ [])))
+
+-- walks that are carried are so where more walks stand
+pub carried-grown : (ranks : List (Option ℕ)) (from to after : List (List ℕ)) (places : List (Option ℕ)) → IsCarried ranks from to places → HasGrown to after → IsCarried ranks from after places
+carried-grown ranks from to after places h grown = record {
+  long = h.long;
+  there = λ p q e. let there = h.there p q e in let longer = grown.longer in omega (arith, there, longer);
+  shows = λ p q e. subst (λ (w : List ℕ). AreTwinWalks ranks (walk_at from p) w) (sym (grown.same q (h.there p q e))) (h.shows p q e);
+}
 
 module _ (ranks : List (Option ℕ)) (from to : List (List ℕ)) (places : List (Option ℕ)) (h : IsCarried ranks from to places) where
   module _ (p : ℕ) (w v : List ℕ) (r k : ℕ) (walk : walk_at from p ≡ w ++ r ∷ []) (before : AreTwinWalks ranks w v) (twin : twin_of ranks r ≡ Some k) where

@@ -2,9 +2,9 @@ pub mod Pushed
 pub mod Paired
 pub mod Matching
 pub mod Arriving
+pub mod Standing
 pub mod Ties
 pub mod SameDuties
-pub mod Ends
 pub mod Carrying
 pub mod CarriedLabels
 pub mod Permuted

@@ -2,4 +2,4 @@
 -- stood.
 pub mod Matches
 pub mod Sames
-pub mod Ends
+pub mod Places

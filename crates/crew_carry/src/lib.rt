@@ -8,6 +8,7 @@
 mod alike;
 mod carrier;
 mod in_line;
+mod places;
 mod ranks;
 mod span;
 mod twins;

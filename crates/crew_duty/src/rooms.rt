@@ -113,7 +113,8 @@ pub(crate) fn fill_each(
     Ok(())
 }
 
-/// How many of these rooms, from the first on, are for so many duties or more.
+/// How many of these rooms, from the first on, are for so many duties or more. It decides only which
+/// thread fills what, so what it promises is to stay within them.
 pub(crate) fn cut_at(rooms: &[Room], share: usize) -> usize
     ensures { result ≤ length rooms.now }
 {

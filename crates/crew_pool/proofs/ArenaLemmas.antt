@@ -1,13 +1,15 @@
 -- Links and the walks that they make.
-use Rattle.std.proofs.Common.{◌≡◌, ℕ, zero, suc, ◌+◌, ◌-◌, ◌<◌, ◌≤◌, List, [], ◌∷◌, ◌++◌, length, get_or, refl, sym, ◌∙◌, ap, subst, arith, append_assoc}
+use Rattle.std.proofs.Common.{Some, ◌≡◌, ℕ, zero, suc, ◌+◌, ◌-◌, ◌<◌, ◌≤◌, List, [], ◌∷◌, ◌++◌, length, get_or, refl, sym, ◌∙◌, ap, subst, arith, append_assoc}
 use Rattle.std.specs.Cmp.Lexicographic.{slice_cmp}
 use Rattle.std.specs.Ordering.{nat_cmp, ordering_then}
+use Rattle.std.specs.Prelude.{slice_get}
+use Rattle.std.proofs.lemmas.Option.{get_or_from_slice_get}
 use Rattle.std.proofs.lemmas.Cmp.{nat_cmp_total, tied_itself}
 use Rattle.std.proofs.Math.Seq.{get_or-append_seam}
 use Rattle.std.proofs.lemmas.List.{get_or_append_left, length-append}
 use Rattle.crew_pool.specs.Arena.{walk_at}
 use Rattle.crew_pool.specs.Machinery.ArenaLinks.{walks_from, all_walks, AreLinked}
-use Rattle.crew_pool.specs.declared.arena.Link.{Link}
+use Rattle.crew_pool.specs.declared.links.Link.{Link}
 
 length-walks_from : (ws : List (List ℕ)) (ls : List Link) → length (walks_from ws ls) ≡ length ws + length ls
 length-walks_from ws [] = omega arith
@@ -70,6 +72,11 @@ walk_of_link ls x d h one b =
     let k = link_walk ([] ∷ []) ls 0 (x - 1) d h refl (omega arith) in
     let same : 0 + 1 + (x - 1) ≡ x = omega arith in
     (omega arith, subst (λ y. walk_at (all_walks ls) y ≡ walk_at (all_walks ls) (get_or ls (x - 1) d).before ++ (get_or ls (x - 1) d).duty ∷ []) same k.1)
+
+-- the same, of the link that was found there
+pub walk_of_seen : (ls : List Link) (x : ℕ) (l : Link) → AreLinked 0 ls → 1 ≤ x → x < length (all_walks ls) → slice_get ls (x - 1) ≡ Some l → (l.before < x) × (walk_at (all_walks ls) x ≡ walk_at (all_walks ls) l.before ++ l.duty ∷ [])
+walk_of_seen ls x l h one b e =
+    subst (λ (m : Link). (m.before < x) × (walk_at (all_walks ls) x ≡ walk_at (all_walks ls) m.before ++ m.duty ∷ [])) (get_or_from_slice_get ls (x - 1) l l e) (walk_of_link ls x l h one b)
 
 pub first_walk : (ls : List Link) → walk_at (all_walks ls) 0 ≡ []
 first_walk ls = walks_from-below ([] ∷ []) ls 0 (omega arith)

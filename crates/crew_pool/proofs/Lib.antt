@@ -10,4 +10,5 @@ pub mod MarkLemmas
 pub mod LabelLemmas
 pub mod ColumnLemmas
 pub mod LaneLemmas
+pub mod LinkLemmas
 pub mod NextLemmas

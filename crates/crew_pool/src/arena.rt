@@ -5,8 +5,10 @@ ghost use Rattle.std.specs.Ordering.{nat_cmp};
 ghost use Rattle.crew_pool.specs.Arena.{walk_at};
 ghost use Rattle.crew_pool.specs.Machinery.ArenaLinks.{all_walks, AreLinked};
 ghost use Rattle.crew_pool.specs.LabelWalks.{duty_of, walk_of_label};
+ghost use Rattle.crew_pool.specs.Renumbered.{walks_under};
 
 use crate::label_walk::{LabelWalk, NO_DUTY};
+use crate::links::{Link, Links};
 use std::alloc::{AllocError, Global};
 use std::cmp::Ordering;
 use std::marker::Model;
@@ -14,21 +16,11 @@ use std::marker::Model;
 // The most walks with a duty, so that a place is a u32.
 const MOST: usize = 0xffff_ffff;
 
-// So many links or more grow by a quarter.
-const MANY: usize = 8_192;
-
-/// A walk's last duty, and the place of the walk before it.
-#[derive(Clone, Copy)]
-struct Link {
-    before: u32,
-    duty: u32,
-}
-
 /// Walks over duties by rank, each a duty longer than one that stands before it.
 ///
 /// A contract sees the list of the walks, by place. The walk at place 0 has no duty.
 pub struct Walks {
-    links: Vec<Link>,
+    links: Links,
 }
 
 impl Drop for Walks {
@@ -40,9 +32,9 @@ impl Drop for Walks {
 impl Model for Walks {
     ghost Value = { List (List ℕ) };
 
-    ghost view = { λ w. all_walks w.links.items };
+    ghost view = { λ w. all_walks w.links };
 
-    ghost invariant = { λ w. AreLinked 0 w.links.items };
+    ghost invariant = { λ w. AreLinked 0 w.links };
 }
 
 impl Walks {
@@ -51,15 +43,8 @@ impl Walks {
         ensures { result ≡ [] ∷ [] }
     {
         Walks {
-            links: Vec::new(alloc),
+            links: Links::new(alloc),
         }
-    }
-
-    /// Makes room for exactly so many more walks. On want of memory nothing changes.
-    pub fn reserve_exact(&mut self, more: usize) -> Result<(), AllocError>
-        ensures { self.new ≡ self.old }
-    {
-        self.links.reserve_exact(more)
     }
 
     /// Adds the walk at a place with one duty more, and gives its place.
@@ -76,7 +61,7 @@ impl Walks {
         if count >= MOST {
             return Err(AllocError);
         }
-        push_link(&mut self.links, Link { before, duty })?;
+        self.links.push(Link { before, duty })?;
         Ok(count as u32 + 1)
     }
 
@@ -108,8 +93,26 @@ impl Walks {
         if place == 0 {
             return None;
         }
-        let link = links[place as usize - 1];
+        let link = links.at(place as usize - 1);
         Some((link.before, link.duty))
+    }
+
+    /// The same walks, so that `under` can share them.
+    pub fn share(self, alloc: Global) -> Result<Walks, AllocError>
+        ensures { IfOk result (λ walks. walks ≡ self) }
+    {
+        let Walks { links } = self;
+        let links = links.share(alloc)?;
+        Ok(Walks { links })
+    }
+
+    /// The same walks at the same places, each duty by the rank of its twin, or by its own where it has
+    /// none. Walks that are shared take no memory anew.
+    pub fn under(&self, alloc: Global, twins: &[Option<u32>]) -> Result<Walks, AllocError>
+        ensures { IfOk result (λ walks. walks ≡ walks_under twins.now self.now) }
+    {
+        let links = self.links.under(alloc, twins)?;
+        Ok(Walks { links })
     }
 
     /// Compares the walks of two places, duty by duty, by rank.
@@ -131,22 +134,8 @@ impl Walks {
     }
 }
 
-// Adds a link; on want of memory, none. Room for many grows by a quarter, and not, as by `push` alone, to
-// twice what it was: links stay as long as a version, and of what it has of its own they may be the most.
-fn push_link(links: &mut Vec<Link>, link: Link) -> Result<(), AllocError>
-    ensures ok { OnOk result (links.new.items ≡ links.old.items ++ link ∷ []) }
-    ensures err { OnErr result (links.new.items ≡ links.old.items) }
-{
-    let len = links.len();
-    if len >= MANY && len == links.capacity() {
-        links.reserve_exact(len / 4)?;
-    }
-    links.push(link)?;
-    Ok(())
-}
-
 // Compares two walks from their last duties back to where they meet.
-fn compare_links(links: &[Link], a: u32, b: u32) -> Ordering
+fn compare_links(links: &Links, a: u32, b: u32) -> Ordering
     requires linked { AreLinked 0 links.now }
     requires a { a < length (all_walks links.now) }
     requires b { b < length (all_walks links.now) }
@@ -159,8 +148,8 @@ fn compare_links(links: &[Link], a: u32, b: u32) -> Ordering
     let mut y = b;
     let mut order = Ordering::Equal;
     while x != y {
-        let p = links[x as usize - 1];
-        let q = links[y as usize - 1];
+        let p = links.at(x as usize - 1);
+        let q = links.at(y as usize - 1);
         order = p.duty.cmp(&q.duty).then(order);
         x = p.before;
         y = q.before;
@@ -169,7 +158,7 @@ fn compare_links(links: &[Link], a: u32, b: u32) -> Ordering
 }
 
 // The walk of a label: from its last duty back, and then turned round.
-fn ranks_of(alloc: Global, links: &[Link], label: LabelWalk) -> Result<Vec<u32>, AllocError>
+fn ranks_of(alloc: Global, links: &Links, label: LabelWalk) -> Result<Vec<u32>, AllocError>
     requires linked { AreLinked 0 links.now }
     requires walk { label.walk < length (all_walks links.now) }
     ensures { IfOk result (λ ranks. ranks.items ≡ walk_of_label (all_walks links.now) label) }
@@ -177,7 +166,7 @@ fn ranks_of(alloc: Global, links: &[Link], label: LabelWalk) -> Result<Vec<u32>,
     let mut ranks = last_of(alloc, label.duty)?;
     let mut place = label.walk;
     while place != 0 {
-        let link = links[place as usize - 1];
+        let link = links.at(place as usize - 1);
         ranks.push(link.duty)?;
         place = link.before;
     }

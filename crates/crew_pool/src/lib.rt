@@ -13,6 +13,7 @@ mod growing;
 mod label_walk;
 mod labels;
 pub mod laws;
+mod links;
 mod marks;
 mod merge;
 mod pool;

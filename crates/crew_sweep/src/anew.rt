@@ -29,10 +29,10 @@ use std::thread::Threads;
 impl Renewal {
     // What the pass leaves, with the numbers of its arrivals: also of those that weren't made, where they
     // are as they were.
-    fn into_left(self, earlier: &Earlier) -> (Passed, Prints)
+    fn into_left(self, alloc: Global, earlier: &Earlier) -> Result<(Passed, Prints), AllocError>
         requires alike { length self.alike.items ≡ length self.changed.items }
         requires arrivals { length earlier.now.twins.now.arrivals ≡ length self.changed.items }
-        ensures { result.0 ≡ self.passing.passed }
+        ensures { IfOk result (λ left. left.0 ≡ self.passing.passed) }
     {
         let Renewal {
             passing,
@@ -41,9 +41,9 @@ impl Renewal {
             alike,
             differing: _,
         } = self;
-        let (passed, mut prints) = passing.into_left();
+        let (passed, mut prints) = passing.into_left(alloc)?;
         prints.fill_in(earlier, &changed, &alike);
-        (passed, prints)
+        Ok((passed, prints))
     }
 
     // The pass goes on by one departure, which shares the pool of the one before it, or else has its own
@@ -247,7 +247,7 @@ fn renew_all(
     }
     let mut renewal = Renewal::new(alloc, earlier, ground)?;
     renewal.go_over(alloc, earlier, ground)?;
-    Ok(renewal.into_left(earlier))
+    renewal.into_left(alloc, earlier)
 }
 
 // The same by threads, of those that are shared.
@@ -267,7 +267,7 @@ fn renew_all_by_threads<T: Threads + Sync>(
     }
     let mut renewal = Renewal::new(alloc, earlier, ground)?;
     renewal.go_over_by_threads(rt, alloc, sharing, earlier, ground)?;
-    Ok(renewal.into_left(earlier))
+    renewal.into_left(alloc, earlier)
 }
 
 /// The pools of a base over a network, as `sweep` makes them, beside an earlier sweep of that base at

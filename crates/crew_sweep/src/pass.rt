@@ -126,7 +126,7 @@ pub(crate) fn pass_all(alloc: Global, ground: &Ground) -> Result<(Passed, Prints
 {
     let mut passing = Passing::new(alloc, ground, Walks::new(alloc))?;
     passing.go_over(alloc, ground)?;
-    Ok(passing.into_left())
+    passing.into_left(alloc)
 }
 
 /// The same by threads, of those that are shared.
@@ -141,7 +141,7 @@ pub(crate) fn pass_all_by_threads<T: Threads + Sync>(
 {
     let mut passing = Passing::new(alloc, ground, Walks::new(alloc))?;
     passing.go_over_by_threads(rt, alloc, sharing, ground)?;
-    Ok(passing.into_left())
+    passing.into_left(alloc)
 }
 
 /// The pools of a base, one for each departure of its network: at each legal duty they show the

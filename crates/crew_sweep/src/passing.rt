@@ -249,9 +249,9 @@ impl Passing {
         }
     }
 
-    /// What the pass leaves, with the numbers of its arrivals.
-    pub(crate) fn into_left(self) -> (Passed, Prints)
-        ensures { result.0 ≡ self.passed }
+    /// What the pass leaves, with the numbers of its arrivals. A later pass can share its walks.
+    pub(crate) fn into_left(self, alloc: Global) -> Result<(Passed, Prints), AllocError>
+        ensures { IfOk result (λ left. left.0 ≡ self.passed) }
     {
         let Passing {
             room: _,
@@ -260,7 +260,9 @@ impl Passing {
             passed,
             batch_end: _,
         } = self;
-        (passed, arrivals.into_prints())
+        let Passed { walks, pools } = passed;
+        let walks = walks.share(alloc)?;
+        Ok((Passed { walks, pools }, arrivals.into_prints()))
     }
 
     /// The pass goes on by one departure: the arrivals on which it waits, and its pool.

@@ -1,7 +1,7 @@
 -- The walks that links make: each link a duty more than the walk at an earlier place.
 use Rattle.std.specs.Prelude.{ℕ, ◌+◌, ◌≤◌, List, [], ◌∷◌, ◌++◌}
 use Rattle.crew_pool.specs.Arena.{walk_at}
-use Rattle.crew_pool.specs.declared.arena.Link.{Link}
+use Rattle.crew_pool.specs.declared.links.Link.{Link}
 
 -- the walks so far, and those of the links in turn
 abbrev pub walks_from : List (List ℕ) → List Link → List (List ℕ)

@@ -1,13 +1,12 @@
-use Rattle.std.proofs.Common.{◌≡◌, ◌<◌, arith, set, suc, zero, Option, Some, None, length, ◌++◌, ◌∷◌, ◌∙◌, [], inl, List, ℕ, refl, ap, sym, subst}
+use Rattle.std.proofs.Common.{◌≡◌, ◌<◌, arith, set, suc, zero, Option, Some, length, ◌++◌, ◌∷◌, ◌∙◌, [], inl, inr, List, ℕ, refl, ap, sym, subst}
 use Rattle.std.specs.Prelude.{IfSome, is_some, slice_get}
-use Rattle.std.proofs.lemmas.Option.{slice_get-get_or}
 use Rattle.crew_pool.specs.Arena.{walk_at}
 use Rattle.crew_carry.specs.Carried.{AreTwinWalks, IsCarried}
 use Rattle.crew_resource.specs.Members.{Member}
 use Rattle.crew_resource.proofs.Members.{Member-append_left, Member-append_right}
 use Rattle.crew_step.specs.Walks.{HasGrown}
 use Rattle.crew_step.proofs.Grown.{grown-itself, grown-more, grown-through}
-use Rattle.crew_carry.proofs.Carrying.{put-carried}
+use Rattle.crew_carry.proofs.Carrying.{carried-grown, put-carried}
 use Rattle.crew_carry.proofs.carrier.+carry_walk.Goals as goal
 
 pub returns-in_default-twin-clause-none : goal.returns-in_default-twin-clause-none
@@ -30,14 +29,13 @@ returns-clause-carried t c =
     let step = c.in_ok-first.ensures in
     let w = walk_at from c.in-Some-last.before in
     let at = subst (λ (o : Option ℕ). IfSome o (λ q. (q < length to) × AreTwinWalks ranks w (walk_at to q))) c.in-Some-2.is step.walk in
-    put-carried ranks from to c.carry_walk.new.places step.carried c.args.walk w (walk_at to c.in-Some-2.first) c.in-Some-last.duty c.in-Some-twin.twin
-    c.in-Some-last.ensures.some.1 at.1 (sym c.in-Some-twin.ensures) c.add.new.self c.in_ok-place.place c.in_ok-place.ensures.added c.in_ok-place.ensures.ok
-
-pub bounds : goal.bounds
-bounds t c = subst (λ (n : ℕ). c.args.walk < n) (sym c.requires.carried.long) c.requires.there
-
-pub bounds-places-walk : goal.bounds-places-walk
-bounds-places-walk t c = subst (λ (n : ℕ). c.args.walk < n) (sym c.requires.carried.long) c.requires.there
+    let told = put-carried ranks from to c.carry_walk.new.places step.carried c.args.walk w (walk_at to c.in-Some-2.first) c.in-Some-last.duty c.in-Some-twin.twin
+    c.in-Some-last.ensures.some.1 at.1 (sym c.in-Some-twin.ensures) c.add.new.self c.in_ok-place.place c.in_ok-place.ensures.added c.in_ok-place.ensures.ok in
+    let grown = subst (HasGrown to) (sym c.in_ok-place.ensures.added) (grown-more to (walk_at to c.in-Some-2.first ++ c.in-Some-twin.twin ∷ [])) in
+    elim c.put.ensures [
+      | inl e ↦ subst (IsCarried ranks from c.add.new.self) (sym e) told
+      | inr e ↦ subst (IsCarried ranks from c.add.new.self) (sym e) (carried-grown ranks from to c.add.new.self c.carry_walk.new.places step.carried grown)
+    ]
 
 pub returns-in-Some-clause-carried : goal.returns-in-Some-clause-carried
 returns-in-Some-clause-carried t c = c.requires.carried
@@ -47,8 +45,7 @@ returns-in-Some-clause-grown t c = grown-itself c.args.to.now
 
 pub returns-in-Some-clause-walk : goal.returns-in-Some-clause-walk
 returns-in-Some-clause-walk t c =
-    let within = subst (λ (n : ℕ). c.args.walk < n) (sym c.requires.carried.long) c.requires.there in
-    let at = slice_get-get_or c.args.places.now c.args.walk None within ∙ ap (λ (o : Option ℕ). Some o) c.in-Some.is in
+    let at = c.at.ensures ∙ ap (λ (o : Option ℕ). Some o) c.in-Some.is in
     (c.requires.carried.there c.args.walk c.in-Some.place at, c.requires.carried.shows c.args.walk c.in-Some.place at)
 
 pub returns-in_default-last-clause-carried : goal.returns-in_default-last-clause-carried
@@ -87,9 +84,6 @@ returns-in_err-place-clause-carried t c = subst (λ (ws : List (List ℕ)). IsCa
 pub returns-in_err-place-clause-grown : goal.returns-in_err-place-clause-grown
 returns-in_err-place-clause-grown t c = subst (HasGrown c.args.to.now) (sym c.in_err-place.ensures.err) c.carry_walk.ensures.grown
 
-pub bounds-places-walk-2 : goal.bounds-places-walk-2
-bounds-places-walk-2 t c = subst (λ (n : ℕ). c.args.walk < n) (sym c.carry_walk.ensures.carried.long) c.requires.there
-
 pub returns-clause-grown : goal.returns-clause-grown
 returns-clause-grown t c =
     let to = c.carry_walk.new.to in
@@ -103,9 +97,16 @@ set-there (x ∷ xs) (suc i) y h = set-there xs i y (omega arith)
 
 pub returns-clause-walk : goal.returns-clause-walk
 returns-clause-walk t c =
+    let ranks = c.args.ranks.now in
+    let from = c.args.from.now in
+    let to = c.carry_walk.new.to in
+    let step = c.in_ok-first.ensures in
+    let w = walk_at from c.in-Some-last.before in
+    let found = subst (λ (o : Option ℕ). IfSome o (λ q. (q < length to) × AreTwinWalks ranks w (walk_at to q))) c.in-Some-2.is step.walk in
     let places = c.carry_walk.new.places in
     let place = c.in_ok-place.place in
-    let after : IsCarried c.args.ranks.now c.args.from.now c.add.new.self (set places c.args.walk (Some place)) = returns-clause-carried t c in
+    let after : IsCarried ranks from c.add.new.self (set places c.args.walk (Some place)) = put-carried ranks from to places step.carried c.args.walk w (walk_at to c.in-Some-2.first) c.in-Some-last.duty c.in-Some-twin.twin
+    c.in-Some-last.ensures.some.1 found.1 (sym c.in-Some-twin.ensures) c.add.new.self place c.in_ok-place.ensures.added c.in_ok-place.ensures.ok in
     let within = subst (λ (n : ℕ). c.args.walk < n) (sym c.carry_walk.ensures.carried.long) c.requires.there in
     let at = set-there places c.args.walk (Some place) within in
     (after.there c.args.walk place at, after.shows c.args.walk place at)

@@ -6,8 +6,8 @@ use Rattle.crew_resource.specs.Members.{Member}
 use Rattle.crew_resource.proofs.Members.{Member-append, Member-get_or}
 use Rattle.crew_carry.proofs.carrier.are_in_place.Goals as goal
 
-pub is_in_place-requires : goal.is_in_place-requires
-is_in_place-requires g c = c.requires c.label-item.result (Member-get_or c.args.labels.now c.loop-label.label-index c.label-item.result c.loop-label-test.true (sym c.label-item.is))
+pub is_own-requires : goal.is_own-requires
+is_own-requires g c = c.requires c.label-item.result (Member-get_or c.args.labels.now c.loop-label.label-index c.label-item.result c.loop-label-test.true (sym c.label-item.is))
 
 pub loop-label-preserved : goal.loop-label-preserved
 loop-label-preserved g c m k =
@@ -17,5 +17,5 @@ loop-label-preserved g c m k =
     let at = λ (l : Label). slice_get c.args.places.now l.1.walk ≡ Some (Some l.1.walk) in
     let more : take (i + 1) labels ≡ take i labels ++ c.label-item.result ∷ [] = take_more labels i c.label-item.result c.loop-label-test.true ∙ (λ j. take i labels ++ (sym c.label-item.is) j ∷ []) in
     ⊎_elim {C = at m} (λ o. c.loop-label.invariant m o)
-    (λ n. ⊎_elim {C = at m} (λ e. subst at e (c.is_in_place.ensures c.if-not-is_in_place.false)) (λ b. absurd b) n)
+    (λ n. ⊎_elim {C = at m} (λ e. subst at e (c.is_own.ensures c.if-not-is_own.false)) (λ b. absurd b) n)
     (Member-append (take i labels) (c.label-item.result ∷ []) m (subst (λ (ls : List Label). Member ls m) more k))

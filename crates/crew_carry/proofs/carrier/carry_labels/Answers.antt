@@ -8,7 +8,6 @@ use Rattle.crew_pool.specs.declared.label_walk.LabelWalk.{LabelWalk}
 use Rattle.crew_step.proofs.Grown.{grown-itself, grown-through}
 use Rattle.crew_step.proofs.Loops.{item-at, item-known, take-grown}
 use Rattle.crew_carry.proofs.CarriedLabels.{labels-more, none-twins}
-use Rattle.crew_carry.proofs.Ends.{kept-itself, kept-through}
 use Rattle.crew_carry.proofs.carrier.carry_labels.Goals as goal
 
 pub returns-in_err-carried-clause-carried : goal.returns-in_err-carried-clause-carried
@@ -22,7 +21,7 @@ loop-label-init g c =
     let Labels = List (g.row.R-Value.Denot × LabelWalk) in
     let none : AreCarriedLabels c.args.ranks.now c.args.from.now c.args.to.now (take 0 c.args.labels.now) c.in_ok-carried.carried.items =
     subst (λ (ns : Labels). AreCarriedLabels c.args.ranks.now c.args.from.now c.args.to.now (take 0 c.args.labels.now) ns) (sym c.in_ok-carried.ensures.items) tt in
-    (c.requires.carried, grown-itself c.args.to.now, kept-itself c.args.places.now, none)
+    (c.requires.carried, grown-itself c.args.to.now, none)
 
 pub carry_walk-requires-clause-carried : goal.carry_walk-requires-clause-carried
 carry_walk-requires-clause-carried g c = c.loop-label.invariant.0
@@ -38,17 +37,11 @@ returns-in_err-walk-clause-carried g c = c.carry_walk.ensures.carried
 pub returns-in_err-walk-clause-grown : goal.returns-in_err-walk-clause-grown
 returns-in_err-walk-clause-grown g c = grown-through c.args.to.now c.loop-label.to c.carry_walk.new.to c.loop-label.invariant.1 c.carry_walk.ensures.grown
 
-pub returns-in_err-walk-clause-kept : goal.returns-in_err-walk-clause-kept
-returns-in_err-walk-clause-kept g c = kept-through c.args.places.now c.loop-label.places c.carry_walk.new.places c.loop-label.invariant.2 c.carry_walk.ensures.kept
-
 pub returns-in_default-clause-carried : goal.returns-in_default-clause-carried
 returns-in_default-clause-carried g c = c.carry_walk.ensures.carried
 
 pub returns-in_default-clause-grown : goal.returns-in_default-clause-grown
 returns-in_default-clause-grown g c = grown-through c.args.to.now c.loop-label.to c.carry_walk.new.to c.loop-label.invariant.1 c.carry_walk.ensures.grown
-
-pub returns-in_default-clause-kept : goal.returns-in_default-clause-kept
-returns-in_default-clause-kept g c = kept-through c.args.places.now c.loop-label.places c.carry_walk.new.places c.loop-label.invariant.2 c.carry_walk.ensures.kept
 
 pub returns-in_default-clause-none : goal.returns-in_default-clause-none
 returns-in_default-clause-none g c =
@@ -61,17 +54,11 @@ returns-in_err-value-clause-carried g c = c.carry_walk.ensures.carried
 pub returns-in_err-value-clause-grown : goal.returns-in_err-value-clause-grown
 returns-in_err-value-clause-grown g c = grown-through c.args.to.now c.loop-label.to c.carry_walk.new.to c.loop-label.invariant.1 c.carry_walk.ensures.grown
 
-pub returns-in_err-value-clause-kept : goal.returns-in_err-value-clause-kept
-returns-in_err-value-clause-kept g c = kept-through c.args.places.now c.loop-label.places c.carry_walk.new.places c.loop-label.invariant.2 c.carry_walk.ensures.kept
-
 pub returns-in_err-push-clause-carried : goal.returns-in_err-push-clause-carried
 returns-in_err-push-clause-carried g c = c.carry_walk.ensures.carried
 
 pub returns-in_err-push-clause-grown : goal.returns-in_err-push-clause-grown
 returns-in_err-push-clause-grown g c = grown-through c.args.to.now c.loop-label.to c.carry_walk.new.to c.loop-label.invariant.1 c.carry_walk.ensures.grown
-
-pub returns-in_err-push-clause-kept : goal.returns-in_err-push-clause-kept
-returns-in_err-push-clause-kept g c = kept-through c.args.places.now c.loop-label.places c.carry_walk.new.places c.loop-label.invariant.2 c.carry_walk.ensures.kept
 
 pub loop-label-preserved : goal.loop-label-preserved
 loop-label-preserved g c =
@@ -94,12 +81,11 @@ loop-label-preserved g c =
       walk = at.1;
     }
     in
-    let more = labels-more ranks from was to step.grown (take i c.args.labels.now) items l x inv.3 one in
+    let more = labels-more ranks from was to step.grown (take i c.args.labels.now) items l x inv.2 one in
     let taken = sym (take-grown c.args.labels.now i l (item-at c.args.labels.now i l c.loop-label-test.true c.label-item.is)) in
     let pushed = sym c.in_ok-push.ensures.items in (
       step.carried,
       grown-through c.args.to.now was to inv.1 step.grown,
-      kept-through c.args.places.now c.loop-label.places c.carry_walk.new.places inv.2 step.kept,
       subst (λ (ns : List Label). AreCarriedLabels ranks from to (take (i + 1) c.args.labels.now) ns) pushed
           (subst (λ (os : List Label). AreCarriedLabels ranks from to os (items ++ x ∷ [])) taken more),
     )
@@ -110,10 +96,7 @@ returns-clause-carried g c = c.loop-label.invariant.0
 pub returns-clause-grown : goal.returns-clause-grown
 returns-clause-grown g c = c.loop-label.invariant.1
 
-pub returns-clause-kept : goal.returns-clause-kept
-returns-clause-kept g c = c.loop-label.invariant.2
-
 pub returns-clause-labels : goal.returns-clause-labels
 returns-clause-labels g c =
     let all = take_all c.loop-label.label-index c.args.labels.now c.loop-label-test.false in
-    subst (λ (os : List (g.row.R-Value.Denot × LabelWalk)). AreCarriedLabels c.args.ranks.now c.args.from.now c.loop-label.to os c.loop-label.carried.items) all c.loop-label.invariant.3
+    subst (λ (os : List (g.row.R-Value.Denot × LabelWalk)). AreCarriedLabels c.args.ranks.now c.args.from.now c.loop-label.to os c.loop-label.carried.items) all c.loop-label.invariant.2

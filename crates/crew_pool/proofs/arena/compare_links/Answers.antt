@@ -1,10 +1,10 @@
-use Rattle.std.proofs.Common.{◌-◌, [], ◌∷◌, ◌++◌, get_or, arith, refl, sym, ◌∙◌, ap, append-nil}
+use Rattle.std.proofs.Common.{[], ◌∷◌, ◌++◌, arith, refl, sym, ◌∙◌, ap, append-nil}
 use Rattle.std.specs.Cmp.Lexicographic.{slice_cmp}
 use Rattle.std.specs.Ordering.{nat_cmp, ordering_then}
 use Rattle.crew_pool.specs.Arena.{walk_at}
 use Rattle.crew_pool.specs.Machinery.ArenaLinks.{all_walks}
-use Rattle.crew_pool.specs.declared.arena.Link.{Link}
-use Rattle.crew_pool.proofs.ArenaLemmas.{length-all_walks, walk_of_link, not_first, cmp_after, one_more, shorter}
+use Rattle.crew_pool.specs.declared.links.Link.{Link}
+use Rattle.crew_pool.proofs.ArenaLemmas.{length-all_walks, walk_of_seen, not_first, cmp_after, one_more, shorter}
 use Rattle.crew_pool.proofs.arena.compare_links.Goals as goal
 
 pub loop-x-init : goal.loop-x-init
@@ -15,25 +15,25 @@ loop-x-init c = (
   ([], [], sym (append-nil (walk_at (all_walks c.args.links.now) c.args.a)), sym (append-nil (walk_at (all_walks c.args.links.now) c.args.b)), refl, refl),
 )
 
-pub overflow_sub-p : goal.overflow_sub-p
-overflow_sub-p c =
+pub overflow_sub-x : goal.overflow_sub-x
+overflow_sub-x c =
     let i = c.loop-x.invariant in
     not_first c.args.links.now c.loop-x.x c.loop-x.y (record { before = 0; duty = 0 }) c.requires.linked i.1 i.2 c.loop-x-test.true
 
-pub bounds-links-x : goal.bounds-links-x
-bounds-links-x c =
+pub at-p-requires : goal.at-p-requires
+at-p-requires c =
     let i = c.loop-x.invariant in
     let one = not_first c.args.links.now c.loop-x.x c.loop-x.y (record { before = 0; duty = 0 }) c.requires.linked i.1 i.2 c.loop-x-test.true in
     let n = length-all_walks c.args.links.now in
     omega (arith, i.0)
 
-pub overflow_sub-q : goal.overflow_sub-q
-overflow_sub-q c =
+pub overflow_sub-y : goal.overflow_sub-y
+overflow_sub-y c =
     let i = c.loop-x.invariant in
     not_first c.args.links.now c.loop-x.y c.loop-x.x (record { before = 0; duty = 0 }) c.requires.linked i.0 (sym i.2) (λ e. c.loop-x-test.true (sym e))
 
-pub bounds-links-y : goal.bounds-links-y
-bounds-links-y c =
+pub at-q-requires : goal.at-q-requires
+at-q-requires c =
     let i = c.loop-x.invariant in
     let one = not_first c.args.links.now c.loop-x.y c.loop-x.x (record { before = 0; duty = 0 }) c.requires.linked i.0 (sym i.2) (λ e. c.loop-x-test.true (sym e)) in
     let n = length-all_walks c.args.links.now in
@@ -44,7 +44,7 @@ loop-x-smaller c =
     let i = c.loop-x.invariant in
     let d : Link = record { before = 0; duty = 0 } in
     let one = not_first c.args.links.now c.loop-x.x c.loop-x.y d c.requires.linked i.1 i.2 c.loop-x-test.true in
-    (walk_of_link c.args.links.now c.loop-x.x d c.requires.linked one i.0).0
+    (walk_of_seen c.args.links.now c.loop-x.x c.at-p.result c.requires.linked one i.0 c.at-p.ensures).0
 
 pub loop-x-preserved : goal.loop-x-preserved
 loop-x-preserved c =
@@ -52,10 +52,10 @@ loop-x-preserved c =
     let d : Link = record { before = 0; duty = 0 } in
     let ls = c.args.links.now in
     let ws = all_walks ls in
-    let px = walk_of_link ls c.loop-x.x d c.requires.linked (not_first ls c.loop-x.x c.loop-x.y d c.requires.linked i.1 i.2 c.loop-x-test.true) i.0 in
-    let qy = walk_of_link ls c.loop-x.y d c.requires.linked (not_first ls c.loop-x.y c.loop-x.x d c.requires.linked i.0 (sym i.2) (λ e. c.loop-x-test.true (sym e))) i.1 in
-    let p = get_or ls (c.loop-x.x - 1) d in
-    let q = get_or ls (c.loop-x.y - 1) d in
+    let px = walk_of_seen ls c.loop-x.x c.at-p.result c.requires.linked (not_first ls c.loop-x.x c.loop-x.y d c.requires.linked i.1 i.2 c.loop-x-test.true) i.0 c.at-p.ensures in
+    let qy = walk_of_seen ls c.loop-x.y c.at-q.result c.requires.linked (not_first ls c.loop-x.y c.loop-x.x d c.requires.linked i.0 (sym i.2) (λ e. c.loop-x-test.true (sym e))) i.1 c.at-q.ensures in
+    let p = c.at-p.result in
+    let q = c.at-q.result in
     let sx = shorter (walk_at ws c.loop-x.x) (walk_at ws p.before) p.duty px.1 in
     let sy = shorter (walk_at ws c.loop-x.y) (walk_at ws q.before) q.duty qy.1 in
     let s = i.3.0 in

@@ -1,8 +1,6 @@
-use Rattle.std.proofs.Common.{◌≡◌, ◌++◌, arith, drop, take, List, Option, Some, ℕ, Vec, true, length, map, ap, sym, subst, ◌∙◌}
+use Rattle.std.proofs.Common.{◌≡◌, List, Option, Some, ℕ, Vec, true, length, map, ap, sym, subst, ◌∙◌}
 use Rattle.std.specs.Global.{Global}
 use Rattle.std.specs.Prelude.{IfSome, is_some}
-use Rattle.std.proofs.lemmas.List.{take-append-le, take_all}
-use Rattle.crew_carry.specs.Carried.{IsCarried}
 use Rattle.crew_carry.specs.Labels.{AreCarriedLabels}
 use Rattle.crew_pool.specs.Apart.{AreApart}
 use Rattle.crew_pool.specs.Counted.{AreCounted, AreWhole}
@@ -10,8 +8,6 @@ use Rattle.crew_pool.specs.LabelWalks.{shown}
 use Rattle.crew_pool.specs.Ranks.{AreRanked, by_key}
 use Rattle.crew_pool.specs.declared.label_walk.LabelWalk.{LabelWalk}
 use Rattle.crew_resource.specs.Members.{Member}
-use Rattle.crew_carry.specs.Machinery.Ends.{AreEnds, AreKept}
-use Rattle.crew_carry.proofs.Ends.{ends-kept}
 use Rattle.crew_carry.proofs.CarriedLabels.{labels-counted, labels-keys, labels-ranked, labels-values}
 use Rattle.crew_carry.proofs.carrier.Carrier.carry.Goals as goal
 
@@ -21,41 +17,14 @@ carried {V} ranks from to items o new e h =
     let Are : Option (Vec (V × LabelWalk) Global) → Type 0 = λ z. IfSome z (λ ns. AreCarriedLabels ranks from to items ns.items) in
     subst Are e h
 
--- places that are put back where they were borrowed
-put-whole : (old places : List (Option ℕ)) (n : ℕ) → n ≡ length old → length places ≡ length old → take n (places ++ drop (length places) old) ≡ places
-put-whole old places n e long =
-    take-append-le n places (drop (length places) old) (omega (arith, long, e)) ∙ take_all n places (omega (arith, long, e))
-
-put-back : (ranks : List (Option ℕ)) (from was to : List (List ℕ)) (old places : List (Option ℕ)) (n : ℕ) → n ≡ length old → IsCarried ranks from was old → IsCarried ranks from to places
-    → IsCarried ranks from to (take n (places ++ drop (length places) old))
-put-back ranks from was to old places n e h k = subst (IsCarried ranks from to) (sym (put-whole old places n e (k.long ∙ sym h.long))) k
-
--- the ends hold of them
-put-ends : (ends : List ℕ) (old places : List (Option ℕ)) (n : ℕ) → n ≡ length old → length places ≡ length old → AreKept old places → AreEnds ends old
-    → AreEnds ends (take n (places ++ drop (length places) old))
-put-ends ends old places n e long kept are = subst (AreEnds ends) (sym (put-whole old places n e long)) (ends-kept ends old places kept are)
-
 pub carry_labels-requires-clause-there : goal.carry_labels-requires-clause-there
 carry_labels-requires-clause-there g c = λ l m. c.requires.there l (subst (λ (ls : List (g.row.R-Value.Denot × LabelWalk)). Member ls l) c.as_slice-labels.ensures.all m)
 
 pub carry_labels-requires-clause-whole : goal.carry_labels-requires-clause-whole
 carry_labels-requires-clause-whole g c = subst (λ (os : List (g.row.R-Value.Denot × LabelWalk)). AreWhole os) (sym c.as_slice-labels.ensures.all) c.requires.whole
 
-pub carry_labels-requires-clause-carried : goal.carry_labels-requires-clause-carried
-carry_labels-requires-clause-carried g c = subst (IsCarried c.args.ranks.now c.args.from.now c.args.to.now) (sym (c.deref_mut.ensures.value ∙ c.self.view_is)) c.requires.carried
-
-pub returns-in_err-carried-clause-carried : goal.returns-in_err-carried-clause-carried
-returns-in_err-carried-clause-carried g c =
-    let before = subst (IsCarried c.args.ranks.now c.args.from.now c.args.to.now) (sym c.self.view_is) c.requires.carried in
-    put-back c.args.ranks.now c.args.from.now c.args.to.now c.carry_labels.new.to c.self.inside.places.items c.carry_labels.new.places c.self.inside.places.len c.self.inside.places.ok.0 before c.carry_labels.ensures.carried
-
 pub returns-in_err-carried-clause-grown : goal.returns-in_err-carried-clause-grown
 returns-in_err-carried-clause-grown g c = c.carry_labels.ensures.grown
-
-pub returns-in_default-clause-carried : goal.returns-in_default-clause-carried
-returns-in_default-clause-carried g c =
-    let before = subst (IsCarried c.args.ranks.now c.args.from.now c.args.to.now) (sym c.self.view_is) c.requires.carried in
-    put-back c.args.ranks.now c.args.from.now c.args.to.now c.carry_labels.new.to c.self.inside.places.items c.carry_labels.new.places c.self.inside.places.len c.self.inside.places.ok.0 before c.carry_labels.ensures.carried
 
 pub returns-in_default-clause-grown : goal.returns-in_default-clause-grown
 returns-in_default-clause-grown g c = c.carry_labels.ensures.grown
@@ -74,11 +43,6 @@ pub returns-in_default-clause-none : goal.returns-in_default-clause-none
 returns-in_default-clause-none g c =
     let lacks = c.in_ok-carried.ensures.none (ap is_some c.in_default.is) in
     λ _. (lacks.0, subst (λ (os : List (g.row.R-Value.Denot × LabelWalk)). Member os lacks.0) c.as_slice-labels.ensures.all lacks.1, lacks.2)
-
-pub returns-clause-carried : goal.returns-clause-carried
-returns-clause-carried g c =
-    let before = subst (IsCarried c.args.ranks.now c.args.from.now c.args.to.now) (sym c.self.view_is) c.requires.carried in
-    put-back c.args.ranks.now c.args.from.now c.args.to.now c.carry_labels.new.to c.self.inside.places.items c.carry_labels.new.places c.self.inside.places.len c.self.inside.places.ok.0 before c.carry_labels.ensures.carried
 
 pub returns-clause-grown : goal.returns-clause-grown
 returns-clause-grown g c = c.carry_labels.ensures.grown
@@ -124,27 +88,3 @@ returns-clause-ranked g c olds news twins =
     let items = c.as_slice-labels.result.now in
     let are = carried ranks from to items c.in_ok-carried.carried c.in-Some.labels c.in-Some.is c.in_ok-carried.ensures.labels in
     subst (λ (ns : List (V × LabelWalk)). AreRanked (length news) (map (shown to) ns)) (sym c.from_apart.ensures) (labels-ranked ranks from to olds news twins items c.in-Some.labels.items are)
-
-pub invariant_of-self : goal.invariant_of-self
-invariant_of-self g c =
-    let inside = c.self.inside in
-    let before = subst (IsCarried c.args.ranks.now c.args.from.now c.args.to.now) (sym c.self.view_is) c.requires.carried in
-    let long = c.carry_labels.ensures.carried.long ∙ sym before.long in
-    let kept = subst (λ (ps : List (Option ℕ)). AreKept ps c.carry_labels.new.places) c.deref_mut.ensures.value c.carry_labels.ensures.kept in
-    put-ends inside.ends.items inside.places.items c.carry_labels.new.places inside.places.len inside.places.ok.0 long kept c.self.invariant
-
-pub invariant_of-self-in_default : goal.invariant_of-self-in_default
-invariant_of-self-in_default g c =
-    let inside = c.self.inside in
-    let before = subst (IsCarried c.args.ranks.now c.args.from.now c.args.to.now) (sym c.self.view_is) c.requires.carried in
-    let long = c.carry_labels.ensures.carried.long ∙ sym before.long in
-    let kept = subst (λ (ps : List (Option ℕ)). AreKept ps c.carry_labels.new.places) c.deref_mut.ensures.value c.carry_labels.ensures.kept in
-    put-ends inside.ends.items inside.places.items c.carry_labels.new.places inside.places.len inside.places.ok.0 long kept c.self.invariant
-
-pub invariant_of-self-2 : goal.invariant_of-self-2
-invariant_of-self-2 g c =
-    let inside = c.self.inside in
-    let before = subst (IsCarried c.args.ranks.now c.args.from.now c.args.to.now) (sym c.self.view_is) c.requires.carried in
-    let long = c.carry_labels.ensures.carried.long ∙ sym before.long in
-    let kept = subst (λ (ps : List (Option ℕ)). AreKept ps c.carry_labels.new.places) c.deref_mut.ensures.value c.carry_labels.ensures.kept in
-    put-ends inside.ends.items inside.places.items c.carry_labels.new.places inside.places.len inside.places.ok.0 long kept c.self.invariant

@@ -1,6 +1,6 @@
-use Rattle.std.proofs.Common.{◌≡◌, ◌∙◌, List, Option, Some, ap, length, map, subst, sym, true, ℕ, ℤ}
+use Rattle.std.proofs.Common.{◌≡◌, ◌∙◌, List, Option, Some, ap, length, map, subst, sym, true, ℤ}
 use Rattle.std.specs.Arc.{arc_value}
-use Rattle.std.specs.Prelude.{IfSome, is_some, slice_get}
+use Rattle.std.specs.Prelude.{IfSome, is_some}
 use Rattle.crew_pairing.specs.declared.duty.Duty.{Duty}
 use Rattle.crew_carry.specs.Twins.{AreRankTwins}
 use Rattle.crew_carry.specs.Carried.{IsCarried}
@@ -21,11 +21,10 @@ some-of P o x e h = subst (λ z. IfSome z P) e h
 as-they-are : (g : given.Over) (c : goal.In_ok-try_clone g) → AreCarriedLabels {V = g.row.R-Value.Denot} c.args.ranks.now c.args.from.now c.args.to.now (arc_value c.args.pool.now) (arc_value c.args.pool.now)
 as-they-are g c =
     let V = g.row.R-Value.Denot in
-    let places = c.self.inside.places.items in
+    let places = c.self.inside.places in
     let carried = subst (IsCarried c.args.ranks.now c.args.from.now c.args.to.now) (sym c.self.view_is) c.requires.carried in
     labels-in-place c.args.ranks.now c.args.from.now c.args.to.now places carried (arc_value c.args.pool.now)
-    (λ l m. subst (λ (ps : List (Option ℕ)). slice_get ps l.1.walk ≡ Some (Some l.1.walk)) c.deref.ensures.value
-    (c.are_in_place.ensures c.if-are_in_place.true l (subst (λ (ls : List (V × LabelWalk)). Member ls l) (sym (c.as_slice.ensures.all ∙ c.deref-2.ensures)) m)))
+    (λ l m. c.are_in_place.ensures c.if-are_in_place.true l (subst (λ (ls : List (V × LabelWalk)). Member ls l) (sym (c.as_slice.ensures.all ∙ c.deref.ensures)) m))
     c.requires.whole
 
 pub returns-then-are_in_place-clause-labels : goal.returns-then-are_in_place-clause-labels
@@ -50,14 +49,14 @@ pub returns-in_default-clause-none : goal.returns-in_default-clause-none
 returns-in_default-clause-none g c =
     let V = g.row.R-Value.Denot in
     let lacks = c.in_ok-new.ensures.none (ap is_some c.in_default.is) in
-    λ _. (lacks.0, subst (λ (ls : List (V × LabelWalk)). Member ls lacks.0) c.deref-3.ensures lacks.1, lacks.2)
+    λ _. (lacks.0, subst (λ (ls : List (V × LabelWalk)). Member ls lacks.0) c.deref-2.ensures lacks.1, lacks.2)
 
 -- what is carried, where the pool is put behind an `Arc`
 pub returns-clause-counted : goal.returns-clause-counted
 returns-clause-counted g c count counted =
     let V = g.row.R-Value.Denot in
-    let was = subst (λ (ls : List (V × LabelWalk)). AreCounted count c.args.from.now true ls) (sym c.deref-3.ensures) counted in
-    subst (λ (ls : List (V × LabelWalk)). AreCounted count c.carry.new.to true ls) (sym c.in_ok-new-2.ensures.ok) ((some-of (λ (ls : List (V × LabelWalk)). (count : V → ℤ) → AreCounted count c.args.from.now true c.deref-3.result.now → AreCounted count c.carry.new.to true ls) c.in_ok-new.field-0 c.in-Some.new c.in-Some.is c.in_ok-new.ensures.counted) count was)
+    let was = subst (λ (ls : List (V × LabelWalk)). AreCounted count c.args.from.now true ls) (sym c.deref-2.ensures) counted in
+    subst (λ (ls : List (V × LabelWalk)). AreCounted count c.carry.new.to true ls) (sym c.in_ok-new-2.ensures.ok) ((some-of (λ (ls : List (V × LabelWalk)). (count : V → ℤ) → AreCounted count c.args.from.now true c.deref-2.result.now → AreCounted count c.carry.new.to true ls) c.in_ok-new.field-0 c.in-Some.new c.in-Some.is c.in_ok-new.ensures.counted) count was)
 
 pub returns-clause-ranked : goal.returns-clause-ranked
 returns-clause-ranked g c olds news twins =

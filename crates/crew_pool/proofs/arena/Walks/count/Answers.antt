@@ -5,7 +5,7 @@ use Rattle.crew_pool.proofs.arena.Walks.count.Goals as goal
 
 pub returns : goal.returns
 returns c =
-    let links = c.self.inside.links.items in
+    let links = c.self.inside.links in
     let long : length (all_walks links) ≡ length c.args.self.now = ap length c.self.view_is in
     let n = length-all_walks links in
     omega (arith, long, n)
