@@ -68,20 +68,15 @@ fn suffix_pools(
         (λ pools. AreSuffixes walks.now held.now window.end pools.items) }
     ensures long { IfOk result (λ pools. length pools.items ≡ window.end - window.from + 1) }
 {
-    let mut suffixes = Vec::new(alloc);
-    suffixes.push(Pool::new(alloc))?;
+    let mut suffixes = Vec::with_capacity(alloc, window.end - window.from + 1)?;
+    let mut growing = GrowingPool::begin(alloc, room);
     for nearer in 0..window.end - window.from {
+        let labels = Vec::from_slice(alloc, growing.as_slice())?;
+        suffixes.push(Pool::from_apart(labels))?;
         let place = window.end - 1 - nearer;
-        let longer = joined(
-            alloc,
-            resource,
-            room,
-            &suffixes[nearer],
-            held[place].as_slice(),
-            walks,
-        )?;
-        suffixes.push(longer)?;
+        growing.merge(resource, room, held[place].as_slice(), walks)?;
     }
+    suffixes.push(growing.copy_out(alloc, resource, room)?)?;
     Ok(suffixes)
 }
 
