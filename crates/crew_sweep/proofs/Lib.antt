@@ -1,4 +1,5 @@
 pub mod Aheads
+pub mod AsGood
 pub mod Before
 pub mod Besides
 pub mod Ends

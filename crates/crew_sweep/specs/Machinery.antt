@@ -13,3 +13,4 @@ pub mod Mending
 pub mod Ahead
 pub mod Lanes
 pub mod Same
+pub mod Boardings

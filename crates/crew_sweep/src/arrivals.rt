@@ -1,12 +1,17 @@
 //! The pools of arrivals.
-ghost use Rattle.std.specs.Prelude.{◌≡◌, ◌<◌, ◌≤◌, ℕ, Bool, IfOk, IsPermutation, List, OnOk, [], false, get_or, length};
+ghost use Rattle.std.specs.Prelude.{◌≡◌, ◌<◌, ◌≤◌, ℕ, Bool, IfOk, IsPermutation, List, OnOk, Some, [], false, get_or, length, slice_get};
+ghost use Rattle.crew_net.specs.Events.{arrives_at};
+ghost use Rattle.crew_net.specs.Ranks.{ranks_where};
+ghost use Rattle.crew_pairing.specs.declared.events.Arrival.{Arrival};
 ghost use Rattle.crew_pairing.specs.declared.vector.PairingVector.{PairingVector};
 ghost use Rattle.crew_pool.specs.declared.label_walk.LabelWalk.{LabelWalk};
 ghost use Rattle.crew_resource.specs.Members.{Member};
+ghost use Rattle.crew_sweep.specs.Machinery.Boardings.{HaveAsGood};
 ghost use Rattle.crew_sweep.specs.Machinery.Grounds.{ArePools, IsGround, IsPoolAt, Stay};
 ghost use Rattle.crew_sweep.specs.Machinery.Passing.{AreMade, IsArrivalPool, IsMade, IsPassing, IsSealed};
 ghost use Rattle.crew_sweep.specs.declared.arrivals.Arrivals.{Arrivals as ArrivalsSpec};
 
+use crate::boardings::without_worse;
 use crate::ground::Ground;
 use crate::passed::Passed;
 use crate::prints::{Prints, print_of};
@@ -33,6 +38,25 @@ fn last_first(alloc: Global, ranks: &[u32], positions: &[u32]) -> Result<Vec<u32
     let mut sorted = Vec::from_slice(alloc, ranks)?;
     sorted.sort_unstable_by_key(|rank| Reverse(positions.get(*rank as usize)));
     Ok(sorted)
+}
+
+// The ranks of the duties that arrive at a place, last departure first, but for those that have one as good.
+fn ranks_to_board(alloc: Global, ground: &Ground, place: usize) -> Result<Vec<u32>, AllocError>
+    requires ground { IsGround ground.now }
+    requires place { place < length ground.now.net.now.arrivals }
+    ensures among { IfOk result (λ ranks. (x : Arrival)
+        → slice_get ground.now.net.now.arrivals place ≡ Some x → (k : ℕ) → Member ranks.items k
+        → Member (ranks_where (arrives_at x) ground.now.net.now.duties) k) }
+    ensures as_good { IfOk result (λ ranks. (x : Arrival)
+        → slice_get ground.now.net.now.arrivals place ≡ Some x
+        → HaveAsGood ground.now.net.now.duties ground.now.positions.now ranks.items
+        (ranks_where (arrives_at x) ground.now.net.now.duties)) }
+{
+    let positions = ground.positions;
+    let duties = ground.net.duties();
+    let ranks = last_first(alloc, ground.net.arriving(place), positions)?;
+    let some = without_worse(alloc, duties, positions, &ranks)?;
+    without_worse(alloc, duties, positions, &some)
 }
 
 /// The pool of the arrival at a place, from those of the departures so far.
@@ -72,8 +96,8 @@ pub(crate) fn arrival_from(
         ground.now.resource walks.now pools.now place) }
 {
     let positions = ground.positions;
-    let ranks = last_first(alloc, ground.net.arriving(place), positions)?;
     let duties = ground.net.duties();
+    let ranks = ranks_to_board(alloc, ground, place)?;
     arrival_pool(
         alloc,
         &ground.resource,

@@ -16,6 +16,7 @@ mod ahead;
 mod anew;
 mod arrivals;
 mod batch;
+mod boardings;
 mod differing;
 mod digest;
 mod earlier;

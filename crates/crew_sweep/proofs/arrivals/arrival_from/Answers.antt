@@ -1,8 +1,11 @@
-use Rattle.std.proofs.Common.{◌≡◌, ◌∙◌, ◌<◌, Err, IfOk, List, ℕ, Ok, Some, length, map, refl, subst, sym}
+use Rattle.std.proofs.Common.{◌≡◌, ◌<◌, Err, IfOk, List, ℕ, Ok, Some, length, map, refl, subst, sym}
 use Rattle.std.specs.Prelude.{slice_get}
 use Rattle.std.specs.List.Sorted.{IsPermutation}
 use Rattle.std.specs.declared.result.Result.{Result}
 use Rattle.crew_anchor.specs.Stages.{anchored_board}
+use Rattle.std.proofs.lemmas.List.Sorted.{IsPermutation-refl}
+use Rattle.crew_net.specs.Events.{arrives_at}
+use Rattle.crew_net.specs.Ranks.{ranks_where}
 use Rattle.crew_net.proofs.Slices.{stands}
 use Rattle.crew_pairing.specs.declared.duty.Duty.{Duty}
 use Rattle.crew_pairing.specs.declared.events.Arrival.{Arrival}
@@ -12,6 +15,8 @@ use Rattle.crew_pool.specs.declared.label_walk.LabelWalk.{LabelWalk}
 use Rattle.crew_resource.specs.Members.{Member}
 use Rattle.crew_step.specs.Pools.{boarded}
 use Rattle.crew_vector.specs.Dominance.{is_at_most}
+use Rattle.crew_pool.proofs.MergeLemmas.{some_is}
+use Rattle.crew_sweep.proofs.AsGood.{as-good-boarded}
 use Rattle.crew_sweep.proofs.Making as making
 use Rattle.crew_sweep.proofs.Passable.{may-board}
 use Rattle.crew_sweep.proofs.arrivals.arrival_from.Goals as goal
@@ -28,9 +33,10 @@ arrival_pool-requires-clause-within c rank m =
     let net = g.net.now in
     let p = c.requires.pools in
     let a = stands net.arrivals c.args.place c.requires.place in
-    let all = subst (λ (rs : List ℕ). IsPermutation rs c.in_ok-ranks.ranks.items) (c.arriving.ensures a.0 a.1) c.in_ok-ranks.ensures in
+    let ranks = ranks_where (arrives_at a.0) net.duties in
+    let there = c.in_ok-ranks.ensures.among a.0 a.1 rank (subst (λ (rs : List ℕ). Member rs rank) c.deref.ensures.value m) in
     let k = making.ranks-within net g.positions.now c.requires.ground.passable g.base g.resource c.args.walks.now c.args.pools.now p.0 p.1 p.2
-    c.args.place a.0 a.1 c.requires.sealed c.in_ok-ranks.ranks.items all rank (subst (λ (rs : List ℕ). Member rs rank) c.deref.ensures.value m) in (
+    c.args.place a.0 a.1 c.requires.sealed ranks (IsPermutation-refl ranks) rank there in (
       subst (λ (ds : List Duty). rank < length ds) (sym c.duties-duties.ensures) k.0,
       k.1,
     )
@@ -51,15 +57,20 @@ returns c =
     let net = g.net.now in
     let walks = c.args.walks.now in
     let positions = g.positions.now in
-    let ranks = c.in_ok-ranks.ranks.items in
+    let kept = c.in_ok-ranks.ranks.items in
     let duties = c.duties-duties.result.now in
     let boards = anchored_board g.resource in
-    let all = λ (x : Arrival) (at : slice_get net.arrivals c.args.place ≡ Some x). subst (λ (rs : List ℕ). IsPermutation rs ranks) (c.arriving.ensures x at) c.in_ok-ranks.ensures in
+    let a = stands net.arrivals c.args.place c.requires.place in
+    let ranks = ranks_where (arrives_at a.0) net.duties in
+    let all = λ (x : Arrival) (at : slice_get net.arrivals c.args.place ≡ Some x).
+    let same : a.0 ≡ x = some_is a.0 x (slice_get net.arrivals c.args.place) a.1 at in
+    subst (λ (z : Arrival). IsPermutation (ranks_where (arrives_at z) net.duties) ranks) same (IsPermutation-refl ranks) in
     both c.arrival_pool.result (λ pool local counts. record {
       ranks = ranks;
       all = all;
-      local = subst (λ (ds : List Duty). IsPoolOf is_at_most (boarded walks boards ds positions c.args.pools.now ranks) (map (shown walks) pool)) c.duties-duties.ensures
-          (subst (λ (rs : List ℕ). IsPoolOf is_at_most (boarded walks boards duties positions c.args.pools.now rs) (map (shown walks) pool)) c.deref.ensures.value local);
+      local = as-good-boarded g.resource walks net.duties positions c.args.pools.now kept ranks (c.in_ok-ranks.ensures.among a.0 a.1) (c.in_ok-ranks.ensures.as_good a.0 a.1) (map (shown walks) pool)
+          (subst (λ (ds : List Duty). IsPoolOf is_at_most (boarded walks boards ds positions c.args.pools.now kept) (map (shown walks) pool)) c.duties-duties.ensures
+          (subst (λ (rs : List ℕ). IsPoolOf is_at_most (boarded walks boards duties positions c.args.pools.now rs) (map (shown walks) pool)) c.deref.ensures.value local));
       counts = counts;
     }) c.arrival_pool.ensures.local c.arrival_pool.ensures.counts
   where
