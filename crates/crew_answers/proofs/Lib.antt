@@ -25,3 +25,5 @@ pub mod LongNodes
 pub mod LongSteps
 pub mod LongListed
 pub mod Scheduled
+pub use Rattle.crew_long.proofs.crew_history_lemmas
+pub use Rattle.crew_vector.proofs as crew_vector_lemmas

@@ -8,3 +8,6 @@ pub mod Shown
 pub mod Schedules
 pub mod ShortPairings
 pub mod Machinery
+pub use Rattle.crew_long.specs.crew_history
+pub use Rattle.crew_long.specs as crew_long
+pub use Rattle.crew_vector.specs as crew_vector

@@ -18,5 +18,7 @@ mod marks;
 mod resource;
 mod value;
 
+pub use crew_long::crew_history;
+pub use crew_vector;
 pub use resource::{LongResource, settings_of_sums};
 pub use value::LongValue;

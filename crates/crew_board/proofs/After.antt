@@ -7,7 +7,7 @@ use Rattle.crew_board.proofs.Reuse.{IsOver}
 use Rattle.crew_board.proofs.Steps.{IsOpen}
 use Rattle.crew_board.specs.Cells.{CrewCells, mark_of}
 use Rattle.crew_board.specs.Machinery.Held.{IsMarkedOver, Marked}
-use Rattle.crew_dirty.specs.Carried.{IsCarriedOver}
+use Rattle.crew_job.specs.crew_dirty.Carried.{IsCarriedOver}
 use Rattle.crew_flights.specs.Timetable.{Timetable}
 use Rattle.crew_job.specs.Grounds.{data_of, nodes_in, sealed_data_of}
 use Rattle.crew_job.specs.Shown.{IsAsSealed}

@@ -39,7 +39,7 @@ use Rattle.crew_round.specs.Marks.{AllDone}
 use Rattle.crew_round.specs.declared.mark.Mark.TheVariants as MarkedAs
 use Rattle.crew_rules.specs.Settings.{IsChecked}
 use Rattle.crew_rules.specs.declared.settings.Settings.{Settings}
-use Rattle.crew_version.specs.Versions.{IsRight, Snapshot}
+use Rattle.crew_job.specs.crew_version.Versions.{IsRight, Snapshot}
 
 -- ---- with a round open
 

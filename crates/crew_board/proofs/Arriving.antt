@@ -23,7 +23,7 @@ use Rattle.crew_pairing.specs.declared.events.Arrival.{Arrival}
 use Rattle.crew_pairing.specs.Pairings.{may_stand_after}
 use Rattle.crew_resource.proofs.Members.{Member-at, Member-get}
 use Rattle.crew_resource.specs.Members.{Member}
-use Rattle.crew_step.proofs.Loops.{item-at}
+use Rattle.crew_job.proofs.crew_step_lemmas.Loops.{item-at}
 
 none-long : (n : ℕ) → true ≡ (n == 0) → n ≡ 0
 none-long n e = grind (arith, nat_tests)

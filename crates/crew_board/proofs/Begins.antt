@@ -17,8 +17,8 @@ use Rattle.crew_board.proofs.Untouched.{rank-of, row-of}
 use Rattle.crew_board.specs.Boards.{IsBoardOf, ShownBoard, ShownRound, shown_board, shown_round, shown_version}
 use Rattle.crew_board.specs.Cells.{CrewCells, mark_of, marks_of}
 use Rattle.crew_board.specs.Machinery.Held.{IsBegun, IsMarkedOver, Marked}
-use Rattle.crew_dirty.proofs.Nodes.{is-node, kept-at, own-duty}
-use Rattle.crew_dirty.specs.Dirty.{IsKept, IsUnreached}
+use Rattle.crew_job.proofs.crew_dirty_lemmas.Nodes.{is-node, kept-at, own-duty}
+use Rattle.crew_job.specs.crew_dirty.Dirty.{IsKept, IsUnreached}
 use Rattle.crew_flights.specs.Timetable.{Timetable}
 use Rattle.crew_flights.specs.declared.entries.Entry.{Entry}
 use Rattle.crew_job.specs.Grounds.{data_of, nodes_in, sealed_data_of}
@@ -43,7 +43,7 @@ use Rattle.crew_round.specs.Marks.{IsMarked, is_kept_at, node_count}
 use Rattle.crew_round.specs.declared.mark.Mark.{Mark}
 use Rattle.crew_round.specs.declared.mark.Mark.TheVariants as MarkedAs
 use Rattle.crew_rules.specs.declared.settings.Settings.{Settings}
-use Rattle.crew_version.specs.Versions.{Snapshot}
+use Rattle.crew_job.specs.crew_version.Versions.{Snapshot}
 
 -- two lists with the same items at the same places are one
 pub same-items : {X : Type 0} (xs ys : List X) → length xs ≡ length ys → ((i : ℕ) (x : X) → slice_get xs i ≡ Some x → slice_get ys i ≡ Some x) → xs ≡ ys

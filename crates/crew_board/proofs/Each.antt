@@ -13,7 +13,7 @@ use Rattle.crew_machine.specs.Crew.{CrewBoard, DutyWork, Entries}
 use Rattle.crew_machine.specs.declared.rounds.Brought.{Brought}
 use Rattle.crew_machine.specs.declared.rounds.Brought.TheVariants.{Stale, Again, Stored}
 use Rattle.crew_round.specs.Marks as Marks
-use Rattle.crew_version.specs.Versions.{Snapshot}
+use Rattle.crew_job.specs.crew_version.Versions.{Snapshot}
 
 -- ---- one more
 

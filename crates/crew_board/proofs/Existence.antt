@@ -28,7 +28,7 @@ use Rattle.crew_round.specs.declared.mark.Mark.{Mark}
 use Rattle.crew_round.specs.declared.mark.Mark.TheVariants as MarkedAs
 use Rattle.crew_rules.specs.Settings.{IsChecked}
 use Rattle.crew_rules.specs.declared.settings.Settings.{Settings}
-use Rattle.crew_version.specs.Versions.{IsRight, Snapshot}
+use Rattle.crew_job.specs.crew_version.Versions.{IsRight, Snapshot}
 
 pub listed-length : (bases : List (List ℕ)) (ds : List Duty) → length (listed bases ds) ≡ length bases * length ds
 listed-length [] ds = omega arith

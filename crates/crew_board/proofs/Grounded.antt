@@ -8,7 +8,7 @@ use Rattle.crew_board.proofs.Reuse.{IsOver, round_of}
 use Rattle.crew_board.proofs.Untouched.{rank-of, row-of, untouched-world}
 use Rattle.crew_board.specs.Cells.{CrewCells, mark_of, marks_of}
 use Rattle.crew_board.specs.Machinery.Held.{IsMarkedOver, Marked}
-use Rattle.crew_dirty.proofs.Nodes.{untouched-at}
+use Rattle.crew_job.proofs.crew_dirty_lemmas.Nodes.{untouched-at}
 use Rattle.crew_flights.specs.Timetable.{Timetable}
 use Rattle.crew_job.specs.Grounds.{data_of, sealed_data_of}
 use Rattle.crew_job.specs.Shown.{IsAsSealed}
@@ -29,7 +29,7 @@ use Rattle.crew_resource.specs.Members.{Member}
 use Rattle.crew_round.specs.Marks.{IsMarked, is_untouched_at}
 use Rattle.crew_round.specs.declared.mark.Mark.TheVariants as MarkedAs
 use Rattle.crew_rules.specs.declared.settings.Settings.{Settings}
-use Rattle.crew_plan.specs.Plans.{IsPlanOf, Plan}
+use Rattle.crew_job.specs.crew_plan.Plans.{IsPlanOf, Plan}
 
 -- the nodes of a plan's network
 pub plan-nodes : (s : Settings) (t : Timetable) (plan : Plan) → IsPlanOf s t plan → AreNodes (crew s) t (listed plan.net.bases plan.net.duties)

@@ -3,7 +3,7 @@ use Rattle.std.proofs.Common.{List, Option, map}
 use Rattle.std.specs.Option.{option_map}
 use Rattle.crew_board.specs.Machinery.Held.{Marked}
 use Rattle.crew_board.specs.declared.round.Round.TheInside.{Inside}
-use Rattle.crew_fronts.specs.Fronts.{BaseFronts}
+use Rattle.crew_job.specs.crew_fronts.Fronts.{BaseFronts}
 
 abbrev pub marked_of : Inside → Marked
 marked_of i = record { ground = i.ground.value; marks = i.marks }

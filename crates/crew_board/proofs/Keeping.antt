@@ -32,8 +32,8 @@ use Rattle.crew_round.specs.Marks as Marks
 use Rattle.crew_round.specs.Marks.{AreDoneBefore, AreSameBefore, IsMarked, StandsAt, node_count, with_mark}
 use Rattle.crew_round.specs.declared.mark.Mark.{Mark}
 use Rattle.crew_round.specs.declared.mark.Mark.TheVariants as MarkedAs
-use Rattle.crew_fronts.specs.Fronts.{BaseFronts}
-use Rattle.crew_plan.specs.Plans.{AreFrontsIn}
+use Rattle.crew_job.specs.crew_fronts.Fronts.{BaseFronts}
+use Rattle.crew_job.specs.crew_plan.Plans.{AreFrontsIn}
 
 -- ---- marks after a store
 

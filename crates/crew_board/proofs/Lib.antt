@@ -22,3 +22,5 @@ pub mod Answered
 pub mod Arriving
 pub mod Each
 pub mod Likes
+pub use Rattle.crew_job.proofs.crew_plan_lemmas
+pub use Rattle.crew_job.proofs.crew_version_lemmas

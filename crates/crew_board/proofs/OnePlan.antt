@@ -6,7 +6,7 @@ use Rattle.std.specs.Cmp.{IsTotalOrder, int_cmp_total, on_total, then_total}
 use Rattle.std.specs.FinMap as fin
 use Rattle.std.specs.declared.cmp.Ordering.{Ordering}
 use Rattle.std.specs.declared.cmp.Ordering.TheVariants.{Less}
-use Rattle.crew_duty.proofs.Unique.{unique}
+use Rattle.crew_job.proofs.crew_duty_lemmas.Unique.{unique}
 use Rattle.crew_flights.specs.Codes.{code_cmp_total}
 use Rattle.crew_flights.specs.Timetable.{Timetable}
 use Rattle.crew_net.specs.Events.{AreEvents, arrival_cmp, departure_cmp}
@@ -19,7 +19,7 @@ use Rattle.crew_pairing.specs.declared.events.Departure.{Departure}
 use Rattle.crew_resource.proofs.Rising.{Rising, same-rising}
 use Rattle.crew_resource.specs.Members.{Each, Member}
 use Rattle.crew_rules.specs.declared.settings.Settings.{Settings}
-use Rattle.crew_plan.specs.Plans.{IsPlanOf, Plan}
+use Rattle.crew_job.specs.crew_plan.Plans.{IsPlanOf, Plan}
 
 module _ {E : Type 0} (cmp : E → E → Ordering) where
   abbrev Rises : List E → Type 0

@@ -27,9 +27,9 @@ use Rattle.crew_resource.specs.Members.{Member}
 use Rattle.crew_round.specs.Marks as Marks
 use Rattle.crew_round.specs.declared.mark.Mark.TheVariants as MarkedAs
 use Rattle.crew_rules.specs.declared.settings.Settings.{Settings}
-use Rattle.crew_answers.proofs.OneBest.{one-best}
-use Rattle.crew_answers.specs.Bests.{IsBest}
-use Rattle.crew_version.specs.Versions.{IsRight, Snapshot}
+use Rattle.crew_machine.proofs.crew_answers_lemmas.OneBest.{one-best}
+use Rattle.crew_machine.specs.crew_answers.Bests.{IsBest}
+use Rattle.crew_job.specs.crew_version.Versions.{IsRight, Snapshot}
 
 abbrev AreDone : CrewCells → Type 0
 AreDone cells = (i : ℕ) (n : DutyNode) (c : Cell Entries) → slice_get cells i ≡ Some (n, c) → (f : Entries) × (c ≡ Done f)

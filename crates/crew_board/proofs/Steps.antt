@@ -31,7 +31,7 @@ use Rattle.crew_resource.specs.Members.{Member}
 use Rattle.crew_round.specs.Marks as Marks
 use Rattle.crew_round.specs.declared.mark.Mark.TheVariants as MarkedAs
 use Rattle.crew_rules.specs.declared.settings.Settings.{Settings}
-use Rattle.crew_version.specs.Versions.{Snapshot}
+use Rattle.crew_job.specs.crew_version.Versions.{Snapshot}
 
 -- what a board shows with a round open
 abbrev pub shown_of : Marked → ShownRound

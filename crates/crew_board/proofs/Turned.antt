@@ -27,7 +27,7 @@ use Rattle.crew_resource.proofs.Members.{Member-at}
 use Rattle.crew_round.specs.Marks as Marks
 use Rattle.crew_round.specs.Marks.{AreDoneBefore, AreSameBefore, IsMarked, node_count, with_mark}
 use Rattle.crew_rules.specs.declared.settings.Settings.{Settings}
-use Rattle.crew_fronts.specs.Fronts.{BaseFronts, front_at}
+use Rattle.crew_job.specs.crew_fronts.Fronts.{BaseFronts, front_at}
 
 -- ---- jobs
 

@@ -3,8 +3,8 @@ use Rattle.std.proofs.Common.{◌≡◌, ◌∙◌, ◌∷◌, [], ℕ, List, ma
 use Rattle.std.specs.Prelude.{◌↔◌}
 use Rattle.std.specs.FinMap as fin
 use Rattle.crew_board.proofs.Untouched.{duty-in, duty-out, untouched-world}
-use Rattle.crew_dirty.proofs.Paths.{path-none}
-use Rattle.crew_dirty.specs.Dirty.{IsNetOver, IsUnreached, IsUntouched}
+use Rattle.crew_job.proofs.crew_dirty_lemmas.Paths.{path-none}
+use Rattle.crew_job.specs.crew_dirty.Dirty.{IsNetOver, IsUnreached, IsUntouched}
 use Rattle.crew_flights.specs.Timetable.{Timetable}
 use Rattle.crew_machine.proofs.NodeList.{node-of}
 use Rattle.crew_machine.specs.Crew.{DutyNode, IsNodeOf, MayPrecede, crew}

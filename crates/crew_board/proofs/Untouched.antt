@@ -4,8 +4,8 @@ use Rattle.std.specs.Prelude.{◌↔◌}
 use Rattle.std.specs.FinMap as fin
 use Rattle.std.proofs.lemmas.Nat.{div-mul-add, mod-mul-add}
 use Rattle.std.proofs.lemmas.Option.{slice_get_within}
-use Rattle.crew_dirty.proofs.Priced.{has-price, is-base}
-use Rattle.crew_dirty.specs.Dirty.{IsNetOver, IsSameBase, IsSameDuty, IsUntouched}
+use Rattle.crew_job.proofs.crew_dirty_lemmas.Priced.{has-price, is-base}
+use Rattle.crew_job.specs.crew_dirty.Dirty.{IsNetOver, IsSameBase, IsSameDuty, IsUntouched}
 use Rattle.crew_flights.specs.Timetable.{Timetable}
 use Rattle.crew_machine.specs.Crew.{DutyNode, Inputs, IsNodeOf, MayPrecede, crew}
 use Rattle.crew_machine.specs.Worlds as Worlds

@@ -7,7 +7,7 @@ use Rattle.crew_machine.specs.Crew.{CrewBoard, CrewRound, CrewVersion, crew}
 use Rattle.crew_machine.specs.Machinery.Sound.{IsStanding}
 use Rattle.crew_round.specs.declared.mark.Mark.{Mark}
 use Rattle.crew_rules.specs.declared.settings.Settings.{Settings}
-use Rattle.crew_version.specs.Versions.{Snapshot}
+use Rattle.crew_job.specs.crew_version.Versions.{Snapshot}
 
 -- the entries of a round, and a mark for each of its nodes, in node order
 pub record ShownRound : Type 0 where

@@ -15,7 +15,7 @@ use Rattle.crew_machine.specs.Crew.{CrewBoard, CrewRound, CrewVersion, DutyNode,
 use Rattle.crew_machine.specs.Rounds.{Abandons, ComesToTooMany, GivesBack, HasNoNumber, IsBusy, IsFirstUndone, IsShorter, IsUndone, NoneReady, Opens, Seals, last_number}
 use Rattle.crew_machine.specs.declared.rounds.Brought.{Brought}
 use Rattle.crew_machine.specs.declared.rounds.Cell.{Cell}
-use Rattle.crew_version.specs.Versions.{Snapshot}
+use Rattle.crew_job.specs.crew_version.Versions.{Snapshot}
 
 -- begin: a round is open over these entries
 pub record HasBegun (old : ShownBoard) (b : CrewBoard) (entries : List Entry) (new : ShownBoard) :

@@ -16,5 +16,8 @@ mod round;
 mod tally;
 
 pub use board::Board;
+pub use crew_job;
+pub use crew_job::{crew_dirty, crew_fronts, crew_version};
+pub use crew_round;
 pub use fault::{BeginFault, SealFault};
 pub use tally::Tally;

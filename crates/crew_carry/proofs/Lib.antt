@@ -8,3 +8,4 @@ pub mod SameDuties
 pub mod Carrying
 pub mod CarriedLabels
 pub mod Permuted
+pub use Rattle.crew_step.proofs as crew_step_lemmas

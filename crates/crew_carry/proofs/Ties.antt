@@ -3,7 +3,7 @@ use Rattle.std.proofs.Common.{subst, ◌≡◌, Some, None, ap, refl, sym, ◌�
 use Rattle.std.specs.Prelude.{IfSome, slice_get}
 use Rattle.std.specs.Cmp.{int_cmp_total, on_total, signed_Decides, then_total}
 use Rattle.std.proofs.lemmas.Cmp.{tied_itself}
-use Rattle.crew_flights.specs.Codes.{code_cmp_total}
+use Rattle.crew_net.specs.crew_flights.Codes.{code_cmp_total}
 use Rattle.crew_pairing.specs.Legs.{Leg}
 use Rattle.std.specs.Ordering.{is_eq, ordering_then}
 use Rattle.std.specs.declared.cmp.Ordering.{Ordering}

@@ -4,7 +4,7 @@ ghost use Rattle.std.specs.Cmp.{IsTotalOrder, int_cmp_total, on_total, then_tota
 ghost use Rattle.std.specs.declared.cmp.Ordering.{Ordering};
 ghost use Rattle.std.specs.declared.cmp.Ordering.TheVariants.{Equal, Less};
 ghost use Rattle.crew_carry.specs.Machinery.Matches.{AreMatches};
-ghost use Rattle.crew_flights.specs.Codes.{code_cmp_total};
+ghost use Rattle.crew_net.specs.crew_flights.Codes.{code_cmp_total};
 ghost use Rattle.crew_net.specs.Events.{arrival_cmp, departure_cmp};
 
 use crew_pairing::{Arrival, Departure};

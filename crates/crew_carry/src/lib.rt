@@ -15,5 +15,6 @@ mod twins;
 
 pub use alike::are_alike;
 pub use carrier::Carrier;
+pub use crew_step;
 pub use span::Span;
 pub use twins::Twins;

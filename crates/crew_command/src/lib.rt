@@ -8,7 +8,10 @@ mod fault;
 mod program;
 mod streams;
 
-pub use crew_session::{NotedReader, NotedWriter};
+pub use crew_workers::crew_session::{NotedReader, NotedWriter};
+pub use crew_workers::{
+    crew_dirty, crew_publish, crew_service, crew_session, crew_solve, crew_version,
+};
 pub use fault::Fault;
 pub use program::command;
 pub use streams::{Outlet, OutletWriter, SendingReader};

@@ -1,3 +1,5 @@
 pub mod Kept
 pub mod Stepped
 pub mod Wanting
+pub use Rattle.crew_board.proofs.crew_plan_lemmas
+pub use Rattle.crew_board.proofs.crew_version_lemmas

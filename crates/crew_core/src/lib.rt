@@ -7,6 +7,7 @@ mod machine;
 mod reply;
 mod step;
 
+pub use crew_board::{crew_fronts, crew_version};
 pub use machine::Machine;
 pub use reply::Reply;
 pub use step::Step;

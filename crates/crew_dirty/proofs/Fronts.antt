@@ -20,8 +20,8 @@ use Rattle.crew_resource.specs.Members.{Member}
 use Rattle.crew_resource.proofs.Members.{Member-filter_in, Member-filter_out}
 use Rattle.crew_rules.specs.Settings.{IsChecked}
 use Rattle.crew_rules.specs.declared.settings.Settings.{Settings}
-use Rattle.crew_vector.proofs.Nodes.{Known, arcs-rise, rank}
-use Rattle.crew_vector.proofs.Paths.{legal-known}
+use Rattle.crew_answers.proofs.crew_vector_lemmas.Nodes.{Known, arcs-rise, rank}
+use Rattle.crew_answers.proofs.crew_vector_lemmas.Paths.{legal-known}
 
 abbrev Entries : Type 0
 Entries = List (LongVector × List (List Leg))

@@ -11,3 +11,5 @@ pub mod Priced
 pub mod Unchanging
 pub mod Fronts
 pub mod BasePlaces
+pub use Rattle.crew_answers.proofs as crew_answers_lemmas
+pub use Rattle.crew_carry.proofs.crew_step_lemmas

@@ -17,4 +17,5 @@ mod same;
 mod windows;
 
 pub use carried::{Carried, carry};
+pub use crew_carry::crew_step;
 pub use node_state::{NodeState, NodeStates};

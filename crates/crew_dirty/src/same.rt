@@ -9,9 +9,9 @@ ghost use Rattle.crew_resource.specs.Members.{Member};
 use crate::flags::put_flags;
 use crate::windows::waits_alike;
 use crew_carry::Twins;
+use crew_carry::crew_step::is_same_duty;
 use crew_net::Net;
 use crew_pairing::Duties;
-use crew_step::is_same_duty;
 use std::alloc::{AllocError, Global};
 
 // Whether the old duty of a rank is the new one of another, with all its facts.

@@ -6,3 +6,6 @@ pub mod Ranked
 pub mod Sweeps
 pub mod Valued
 pub mod Remembered
+pub use Rattle.crew_pass.proofs.crew_answers_lemmas
+pub use Rattle.crew_solve.proofs.crew_duty_lemmas
+pub use Rattle.crew_solve.proofs as crew_solve_lemmas

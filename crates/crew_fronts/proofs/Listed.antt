@@ -14,9 +14,9 @@ use Rattle.crew_resource.proofs.Rising.{Rising, same-rising}
 use Rattle.crew_resource.specs.Machinery.BothLaws.{both_equal}
 use Rattle.crew_resource.specs.Members.{Each, Member}
 use Rattle.crew_solve.proofs.Lent.{vector-total}
-use Rattle.crew_vector.proofs.Orders.{key-exact}
-use Rattle.crew_vector.specs.Fronts.{RiseByVector, vector_cmp}
-use Rattle.crew_vector.specs.Machinery.Named.{named_order}
+use Rattle.crew_solve.proofs.crew_vector_lemmas.Orders.{key-exact}
+use Rattle.crew_solve.specs.crew_vector.Fronts.{RiseByVector, vector_cmp}
+use Rattle.crew_solve.specs.crew_vector.Machinery.Named.{named_order}
 use Rattle.crew_fronts.specs.Machinery.Listed.{Entry, entry_cmp, listed, one_of, put}
 
 entry-total : IsTotalOrder entry_cmp

@@ -7,24 +7,24 @@ use Rattle.std.specs.declared.cmp.Ordering.TheVariants.{Equal, Less}
 use Rattle.std.proofs.lemmas.Bool.{cases_Bool}
 use Rattle.std.proofs.lemmas.Cmp.{tied_itself}
 use Rattle.std.proofs.lemmas.Int.{ints}
-use Rattle.crew_answers.proofs.Listed.{histories-listed, then-equal, then-under, turned}
-use Rattle.crew_answers.proofs.LongListed.{value_cmp}
-use Rattle.crew_answers.specs.Fronts.{RiseByVector, period_cmp, vector_cmp}
-use Rattle.crew_answers.specs.LongVectors.{is_long}
-use Rattle.crew_answers.specs.Shown.{shown}
-use Rattle.crew_answers.specs.declared.value.LongValue.{LongValue}
-use Rattle.crew_history.proofs.FixedHistories.{history_cmp}
+use Rattle.crew_pass.proofs.crew_answers_lemmas.Listed.{histories-listed, then-equal, then-under, turned}
+use Rattle.crew_pass.proofs.crew_answers_lemmas.LongListed.{value_cmp}
+use Rattle.crew_pass.specs.crew_answers.Fronts.{RiseByVector, period_cmp, vector_cmp}
+use Rattle.crew_pass.specs.crew_answers.LongVectors.{is_long}
+use Rattle.crew_pass.specs.crew_answers.Shown.{shown}
+use Rattle.crew_pass.specs.crew_answers.declared.value.LongValue.{LongValue}
+use Rattle.crew_pass.proofs.crew_history_lemmas.FixedHistories.{history_cmp}
 use Rattle.crew_label.specs.Pools.{AreRising}
 use Rattle.crew_label.specs.Tables.{Tabled}
 use Rattle.crew_label.specs.declared.label.Label.{Label}
-use Rattle.crew_long.specs.Recents.{recent_periods}
-use Rattle.crew_long.specs.RestEnds.{rest_end_at, rest_end_cmp}
-use Rattle.crew_long.specs.Machinery.RecentStages.{recent_cmp}
+use Rattle.crew_pass.specs.crew_long.Recents.{recent_periods}
+use Rattle.crew_pass.specs.crew_long.RestEnds.{rest_end_at, rest_end_cmp}
+use Rattle.crew_pass.specs.crew_long.Machinery.RecentStages.{recent_cmp}
 use Rattle.crew_pairing.specs.declared.duty.Duty.{Duty}
 use Rattle.crew_resource.specs.Members.{Each, Member}
 use Rattle.crew_rules.specs.declared.settings.Settings.{Settings}
-use Rattle.crew_vector.specs.Fronts as Plain
-use Rattle.crew_vector.specs.Machinery.Named.{named_order}
+use Rattle.crew_solve.specs.crew_vector.Fronts as Plain
+use Rattle.crew_solve.specs.crew_vector.Machinery.Named.{named_order}
 use Rattle.crew_fronts.specs.Machinery.Lent.{label_entries}
 use Rattle.crew_fronts.specs.Machinery.Values.{IsCounting}
 

@@ -4,20 +4,20 @@ use Rattle.std.specs.Prelude.{◌≤ℤ◌, slice_get}
 use Rattle.std.specs.Option.{option_map}
 use Rattle.std.proofs.lemmas.Bool.{and_parts, cases_Bool, false≢true}
 use Rattle.std.proofs.lemmas.Int.{ints}
-use Rattle.crew_answers.proofs.Listed.{StartsLate, cut-starts}
-use Rattle.crew_answers.specs.LongVectors.{is_long, settings_of_sums}
-use Rattle.crew_answers.specs.Machinery.Joined.{joined, parts_of}
-use Rattle.crew_answers.specs.Machinery.JoinedLaws.{unjoined}
-use Rattle.crew_answers.specs.Schedules.{schedule_of}
-use Rattle.crew_answers.specs.declared.value.LongValue.{LongValue}
+use Rattle.crew_pass.proofs.crew_answers_lemmas.Listed.{StartsLate, cut-starts}
+use Rattle.crew_pass.specs.crew_answers.LongVectors.{is_long, settings_of_sums}
+use Rattle.crew_pass.specs.crew_answers.Machinery.Joined.{joined, parts_of}
+use Rattle.crew_pass.specs.crew_answers.Machinery.JoinedLaws.{unjoined}
+use Rattle.crew_pass.specs.crew_answers.Schedules.{schedule_of}
+use Rattle.crew_pass.specs.crew_answers.declared.value.LongValue.{LongValue}
 use Rattle.crew_forgetful.specs.Sweeps.{network_of}
-use Rattle.crew_history.specs.Histories.{may_board}
-use Rattle.crew_history.specs.Limits.{period_of}
+use Rattle.crew_pass.specs.crew_history.Histories.{may_board}
+use Rattle.crew_pass.specs.crew_history.Limits.{period_of}
 use Rattle.crew_label.specs.Tables.{trail_in}
 use Rattle.crew_label.specs.Walks.{shown, walk_of}
-use Rattle.crew_long.specs.Recents.{is_dated, may_take, recent_periods}
-use Rattle.crew_long.specs.RestEnds.{board_rest, idle_rest, rest_end_at, wait_rest}
-use Rattle.crew_long.specs.Machinery.RecentStages.{board_recent, idle_duties, idle_periods, idle_recent, taken_out, wait_recent}
+use Rattle.crew_pass.specs.crew_long.Recents.{is_dated, may_take, recent_periods}
+use Rattle.crew_pass.specs.crew_long.RestEnds.{board_rest, idle_rest, rest_end_at, wait_rest}
+use Rattle.crew_pass.specs.crew_long.Machinery.RecentStages.{board_recent, idle_duties, idle_periods, idle_recent, taken_out, wait_recent}
 use Rattle.crew_net.specs.Nets.{Net}
 use Rattle.crew_pairing.specs.Events.{arrival_of, departure_of}
 use Rattle.crew_pairing.specs.Legs.{Leg}
@@ -25,18 +25,18 @@ use Rattle.crew_pairing.specs.declared.duty.Duty.{Duty}
 use Rattle.crew_pairing.specs.declared.events.Arrival.{Arrival}
 use Rattle.crew_pairing.specs.declared.events.Departure.{Departure}
 use Rattle.crew_pass.specs.Passes.{BasePass, IsCoveredBy, keyed_entries}
-use Rattle.crew_pool.specs.Ranks.{key_at}
+use Rattle.crew_pass.specs.crew_pool.Ranks.{key_at}
 use Rattle.crew_resource.proofs.Members.{Member-map_in}
 use Rattle.crew_resource.specs.Machinery.Both.{both}
 use Rattle.crew_resource.specs.Machinery.BothLaws.{both_parts}
 use Rattle.crew_resource.specs.Members.{Member}
 use Rattle.crew_solve.proofs.Lent.{map-long}
 use Rattle.crew_net.proofs.Numbers.{get-member}
-use Rattle.crew_vector.specs.Machinery.Numbers.{named, numbers_of}
-use Rattle.crew_vector.specs.Machinery.Sides.{aboard, idle, waited}
-use Rattle.crew_vector.specs.Machinery.VectorLaws.{vector_counting}
-use Rattle.crew_vector.specs.Machinery.VectorResources.{vector_resource}
-use Rattle.crew_vector.specs.declared.resource.VectorResource.{VectorResource}
+use Rattle.crew_solve.specs.crew_vector.Machinery.Numbers.{named, numbers_of}
+use Rattle.crew_solve.specs.crew_vector.Machinery.Sides.{aboard, idle, waited}
+use Rattle.crew_solve.specs.crew_vector.Machinery.VectorLaws.{vector_counting}
+use Rattle.crew_solve.specs.crew_vector.Machinery.VectorResources.{vector_resource}
+use Rattle.crew_solve.specs.crew_vector.declared.resource.VectorResource.{VectorResource}
 use Rattle.crew_fronts.specs.Machinery.Kept.{AreValued}
 use Rattle.crew_fronts.specs.Machinery.Values.{IsReal, IsValue, IsWaiting}
 use Rattle.crew_fronts.proofs.Valued.{has-all}

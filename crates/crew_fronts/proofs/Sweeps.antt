@@ -5,9 +5,9 @@ use Rattle.std.specs.Ordering.{ordering_then}
 use Rattle.std.specs.declared.cmp.Ordering.TheVariants.{Less}
 use Rattle.std.proofs.lemmas.Bool.{and_parts}
 use Rattle.std.proofs.lemmas.Bool.Decides.{nat_tests}
-use Rattle.crew_answers.specs.Fronts as Long
-use Rattle.crew_answers.specs.LongVectors.{is_long, settings_of_sums}
-use Rattle.crew_answers.specs.ShortPairings.{sums_of, with_no_past, with_no_pasts}
+use Rattle.crew_pass.specs.crew_answers.Fronts as Long
+use Rattle.crew_pass.specs.crew_answers.LongVectors.{is_long, settings_of_sums}
+use Rattle.crew_pass.specs.crew_answers.ShortPairings.{sums_of, with_no_past, with_no_pasts}
 use Rattle.crew_flights.specs.Timetable.{Timetable}
 use Rattle.crew_pairing.specs.Duties.{AreDuties, RiseByKey, flights_of}
 use Rattle.crew_pairing.specs.Pairings.{IsDuty}
@@ -17,10 +17,10 @@ use Rattle.crew_resource.specs.Members.{Each, Member}
 use Rattle.crew_rules.specs.declared.settings.Settings.{Settings}
 use Rattle.crew_solve.specs.Solutions.{ShowSame}
 use Rattle.crew_net.proofs.Numbers.{get-member}
-use Rattle.crew_sweep.specs.Sweeps as Sweeps
-use Rattle.crew_sweep.specs.Sweeps.{BaseSweep}
-use Rattle.crew_vector.proofs.Orders.{walk-order}
-use Rattle.crew_vector.specs.Fronts.{IsFrontAt, RiseByVector, vector_cmp}
+use Rattle.crew_solve.specs.crew_sweep.Sweeps as Sweeps
+use Rattle.crew_solve.specs.crew_sweep.Sweeps.{BaseSweep}
+use Rattle.crew_solve.proofs.crew_vector_lemmas.Orders.{walk-order}
+use Rattle.crew_solve.specs.crew_vector.Fronts.{IsFrontAt, RiseByVector, vector_cmp}
 use Rattle.crew_fronts.specs.Fronts.{Entries, IsOfSweep, ShowsFronts, front_at, is_plain}
 use Rattle.crew_fronts.specs.Machinery.Kept.{fronts_of_sweep, swept_front}
 use Rattle.crew_fronts.specs.Machinery.Listed.{Entry, listed}

@@ -1,2 +1,8 @@
 pub mod Fronts
 pub mod Machinery
+pub use Rattle.crew_pass.specs.crew_answers
+pub use Rattle.crew_pass.specs.crew_history
+pub use Rattle.crew_pass.specs as crew_pass
+pub use Rattle.crew_solve.specs as crew_solve
+pub use Rattle.crew_solve.specs.crew_step
+pub use Rattle.crew_solve.specs.crew_sweep

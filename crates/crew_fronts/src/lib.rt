@@ -17,6 +17,9 @@ mod vector;
 mod walk_view;
 
 pub use base_fronts::BaseFronts;
+pub use crew_pass;
+pub use crew_solve;
+pub use crew_solve::{crew_duty, crew_step};
 pub use front_view::{FrontEntries, FrontView};
 pub use plain::is_plain;
 pub use vector::Vector;

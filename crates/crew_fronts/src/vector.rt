@@ -1,10 +1,10 @@
 //! What a front shows of a pairing.
 ghost use Rattle.std.specs.Prelude.{◌≡◌, ◌↔◌, IsTrue};
-ghost use Rattle.crew_answers.specs.ShortPairings as Short;
-ghost use Rattle.crew_history.specs.HistoryValues.{periods_of};
+ghost use Rattle.crew_pass.specs.crew_answers.ShortPairings as Short;
+ghost use Rattle.crew_pass.specs.crew_history.HistoryValues.{periods_of};
 
-use crew_history::History;
 use crew_pairing::PairingVector;
+use crew_pass::crew_history::History;
 use std::marker::Model;
 
 /// The vector of a list of duties: the seven sums, the minutes since the last long rest, and the
@@ -21,9 +21,9 @@ pub struct Vector {
 
 impl Model for Vector {
     ghost use Rattle.std.specs.Coded.{codes};
-    ghost use Rattle.crew_answers.specs.LongVectors.{LongVector};
-    ghost use Rattle.crew_history.specs.HistoryValues.{periods_of};
-    ghost use Rattle.crew_history.specs.contracts.history.History as kept;
+    ghost use Rattle.crew_pass.specs.crew_answers.LongVectors.{LongVector};
+    ghost use Rattle.crew_pass.specs.crew_history.HistoryValues.{periods_of};
+    ghost use Rattle.crew_pass.specs.crew_history.contracts.history.History as kept;
 
     ghost Value = { LongVector };
 

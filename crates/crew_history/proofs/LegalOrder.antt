@@ -4,9 +4,9 @@ use Rattle.std.specs.Prelude.{◌-ℤ◌, ◌≤ℤ◌, ◌<ℤ◌, int_le}
 use Rattle.std.specs.Ordering.{eq_by_cmp}
 use Rattle.std.proofs.lemmas.Bool.{and_parts}
 use Rattle.std.proofs.lemmas.Int.{ints}
-use Rattle.crew_flights.specs.Codes.{code_cmp}
-use Rattle.crew_flights.specs.Timetable.{IsSound, Timetable}
-use Rattle.crew_rules.specs.declared.settings.Settings.{Settings}
+use Rattle.crew_pairing.specs.crew_flights.Codes.{code_cmp}
+use Rattle.crew_pairing.specs.crew_flights.Timetable.{IsSound, Timetable}
+use Rattle.crew_pairing.specs.crew_rules.declared.settings.Settings.{Settings}
 use Rattle.crew_pairing.specs.Duties.{flights_of}
 use Rattle.crew_pairing.specs.Legality.{AllConnect, IsLegal, duty_of, last_of}
 use Rattle.crew_pairing.specs.Pairings.{AllRested, IsDuty, may_stand_after, rest}

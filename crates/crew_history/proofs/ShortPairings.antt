@@ -4,8 +4,8 @@ use Rattle.std.specs.Prelude.{◌-ℤ◌, ◌≤ℤ◌, ◌<ℤ◌, int_le}
 use Rattle.std.specs.Int.{int_max, int_min}
 use Rattle.std.proofs.lemmas.Bool.{and_parts, and_from}
 use Rattle.std.proofs.lemmas.Int.{ints, clamps}
-use Rattle.crew_flights.specs.Timetable.{IsSound, Timetable}
-use Rattle.crew_rules.specs.declared.settings.Settings.{Settings}
+use Rattle.crew_pairing.specs.crew_flights.Timetable.{IsSound, Timetable}
+use Rattle.crew_pairing.specs.crew_rules.declared.settings.Settings.{Settings}
 use Rattle.crew_pairing.specs.Duties.{flights_of}
 use Rattle.crew_pairing.specs.Legality.{total}
 use Rattle.crew_pairing.specs.Pairings.{IsPartial, last_duty, minutes_away}

@@ -1,8 +1,8 @@
 -- Partial pairings of up to 240 hours: 14 CFR 117.23(c) and 117.25(b) hold of every window, and
 -- what else a partial pairing has to keep stays.
 use Rattle.std.specs.Prelude.{◌≡◌, ℕ, Bool, true, ◌&&◌, int_le, ℤ, pos, List, ◌∷◌, length}
-use Rattle.crew_flights.specs.declared.flight.Flight.{Flight}
-use Rattle.crew_rules.specs.declared.settings.Settings.{Settings}
+use Rattle.crew_pairing.specs.crew_flights.declared.flight.Flight.{Flight}
+use Rattle.crew_pairing.specs.crew_rules.declared.settings.Settings.{Settings}
 use Rattle.crew_pairing.specs.Legality.{total}
 use Rattle.crew_pairing.specs.Pairings.{AllRested, IsDuty, minutes_away}
 use Rattle.crew_pairing.specs.declared.duty.Duty.{Duty}

@@ -1,7 +1,7 @@
 //! Laws over the definitions alone.
 ghost use Rattle.std.specs.Prelude.{◌≡◌, ◌≤◌, ℕ, Bool, true, false, IsTrue, ◌↔◌, ℤ, pos, ◌-ℤ◌, ◌≤ℤ◌, ◌<ℤ◌, List, [], ◌∷◌, ◌++◌, map, Option, Some};
-ghost use Rattle.crew_flights.specs.Timetable.{IsSound, Timetable};
-ghost use Rattle.crew_rules.specs.declared.settings.Settings.{Settings};
+ghost use Rattle.crew_pairing.specs.crew_flights.Timetable.{IsSound, Timetable};
+ghost use Rattle.crew_pairing.specs.crew_rules.declared.settings.Settings.{Settings};
 ghost use Rattle.crew_pairing.specs.Duties.{flights_of};
 ghost use Rattle.crew_pairing.specs.Pairings.{AllRested, IsDuty, IsPartial};
 ghost use Rattle.crew_pairing.specs.declared.duty.Duty.{Duty};

@@ -13,4 +13,5 @@
 mod history;
 pub mod laws;
 
+pub use crew_pairing;
 pub use history::History;

@@ -29,9 +29,9 @@ use Rattle.crew_pairing.specs.declared.duty.Duty.{Duty}
 use Rattle.crew_resource.proofs.Members.{Member-at}
 use Rattle.crew_resource.specs.Members.{Member}
 use Rattle.crew_rules.specs.declared.settings.Settings.{Settings}
-use Rattle.crew_fronts.specs.Fronts.{BaseFronts, ShowsFronts, front_at}
-use Rattle.crew_answers.specs.Fronts.{IsFrontAt}
-use Rattle.crew_plan.specs.Plans.{AreFrontsIn}
+use Rattle.crew_version.specs.crew_fronts.Fronts.{BaseFronts, ShowsFronts, front_at}
+use Rattle.crew_dirty.specs.crew_answers.Fronts.{IsFrontAt}
+use Rattle.crew_version.specs.crew_plan.Plans.{AreFrontsIn}
 
 -- the price of the base at a place
 pub priced-at : (t : Timetable) (place : ℕ) (base : List ℕ) (price : ℤ) → slice_get (fin.entries t.bases) place ≡ Some (base, price) → fin.get t.bases base ≡ Some price

@@ -15,12 +15,12 @@ use Rattle.crew_pairing.specs.declared.duty.Duty.{Duty}
 use Rattle.crew_pairing.specs.declared.events.Departure.{Departure}
 use Rattle.crew_resource.specs.Members.{Member}
 use Rattle.crew_rules.specs.declared.settings.Settings.{Settings}
-use Rattle.crew_plan.specs.Plans.{AreFrontsIn}
-use Rattle.crew_plan.specs.Solutions.{HasNetOf, Solution, front_of}
-use Rattle.crew_fronts.specs.Fronts.{BaseFronts, ShowsFronts, front_at}
-use Rattle.crew_answers.proofs.Unique.{same-listed}
-use Rattle.crew_answers.specs.Bests.{AreFronts}
-use Rattle.crew_answers.specs.Fronts.{IsFrontAt, RiseByVector}
+use Rattle.crew_version.specs.crew_plan.Plans.{AreFrontsIn}
+use Rattle.crew_version.specs.crew_plan.Solutions.{HasNetOf, Solution, front_of}
+use Rattle.crew_version.specs.crew_fronts.Fronts.{BaseFronts, ShowsFronts, front_at}
+use Rattle.crew_dirty.proofs.crew_answers_lemmas.Unique.{same-listed}
+use Rattle.crew_dirty.specs.crew_answers.Bests.{AreFronts}
+use Rattle.crew_dirty.specs.crew_answers.Fronts.{IsFrontAt, RiseByVector}
 use Rattle.crew_job.proofs.SealedNodes.{net-of-node}
 
 some-same : {X : Type 0} (x y : X) → Some x ≡ Some y → x ≡ y

@@ -13,3 +13,9 @@ pub mod SealedNodes
 pub mod Standing
 pub mod Works
 pub mod Leaving
+pub use Rattle.crew_dirty.proofs as crew_dirty_lemmas
+pub use Rattle.crew_version.proofs.crew_duty_lemmas
+pub use Rattle.crew_version.proofs.crew_plan_lemmas
+pub use Rattle.crew_dirty.proofs.crew_step_lemmas
+pub use Rattle.crew_version.proofs.crew_vector_lemmas
+pub use Rattle.crew_version.proofs as crew_version_lemmas

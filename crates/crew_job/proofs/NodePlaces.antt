@@ -11,7 +11,7 @@ use Rattle.crew_net.specs.Nets.{Net}
 use Rattle.crew_pairing.specs.declared.duty.Duty.{Duty}
 use Rattle.crew_resource.proofs.Members.{Member-at, Member-flat_map_out, Member-map_out}
 use Rattle.crew_resource.specs.Members.{Member}
-use Rattle.crew_step.proofs.Loops.{item-at}
+use Rattle.crew_dirty.proofs.crew_step_lemmas.Loops.{item-at}
 
 in-second : {X : Type 0} (xs ys : List X) (i : ℕ) → slice_get (xs ++ ys) (length xs + i) ≡ slice_get ys i
 in-second [] ys i = ap (slice_get ys) (omega arith)

@@ -11,7 +11,7 @@ use Rattle.crew_job.specs.Machinery.Compared.{AreShownAt}
 use Rattle.crew_job.specs.Shown.{AreShownBefore}
 use Rattle.crew_machine.specs.Crew.{DutyNode, DutyWork, MayPrecede}
 use Rattle.crew_pairing.specs.declared.duty.Duty.{Duty}
-use Rattle.crew_fronts.specs.Fronts.{BaseFronts}
+use Rattle.crew_version.specs.crew_fronts.Fronts.{BaseFronts}
 
 -- what is shown just before a place, by the place of the base and rank
 pub shown-before : (g : Ground) (place base : ℕ) (code : List ℕ) (d : Duty) (shown : List (Option BaseFronts)) → slice_get (nodes_in g.plan.net) place ≡ Some (record { base = code; duty = d }) → slice_get g.plan.net.bases base ≡ Some code → AreShownBefore g place shown → AreShownAt g code d base shown

@@ -1,6 +1,6 @@
 -- The front that a version has of a node.
 use Rattle.std.proofs.Common.{◌≡◌, ◌≤◌, ◌∙◌, ℕ, length, List, [], Some, None, refl, sym, ap, subst}
-use Rattle.crew_answers.specs.Fronts.{IsFrontAt}
+use Rattle.crew_dirty.specs.crew_answers.Fronts.{IsFrontAt}
 use Rattle.crew_dirty.proofs.Nodes.{one-duty}
 use Rattle.crew_dirty.specs.Dirty.{IsNetOver}
 use Rattle.crew_flights.specs.Timetable.{Timetable, empty_timetable}
@@ -16,7 +16,7 @@ use Rattle.crew_pairing.specs.declared.duty.Duty.{Duty}
 use Rattle.crew_resource.specs.Members.{Member}
 use Rattle.crew_rules.specs.Settings.{IsChecked}
 use Rattle.crew_rules.specs.declared.settings.Settings.{Settings}
-use Rattle.crew_plan.specs.Solutions.{HasNetOf, Solution}
+use Rattle.crew_version.specs.crew_plan.Solutions.{HasNetOf, Solution}
 use Rattle.crew_version.specs.Fronts.{IsFrontByKey}
 use Rattle.crew_version.specs.Versions.{Snapshot, timetable_of}
 

@@ -15,7 +15,7 @@ use Rattle.crew_pairing.specs.declared.duty.Duty.{Duty}
 use Rattle.crew_rules.specs.Settings.{IsChecked}
 use Rattle.crew_rules.specs.declared.settings.Settings.{Settings}
 use Rattle.crew_version.specs.Versions.{IsRight, Snapshot, timetable_of}
-use Rattle.crew_plan.specs.Plans.{IsPlanOf, Plan}
+use Rattle.crew_version.specs.crew_plan.Plans.{IsPlanOf, Plan}
 
 -- the version before the round; the number, the settings and the entries of the version that the
 -- round comes to; and the plan of these entries

@@ -9,8 +9,8 @@ use Rattle.crew_pairing.specs.Events.{departure_of}
 use Rattle.crew_pairing.specs.declared.events.Departure.{Departure}
 use Rattle.crew_resource.specs.Members.{Member}
 use Rattle.crew_rules.specs.declared.settings.Settings.{Settings}
-use Rattle.crew_fronts.specs.Fronts.{BaseFronts, front_at}
-use Rattle.crew_plan.specs.Plans.{AreFrontsIn}
+use Rattle.crew_version.specs.crew_fronts.Fronts.{BaseFronts, front_at}
+use Rattle.crew_version.specs.crew_plan.Plans.{AreFrontsIn}
 
 -- a sweep shows a node's front: that of a base and a duty
 pub record ShowsFrontOf (s : Settings) (t : Timetable) (n : DutyNode) (b : BaseFronts) : Type 0 where

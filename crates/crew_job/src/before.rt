@@ -5,10 +5,10 @@ ghost use Rattle.crew_pairing.specs.Pairings.{may_stand_after};
 ghost use Rattle.crew_pairing.specs.declared.duty.Duty.{Duty as DutySpec};
 ghost use Rattle.crew_resource.specs.Members.{Member};
 
+use crew_dirty::crew_step::is_same_duty;
 use crew_net::Net;
 use crew_pairing::Duty;
 use crew_rules::Settings;
-use crew_step::is_same_duty;
 
 /// Whether a duty may stand just after another, under some settings: it leaves from the station
 /// where the other ends, after 600 minutes of rest at least and `max_rest` at most.

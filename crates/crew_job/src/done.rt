@@ -5,11 +5,11 @@ ghost use Rattle.crew_job.specs.Grounds.{data_of};
 ghost use Rattle.crew_job.specs.Jobs.{IsJobOf, job_node};
 ghost use Rattle.crew_job.specs.Shown.{IsAsSealed, IsLeftOf, ShowsFrontOf};
 ghost use Rattle.crew_machine.specs.Crew.{DutyNode, DutyWork, IsFrontOf, IsLocalOf};
-ghost use Rattle.crew_plan.specs.Plans.{AreFrontsIn};
+ghost use Rattle.crew_version.specs.crew_plan.Plans.{AreFrontsIn};
 
 use crate::job::Job;
 use crate::left::Left;
-use crew_fronts::{BaseFronts, FrontView};
+use crew_version::crew_fronts::{BaseFronts, FrontView};
 use std::alloc::{AllocError, Global};
 use std::marker::Model;
 use std::sync::Arc;

@@ -2,13 +2,13 @@
 ghost use Rattle.std.specs.Prelude.{◌≡◌, [], IfOk, IfSome, MatchOption, length};
 ghost use Rattle.std.specs.Arc.{arc_value};
 ghost use Rattle.crew_job.specs.Lots.{IsLot, StandOn};
-ghost use Rattle.crew_plan.specs.Plans.{AreFrontsIn};
+ghost use Rattle.crew_version.specs.crew_plan.Plans.{AreFrontsIn};
 
 use crate::done::{Done, done_by};
 use crate::ground::Ground;
 use crate::job::Job;
 use crate::lot::Lot;
-use crew_fronts::BaseFronts;
+use crew_version::crew_fronts::BaseFronts;
 use std::alloc::{AllocError, Global};
 use std::marker::Model;
 use std::sync::Arc;

@@ -5,13 +5,13 @@ ghost use Rattle.std.specs.Prelude.{◌≡◌, ◌<◌, IfOk, IfSome, Some, leng
 ghost use Rattle.crew_job.specs.Grounds.{data_of, node_at, nodes_in};
 ghost use Rattle.crew_job.specs.Jobs.{job_node};
 ghost use Rattle.crew_job.specs.Shown.{AreReadable};
-ghost use Rattle.crew_plan.specs.Plans.{AreFrontsIn};
+ghost use Rattle.crew_version.specs.crew_plan.Plans.{AreFrontsIn};
 
 use crate::ground::Ground;
 use crate::places::place_in;
 use crew_flights::Code;
-use crew_fronts::BaseFronts;
 use crew_pairing::Duty;
+use crew_version::crew_fronts::BaseFronts;
 use std::alloc::{AllocError, Global};
 use std::marker::Model;
 use std::sync::Arc;

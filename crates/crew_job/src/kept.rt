@@ -12,9 +12,9 @@ use crate::job::Job;
 use crate::places::{base_place, node_in, place_in};
 use crate::shown::sealed_front;
 use crew_flights::Code;
-use crew_fronts::FrontView;
 use crew_pairing::Duty;
 use crew_version::Version;
+use crew_version::crew_fronts::FrontView;
 
 /// Whether a base and a duty are a node of a version.
 pub(crate) fn has_node(sealed: &Version, code: Code, duty: &Duty) -> bool

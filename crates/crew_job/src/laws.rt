@@ -10,8 +10,8 @@ ghost use Rattle.crew_machine.specs.Worlds.{AreNodes, IsBefore};
 ghost use Rattle.crew_net.specs.Nets.{Net};
 ghost use Rattle.crew_pairing.specs.declared.duty.Duty.{Duty};
 ghost use Rattle.crew_resource.specs.Members.{Member};
-ghost use Rattle.crew_fronts.specs.Fronts.{BaseFronts};
-ghost use Rattle.crew_plan.specs.Plans.{AreFrontsIn};
+ghost use Rattle.crew_version.specs.crew_fronts.Fronts.{BaseFronts};
+ghost use Rattle.crew_version.specs.crew_plan.Plans.{AreFrontsIn};
 
 /// A job stands for one piece of work.
 pub fn each_job_has_one_work()

@@ -8,7 +8,7 @@ ghost use Rattle.crew_job.specs.Shown.{IsLeftOf, LeavesAsSealed};
 ghost use Rattle.crew_job.specs.declared.left.Left.{Left as LeftOf};
 ghost use Rattle.crew_machine.specs.Crew.{DutyNode, IsNodeOf};
 ghost use Rattle.crew_pairing.specs.Events.{departure_of};
-ghost use Rattle.crew_plan.specs.Plans.{AreFrontsIn};
+ghost use Rattle.crew_version.specs.crew_plan.Plans.{AreFrontsIn};
 
 use crate::fronts::is_same_front;
 use crate::ground::Ground;
@@ -17,9 +17,9 @@ use crate::kept::has_node;
 use crate::places::is_same_code;
 use crate::shown::sealed_front;
 use crew_flights::Code;
-use crew_fronts::BaseFronts;
 use crew_pairing::{Departure, Duty};
 use crew_resource::Placed;
+use crew_version::crew_fronts::BaseFronts;
 
 /// Whether the version that was sealed last leaves as a ground does at a departure of a base.
 #[derive(Clone, Copy)]

@@ -27,6 +27,9 @@ mod shown;
 mod timetables;
 
 pub use before::may_follow;
+pub use crew_dirty;
+pub use crew_version;
+pub use crew_version::crew_fronts;
 pub use done::{Done, work};
 pub use done_lot::{DoneLot, work_lot};
 pub use fault::GroundFault;

@@ -19,10 +19,10 @@ use crate::job::Job;
 use crate::places::{is_same_code, node_in, place_in};
 use crate::shown::{front_before, shown_front};
 use crate::timetables::are_same_settings;
+use crew_dirty::crew_step::is_same_duty;
 use crew_flights::Code;
-use crew_fronts::BaseFronts;
 use crew_pairing::Duty;
-use crew_step::is_same_duty;
+use crew_version::crew_fronts::BaseFronts;
 use std::alloc::Global;
 use std::sync::Arc;
 

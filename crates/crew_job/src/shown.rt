@@ -7,15 +7,15 @@ ghost use Rattle.crew_job.specs.Shown.{IsShown};
 ghost use Rattle.crew_machine.specs.Crew.{DutyNode, IsFrontOf, IsNodeOf, crew};
 ghost use Rattle.crew_machine.specs.Worlds.{IsBefore};
 ghost use Rattle.crew_resource.specs.Members.{Member};
-ghost use Rattle.crew_fronts.specs.Fronts.{front_at};
+ghost use Rattle.crew_version.specs.crew_fronts.Fronts.{front_at};
 ghost use Rattle.crew_version.specs.Versions.{timetable_of};
 
 use crate::ground::Ground;
 use crate::job::Job;
 use crew_flights::Code;
-use crew_fronts::{BaseFronts, FrontView};
 use crew_pairing::Duty;
 use crew_version::Version;
+use crew_version::crew_fronts::{BaseFronts, FrontView};
 
 /// The front that a sweep shows of a duty of its network.
 pub(crate) fn swept_front<'a>(fronts: &'a BaseFronts, duty: &Duty) -> FrontView<'a>

@@ -1,3 +1,4 @@
 pub mod RestValues
 pub mod Taken
 pub mod WindowValues
+pub use Rattle.crew_history.proofs as crew_history_lemmas

@@ -3,8 +3,8 @@ use Rattle.std.proofs.Common.{◌≡◌, Bool, true, false, cond, List, [], ◌�
 use Rattle.std.specs.Prelude.{◌-ℤ◌, ◌≤ℤ◌, int_le}
 use Rattle.std.specs.Option.{option_and_then}
 use Rattle.std.proofs.lemmas.Int.{ints}
-use Rattle.crew_pairing.specs.Pairings.{last_duty, rest}
-use Rattle.crew_pairing.specs.declared.duty.Duty.{Duty}
+use Rattle.crew_history.specs.crew_pairing.Pairings.{last_duty, rest}
+use Rattle.crew_history.specs.crew_pairing.declared.duty.Duty.{Duty}
 use Rattle.crew_resource.proofs.Pools.{and_then_out}
 use Rattle.crew_history.specs.Limits.{AreInOrder, IsFreeBeforeReports, last_of, last_rest_end, rested_reports}
 use Rattle.crew_history.proofs.OfDuties.{free_minutes_told}

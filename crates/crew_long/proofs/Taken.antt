@@ -5,7 +5,7 @@ use Rattle.std.proofs.lemmas.Bool.{cases_Bool, false≢true}
 use Rattle.std.proofs.lemmas.Bool.Decides.{nat_tests}
 use Rattle.std.proofs.lemmas.Int.{ints}
 use Rattle.std.proofs.lemmas.List.{length-take-le}
-use Rattle.crew_pairing.specs.declared.duty.Duty.{Duty}
+use Rattle.crew_history.specs.crew_pairing.declared.duty.Duty.{Duty}
 use Rattle.crew_history.specs.Histories.{grown, may_board, boarded_history}
 use Rattle.crew_history.specs.HistoryValues.{periods_of}
 use Rattle.crew_history.specs.Limits.{period_of}

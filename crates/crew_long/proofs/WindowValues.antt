@@ -4,7 +4,7 @@ use Rattle.std.specs.Prelude.{◌≤ℤ◌, nat_lt}
 use Rattle.std.specs.Option.{option_and_then}
 use Rattle.std.proofs.lemmas.Bool.{cases_Bool, and_parts, and_from}
 use Rattle.std.proofs.lemmas.Bool.Decides.{nat_tests}
-use Rattle.crew_pairing.specs.declared.duty.Duty.{Duty}
+use Rattle.crew_history.specs.crew_pairing.declared.duty.Duty.{Duty}
 use Rattle.crew_resource.specs.Members.{Each}
 use Rattle.crew_resource.proofs.Pools.{and_then_out}
 use Rattle.crew_history.specs.Histories.{grown, may_board, boarded_history, history_from}

@@ -1,6 +1,6 @@
 -- The flight duty periods of the last window, kept from duty to duty, with a switch.
 use Rattle.std.specs.Prelude.{Bool, ◌&&◌, nat_le, nat_lt, int_le, ℤ, pos, ◌-ℤ◌, List}
-use Rattle.crew_pairing.specs.declared.duty.Duty.{Duty}
+use Rattle.crew_history.specs.crew_pairing.declared.duty.Duty.{Duty}
 use Rattle.crew_history.specs.Histories.{begins_before, may_board}
 use Rattle.crew_history.specs.HistoryValues.{periods_of, history_at_most}
 use Rattle.crew_history.specs.Limits.{period_of}

@@ -2,9 +2,9 @@
 use Rattle.std.specs.Prelude.{Bool, cond, not, ◌&&◌, ◌||◌, int_le, ℤ, pos, ◌-ℤ◌, Option, Some, None}
 use Rattle.std.specs.Ordering.{int_cmp}
 use Rattle.std.specs.declared.cmp.Ordering.{Ordering}
-use Rattle.crew_pairing.specs.declared.duty.Duty.{Duty}
-use Rattle.crew_pairing.specs.declared.events.Arrival.{Arrival}
-use Rattle.crew_pairing.specs.declared.events.Departure.{Departure}
+use Rattle.crew_history.specs.crew_pairing.declared.duty.Duty.{Duty}
+use Rattle.crew_history.specs.crew_pairing.declared.events.Arrival.{Arrival}
+use Rattle.crew_history.specs.crew_pairing.declared.events.Departure.{Departure}
 use Rattle.crew_long.specs.declared.rest_end.RestEnd.{RestEnd}
 
 -- listed the later first

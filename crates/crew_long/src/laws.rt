@@ -1,6 +1,6 @@
 //! Laws over the definitions alone.
 ghost use Rattle.std.specs.Prelude.{◌≡◌, ◌≤◌, ◌≤ℤ◌, true, false, ℤ, pos, List, ◌∷◌, Some, length};
-ghost use Rattle.crew_pairing.specs.declared.duty.Duty.{Duty};
+ghost use Rattle.crew_history.specs.crew_pairing.declared.duty.Duty.{Duty};
 ghost use Rattle.crew_resource.specs.Members.{Each};
 ghost use Rattle.crew_resource.specs.declared.both.Both.{Both};
 ghost use Rattle.crew_history.specs.Limits.{AreInOrder, IsFreeBeforeReports, KeepsWindows, history_of, last_rest_end};
@@ -13,7 +13,7 @@ ghost use Rattle.crew_long.specs.declared.window.Window.{Window};
 
 use crate::{SinceRest, Window};
 use crew_forgetful::Forgets;
-use crew_pairing::Duty;
+use crew_history::crew_pairing::Duty;
 use crew_resource::{Both, Resource};
 
 /// Of duties in order: a list has a value exactly where free minutes lie before each of its

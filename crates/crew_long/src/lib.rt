@@ -13,6 +13,7 @@ mod rest_end;
 mod since_rest;
 mod window;
 
+pub use crew_history;
 pub use recent::Recent;
 pub use rest_end::RestEnd;
 pub use since_rest::SinceRest;

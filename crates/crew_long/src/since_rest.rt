@@ -1,7 +1,7 @@
 //! The end of the last long rest as a resource.
 ghost use Rattle.std.specs.Prelude.{◌≡◌, Bool, true, false, pos, None, ℤ, ◌-ℤ◌, Option, Some, cond, not, ◌||◌, int_le, FitsSigned};
 ghost use Rattle.std.specs.Int.{w64};
-ghost use Rattle.crew_pairing.specs.Events.{IsSound, MayFollow, arrival_of, departure_of};
+ghost use Rattle.crew_history.specs.crew_pairing.Events.{IsSound, MayFollow, arrival_of, departure_of};
 ghost use Rattle.crew_resource.specs.Machinery.SumLaws.{no_grades};
 ghost use Rattle.crew_resource.specs.Machinery.SumStages.{no_counting};
 ghost use Rattle.crew_forgetful.specs.Machinery.Sums.{staged_forgetful};
@@ -12,7 +12,7 @@ ghost use Rattle.crew_long.specs.Machinery.RestStages.{open_rest, extend_rest, r
 
 use crate::RestEnd;
 use crew_forgetful::Forgets;
-use crew_pairing::{Arrival, Departure, Duty};
+use crew_history::crew_pairing::{Arrival, Departure, Duty};
 use crew_resource::{Placed, Resource, Staged};
 use std::alloc::AllocError;
 

@@ -1,6 +1,6 @@
 //! The flight duty periods of the last 168 hours as a resource.
 ghost use Rattle.std.specs.Prelude.{◌≡◌, Bool, true, false, pos, None, ℤ, Option, Some};
-ghost use Rattle.crew_pairing.specs.Events.{IsSound};
+ghost use Rattle.crew_history.specs.crew_pairing.Events.{IsSound};
 ghost use Rattle.crew_resource.specs.Machinery.SumLaws.{no_grades};
 ghost use Rattle.crew_resource.specs.Machinery.SumStages.{no_counting};
 ghost use Rattle.crew_forgetful.specs.Machinery.Sums.{staged_forgetful};
@@ -11,7 +11,7 @@ ghost use Rattle.crew_long.specs.Machinery.RecentStages.{idle_recent, wait_recen
 use crate::Recent;
 use crew_forgetful::Forgets;
 use crew_history::History;
-use crew_pairing::{Arrival, Departure, Duty};
+use crew_history::crew_pairing::{Arrival, Departure, Duty};
 use crew_resource::{Placed, Resource, Staged};
 use std::alloc::AllocError;
 

@@ -36,9 +36,9 @@ use Rattle.crew_resource.proofs.Members.{Member-filter_in, Member-filter_out}
 use Rattle.crew_resource.specs.Members.{Member}
 use Rattle.crew_rules.specs.Settings.{IsChecked}
 use Rattle.crew_rules.specs.declared.settings.Settings.{Settings}
-use Rattle.crew_vector.proofs.Nodes.{Known, arcs-rise, rank}
-use Rattle.crew_vector.proofs.Paths.{known-legal, legal-known}
-use Rattle.crew_vector.specs.declared.priced.PricedPairing.{PricedPairing}
+use Rattle.crew_answers.proofs.crew_vector_lemmas.Nodes.{Known, arcs-rise, rank}
+use Rattle.crew_answers.proofs.crew_vector_lemmas.Paths.{known-legal, legal-known}
+use Rattle.crew_answers.specs.crew_vector.declared.priced.PricedPairing.{PricedPairing}
 
 -- ---- what entries come to is sound
 

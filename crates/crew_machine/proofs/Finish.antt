@@ -21,7 +21,7 @@ use Rattle.crew_machine.specs.declared.rounds.Cell.TheVariants.{Waiting, Out, Do
 use Rattle.crew_resource.specs.Members.{Member}
 use Rattle.crew_rules.specs.Settings.{IsChecked}
 use Rattle.crew_rules.specs.declared.settings.Settings.{Settings}
-use Rattle.crew_vector.specs.declared.priced.PricedPairing.{PricedPairing}
+use Rattle.crew_answers.specs.crew_vector.declared.priced.PricedPairing.{PricedPairing}
 
 abbrev pub Cells : Type 0
 Cells = List (DutyNode × Cell Entries)

@@ -13,9 +13,9 @@ use Rattle.crew_pairing.specs.Vectors.{reduced_cost}
 use Rattle.crew_resource.proofs.Members.{Member-flat_map_in, Member-flat_map_out, Member-map_in, Member-map_out}
 use Rattle.crew_resource.specs.Members.{Member}
 use Rattle.crew_rules.specs.declared.settings.Settings.{Settings}
-use Rattle.crew_vector.proofs.Orders.{code-itself, same-code, walk-either, walk-order}
-use Rattle.crew_vector.specs.Bests.{NoDearer}
-use Rattle.crew_vector.specs.declared.priced.PricedPairing.{PricedPairing}
+use Rattle.crew_answers.proofs.crew_vector_lemmas.Orders.{code-itself, same-code, walk-either, walk-order}
+use Rattle.crew_answers.specs.crew_vector.Bests.{NoDearer}
+use Rattle.crew_answers.specs.crew_vector.declared.priced.PricedPairing.{PricedPairing}
 use Rattle.std.specs.List.{flat_map}
 
 -- a base, a vector and a walk

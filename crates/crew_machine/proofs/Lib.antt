@@ -20,3 +20,4 @@ pub mod Reuse
 pub mod Runs
 pub mod Served
 pub mod Sorted
+pub use Rattle.crew_answers.proofs as crew_answers_lemmas

@@ -19,7 +19,7 @@ use Rattle.crew_resource.proofs.Members.{Member-at, Member-map_in, Member-map_ou
 use Rattle.crew_resource.specs.Members.{Member}
 use Rattle.crew_rules.specs.Settings.{IsChecked}
 use Rattle.crew_rules.specs.declared.settings.Settings.{Settings}
-use Rattle.crew_vector.proofs.Paths.{some-or-none}
+use Rattle.crew_answers.proofs.crew_vector_lemmas.Paths.{some-or-none}
 
 abbrev Cells : Type 0
 Cells = List (DutyNode × Cell Entries)

@@ -21,7 +21,7 @@ use Rattle.crew_pairing.specs.declared.duty.Duty.{Duty}
 use Rattle.crew_resource.proofs.Members.{Member-flat_map_in, Member-flat_map_out, Member-map_in, Member-map_out, list_any_false, list_any_true}
 use Rattle.crew_resource.specs.Members.{Each, Member}
 use Rattle.crew_rules.specs.declared.settings.Settings.{Settings}
-use Rattle.crew_vector.proofs.Orders.{code-itself, same-code}
+use Rattle.crew_answers.proofs.crew_vector_lemmas.Orders.{code-itself, same-code}
 
 -- ---- the bases, in order
 

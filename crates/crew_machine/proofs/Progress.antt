@@ -19,9 +19,9 @@ use Rattle.crew_resource.proofs.Members.{Member-filter_in}
 use Rattle.crew_resource.specs.Members.{Each, Member}
 use Rattle.crew_rules.specs.Settings.{IsChecked}
 use Rattle.crew_rules.specs.declared.settings.Settings.{Settings}
-use Rattle.crew_vector.proofs.Nodes.{Known, arcs-rise, rank}
-use Rattle.crew_vector.proofs.Orders.{code-itself, same-code}
-use Rattle.crew_vector.proofs.Paths.{legal-known}
+use Rattle.crew_answers.proofs.crew_vector_lemmas.Nodes.{Known, arcs-rise, rank}
+use Rattle.crew_answers.proofs.crew_vector_lemmas.Orders.{code-itself, same-code}
+use Rattle.crew_answers.proofs.crew_vector_lemmas.Paths.{legal-known}
 
 done-or-not : (c : Cell Entries) → ((f : Entries) × (c ≡ Done f)) ⊎ IsUndone c
 done-or-not Waiting = inr tt

@@ -35,7 +35,7 @@ use Rattle.crew_resource.proofs.Members.{Member-at}
 use Rattle.crew_resource.specs.Members.{Member}
 use Rattle.crew_rules.specs.Settings.{IsChecked}
 use Rattle.crew_rules.specs.declared.settings.Settings.{Settings}
-use Rattle.crew_vector.proofs.Paths.{some-or-none}
+use Rattle.crew_answers.proofs.crew_vector_lemmas.Paths.{some-or-none}
 
 -- few duties, or too many
 few-or-many : (s : Settings) (entries : List Entry) → HasFew s (timetable_of entries) ⊎ HasTooMany s (timetable_of entries)

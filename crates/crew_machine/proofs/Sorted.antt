@@ -9,7 +9,7 @@ use Rattle.crew_answers.proofs.PlainNodes.{node-front}
 use Rattle.crew_answers.proofs.Unique.{vector-total}
 use Rattle.crew_answers.specs.Fronts.{IsFrontAt, RiseByVector, period_cmp, vector_cmp}
 use Rattle.crew_answers.specs.LongVectors.{LongVector}
-use Rattle.crew_history.proofs.FixedHistories.{pair_exact}
+use Rattle.crew_answers.proofs.crew_history_lemmas.FixedHistories.{pair_exact}
 use Rattle.crew_resource.proofs.ListOrder.{lists_exact}
 use Rattle.crew_flights.specs.Timetable.{IsSound, Timetable}
 use Rattle.crew_machine.specs.Crew.{DutyNode, Entries, IsFrontOf, IsNodeOf}
@@ -18,8 +18,8 @@ use Rattle.crew_pairing.specs.declared.vector.PairingVector.{PairingVector}
 use Rattle.crew_resource.specs.Members.{Each, Member}
 use Rattle.crew_rules.specs.Settings.{IsChecked}
 use Rattle.crew_rules.specs.declared.settings.Settings.{Settings}
-use Rattle.crew_vector.specs.Fronts as Sums
-use Rattle.crew_vector.specs.Machinery.Named.{named_order}
+use Rattle.crew_answers.specs.crew_vector.Fronts as Sums
+use Rattle.crew_answers.specs.crew_vector.Machinery.Named.{named_order}
 
 abbrev Entry : Type 0
 Entry = LongVector × List (List Leg)

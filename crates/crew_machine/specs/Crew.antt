@@ -24,8 +24,8 @@ use Rattle.crew_pairing.specs.Vectors.{reduced_cost}
 use Rattle.crew_pairing.specs.declared.duty.Duty.{Duty}
 use Rattle.crew_resource.specs.Members.{Each, Member}
 use Rattle.crew_rules.specs.declared.settings.Settings.{Settings}
-use Rattle.crew_vector.specs.Bests.{NoDearer}
-use Rattle.crew_vector.specs.declared.priced.PricedPairing.{PricedPairing}
+use Rattle.crew_answers.specs.crew_vector.Bests.{NoDearer}
+use Rattle.crew_answers.specs.crew_vector.declared.priced.PricedPairing.{PricedPairing}
 
 -- a crew base, and a duty with all its facts
 pub record DutyNode : Type 0 where

@@ -5,3 +5,4 @@ pub mod Chains
 pub mod Choices
 pub mod Crew
 pub mod Machinery
+pub use Rattle.crew_answers.specs as crew_answers

@@ -16,7 +16,7 @@ use Rattle.crew_pairing.specs.declared.events.Arrival.{Arrival}
 use Rattle.crew_pairing.specs.declared.events.Departure.{Departure}
 use Rattle.crew_resource.specs.Members.{Each, Member}
 use Rattle.crew_resource.proofs.Members.{Member-map_in, Member-map_out}
-use Rattle.crew_rules.specs.declared.settings.Settings.{Settings}
+use Rattle.crew_pairing.specs.crew_rules.declared.settings.Settings.{Settings}
 
 module _ {E : Type 0} (event_of : Duty → E) (before after : List Duty) (same : map event_of before ≡ map event_of after) where
   -- a duty of the other list that has the same event

@@ -9,7 +9,7 @@ use Rattle.crew_pairing.proofs.Legal.{known-sound}
 use Rattle.crew_pairing.proofs.Times.{ends-later}
 use Rattle.crew_pairing.proofs.Timetables.{flights-of-timetable}
 use Rattle.crew_resource.specs.Members.{Member}
-use Rattle.crew_rules.specs.declared.settings.Settings.{Settings}
+use Rattle.crew_pairing.specs.crew_rules.declared.settings.Settings.{Settings}
 
 pub ends-no-earlier : (s : Settings) (t : Timetable) (duties : List Duty) → TimetableSpec.IsSound t → AreDuties s t duties → (d : Duty) → Member duties d → d.report ≤ℤ d.release
 ends-no-earlier s t duties sound are d m =

@@ -13,7 +13,7 @@ use Rattle.crew_pairing.specs.declared.events.Arrival.{Arrival}
 use Rattle.crew_pairing.specs.declared.events.Departure.{Departure}
 use Rattle.crew_resource.proofs.Members.{Member-at}
 use Rattle.crew_resource.specs.Members.{Member}
-use Rattle.crew_rules.specs.declared.settings.Settings.{Settings}
+use Rattle.crew_pairing.specs.crew_rules.declared.settings.Settings.{Settings}
 use Rattle.crew_net.specs.Events.{leaves_at}
 use Rattle.crew_net.specs.Machinery.Held.{IsHeld, leave_at}
 use Rattle.crew_net.specs.Nets.{AreArrivalPlaces, AreByReport, Net}

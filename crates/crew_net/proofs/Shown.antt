@@ -22,7 +22,7 @@ use Rattle.crew_pairing.specs.declared.events.Arrival.{Arrival}
 use Rattle.crew_pairing.specs.declared.events.Departure.{Departure}
 use Rattle.crew_pairing.proofs.Tree.{Each-map, Each-member}
 use Rattle.crew_resource.specs.Members.{Member}
-use Rattle.crew_rules.specs.declared.settings.Settings.{Settings}
+use Rattle.crew_pairing.specs.crew_rules.declared.settings.Settings.{Settings}
 
 module _ (s : Settings) (bases : List (List ℕ)) (duties : List Duty) (leave arrive : Timeline) (departures : List Departure) (arrivals : List Arrival) (by_report : List ℕ) (held : IsHeld s bases duties leave arrive departures arrivals by_report) where
   left : (d : Duty) → Member duties d → (is_code d.from ≡ true) × IsReal d.report

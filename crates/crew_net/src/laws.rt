@@ -8,8 +8,8 @@ ghost use Rattle.crew_pairing.specs.Duties.{AreDuties};
 ghost use Rattle.crew_pairing.specs.Pairings.{may_stand_after};
 ghost use Rattle.crew_pairing.specs.declared.duty.Duty.{Duty};
 ghost use Rattle.crew_resource.specs.Members.{Member};
-ghost use Rattle.crew_rules.specs.Settings.{IsChecked};
-ghost use Rattle.crew_rules.specs.declared.settings.Settings.{Settings};
+ghost use Rattle.crew_pairing.specs.crew_rules.Settings.{IsChecked};
+ghost use Rattle.crew_pairing.specs.crew_rules.declared.settings.Settings.{Settings};
 
 /// Arcs rise in report: of two legal duties the one that may stand just before the other reports
 /// ten hours earlier or more.

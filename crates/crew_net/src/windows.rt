@@ -5,12 +5,12 @@ ghost use Rattle.crew_flights.specs.Codes.{is_code};
 ghost use Rattle.crew_net.specs.Machinery.Moments as Spec;
 ghost use Rattle.crew_net.specs.Machinery.Moments.{IsReal};
 ghost use Rattle.crew_net.specs.Machinery.Timelines.{IsWithin};
-ghost use Rattle.crew_rules.specs.Settings.{IsChecked};
+ghost use Rattle.crew_pairing.specs.crew_rules.Settings.{IsChecked};
 
 use crate::timeline::{moment, window_between};
 use crate::window::Window;
+use crew_pairing::crew_rules::Settings;
 use crew_pairing::{Arrival, Departure};
-use crew_rules::Settings;
 
 /// The least minutes of rest between two duties.
 const LEAST_REST: i64 = 600;

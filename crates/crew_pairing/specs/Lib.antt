@@ -7,3 +7,5 @@ pub mod Pairings
 pub mod Vectors
 pub mod Local
 pub mod Machinery
+pub use Rattle.crew_flights.specs as crew_flights
+pub use Rattle.crew_rules.specs as crew_rules

@@ -14,6 +14,7 @@ mod key;
 mod leg;
 mod vector;
 
+pub use crew_rules;
 pub use duties::Duties;
 pub use duty::Duty;
 pub use events::{Arrival, Departure};

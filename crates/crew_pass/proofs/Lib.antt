@@ -12,3 +12,5 @@ pub mod Alike
 pub mod Rested
 pub mod Batched
 pub mod Arriving
+pub use Rattle.crew_answers.proofs as crew_answers_lemmas
+pub use Rattle.crew_answers.proofs.crew_history_lemmas

@@ -16,7 +16,7 @@ use Rattle.crew_pairing.specs.declared.events.Departure.{Departure}
 use Rattle.crew_rules.specs.declared.settings.Settings.{Settings}
 use Rattle.crew_resource.specs.Members.{Member}
 use Rattle.crew_resource.proofs.Order.{IsOrder}
-use Rattle.crew_vector.proofs.Orders.{same-code}
+use Rattle.crew_answers.proofs.crew_vector_lemmas.Orders.{same-code}
 use Rattle.crew_pass.specs.Machinery.Held.{AreHeld, IsHeld}
 use Rattle.crew_pass.specs.Machinery.Passing.{AreCovering, AreGathered, Idles, idle_labels}
 use Rattle.crew_pass.specs.Machinery.Terms.{Terms}

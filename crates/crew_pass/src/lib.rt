@@ -28,5 +28,7 @@ mod waits;
 
 pub use base_fronts::BaseFronts;
 pub use course::Course;
+pub use crew_answers;
+pub use crew_answers::crew_history;
 pub use long::long_fronts;
 pub use passing::{pass, pass_by_threads};

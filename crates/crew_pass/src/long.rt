@@ -13,10 +13,10 @@ use crate::base_fronts::BaseFronts;
 use crate::course::Course;
 use crate::laws::long_passes_show_the_fronts;
 use crate::passing::pass;
+use crew_answers::crew_vector::VectorResource;
 use crew_answers::{LongResource, settings_of_sums};
 use crew_flights::Code;
 use crew_rules::Settings;
-use crew_vector::VectorResource;
 use std::alloc::{AllocError, Global};
 
 /// The fronts of a base's duties, of pairings of up to 240 hours: at each legal duty of the course's

@@ -11,9 +11,9 @@ use Rattle.crew_net.specs.Nets.{Net}
 use Rattle.crew_plan.specs.Machinery.Kept.{AreOfSweeps, IsSolved}
 use Rattle.crew_plan.specs.Solutions.{front_among}
 use Rattle.crew_resource.specs.Members.{Each, Member}
-use Rattle.crew_solve.proofs.Listed.{flat-append, take-more}
-use Rattle.crew_solve.specs.Machinery.Solved as Plain
-use Rattle.crew_sweep.specs.Sweeps.{BaseSweep}
+use Rattle.crew_fronts.proofs.crew_solve_lemmas.Listed.{flat-append, take-more}
+use Rattle.crew_fronts.specs.crew_solve.Machinery.Solved as Plain
+use Rattle.crew_fronts.specs.crew_sweep.Sweeps.{BaseSweep}
 use Rattle.crew_vector.proofs.Orders.{code-itself}
 
 -- the fronts of a base, among those that stand for others

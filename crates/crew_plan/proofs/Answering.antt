@@ -1,7 +1,7 @@
 -- What a solution by passes answers.
 use Rattle.std.proofs.Common.{◌≡◌, ◌∙◌, ◌<◌, ℕ, zero, suc, List, [], ◌∷◌, Option, None, ap, refl, sym, subst, take, length, arith}
 use Rattle.std.specs.List.{flat_map}
-use Rattle.crew_answers.specs.Bests.{AreFronts, IsBest}
+use Rattle.crew_fronts.specs.crew_answers.Bests.{AreFronts, IsBest}
 use Rattle.crew_net.specs.Nets.{IsNetOf, Net}
 use Rattle.crew_fronts.specs.Fronts.{BaseFronts}
 use Rattle.crew_plan.specs.Apart.{AreApart}
@@ -14,10 +14,10 @@ use Rattle.crew_plan.proofs.Homing.{are-apart, are-cheapest, is-best}
 use Rattle.crew_plan.proofs.Placed.{all-solved, fronts-are, keys-of}
 use Rattle.crew_plan.proofs.Shorter.{AnswersTo, same-taken}
 use Rattle.crew_rules.specs.declared.settings.Settings.{Settings}
-use Rattle.crew_solve.proofs.Keeping.{kept-first, sorted}
-use Rattle.crew_solve.proofs.Swept.{over-of}
-use Rattle.crew_solve.specs.Apart as Plain
-use Rattle.crew_solve.specs.Machinery.Homes.{least_of}
+use Rattle.crew_fronts.proofs.crew_solve_lemmas.Keeping.{kept-first, sorted}
+use Rattle.crew_fronts.proofs.crew_solve_lemmas.Swept.{over-of}
+use Rattle.crew_fronts.specs.crew_solve.Apart as Plain
+use Rattle.crew_fronts.specs.crew_solve.Machinery.Homes.{least_of}
 use Rattle.crew_vector.specs.declared.priced.PricedPairing.{PricedPairing}
 
 -- ---- the fronts of all bases of a plan make its solution

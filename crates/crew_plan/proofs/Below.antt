@@ -6,12 +6,12 @@ use Rattle.std.specs.Ordering.{eq_by_cmp, int_cmp, is_le, ordering_then}
 use Rattle.std.specs.declared.cmp.Ordering.{Ordering}
 use Rattle.std.specs.declared.cmp.Ordering.TheVariants.{Less, Equal, Greater}
 use Rattle.std.proofs.lemmas.Int.{ints}
-use Rattle.crew_answers.specs.Bests.{IsBest, IsCleanPairing, IsPairing}
-use Rattle.crew_answers.specs.Fronts.{At, IsFrontAt}
-use Rattle.crew_answers.specs.LongVectors.{LongVector, long_vector_of}
-use Rattle.crew_answers.proofs.OneBest.{one-best}
-use Rattle.crew_answers.proofs.PlainNodes.{each-below, node-front}
-use Rattle.crew_answers.proofs.Vectors.{sums-at-most}
+use Rattle.crew_fronts.specs.crew_answers.Bests.{IsBest, IsCleanPairing, IsPairing}
+use Rattle.crew_fronts.specs.crew_answers.Fronts.{At, IsFrontAt}
+use Rattle.crew_fronts.specs.crew_answers.LongVectors.{LongVector, long_vector_of}
+use Rattle.crew_fronts.proofs.crew_answers_lemmas.OneBest.{one-best}
+use Rattle.crew_fronts.proofs.crew_answers_lemmas.PlainNodes.{each-below, node-front}
+use Rattle.crew_fronts.proofs.crew_answers_lemmas.Vectors.{sums-at-most}
 use Rattle.crew_flights.specs.Codes.{code_cmp}
 use Rattle.crew_flights.specs.Timetable.{IsSound, Timetable}
 use Rattle.crew_pairing.proofs.Tree.{Each-member}

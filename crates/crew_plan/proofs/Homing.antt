@@ -5,11 +5,11 @@ use Rattle.std.specs.List.{flat_map}
 use Rattle.std.specs.Ordering.{eq_by_cmp, is_eq}
 use Rattle.std.specs.declared.cmp.Ordering.TheVariants.{Less, Equal}
 use Rattle.std.proofs.lemmas.Int.{ints}
-use Rattle.crew_answers.specs.Bests.{AreFronts, IsBest, IsCleanPairing, IsHomeEntry}
-use Rattle.crew_answers.specs.Fronts.{IsFrontAt}
-use Rattle.crew_answers.specs.LongVectors.{LongVector, long_vector_of}
-use Rattle.crew_answers.proofs.Cheapest.{entry-pairing, least-entry, no-entry}
-use Rattle.crew_answers.proofs.Unique.{same-front}
+use Rattle.crew_fronts.specs.crew_answers.Bests.{AreFronts, IsBest, IsCleanPairing, IsHomeEntry}
+use Rattle.crew_fronts.specs.crew_answers.Fronts.{IsFrontAt}
+use Rattle.crew_fronts.specs.crew_answers.LongVectors.{LongVector, long_vector_of}
+use Rattle.crew_fronts.proofs.crew_answers_lemmas.Cheapest.{entry-pairing, least-entry, no-entry}
+use Rattle.crew_fronts.proofs.crew_answers_lemmas.Unique.{same-front}
 use Rattle.crew_flights.specs.Codes.{code_cmp}
 use Rattle.crew_flights.specs.Timetable.{IsSound, Timetable}
 use Rattle.crew_fronts.specs.Fronts.{BaseFronts, Entries, front_at}
@@ -32,11 +32,11 @@ use Rattle.crew_resource.proofs.Members.{Member-flat_map_in, Member-flat_map_out
 use Rattle.crew_resource.specs.Members.{Each, Member}
 use Rattle.crew_rules.specs.Settings.{IsChecked}
 use Rattle.crew_rules.specs.declared.settings.Settings.{Settings}
-use Rattle.crew_solve.proofs.Bases.{RiseByBase, entry-of, keys-rise, price-found}
-use Rattle.crew_solve.proofs.Keeping.{firsts-among, firsts-few, firsts-least, firsts-rise, in-order-among, in-order-each, in-order-rise, kept-first, sorted}
-use Rattle.crew_solve.proofs.Least.{none-least, some-least}
-use Rattle.crew_solve.specs.Machinery.Homes.{least_of}
-use Rattle.crew_solve.specs.Machinery.Keeps.{keep_all, nothing}
+use Rattle.crew_fronts.proofs.crew_solve_lemmas.Bases.{RiseByBase, entry-of, keys-rise, price-found}
+use Rattle.crew_fronts.proofs.crew_solve_lemmas.Keeping.{firsts-among, firsts-few, firsts-least, firsts-rise, in-order-among, in-order-each, in-order-rise, kept-first, sorted}
+use Rattle.crew_fronts.proofs.crew_solve_lemmas.Least.{none-least, some-least}
+use Rattle.crew_fronts.specs.crew_solve.Machinery.Homes.{least_of}
+use Rattle.crew_fronts.specs.crew_solve.Machinery.Keeps.{keep_all, nothing}
 use Rattle.crew_vector.proofs.Fitting.{cost-is}
 use Rattle.crew_vector.proofs.Orders.{code-itself, same-code}
 use Rattle.crew_vector.specs.declared.priced.PricedPairing.{PricedPairing}

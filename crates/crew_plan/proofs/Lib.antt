@@ -8,3 +8,5 @@ pub mod Answering
 pub mod OneList
 pub mod Sharing
 pub mod Below
+pub use Rattle.crew_fronts.proofs.crew_answers_lemmas
+pub use Rattle.crew_fronts.proofs.crew_duty_lemmas

@@ -8,7 +8,7 @@ use Rattle.crew_resource.proofs.Members.{Member-append}
 use Rattle.crew_resource.proofs.Rising.{Rising, same-rising}
 use Rattle.crew_resource.specs.Members.{Each, Member}
 use Rattle.crew_rules.specs.declared.settings.Settings.{Settings}
-use Rattle.crew_solve.proofs.Within.{no-longer}
+use Rattle.crew_fronts.proofs.crew_solve_lemmas.Within.{no-longer}
 use Rattle.crew_plan.specs.Cheapest.{AreCheapest, RiseByCost, pairing_cmp, pairing_total}
 use Rattle.crew_vector.specs.declared.priced.PricedPairing.{PricedPairing}
 

@@ -4,11 +4,11 @@ use Rattle.std.specs.Prelude.{slice_get}
 use Rattle.std.proofs.lemmas.List.{length-map}
 use Rattle.std.specs.FinMap as fin
 use Rattle.std.specs.Ordering.{eq_by_cmp}
-use Rattle.crew_answers.specs.Bests.{AreFronts}
-use Rattle.crew_answers.specs.Fronts.{IsFrontAt}
-use Rattle.crew_answers.specs.LongVectors.{LongVector}
-use Rattle.crew_answers.specs.Ranges.{IsInRange}
-use Rattle.crew_answers.specs.Schedules.{IsDated}
+use Rattle.crew_fronts.specs.crew_answers.Bests.{AreFronts}
+use Rattle.crew_fronts.specs.crew_answers.Fronts.{IsFrontAt}
+use Rattle.crew_fronts.specs.crew_answers.LongVectors.{LongVector}
+use Rattle.crew_fronts.specs.crew_answers.Ranges.{IsInRange}
+use Rattle.crew_fronts.specs.crew_answers.Schedules.{IsDated}
 use Rattle.crew_flights.specs.Codes.{code_cmp}
 use Rattle.crew_flights.specs.Timetable.{IsSound, Timetable}
 use Rattle.crew_fronts.specs.Fronts.{BaseFronts, ShowsFronts, front_at}
@@ -26,10 +26,10 @@ use Rattle.crew_resource.proofs.Members.{Member-map_in, Member-map_out}
 use Rattle.crew_resource.specs.Members.{Each, Member}
 use Rattle.crew_rules.specs.Settings.{IsChecked}
 use Rattle.crew_rules.specs.declared.settings.Settings.{Settings}
-use Rattle.crew_solve.proofs.Bases.{entry-of, price-of}
-use Rattle.crew_solve.proofs.Departing.{get-by}
-use Rattle.crew_solve.specs.Machinery.Homes.{HasPay}
-use Rattle.crew_solve.specs.Machinery.Planned.{IsOver}
+use Rattle.crew_fronts.proofs.crew_solve_lemmas.Bases.{entry-of, price-of}
+use Rattle.crew_fronts.proofs.crew_solve_lemmas.Departing.{get-by}
+use Rattle.crew_fronts.specs.crew_solve.Machinery.Homes.{HasPay}
+use Rattle.crew_fronts.specs.crew_solve.Machinery.Planned.{IsOver}
 use Rattle.crew_net.proofs.Numbers.{get-within}
 use Rattle.crew_net.proofs.Slices.{map-get, map-got}
 use Rattle.crew_vector.proofs.Orders.{code-itself, same-code}

@@ -7,12 +7,12 @@ use Rattle.std.proofs.Math.IntN.{pos-*ℤ-negsuc}
 use Rattle.std.proofs.Math.Nat.{mul-le-mul_left}
 use Rattle.std.proofs.lemmas.Bool.{and_parts}
 use Rattle.std.proofs.lemmas.Int.{ints}
-use Rattle.crew_answers.specs.Ranges.{IsInRange}
-use Rattle.crew_answers.proofs.Caps.{same-legal}
+use Rattle.crew_fronts.specs.crew_answers.Ranges.{IsInRange}
+use Rattle.crew_fronts.proofs.crew_answers_lemmas.Caps.{same-legal}
 use Rattle.crew_flights.specs.Codes.{code_cmp}
 use Rattle.crew_flights.specs.Timetable.{IsBasePrice, IsSound, Timetable}
-use Rattle.crew_history.specs.LongPairings.{IsLongPartial}
-use Rattle.crew_history.specs.Limits.{keeps_total}
+use Rattle.crew_fronts.specs.crew_history.LongPairings.{IsLongPartial}
+use Rattle.crew_fronts.specs.crew_history.Limits.{keeps_total}
 use Rattle.crew_pairing.proofs.Timetables.{flights-of-timetable}
 use Rattle.crew_pairing.specs.Duties.{flights_of}
 use Rattle.crew_pairing.specs.Events as Events
@@ -23,7 +23,7 @@ use Rattle.crew_pairing.specs.declared.duty.Duty.{Duty}
 use Rattle.crew_resource.specs.Machinery.Sum.{LiesWithin}
 use Rattle.crew_resource.specs.Members.{Each}
 use Rattle.crew_rules.specs.declared.settings.Settings.{Settings}
-use Rattle.crew_solve.specs.Machinery.Homes.{HasPay}
+use Rattle.crew_fronts.specs.crew_solve.Machinery.Homes.{HasPay}
 use Rattle.crew_vector.proofs.LegalDuties.{legal-sound}
 
 wider : (z : ℤ) (n m : ℕ) → LiesWithin n z → n ≤ m → LiesWithin m z

@@ -9,8 +9,8 @@ use Rattle.std.proofs.lemmas.List.Sums.{count_by-le-length, sum_by-append}
 use Rattle.crew_flights.specs.Timetable.{Timetable}
 use Rattle.crew_resource.proofs.Rising.{same-rising}
 use Rattle.crew_rules.specs.declared.settings.Settings.{Settings}
-use Rattle.crew_solve.proofs.Keeping.{rise-take, take-few, take-or, take-out}
-use Rattle.crew_solve.proofs.Taking.{take-drop}
+use Rattle.crew_fronts.proofs.crew_solve_lemmas.Keeping.{rise-take, take-few, take-or, take-out}
+use Rattle.crew_fronts.proofs.crew_solve_lemmas.Taking.{take-drop}
 use Rattle.crew_plan.proofs.Shorter.{rise-back, rise-too}
 use Rattle.crew_plan.proofs.OneList.{one-list, rising}
 use Rattle.crew_plan.specs.Apart.{AreAll, AreApart, flies, flown, is_apart, taken_from}

@@ -4,13 +4,13 @@ use Rattle.std.specs.Prelude.{nat_le}
 use Rattle.std.specs.Ordering.{eq_by_cmp}
 use Rattle.std.proofs.lemmas.Bool.{and_parts}
 use Rattle.std.proofs.lemmas.Bool.Decides.{nat_tests}
-use Rattle.crew_answers.specs.Bests as Long
-use Rattle.crew_answers.specs.Fronts as LongFronts
-use Rattle.crew_answers.specs.LongVectors.{LongVector, is_long, long_vector_of, settings_of_sums}
-use Rattle.crew_answers.specs.ShortPairings.{sums_of, with_no_pasts}
-use Rattle.crew_answers.proofs.ShortBests.{best-to-long}
-use Rattle.crew_answers.proofs.ShortFronts.{entry-in, front-from-long, front-to-long, sums-in}
-use Rattle.crew_answers.proofs.ShortPartials.{no-past, partial-from-long, partial-to-long, same-settings}
+use Rattle.crew_fronts.specs.crew_answers.Bests as Long
+use Rattle.crew_fronts.specs.crew_answers.Fronts as LongFronts
+use Rattle.crew_fronts.specs.crew_answers.LongVectors.{LongVector, is_long, long_vector_of, settings_of_sums}
+use Rattle.crew_fronts.specs.crew_answers.ShortPairings.{sums_of, with_no_pasts}
+use Rattle.crew_fronts.proofs.crew_answers_lemmas.ShortBests.{best-to-long}
+use Rattle.crew_fronts.proofs.crew_answers_lemmas.ShortFronts.{entry-in, front-from-long, front-to-long, sums-in}
+use Rattle.crew_fronts.proofs.crew_answers_lemmas.ShortPartials.{no-past, partial-from-long, partial-to-long, same-settings}
 use Rattle.crew_flights.specs.Codes.{code_cmp}
 use Rattle.crew_flights.specs.Timetable.{IsSound, Timetable}
 use Rattle.crew_fronts.specs.Fronts.{BaseFronts, Entries, HaveSame, front_at, is_plain}
@@ -31,12 +31,12 @@ use Rattle.crew_resource.specs.Labels.{IsFront}
 use Rattle.crew_resource.specs.Members.{Each, Member}
 use Rattle.crew_rules.specs.Settings.{IsChecked}
 use Rattle.crew_rules.specs.declared.settings.Settings.{Settings}
-use Rattle.crew_solve.specs.Apart as PlainApart
-use Rattle.crew_solve.specs.Cheapest as PlainCheapest
-use Rattle.crew_solve.specs.Plans as PlainPlans
-use Rattle.crew_solve.specs.Solutions as PlainSolutions
-use Rattle.crew_sweep.specs.Sweeps as Sweeps
-use Rattle.crew_sweep.specs.Sweeps.{BaseSweep}
+use Rattle.crew_fronts.specs.crew_solve.Apart as PlainApart
+use Rattle.crew_fronts.specs.crew_solve.Cheapest as PlainCheapest
+use Rattle.crew_fronts.specs.crew_solve.Plans as PlainPlans
+use Rattle.crew_fronts.specs.crew_solve.Solutions as PlainSolutions
+use Rattle.crew_fronts.specs.crew_sweep.Sweeps as Sweeps
+use Rattle.crew_fronts.specs.crew_sweep.Sweeps.{BaseSweep}
 use Rattle.crew_vector.specs.Bests as Plain
 use Rattle.crew_vector.specs.Fronts as PlainFronts
 use Rattle.crew_vector.specs.declared.priced.PricedPairing.{PricedPairing}

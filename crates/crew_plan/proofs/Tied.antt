@@ -3,8 +3,8 @@ use Rattle.std.proofs.Common.{◌≡◌, ◌∙◌, ◌∷◌, ℤ, List, ap, ar
 use Rattle.std.specs.Ordering.{int_cmp, is_le, ordering_reverse}
 use Rattle.std.specs.declared.cmp.Ordering.TheVariants.{Equal}
 use Rattle.std.proofs.lemmas.Int.{ints}
-use Rattle.crew_answers.proofs.Caps.{same-duties, same-rests, with_caps}
-use Rattle.crew_answers.specs.Bests.{IsPairing}
+use Rattle.crew_fronts.proofs.crew_answers_lemmas.Caps.{same-duties, same-rests, with_caps}
+use Rattle.crew_fronts.specs.crew_answers.Bests.{IsPairing}
 use Rattle.crew_flights.specs.Timetable.{IsSound, Timetable}
 use Rattle.crew_pairing.specs.Duties.{flights_of}
 use Rattle.crew_pairing.specs.Keys.{walk_cmp, walk_total}

@@ -4,9 +4,9 @@ use Rattle.std.specs.Cmp.{IsTotalOrder, int_cmp_total, on_total, then_total}
 use Rattle.std.specs.Ordering.{int_cmp, then_cmp}
 use Rattle.std.specs.declared.cmp.Ordering.{Ordering}
 use Rattle.std.specs.declared.cmp.Ordering.TheVariants.{Less}
-use Rattle.crew_answers.specs.Bests.{IsPairing}
-use Rattle.crew_answers.specs.Fronts.{IsFrontAt}
-use Rattle.crew_answers.specs.LongVectors.{LongVector, long_vector_of}
+use Rattle.crew_fronts.specs.crew_answers.Bests.{IsPairing}
+use Rattle.crew_fronts.specs.crew_answers.Fronts.{IsFrontAt}
+use Rattle.crew_fronts.specs.crew_answers.LongVectors.{LongVector, long_vector_of}
 use Rattle.crew_flights.specs.Timetable.{Timetable}
 use Rattle.crew_pairing.specs.Keys.{walk_cmp, walk_total}
 use Rattle.crew_pairing.specs.Legs.{Leg}

@@ -2,8 +2,8 @@
 -- timetable are made one base at a time, each by a pass over the departures of the network.
 use Rattle.std.specs.Prelude.{◌≡◌, ℕ, ℤ, List, Some, length, slice_get}
 use Rattle.std.specs.FinMap as fin
-use Rattle.crew_answers.specs.Bests.{IsScratch}
-use Rattle.crew_answers.specs.Schedules.{IsDated}
+use Rattle.crew_fronts.specs.crew_answers.Bests.{IsScratch}
+use Rattle.crew_fronts.specs.crew_answers.Schedules.{IsDated}
 use Rattle.crew_flights.specs.Timetable.{IsSound, Timetable}
 use Rattle.crew_fronts.specs.Fronts.{BaseFronts, ShowsFronts}
 use Rattle.crew_net.specs.Nets.{IsNetOf, Net}

@@ -1,7 +1,7 @@
 -- The fronts of all bases and duties, and the best pairing.
 use Rattle.std.specs.Prelude.{◌≡◌, ℕ, cond, List, [], ◌∷◌, Option, Some, None}
 use Rattle.std.specs.Ordering.{eq_by_cmp}
-use Rattle.crew_answers.specs.Fronts.{RiseByVector}
+use Rattle.crew_fronts.specs.crew_answers.Fronts.{RiseByVector}
 use Rattle.crew_flights.specs.Codes.{code_cmp}
 use Rattle.crew_flights.specs.Timetable.{Timetable}
 use Rattle.crew_fronts.specs.Fronts.{BaseFronts, Entries, front_at}

@@ -5,10 +5,10 @@ ghost use Rattle.crew_flights.specs.Timetable.{Timetable};
 ghost use Rattle.crew_net.specs.Nets.{IsNetOf};
 
 use crew_flights::Code;
+use crew_fronts::crew_step::is_same_duty;
 use crew_net::Net;
 use crew_pairing::Duties;
 use crew_rules::Settings;
-use crew_step::is_same_duty;
 
 /// Whether a network was made under these settings.
 pub(crate) fn is_under(net: &Net, settings: &Settings) -> bool

@@ -1,6 +1,6 @@
 //! When flights depart.
 ghost use Rattle.std.specs.Prelude.{◌≡◌, IfOk, OnOk};
-ghost use Rattle.crew_answers.specs.Schedules.{IsDated};
+ghost use Rattle.crew_fronts.specs.crew_answers.Schedules.{IsDated};
 ghost use Rattle.crew_flights.specs.Timetable.{IsSound};
 ghost use Rattle.crew_pairing.specs.Duties.{flights_of};
 ghost use Rattle.crew_resource.specs.Members.{Each};

@@ -1,6 +1,6 @@
 //! Laws over the definitions alone.
 ghost use Rattle.std.specs.Prelude.{◌≡◌, ◌<◌, ◌≤◌, ◌≤ℤ◌, ℕ, List, Option, count_by, length, slice_get, take};
-ghost use Rattle.crew_answers.specs.Bests.{IsBest, IsPairing};
+ghost use Rattle.crew_fronts.specs.crew_answers.Bests.{IsBest, IsPairing};
 ghost use Rattle.crew_flights.specs.Timetable.{IsSound, Timetable};
 ghost use Rattle.crew_pairing.specs.Pairings.{last_duty};
 ghost use Rattle.crew_rules.specs.Settings.{IsChecked};

@@ -19,5 +19,7 @@ mod solution;
 mod sweeps;
 mod taken;
 
+pub use crew_fronts;
+pub use crew_fronts::{crew_duty, crew_solve};
 pub use plan::Plan;
 pub use solution::Solution;

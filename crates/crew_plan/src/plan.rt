@@ -26,7 +26,7 @@ use std::thread::Threads;
 // A plan of sweeps, where the settings need no more than the seven sums, or else of passes.
 #[derive(Drop)]
 pub(crate) enum Kind {
-    Plain(crew_solve::Plan),
+    Plain(crew_fronts::crew_solve::Plan),
     Long(LongPlan),
 }
 
@@ -97,7 +97,7 @@ fn plain_of(
         Some(earlier) => earlier.by_sweeps(),
         None => None,
     };
-    let plan = crew_solve::Plan::of(alloc, settings, timetable, duties, earlier)?;
+    let plan = crew_fronts::crew_solve::Plan::of(alloc, settings, timetable, duties, earlier)?;
     Ok(Kind::Plain(plan))
 }
 

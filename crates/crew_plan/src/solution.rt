@@ -2,7 +2,7 @@
 ghost use Rattle.std.specs.Arc.{arc_value};
 ghost use Rattle.std.specs.Option.{option_copied};
 ghost use Rattle.std.specs.Prelude.{◌≡◌, IfOk, IfSome, None, map};
-ghost use Rattle.crew_answers.specs.Bests.{AreFronts};
+ghost use Rattle.crew_fronts.specs.crew_answers.Bests.{AreFronts};
 ghost use Rattle.crew_flights.specs.Timetable.{IsSound, Timetable};
 ghost use Rattle.crew_fronts.specs.Fronts.{BaseFronts as FrontsOf, front_at};
 ghost use Rattle.crew_pairing.specs.declared.duty.Duty.{Duty as DutyOf};
@@ -15,7 +15,7 @@ ghost use Rattle.crew_plan.specs.Solutions.{HasNetOf, IsFrontOf, front_of};
 ghost use Rattle.crew_resource.specs.Members.{Each, Member};
 ghost use Rattle.crew_rules.specs.Settings.{IsChecked};
 ghost use Rattle.crew_rules.specs.declared.settings.Settings.{Settings};
-ghost use Rattle.crew_solve.specs.Plans as Plain;
+ghost use Rattle.crew_fronts.specs.crew_solve.Plans as Plain;
 
 use crate::homes::{apart_of, best_of, cheapest_of};
 use crate::long_plan::LongPlan;
@@ -33,7 +33,7 @@ use std::sync::Arc;
 // A solution by sweeps; or else the network, and the best of what passes show.
 #[derive(Drop)]
 pub(crate) enum Made {
-    Plain(crew_solve::Solution),
+    Plain(crew_fronts::crew_solve::Solution),
     Long(Arc<Net, Global>, Option<PricedPairing>),
 }
 
@@ -107,7 +107,7 @@ impl Solution {
     // The solution of a plan of sweeps, given the fronts of each of its bases in order.
     fn unwrapped(
         alloc: Global,
-        plan: &crew_solve::Plan,
+        plan: &crew_fronts::crew_solve::Plan,
         fronts: &[Arc<BaseFronts, Global>],
     ) -> Result<Solution, AllocError>
         requires plain { IsForSweeps plan.now }
@@ -115,15 +115,15 @@ impl Solution {
         ensures { IfOk result (IsSolutionIn (plan_by_sweeps plan.now)) }
     {
         let sweeps = unwrapped(alloc, plan, fronts)?;
-        let solution = crew_solve::Solution::of(alloc, plan, sweeps)?;
+        let solution = crew_fronts::crew_solve::Solution::of(alloc, plan, sweeps)?;
         Solution::swept(alloc, plan, solution)
     }
 
     // The solution of a plan of sweeps, given that of these.
     pub(crate) fn swept(
         alloc: Global,
-        plan: &crew_solve::Plan,
-        solution: crew_solve::Solution,
+        plan: &crew_fronts::crew_solve::Plan,
+        solution: crew_fronts::crew_solve::Solution,
     ) -> Result<Solution, AllocError>
         requires plain { IsForSweeps plan.now }
         requires solved { Plain.IsSolutionIn plan.now solution }
@@ -155,7 +155,7 @@ impl Solution {
     }
 
     // The solution by sweeps, where one was made.
-    pub(crate) fn by_sweeps(&self) -> Option<&crew_solve::Solution> {
+    pub(crate) fn by_sweeps(&self) -> Option<&crew_fronts::crew_solve::Solution> {
         match &self.made {
             Made::Plain(solution) => Some(solution),
             Made::Long(..) => None,

@@ -8,8 +8,8 @@ ghost use Rattle.crew_plan.specs.Machinery.Kept.{AreOfSweeps};
 ghost use Rattle.crew_plan.specs.Machinery.Kinds.{IsForSweeps, plan_by_sweeps};
 ghost use Rattle.crew_plan.specs.Plans.{AreAllIn, AreFrontsIn};
 ghost use Rattle.crew_resource.specs.Members.{Each};
-ghost use Rattle.crew_solve.specs.Plans.{AreSweepsIn};
-ghost use Rattle.crew_sweep.specs.Sweeps.{ShowsFronts};
+ghost use Rattle.crew_fronts.specs.crew_solve.Plans.{AreSweepsIn};
+ghost use Rattle.crew_fronts.specs.crew_sweep.Sweeps.{ShowsFronts};
 
 use crew_fronts::BaseFronts;
 use std::alloc::{AllocError, Global};
@@ -18,7 +18,7 @@ use std::sync::Arc;
 /// The fronts of the base at a place of a plan.
 pub(crate) fn swept(
     alloc: Global,
-    plan: &crew_solve::Plan,
+    plan: &crew_fronts::crew_solve::Plan,
     place: usize,
 ) -> Result<Arc<BaseFronts, Global>, AllocError>
     requires plain { IsForSweeps plan.now }
@@ -35,7 +35,7 @@ pub(crate) fn swept(
 /// Each of these fronts as those of a base.
 pub(crate) fn wrapped(
     alloc: Global,
-    sweeps: &[Arc<crew_solve::BaseFronts, Global>],
+    sweeps: &[Arc<crew_fronts::crew_solve::BaseFronts, Global>],
 ) -> Result<Vec<Arc<BaseFronts, Global>>, AllocError>
     requires { Each (λ b. is_plain b.net.settings ≡ true) (map arc_value sweeps.now) }
     ensures { IfOk result
@@ -50,7 +50,9 @@ pub(crate) fn wrapped(
 }
 
 // The sweep that made the fronts of a base.
-fn sweep_of(fronts: &BaseFronts) -> Result<Arc<crew_solve::BaseFronts, Global>, AllocError>
+fn sweep_of(
+    fronts: &BaseFronts,
+) -> Result<Arc<crew_fronts::crew_solve::BaseFronts, Global>, AllocError>
     requires { is_plain fronts.now.net.settings ≡ true }
     ensures own { IfOk result (λ sweep. IsOfSweep (arc_value sweep) fronts.now) }
     ensures right { IfOk result (λ sweep. (t : Timetable) → IsSound t
@@ -67,9 +69,9 @@ fn sweep_of(fronts: &BaseFronts) -> Result<Arc<crew_solve::BaseFronts, Global>, 
 /// The sweeps that made the fronts of a plan's bases.
 pub(crate) fn unwrapped(
     alloc: Global,
-    plan: &crew_solve::Plan,
+    plan: &crew_fronts::crew_solve::Plan,
     fronts: &[Arc<BaseFronts, Global>],
-) -> Result<Vec<Arc<crew_solve::BaseFronts, Global>>, AllocError>
+) -> Result<Vec<Arc<crew_fronts::crew_solve::BaseFronts, Global>>, AllocError>
     requires plain { IsForSweeps plan.now }
     requires all { AreAllIn (plan_by_sweeps plan.now) (map arc_value fronts.now) }
     ensures { IfOk result (λ sweeps. AreSweepsIn plan.now (map arc_value sweeps.items)) }

@@ -3,8 +3,8 @@
 ghost use Rattle.std.specs.Prelude.{◌≡◌, ◌≤◌, ◌<◌, ◌+◌, ◌++◌, ◌∷◌, ℕ, IfOk, List, OnOk, Some, [], cond, false, get_or, length, nat_eq, nat_lt, take, true};
 ghost use Rattle.std.specs.List.{flat_map, list_all, list_any};
 ghost use Rattle.crew_resource.specs.Members.{Each};
-ghost use Rattle.crew_solve.specs.Apart as Apart;
-ghost use Rattle.crew_solve.specs.Apart.{is_apart};
+ghost use Rattle.crew_fronts.specs.crew_solve.Apart as Apart;
+ghost use Rattle.crew_fronts.specs.crew_solve.Apart.{is_apart};
 ghost use Rattle.crew_vector.specs.declared.priced.PricedPairing.{PricedPairing as Pairing};
 
 use crew_pairing::{Key, Leg, Walk};
@@ -118,8 +118,8 @@ pub(crate) struct Taken {
 
 impl Model for Taken {
     ghost use Rattle.std.specs.Prelude.{◌≡◌, ℕ, None, count_by, get_or, length};
-    ghost use Rattle.crew_solve.specs.Apart.{flies};
-    ghost use Rattle.crew_solve.specs.Machinery.Takes as Spec;
+    ghost use Rattle.crew_fronts.specs.crew_solve.Apart.{flies};
+    ghost use Rattle.crew_fronts.specs.crew_solve.Machinery.Takes as Spec;
 
     ghost Value = { Spec.Taken };
 
@@ -134,7 +134,7 @@ impl Model for Taken {
 }
 
 impl Taken {
-    ghost use Rattle.crew_solve.specs.Machinery.Takes as Spec;
+    ghost use Rattle.crew_fronts.specs.crew_solve.Machinery.Takes as Spec;
 
     /// None yet.
     pub(crate) fn new(alloc: Global, share: u32) -> Result<Taken, AllocError>

@@ -4,9 +4,9 @@ ghost use Rattle.crew_core.specs.Replies.{acts_of};
 ghost use Rattle.crew_play.specs.Plays.{IsTraceOf};
 ghost use Rattle.crew_rules.specs.Settings.{IsChecked};
 
+use crew_core::crew_version::Version;
 use crew_core::{Machine, Reply, Step};
 use crew_rules::Settings;
-use crew_version::Version;
 use std::alloc::{AllocError, Global};
 use std::sync::Arc;
 use std::thread::Threads;

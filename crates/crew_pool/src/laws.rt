@@ -2,11 +2,11 @@
 ghost use Rattle.std.specs.Prelude.{ℕ, List, length};
 ghost use Rattle.crew_pairing.specs.Duties.{AreDuties};
 ghost use Rattle.crew_pairing.specs.declared.duty.Duty.{Duty};
-ghost use Rattle.crew_flights.specs.Timetable.{Timetable};
+ghost use Rattle.crew_pairing.specs.crew_flights.Timetable.{Timetable};
 ghost use Rattle.crew_pairing.specs.Local.{IsLocalOf};
 ghost use Rattle.crew_pool.specs.Ranks.{AreRanked, by_key};
 ghost use Rattle.crew_pool.specs.LabelWalks.{IsPoolOf};
-ghost use Rattle.crew_rules.specs.declared.settings.Settings.{Settings};
+ghost use Rattle.crew_pairing.specs.crew_rules.declared.settings.Settings.{Settings};
 
 use crew_resource::Resource;
 

@@ -28,19 +28,19 @@ use Rattle.crew_flights.specs.contracts.timetable.Timetable as Timetable
 use Rattle.crew_publish.specs.contracts.shown.Shown as Shown
 use Rattle.crew_publish.specs.contracts.viewer.Viewer as Viewer
 use Rattle.crew_publish.specs.contracts.viewer.Viewer.TheInside as Inside
-use Rattle.crew_fronts.specs.contracts.base_fronts.BaseFronts as BaseFronts
-use Rattle.crew_fronts.specs.contracts.passed_fronts.PassedFronts as PassedFronts
+use Rattle.crew_version.specs.crew_fronts.contracts.base_fronts.BaseFronts as BaseFronts
+use Rattle.crew_version.specs.crew_fronts.contracts.passed_fronts.PassedFronts as PassedFronts
 use Rattle.crew_label.specs.contracts.label.Label as Label
 use Rattle.crew_label.specs.contracts.pool.Pool as Pool
 use Rattle.crew_label.specs.contracts.table.Table as Labels
 use Rattle.crew_net.specs.contracts.net.Net as Net
-use Rattle.crew_pass.specs.contracts.base_fronts.BaseFronts as Passed
-use Rattle.crew_plan.specs.contracts.solution.Solution as Solution
+use Rattle.crew_version.specs.crew_pass.contracts.base_fronts.BaseFronts as Passed
+use Rattle.crew_version.specs.crew_plan.contracts.solution.Solution as Solution
 use Rattle.crew_pool.specs.contracts.pool.Pool as SweptPool
 use Rattle.crew_resource.specs.declared.resource.Resource.{Ghosts as ResourceGhosts}
-use Rattle.crew_solve.specs.contracts.base_fronts.BaseFronts as SweptFronts
-use Rattle.crew_solve.specs.contracts.solution.Solution as SweptSolution
-use Rattle.crew_step.specs.contracts.pools.Pools as SweptPools
+use Rattle.crew_version.specs.crew_solve.contracts.base_fronts.BaseFronts as SweptFronts
+use Rattle.crew_version.specs.crew_solve.contracts.solution.Solution as SweptSolution
+use Rattle.crew_version.specs.crew_step.contracts.pools.Pools as SweptPools
 use Rattle.crew_version.specs.contracts.draft.Draft as Draft
 use Rattle.crew_version.specs.contracts.version.Version as Version
 

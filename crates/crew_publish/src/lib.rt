@@ -15,6 +15,8 @@ mod publisher;
 mod shown;
 mod viewer;
 
+pub use crew_version;
+pub use crew_version::crew_solve;
 pub use fault::{PairFault, PublishFault, ViewFault};
 pub use note::Note;
 pub use publisher::{Publisher, pair};

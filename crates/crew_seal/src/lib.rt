@@ -6,4 +6,6 @@
 
 mod round;
 
+pub use crew_board;
+pub use crew_board::{crew_dirty, crew_job, crew_round};
 pub use round::seal_round;

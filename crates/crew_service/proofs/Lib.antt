@@ -1,3 +1,5 @@
 pub mod Boards
 pub mod Plans
 pub mod Settles
+pub use Rattle.crew_publish.proofs as crew_publish_lemmas
+pub use Rattle.crew_publish.proofs.crew_version_lemmas

@@ -34,3 +34,6 @@ pub mod Below
 pub mod Sharing
 pub mod Choosing
 pub mod SameLabels
+pub use Rattle.crew_duty.proofs as crew_duty_lemmas
+pub use Rattle.crew_sweep.proofs.crew_step_lemmas
+pub use Rattle.crew_vector.proofs as crew_vector_lemmas

@@ -5,7 +5,7 @@ use Rattle.std.specs.Cmp.{IsTotalOrder, int_cmp_total, on_total, then_total}
 use Rattle.std.specs.declared.cmp.Ordering.{Ordering}
 use Rattle.std.specs.declared.cmp.Ordering.TheVariants.{Less}
 use Rattle.std.proofs.lemmas.Cmp.{tied_itself}
-use Rattle.crew_carry.specs.Twins.{AreTwins, Twins}
+use Rattle.crew_sweep.specs.crew_carry.Twins.{AreTwins, Twins}
 use Rattle.crew_flights.specs.Codes.{code_cmp_total}
 use Rattle.crew_net.specs.Events.{AreEvents, arrival_cmp, departure_cmp}
 use Rattle.crew_net.specs.Nets.{Net}

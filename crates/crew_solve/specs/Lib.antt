@@ -3,3 +3,6 @@ pub mod Plans
 pub mod Cheapest
 pub mod Apart
 pub mod Machinery
+pub use Rattle.crew_sweep.specs.crew_step
+pub use Rattle.crew_sweep.specs as crew_sweep
+pub use Rattle.crew_vector.specs as crew_vector

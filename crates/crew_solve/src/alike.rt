@@ -1,11 +1,11 @@
 //! Whether two networks are one.
 ghost use Rattle.std.specs.Prelude.{◌≡◌, ◌<◌, ◌↔◌, ℕ, IsTrue, Some, length, slice_get, true};
-ghost use Rattle.crew_carry.specs.Twins.{AreTwins};
+ghost use Rattle.crew_sweep.specs.crew_carry.Twins.{AreTwins};
 ghost use Rattle.crew_solve.specs.Machinery.Planned.{AreAlike, IsLaidOut};
 
-use crew_carry::Twins;
 use crew_flights::Code;
 use crew_net::Net;
+use crew_sweep::crew_carry::Twins;
 
 // Whether two lists of bases are one.
 fn are_same_bases(one: &[Code], other: &[Code]) -> bool

@@ -29,6 +29,9 @@ mod walk_view;
 
 pub use base_fronts::BaseFronts;
 pub use cheapest_so_far::CheapestSoFar;
+pub use crew_duty;
+pub use crew_sweep::crew_step;
+pub use crew_vector;
 pub use front_view::{FrontEntries, FrontView};
 pub use plan::Plan;
 pub use scratch::{solve, solve_listed, solve_next, solve_with};

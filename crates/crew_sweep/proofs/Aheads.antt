@@ -12,7 +12,7 @@ use Rattle.crew_pool.specs.Counted.{AreCounted}
 use Rattle.crew_pool.specs.LabelWalks.{shown}
 use Rattle.crew_pool.specs.declared.label_walk.LabelWalk.{LabelWalk}
 use Rattle.crew_resource.specs.Members.{Member}
-use Rattle.crew_step.specs.Walks.{HasGrown}
+use Rattle.crew_carry.specs.crew_step.Walks.{HasGrown}
 use Rattle.crew_sweep.specs.Machinery.Ahead.{AreAhead, IsAhead}
 use Rattle.crew_sweep.specs.Machinery.Parts.{IsPart}
 use Rattle.crew_sweep.specs.Machinery.Passing.{HaveStayed, IsPooled, IsPooledOver}

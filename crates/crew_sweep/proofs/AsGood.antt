@@ -20,7 +20,7 @@ use Rattle.crew_resource.specs.Events.{labelled}
 use Rattle.crew_resource.specs.Members.{Member}
 use Rattle.crew_resource.proofs.Covering.{IsCovering, local_of_all}
 use Rattle.crew_resource.proofs.Members.{Member-flat_map_in, Member-flat_map_out}
-use Rattle.crew_step.specs.Pools.{boarded, boarding}
+use Rattle.crew_carry.specs.crew_step.Pools.{boarded, boarding}
 use Rattle.crew_vector.specs.Dominance.{is_at_most}
 use Rattle.crew_vector.proofs.Steps.{vector-order}
 use Rattle.crew_sweep.specs.Machinery.Boardings.{HaveAsGood, IsAsGood, TakesNoMore}

@@ -5,7 +5,7 @@ use Rattle.crew_carry.specs.Carried.{IsCarried}
 use Rattle.crew_net.specs.Nets.{Net}
 use Rattle.crew_pairing.specs.declared.vector.PairingVector.{PairingVector}
 use Rattle.crew_pool.specs.declared.label_walk.LabelWalk.{LabelWalk}
-use Rattle.crew_step.specs.Walks.{HasGrown}
+use Rattle.crew_carry.specs.crew_step.Walks.{HasGrown}
 use Rattle.crew_sweep.specs.Machinery.Beside.{IsBeside, StandsBeside}
 use Rattle.crew_sweep.specs.Machinery.Grounds.{IsGround, Stands}
 use Rattle.crew_sweep.specs.Machinery.Passing.{IsPassing}

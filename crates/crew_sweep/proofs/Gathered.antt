@@ -24,7 +24,7 @@ use Rattle.crew_resource.specs.Events.{FromPools, labelled}
 use Rattle.crew_resource.specs.Labels.{IsLocal}
 use Rattle.crew_resource.specs.Members.{Member}
 use Rattle.crew_resource.proofs.Members.{Member-append, Member-append_left, Member-append_right, Member-flat_map_in, Member-flat_map_out, Member-map_in, Member-map_out}
-use Rattle.crew_step.specs.Pools.{waiting}
+use Rattle.crew_carry.specs.crew_step.Pools.{waiting}
 use Rattle.crew_sweep.specs.Machinery.Numbered.{idle_at, window_at}
 use Rattle.crew_sweep.specs.Machinery.Passing.{AreLabels, IsLabel, passed_network}
 use Rattle.crew_sweep.specs.Sweeps.{keyed}

@@ -11,8 +11,8 @@ use Rattle.crew_pool.specs.declared.label_walk.LabelWalk.{LabelWalk}
 use Rattle.crew_resource.specs.Labels.{IsLocal}
 use Rattle.crew_resource.specs.Members.{Member}
 use Rattle.crew_resource.proofs.Members.{Member-map_out}
-use Rattle.crew_step.specs.Walks.{HasGrown}
-use Rattle.crew_step.proofs.Grown.{all-shown-grown}
+use Rattle.crew_carry.specs.crew_step.Walks.{HasGrown}
+use Rattle.crew_carry.proofs.crew_step_lemmas.Grown.{all-shown-grown}
 use Rattle.crew_sweep.specs.Machinery.Mending.{Changed, IsChangedPart, is_unchanged}
 use Rattle.crew_sweep.specs.Machinery.Parts.{AreHeld}
 use Rattle.crew_sweep.proofs.Fronts.{local-same}

@@ -21,7 +21,7 @@ use Rattle.crew_resource.specs.Labels.{IsLocal}
 use Rattle.crew_resource.specs.Members.{Member}
 use Rattle.crew_resource.proofs.Loop.{swept_with}
 use Rattle.crew_resource.proofs.Members.{Member-append, Member-map_in, Member-map_out}
-use Rattle.crew_step.specs.Walks.{HasGrown}
+use Rattle.crew_carry.specs.crew_step.Walks.{HasGrown}
 use Rattle.crew_sweep.specs.Machinery.Numbered.{window_at}
 use Rattle.crew_sweep.specs.Machinery.Passing.{AreLabels, IsLabel, IsMade, IsPassable, IsPassing, passed_network}
 use Rattle.crew_sweep.specs.Sweeps.{keyed}

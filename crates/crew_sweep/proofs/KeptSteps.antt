@@ -22,7 +22,7 @@ use Rattle.crew_pool.specs.declared.label_walk.LabelWalk.{LabelWalk}
 use Rattle.crew_resource.specs.Events.{FromFronts, Views}
 use Rattle.crew_resource.specs.Labels.{IsLocal}
 use Rattle.crew_resource.specs.Members.{Member}
-use Rattle.crew_step.specs.Walks.{HasGrown}
+use Rattle.crew_carry.specs.crew_step.Walks.{HasGrown}
 use Rattle.crew_sweep.specs.Machinery.Kept.{keyed_pools}
 use Rattle.crew_sweep.specs.Machinery.Numbered.{AreLocal}
 use Rattle.crew_sweep.specs.Machinery.Passing.{AreLabels, IsPassable, IsPassing, passed_network}

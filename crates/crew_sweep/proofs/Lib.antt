@@ -29,3 +29,4 @@ pub mod Slidings
 pub mod Standing
 pub mod Steps
 pub mod Unders
+pub use Rattle.crew_carry.proofs.crew_step_lemmas

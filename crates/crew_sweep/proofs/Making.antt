@@ -41,7 +41,7 @@ use Rattle.crew_resource.specs.Members.{Each, Member}
 use Rattle.crew_resource.proofs.Members.{Member-flat_map_in, Member-flat_map_out, Member-map_in, Member-map_out}
 use Rattle.crew_resource.proofs.Loop.{swept_made}
 use Rattle.crew_resource.proofs.Pools.{view_in, view_out}
-use Rattle.crew_step.specs.Pools.{boarded, boarding}
+use Rattle.crew_carry.specs.crew_step.Pools.{boarded, boarding}
 use Rattle.crew_sweep.specs.Machinery.Passing.{AreLabels, HaveStayed, IsLabel, IsMade, IsPassable, IsPassing, IsSealed, passed_network}
 use Rattle.crew_sweep.specs.Sweeps.{keyed}
 use Rattle.crew_sweep.proofs.Fronts.{local-same}

@@ -11,8 +11,8 @@ use Rattle.crew_pool.specs.Arena.{walk_at}
 use Rattle.crew_pool.specs.Ranks.{AreRanked}
 use Rattle.crew_pool.specs.declared.label_walk.LabelWalk.{LabelWalk}
 use Rattle.crew_resource.specs.Members.{Member}
-use Rattle.crew_step.specs.Walks.{HasGrown}
-use Rattle.crew_step.proofs.Grown.{all-shown-grown, counted-grown}
+use Rattle.crew_carry.specs.crew_step.Walks.{HasGrown}
+use Rattle.crew_carry.proofs.crew_step_lemmas.Grown.{all-shown-grown, counted-grown}
 use Rattle.crew_sweep.specs.Machinery.Beside.{IsBeside}
 use Rattle.crew_sweep.specs.Machinery.Grounds.{IsGround, Stands}
 use Rattle.crew_sweep.specs.Machinery.Mending.{AreSound, IsFresh, IsMended, IsNextPool, IsOldPool}

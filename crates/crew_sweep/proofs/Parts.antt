@@ -12,8 +12,8 @@ use Rattle.crew_resource.specs.Labels.{IsLocal}
 use Rattle.crew_resource.specs.Members.{Member}
 use Rattle.crew_resource.proofs.Covering.{IsCovering, local_of_all}
 use Rattle.crew_resource.proofs.Members.{Member-append, Member-append_left, Member-append_right, Member-flat_map_in, Member-flat_map_out, Member-map_in, Member-map_out}
-use Rattle.crew_step.specs.Walks.{HasGrown}
-use Rattle.crew_step.proofs.Grown.{all-shown-grown, counted-grown}
+use Rattle.crew_carry.specs.crew_step.Walks.{HasGrown}
+use Rattle.crew_carry.proofs.crew_step_lemmas.Grown.{all-shown-grown, counted-grown}
 use Rattle.crew_sweep.specs.Machinery.Parts.{AreHeld, AreSuffixes, IsPart, Within}
 use Rattle.crew_sweep.proofs.Fronts.{local-same}
 use Rattle.crew_vector.specs.Dominance.{is_at_most}

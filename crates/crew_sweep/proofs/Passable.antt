@@ -26,7 +26,7 @@ use Rattle.crew_pool.specs.Counted.{AreCounted}
 use Rattle.crew_pool.specs.LabelWalks.{shown}
 use Rattle.crew_pool.specs.declared.label_walk.LabelWalk.{LabelWalk}
 use Rattle.crew_resource.specs.Members.{Member}
-use Rattle.crew_step.specs.Walks.{HasGrown}
+use Rattle.crew_carry.specs.crew_step.Walks.{HasGrown}
 use Rattle.crew_sweep.specs.Machinery.Numbered.{idle_at, window_at}
 use Rattle.crew_sweep.specs.Machinery.Passing.{AreMade, IsPassable, IsPassing, IsPooled, IsSealed}
 use Rattle.crew_sweep.proofs.Before.{sealed-at}

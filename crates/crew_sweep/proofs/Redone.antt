@@ -13,7 +13,7 @@ use Rattle.crew_pool.specs.Arena.{walk_at}
 use Rattle.crew_pool.specs.declared.label_walk.LabelWalk.{LabelWalk}
 use Rattle.crew_resource.specs.Members.{Member}
 use Rattle.crew_resource.proofs.Loop.{get_new}
-use Rattle.crew_step.specs.Walks.{HasGrown}
+use Rattle.crew_carry.specs.crew_step.Walks.{HasGrown}
 use Rattle.crew_sweep.specs.Machinery.Kept.{keyed_pools}
 use Rattle.crew_sweep.specs.Machinery.Passing.{IsPassable}
 use Rattle.crew_sweep.specs.Machinery.Renewing.{HaveSame, IsRenewing}

@@ -27,7 +27,7 @@ use Rattle.crew_resource.specs.Members.{Member}
 use Rattle.crew_resource.proofs.Loop.{get_new, get_old}
 use Rattle.crew_resource.proofs.Pools.{view_in, view_out}
 use Rattle.crew_rules.specs.declared.settings.Settings.{Settings}
-use Rattle.crew_step.specs.Walks.{HasGrown}
+use Rattle.crew_carry.specs.crew_step.Walks.{HasGrown}
 use Rattle.crew_sweep.specs.Machinery.Kept.{keyed_pools, sparing_of}
 use Rattle.crew_sweep.specs.Machinery.Numbered.{AreLocal, idle_at, window_at}
 use Rattle.crew_sweep.specs.Machinery.Passing.{passed_network}

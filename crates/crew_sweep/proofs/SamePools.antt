@@ -19,7 +19,7 @@ use Rattle.crew_pool.specs.declared.label_walk.LabelWalk.{LabelWalk}
 use Rattle.crew_resource.specs.Events.{FromFronts, Network, Views}
 use Rattle.crew_resource.specs.Labels.{IsLocal}
 use Rattle.crew_resource.specs.Members.{Member}
-use Rattle.crew_step.proofs.Grown.{grown-itself}
+use Rattle.crew_carry.proofs.crew_step_lemmas.Grown.{grown-itself}
 use Rattle.crew_sweep.specs.Machinery.Numbered.{idle_at}
 use Rattle.crew_sweep.specs.Machinery.Passing.{IsPassable, IsPassing, passed_network}
 use Rattle.crew_sweep.specs.Machinery.Same.{HasSamePool, WaitsOn}

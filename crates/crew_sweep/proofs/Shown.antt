@@ -11,8 +11,8 @@ use Rattle.crew_pool.specs.Ranks.{by_key, key_at}
 use Rattle.crew_pool.specs.declared.label_walk.LabelWalk.{LabelWalk}
 use Rattle.crew_resource.specs.Members.{Member}
 use Rattle.crew_resource.proofs.Members.{Member-map_in, Member-map_out}
-use Rattle.crew_step.specs.Walks.{HasGrown}
-use Rattle.crew_step.proofs.Grown.{all-shown-grown, counted-grown, shown-grown}
+use Rattle.crew_carry.specs.crew_step.Walks.{HasGrown}
+use Rattle.crew_carry.proofs.crew_step_lemmas.Grown.{all-shown-grown, counted-grown, shown-grown}
 use Rattle.crew_sweep.specs.Machinery.Passing.{AreLabels, IsLabel, IsMade, IsPassing, passed_network}
 use Rattle.crew_sweep.specs.Sweeps.{keyed}
 use Rattle.crew_anchor.specs.declared.resource.AnchoredResource.{AnchoredResource}

@@ -10,7 +10,7 @@ use Rattle.crew_pool.specs.Counted.{AreCounted}
 use Rattle.crew_pool.specs.declared.label_walk.LabelWalk.{LabelWalk}
 use Rattle.crew_resource.specs.Members.{Member}
 use Rattle.crew_resource.proofs.Members.{Member-append}
-use Rattle.crew_step.specs.Walks.{HasGrown}
+use Rattle.crew_carry.specs.crew_step.Walks.{HasGrown}
 use Rattle.crew_sweep.specs.Machinery.Parts.{AreSuffixes, IsPart}
 use Rattle.crew_sweep.specs.Machinery.Passing.{AreMade, HaveStayed, IsMade}
 use Rattle.crew_sweep.specs.Machinery.Sliding.{Covers, IsSliding, Stacks}

@@ -25,9 +25,9 @@ use Rattle.crew_resource.specs.Members.{Member}
 use Rattle.crew_resource.proofs.Loop.{swept_more, swept_none}
 use Rattle.crew_resource.proofs.Members.{Member-append}
 use Rattle.crew_rules.specs.declared.settings.Settings.{Settings}
-use Rattle.crew_step.specs.Pools.{waiting}
-use Rattle.crew_step.specs.Walks.{HasGrown}
-use Rattle.crew_step.proofs.Grown.{all-shown-grown}
+use Rattle.crew_carry.specs.crew_step.Pools.{waiting}
+use Rattle.crew_carry.specs.crew_step.Walks.{HasGrown}
+use Rattle.crew_carry.proofs.crew_step_lemmas.Grown.{all-shown-grown}
 use Rattle.crew_sweep.specs.Machinery.Numbered.{idle_at, window_at}
 use Rattle.crew_sweep.specs.Machinery.Passing.{AreLabels, AreMade, IsMade, IsPassable, IsPassing, passed_network}
 use Rattle.crew_sweep.specs.Sweeps.{keyed}

@@ -16,9 +16,9 @@ use crate::ground::Ground;
 use crate::passed::Passed;
 use crate::prints::{Prints, print_of};
 use crew_anchor::AnchoredResource;
+use crew_carry::crew_step::{Pools, arrival_pool};
 use crew_net::Window;
 use crew_pool::{Pool, Walks, Workspace};
-use crew_step::{Pools, arrival_pool};
 use std::alloc::{AllocError, Global};
 use std::cmp::Reverse;
 

@@ -5,7 +5,7 @@ ghost use Rattle.crew_anchor.specs.Machinery.Bounds.{fits_in};
 ghost use Rattle.crew_anchor.specs.Stages.{anchored_resource};
 ghost use Rattle.crew_carry.specs.Carried.{IsCarried};
 ghost use Rattle.crew_net.specs.Positions.{ArePositions, in_order};
-ghost use Rattle.crew_step.specs.Walks.{HasGrown};
+ghost use Rattle.crew_carry.specs.crew_step.Walks.{HasGrown};
 ghost use Rattle.crew_sweep.specs.Machinery.Beside.{IsBeside};
 ghost use Rattle.crew_sweep.specs.Machinery.Digests.{IsDigest};
 ghost use Rattle.crew_sweep.specs.Machinery.Kept.{sparing_of};

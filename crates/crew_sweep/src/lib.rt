@@ -38,5 +38,7 @@ mod swept;
 mod windows;
 
 pub use anew::{renew, renew_by_threads};
+pub use crew_carry;
+pub use crew_carry::crew_step;
 pub use pass::{sweep, sweep_by_threads};
 pub use swept::Sweep;

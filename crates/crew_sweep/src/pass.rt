@@ -2,7 +2,7 @@
 ghost use Rattle.std.specs.Prelude.{◌≡◌, ◌<◌, ◌+◌, IfOk, IfSome, OnOk, Some, length, slice_get};
 ghost use Rattle.std.specs.Arc.{arc_value};
 ghost use Rattle.crew_flights.specs.Timetable.{IsBasePrice};
-ghost use Rattle.crew_step.specs.Walks.{HasGrown};
+ghost use Rattle.crew_carry.specs.crew_step.Walks.{HasGrown};
 ghost use Rattle.crew_sweep.specs.Machinery.Ahead.{AreAhead, IsAhead};
 ghost use Rattle.crew_sweep.specs.Machinery.Grounds.{HasPassedAll, IsGround, Stands, Stay};
 ghost use Rattle.crew_sweep.specs.Sweeps.{IsSweepable, IsSwept};

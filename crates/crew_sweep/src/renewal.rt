@@ -9,7 +9,7 @@ ghost use Rattle.crew_pairing.specs.declared.events.Departure.{Departure};
 ghost use Rattle.crew_pairing.specs.declared.vector.PairingVector.{PairingVector};
 ghost use Rattle.crew_pool.specs.Counted.{AreCounted};
 ghost use Rattle.crew_resource.specs.Members.{Member};
-ghost use Rattle.crew_step.specs.Walks.{HasGrown};
+ghost use Rattle.crew_carry.specs.crew_step.Walks.{HasGrown};
 ghost use Rattle.crew_sweep.specs.Machinery.Beside.{HasOldLabels, IsBeside, StandsBeside};
 ghost use Rattle.crew_sweep.specs.Machinery.Digests.{IsDigest};
 ghost use Rattle.crew_sweep.specs.Machinery.Grounds.{IsGround};

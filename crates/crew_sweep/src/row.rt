@@ -5,8 +5,8 @@ ghost use Rattle.crew_sweep.specs.Machinery.Digests.{IsDigest};
 
 use crate::digest::Digest;
 use crew_anchor::AnchoredResource;
+use crew_carry::crew_step::Pools;
 use crew_pool::Pool;
-use crew_step::Pools;
 use std::alloc::{AllocError, Global};
 use std::marker::Model;
 use std::sync::Arc;

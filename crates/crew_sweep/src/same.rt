@@ -5,7 +5,7 @@ ghost use Rattle.std.specs.Prelude.{◌≡◌, ◌<◌, ◌+◌, ◌++◌, ◌�
 ghost use Rattle.crew_pairing.specs.declared.events.Departure.{Departure};
 ghost use Rattle.crew_pairing.specs.declared.vector.PairingVector.{PairingVector};
 ghost use Rattle.crew_pool.specs.declared.label_walk.LabelWalk.{LabelWalk};
-ghost use Rattle.crew_step.specs.Walks.{HasGrown};
+ghost use Rattle.crew_carry.specs.crew_step.Walks.{HasGrown};
 ghost use Rattle.crew_sweep.specs.Machinery.Grounds.{IsGround, Stands};
 ghost use Rattle.crew_sweep.specs.Machinery.Same.{HasSamePool, WaitsOn};
 

@@ -31,11 +31,11 @@ use Rattle.crew_rules.specs.Settings.{IsChecked}
 use Rattle.crew_plan.specs.Apart.{AreApart}
 use Rattle.crew_plan.specs.Cheapest.{AreCheapest}
 use Rattle.crew_plan.specs.Solutions.{IsFrontOf, Solution, front_of}
-use Rattle.crew_answers.specs.Bests.{IsBest, IsPairing}
-use Rattle.crew_answers.proofs.Cheapest.{best-least}
-use Rattle.crew_answers.proofs.InRange.{checked-in-range}
-use Rattle.crew_answers.specs.Fronts.{IsFrontAt}
-use Rattle.crew_answers.specs.LongVectors.{LongVector}
+use Rattle.crew_plan.specs.crew_answers.Bests.{IsBest, IsPairing}
+use Rattle.crew_plan.proofs.crew_answers_lemmas.Cheapest.{best-least}
+use Rattle.crew_plan.proofs.crew_answers_lemmas.InRange.{checked-in-range}
+use Rattle.crew_plan.specs.crew_answers.Fronts.{IsFrontAt}
+use Rattle.crew_plan.specs.crew_answers.LongVectors.{LongVector}
 use Rattle.crew_vector.specs.declared.priced.PricedPairing.{PricedPairing}
 
 -- ---- codes among the keys of the bases

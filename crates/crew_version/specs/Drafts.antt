@@ -1,6 +1,6 @@
 -- Drafts: what a version's entries and some more come to, before their fronts are made.
 use Rattle.std.specs.Prelude.{◌≡◌, ◌+◌, ℕ, List, [], ◌++◌}
-use Rattle.crew_answers.specs.Bests.{IsScratch}
+use Rattle.crew_plan.specs.crew_answers.Bests.{IsScratch}
 use Rattle.crew_flights.specs.Timetable.{Timetable}
 use Rattle.crew_flights.specs.declared.entries.Entry.{Entry}
 use Rattle.crew_rules.specs.declared.settings.Settings.{Settings}

@@ -1,8 +1,8 @@
 -- The front that a base and a key name.
 use Rattle.std.specs.Prelude.{◌≡◌, ℕ, ℤ, List, Option, Some, None}
 use Rattle.std.specs.FinMap as map
-use Rattle.crew_answers.specs.Fronts.{IsFrontAt, RiseByVector}
-use Rattle.crew_answers.specs.LongVectors.{LongVector}
+use Rattle.crew_plan.specs.crew_answers.Fronts.{IsFrontAt, RiseByVector}
+use Rattle.crew_plan.specs.crew_answers.LongVectors.{LongVector}
 use Rattle.crew_flights.specs.Timetable.{Timetable}
 use Rattle.crew_pairing.specs.Duties.{flights_of}
 use Rattle.crew_pairing.specs.Legs.{Leg}

@@ -1,6 +1,6 @@
 -- Versions: what the entries of a log come to.
 use Rattle.std.specs.Prelude.{◌≡◌, ◌+◌, ℕ, List, [], ◌++◌, Option, None}
-use Rattle.crew_answers.specs.Bests.{IsBest}
+use Rattle.crew_plan.specs.crew_answers.Bests.{IsBest}
 use Rattle.crew_rules.specs.declared.settings.Settings.{Settings}
 use Rattle.crew_flights.specs.Fold.{fold_of}
 use Rattle.crew_flights.specs.Timetable.{Timetable}

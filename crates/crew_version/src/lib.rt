@@ -15,6 +15,8 @@ mod same;
 mod search;
 mod version;
 
+pub use crew_plan;
+pub use crew_plan::{crew_fronts, crew_solve};
 pub use draft::Draft;
 pub use entry::is_same_entry;
 pub use fault::VersionFault;

@@ -12,9 +12,9 @@ ghost use Rattle.crew_version.specs.Machinery.Kept.{IsRightEarlier};
 
 use crate::fault::VersionFault;
 use crate::same::are_same;
-use crew_duty::{DutyFault, list_duties, list_next};
 use crew_flights::Timetable;
 use crew_pairing::Duties;
+use crew_plan::crew_duty::{DutyFault, list_duties, list_next};
 use crew_plan::{Plan, Solution};
 use crew_rules::Settings;
 use rayon::current_num_threads;

@@ -14,5 +14,8 @@ mod report;
 mod sessions;
 mod threaded;
 
+pub use crew_service;
+pub use crew_service::{crew_dirty, crew_publish, crew_solve, crew_version};
+pub use crew_session;
 pub use sessions::{Crew, run_with_workers};
 pub use threaded::Threaded;

@@ -1,15 +1,15 @@
 -- What a round keeps.
 use Rattle.std.specs.Prelude.{◌≡◌, ◌↔◌, ℕ, true, false, List, [], ◌∷◌, Option, Some, None, get_or, length, slice_get}
-use Rattle.crew_dirty.specs.Carried.{IsCarriedOver}
-use Rattle.crew_dirty.specs.Dirty.{IsNetOver}
+use Rattle.crew_job.specs.crew_dirty.Carried.{IsCarriedOver}
+use Rattle.crew_job.specs.crew_dirty.Dirty.{IsNetOver}
 use Rattle.crew_job.specs.Grounds.{Ground, IsGround, data_of, nodes_in, sealed_data_of}
 use Rattle.crew_job.specs.Shown.{IsAsSealed, IsShown}
 use Rattle.crew_machine.specs.Crew.{DutyNode}
 use Rattle.crew_net.specs.Nets.{Net}
 use Rattle.crew_round.specs.Marks.{AreCarried, IsMarked, Marks, node_count}
 use Rattle.crew_round.specs.declared.mark.Mark.TheVariants.{Done}
-use Rattle.crew_fronts.specs.Fronts.{BaseFronts}
-use Rattle.crew_plan.specs.Plans.{AreFrontsIn}
+use Rattle.crew_job.specs.crew_fronts.Fronts.{BaseFronts}
+use Rattle.crew_job.specs.crew_plan.Plans.{AreFrontsIn}
 
 -- none of some options is there
 abbrev pub AllNone : {X : Type 0} → List (Option X) → Type 0

@@ -5,7 +5,7 @@ use Rattle.crew_board.specs.Boards.{ShownBoard, ShownRound}
 use Rattle.crew_board.specs.Machinery.Held.{IsMarkedOver, Marked}
 use Rattle.crew_machine.specs.Rounds.{last_number}
 use Rattle.crew_rules.specs.Settings.{IsChecked}
-use Rattle.crew_version.specs.Versions.{IsRight, Snapshot}
+use Rattle.crew_job.specs.crew_version.Versions.{IsRight, Snapshot}
 
 -- what is shown of a round, and of a version with a round
 abbrev pub shown_marked : Marked → ShownRound

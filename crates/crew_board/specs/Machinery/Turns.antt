@@ -17,8 +17,8 @@ use Rattle.crew_pairing.specs.declared.events.Arrival.{Arrival}
 use Rattle.crew_resource.specs.Members.{Member}
 use Rattle.crew_machine.specs.declared.rounds.Brought.TheVariants.{Stale, Again, Stored}
 use Rattle.crew_round.specs.Marks.{AreDoneBefore, IsFirstReady, IsFirstUndone, IsMarked, AreSameBefore, IsUndone, Marks, NoneReady, Stores, with_mark}
-use Rattle.crew_fronts.specs.Fronts.{BaseFronts}
-use Rattle.crew_plan.specs.Plans.{AreFrontsIn}
+use Rattle.crew_job.specs.crew_fronts.Fronts.{BaseFronts}
+use Rattle.crew_job.specs.crew_plan.Plans.{AreFrontsIn}
 use Rattle.crew_round.specs.declared.mark.Mark.TheVariants.{Waiting, Out, Done}
 
 abbrev pub with_marks : Marked → Marks → Marked

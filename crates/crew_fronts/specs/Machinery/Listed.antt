@@ -7,7 +7,7 @@ use Rattle.std.specs.declared.cmp.Ordering.TheVariants.{Less, Equal, Greater}
 use Rattle.crew_pairing.specs.Keys.{walk_cmp}
 use Rattle.crew_pairing.specs.Legs.{Leg}
 use Rattle.crew_pairing.specs.declared.vector.PairingVector.{PairingVector}
-use Rattle.crew_vector.specs.Fronts.{vector_cmp}
+use Rattle.crew_solve.specs.crew_vector.Fronts.{vector_cmp}
 
 abbrev pub Entry : Type 0
 Entry = PairingVector × List (List Leg)

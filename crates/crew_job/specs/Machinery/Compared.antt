@@ -9,7 +9,7 @@ use Rattle.crew_pairing.specs.Pairings.{may_stand_after}
 use Rattle.crew_pairing.specs.declared.duty.Duty.{Duty}
 use Rattle.crew_resource.specs.Members.{Member}
 use Rattle.crew_rules.specs.declared.settings.Settings.{Settings}
-use Rattle.crew_fronts.specs.Fronts.{BaseFronts}
+use Rattle.crew_version.specs.crew_fronts.Fronts.{BaseFronts}
 
 -- the same duties, with all their facts, may stand just before one in two networks
 abbrev pub HaveSameBefore : Settings → Net → Net → Duty → Type 0

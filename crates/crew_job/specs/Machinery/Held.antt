@@ -4,8 +4,8 @@ use Rattle.crew_job.specs.Grounds.{IsGround}
 use Rattle.crew_job.specs.Jobs.{IsPlaced, Job, job_node}
 use Rattle.crew_job.specs.Shown.{AreReadable, IsAsSealed}
 use Rattle.crew_machine.specs.Crew.{DutyNode}
-use Rattle.crew_fronts.specs.Fronts.{BaseFronts}
-use Rattle.crew_plan.specs.Plans.{AreFrontsIn}
+use Rattle.crew_version.specs.crew_fronts.Fronts.{BaseFronts}
+use Rattle.crew_version.specs.crew_plan.Plans.{AreFrontsIn}
 
 -- its ground is right, its node is there, and the fronts before it can be read
 pub record IsHeld (job : Job) (sweep : Option BaseFronts) : Type 0 where

@@ -6,9 +6,9 @@ use Rattle.std.proofs.Common.{refl, sym, ◌∙◌, ap, subst, arith}
 use Rattle.std.proofs.lemmas.Bool.{cases_Bool, false≢true, and_parts, and_from}
 use Rattle.std.proofs.lemmas.Bool.Decides.{nat_tests}
 use Rattle.std.proofs.lemmas.Cmp.{tied_itself}
-use Rattle.crew_pairing.specs.declared.duty.Duty.{Duty}
-use Rattle.crew_pairing.specs.declared.events.Arrival.{Arrival}
-use Rattle.crew_pairing.specs.declared.events.Departure.{Departure}
+use Rattle.crew_history.specs.crew_pairing.declared.duty.Duty.{Duty}
+use Rattle.crew_history.specs.crew_pairing.declared.events.Arrival.{Arrival}
+use Rattle.crew_history.specs.crew_pairing.declared.events.Departure.{Departure}
 use Rattle.crew_history.specs.Histories.{minutes_after, IsNoMore, grown}
 use Rattle.crew_history.specs.HistoryValues.{history_at_most}
 use Rattle.crew_history.specs.Limits.{period_of}

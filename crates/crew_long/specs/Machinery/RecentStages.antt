@@ -7,10 +7,10 @@ use Rattle.std.proofs.Common.{◌⊎◌, inl, inr, refl, sym, ◌∙◌, ap, sub
 use Rattle.std.proofs.lemmas.Bool.{cases_Bool, false≢true, and_parts, and_from}
 use Rattle.std.proofs.lemmas.Bool.Decides.{nat_tests}
 use Rattle.std.proofs.lemmas.List.{length-take-le}
-use Rattle.crew_pairing.specs.Events.{IsSound, MayFollow, arrival_of, departure_of}
-use Rattle.crew_pairing.specs.declared.duty.Duty.{Duty}
-use Rattle.crew_pairing.specs.declared.events.Arrival.{Arrival}
-use Rattle.crew_pairing.specs.declared.events.Departure.{Departure}
+use Rattle.crew_history.specs.crew_pairing.Events.{IsSound, MayFollow, arrival_of, departure_of}
+use Rattle.crew_history.specs.crew_pairing.declared.duty.Duty.{Duty}
+use Rattle.crew_history.specs.crew_pairing.declared.events.Arrival.{Arrival}
+use Rattle.crew_history.specs.crew_pairing.declared.events.Departure.{Departure}
 use Rattle.crew_resource.specs.Machinery.BothLaws.{both_equal}
 use Rattle.crew_resource.specs.Resource.{OrderLaws, StepLaws}
 use Rattle.crew_resource.specs.Stages.{StagedLaws, ShiftLaws, BoundLaws}

@@ -3,10 +3,10 @@ use Rattle.std.specs.Prelude.{◌≡◌, Bool, true, false, cond, int_le, ℤ, p
 use Rattle.std.proofs.Common.{refl, sym, ◌∙◌, ap, subst, arith}
 use Rattle.std.proofs.lemmas.Bool.{false≢true}
 use Rattle.std.proofs.lemmas.Int.{ints}
-use Rattle.crew_pairing.specs.Events.{IsSound, MayFollow, arrival_of, departure_of}
-use Rattle.crew_pairing.specs.declared.duty.Duty.{Duty}
-use Rattle.crew_pairing.specs.declared.events.Arrival.{Arrival}
-use Rattle.crew_pairing.specs.declared.events.Departure.{Departure}
+use Rattle.crew_history.specs.crew_pairing.Events.{IsSound, MayFollow, arrival_of, departure_of}
+use Rattle.crew_history.specs.crew_pairing.declared.duty.Duty.{Duty}
+use Rattle.crew_history.specs.crew_pairing.declared.events.Arrival.{Arrival}
+use Rattle.crew_history.specs.crew_pairing.declared.events.Departure.{Departure}
 use Rattle.crew_resource.specs.Resource.{StepLaws}
 use Rattle.crew_resource.specs.Stages.{StagedLaws, ShiftLaws, BoundLaws}
 use Rattle.crew_long.specs.RestEnds.{rest_end_cmp, rest_end_at_most, idle_rest, wait_rest, board_rest}

@@ -11,8 +11,8 @@ use Rattle.crew_pairing.specs.declared.duty.Duty.{Duty}
 use Rattle.crew_pairing.specs.declared.events.Arrival.{Arrival}
 use Rattle.crew_pairing.specs.declared.events.Departure.{Departure}
 use Rattle.crew_resource.specs.Members.{Each, Member}
-use Rattle.crew_rules.specs.Settings.{IsChecked}
-use Rattle.crew_rules.specs.declared.settings.Settings.{Settings}
+use Rattle.crew_pairing.specs.crew_rules.Settings.{IsChecked}
+use Rattle.crew_pairing.specs.crew_rules.declared.settings.Settings.{Settings}
 
 -- when and where a duty leaves, as one number
 abbrev pub leave_at : Duty → ℤ

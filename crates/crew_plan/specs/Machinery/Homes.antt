@@ -2,15 +2,15 @@
 use Rattle.std.specs.Prelude.{◌≡◌, ◌<◌, ℕ, cond, List, [], length, map, take}
 use Rattle.std.specs.List.{flat_map}
 use Rattle.std.specs.Ordering.{eq_by_cmp}
-use Rattle.crew_answers.specs.LongVectors.{LongVector}
+use Rattle.crew_fronts.specs.crew_answers.LongVectors.{LongVector}
 use Rattle.crew_flights.specs.Codes.{code_cmp}
 use Rattle.crew_fronts.specs.Fronts.{BaseFronts, front_at}
 use Rattle.crew_pairing.specs.Legs.{Leg}
 use Rattle.crew_pairing.specs.declared.duty.Duty.{Duty}
 use Rattle.crew_resource.specs.Members.{Member}
-use Rattle.crew_solve.specs.Apart.{taken_from}
-use Rattle.crew_solve.specs.Machinery.Homes.{HasPay, priced}
-use Rattle.crew_solve.specs.Machinery.Keeps.{keep_all, nothing}
+use Rattle.crew_fronts.specs.crew_solve.Apart.{taken_from}
+use Rattle.crew_fronts.specs.crew_solve.Machinery.Homes.{HasPay, priced}
+use Rattle.crew_fronts.specs.crew_solve.Machinery.Keeps.{keep_all, nothing}
 use Rattle.crew_vector.specs.declared.priced.PricedPairing.{PricedPairing}
 
 -- the pairing of an entry

@@ -1,7 +1,7 @@
 -- What a solution and a plan keep.
 use Rattle.std.specs.Prelude.{◌≡◌, ℕ, ℤ, false, List, [], ◌∷◌, map, true}
 use Rattle.std.specs.FinMap as fin
-use Rattle.crew_answers.specs.Schedules.{IsDated}
+use Rattle.crew_fronts.specs.crew_answers.Schedules.{IsDated}
 use Rattle.crew_flights.specs.Timetable.{IsSound, Timetable}
 use Rattle.crew_fronts.specs.Fronts.{BaseFronts, IsOfSweep, ShowsFronts, front_at, is_plain}
 use Rattle.crew_net.specs.Nets.{Net}
@@ -10,9 +10,9 @@ use Rattle.crew_pairing.specs.declared.duty.Duty.{Duty}
 use Rattle.crew_resource.specs.Members.{Each, Member}
 use Rattle.crew_plan.specs.Machinery.Homes.{IsPayable}
 use Rattle.crew_plan.specs.Solutions.{front_among}
-use Rattle.crew_solve.specs.Machinery.Planned.{IsOver}
-use Rattle.crew_solve.specs.Solutions as Plain
-use Rattle.crew_sweep.specs.Sweeps.{BaseSweep}
+use Rattle.crew_fronts.specs.crew_solve.Machinery.Planned.{IsOver}
+use Rattle.crew_fronts.specs.crew_solve.Solutions as Plain
+use Rattle.crew_fronts.specs.crew_sweep.Sweeps.{BaseSweep}
 
 -- the fronts of each base of a network
 pub record IsSolved (net : Net) (bases : List BaseFronts) : Type 0 where

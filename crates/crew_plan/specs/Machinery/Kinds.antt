@@ -11,7 +11,7 @@ use Rattle.crew_plan.specs.declared.plan.Kind.TheVariants as Planned
 use Rattle.crew_plan.specs.declared.solution.Made.{Made}
 use Rattle.crew_plan.specs.declared.solution.Made.TheVariants as Solved
 use Rattle.crew_rules.specs.declared.settings.Settings.{Settings}
-use Rattle.crew_solve.specs.Plans as Plain
+use Rattle.crew_fronts.specs.crew_solve.Plans as Plain
 use Rattle.crew_vector.specs.declared.priced.PricedPairing.{PricedPairing}
 
 -- a plan of sweeps as one of fronts

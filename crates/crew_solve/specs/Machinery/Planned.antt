@@ -2,7 +2,7 @@
 use Rattle.std.specs.Prelude.{◌≡◌, ◌≤◌, ℕ, ℤ, true, List, Option, IfSome, length, map}
 use Rattle.std.specs.Arc.{arc_value}
 use Rattle.std.specs.FinMap as fin
-use Rattle.crew_carry.specs.Twins.{AreTwins}
+use Rattle.crew_sweep.specs.crew_carry.Twins.{AreTwins}
 use Rattle.crew_flights.specs.Timetable.{IsSound, Timetable}
 use Rattle.crew_net.specs.Events.{AreEvents, arrival_cmp, departure_cmp}
 use Rattle.crew_net.specs.Nets.{AreArrivalPlaces, IsNetOf, Net}

@@ -23,7 +23,7 @@ use Rattle.crew_pool.specs.LabelWalks.{IsPoolOf, shown}
 use Rattle.crew_pool.specs.declared.label_walk.LabelWalk.{LabelWalk}
 use Rattle.crew_resource.specs.Events.{Network, Swept, labelled}
 use Rattle.crew_resource.specs.Members.{Each, Member}
-use Rattle.crew_step.specs.Pools.{boarded, waiting}
+use Rattle.crew_carry.specs.crew_step.Pools.{boarded, waiting}
 use Rattle.crew_sweep.specs.Machinery.Numbered.{idle_at, numbered}
 use Rattle.crew_sweep.specs.Sweeps.{keyed}
 use Rattle.crew_vector.specs.Dominance.{is_at_most}

@@ -13,7 +13,7 @@ use Rattle.crew_pairing.specs.Pairings.{may_stand_after}
 use Rattle.crew_resource.proofs.Members.{Member-get}
 use Rattle.crew_resource.specs.Members.{Member}
 use Rattle.crew_rules.specs.declared.settings.Settings.{Settings}
-use Rattle.crew_step.proofs.Loops.{item-at as item-of}
+use Rattle.crew_job.proofs.crew_step_lemmas.Loops.{item-at as item-of}
 use Rattle.crew_board.proofs.before.are_same_if_before.Goals as goal
 
 pub returns-then-not-there : goal.returns-then-not-there

@@ -1,6 +1,6 @@
 use Rattle.std.proofs.Common.{◌∙◌, ◌<◌, List, Some, ap, get_or, length, subst}
 use Rattle.crew_pairing.specs.declared.events.Departure.{Departure}
-use Rattle.crew_step.proofs.Loops.{item-at}
+use Rattle.crew_job.proofs.crew_step_lemmas.Loops.{item-at}
 use Rattle.crew_board.proofs.before.departure_place.Goals as goal
 
 pub returns-then-is_same_departure : goal.returns-then-is_same_departure

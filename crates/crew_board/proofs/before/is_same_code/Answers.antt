@@ -1,5 +1,5 @@
 use Rattle.std.proofs.Common.{◌∙◌, sym}
-use Rattle.crew_vector.proofs.Orders.{code-itself, same-code}
+use Rattle.crew_job.proofs.crew_vector_lemmas.Orders.{code-itself, same-code}
 use Rattle.crew_board.proofs.before.is_same_code.Goals as goal
 
 pub returns : goal.returns

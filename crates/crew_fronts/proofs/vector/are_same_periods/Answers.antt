@@ -4,9 +4,9 @@ use Rattle.std.specs.Ordering.{int_eq}
 use Rattle.std.proofs.lemmas.Bool.Decides.{Decides-eqb, Decides-int_eq}
 use Rattle.std.proofs.lemmas.Slice.Eq.{slice_eq-Decides}
 use Rattle.std.specs.Bool.{Decides}
-use Rattle.crew_history.specs.HistoryValues.{periods_of}
-use Rattle.crew_history.specs.declared.history.History.{History}
-use Rattle.crew_history.proofs.FixedHistories.{same_fields, same_value}
+use Rattle.crew_pass.specs.crew_history.HistoryValues.{periods_of}
+use Rattle.crew_pass.specs.crew_history.declared.history.History.{History}
+use Rattle.crew_pass.proofs.crew_history_lemmas.FixedHistories.{same_fields, same_value}
 use Rattle.crew_fronts.proofs.vector.are_same_periods.Goals as goal
 
 pair-decides : (p q : ℤ × ℤ) → Decides (int_eq p.0 q.0 && int_eq p.1 q.1) (p ≡ q)

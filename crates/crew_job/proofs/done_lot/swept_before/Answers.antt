@@ -3,7 +3,7 @@ use Rattle.std.specs.Arc.{arc_value}
 use Rattle.crew_job.specs.Grounds.{Ground}
 use Rattle.crew_job.specs.Jobs.{Job}
 use Rattle.crew_resource.proofs.Members.{Member-get_or}
-use Rattle.crew_plan.specs.Plans.{AreFrontsIn}
+use Rattle.crew_version.specs.crew_plan.Plans.{AreFrontsIn}
 use Rattle.crew_job.proofs.done_lot.swept_before.Goals as goal
 
 pub returns-then-base : goal.returns-then-base

@@ -1,6 +1,6 @@
 use Rattle.crew_job.proofs.GroundNodes.{are-nodes}
 use Rattle.crew_job.proofs.BaseSweeps.{node-legal}
-use Rattle.crew_fronts.specs.Fronts.{front_at}
+use Rattle.crew_version.specs.crew_fronts.Fronts.{front_at}
 use Rattle.crew_job.specs.Grounds.{nodes_in}
 use Rattle.crew_machine.proofs.CrewLaws.{crew-laws}
 use Rattle.crew_resource.proofs.Members.{Member-at}

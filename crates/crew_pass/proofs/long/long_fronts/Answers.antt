@@ -3,8 +3,8 @@ use Rattle.std.proofs.lemmas.Int.{to_z-of_z}
 use Rattle.crew_answers.specs.LongVectors.{settings_of_sums}
 use Rattle.crew_answers.specs.Shown.{resource_over}
 use Rattle.crew_rules.specs.declared.settings.Settings.{Settings}
-use Rattle.crew_vector.specs.Machinery.VectorResources.{vector_resource}
-use Rattle.crew_vector.specs.declared.resource.VectorResource.{VectorResource}
+use Rattle.crew_answers.specs.crew_vector.Machinery.VectorResources.{vector_resource}
+use Rattle.crew_answers.specs.crew_vector.declared.resource.VectorResource.{VectorResource}
 use Rattle.crew_pass.proofs.long.long_fronts.Goals as goal
 
 pub pass-requires-clause-counts : goal.pass-requires-clause-counts

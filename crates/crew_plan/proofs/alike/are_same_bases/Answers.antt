@@ -3,7 +3,7 @@ use Rattle.std.proofs.lemmas.List.{map-append}
 use Rattle.std.specs.Ordering.{eq_by_cmp}
 use Rattle.crew_flights.specs.Codes.{code_cmp}
 use Rattle.crew_plan.proofs.Among.{key-more, take-all}
-use Rattle.crew_solve.proofs.Departing.{read-at}
+use Rattle.crew_fronts.proofs.crew_solve_lemmas.Departing.{read-at}
 use Rattle.crew_vector.proofs.Orders.{same-code}
 use Rattle.crew_plan.proofs.alike.are_same_bases.Goals as goal
 

@@ -4,8 +4,8 @@ use Rattle.std.specs.List.{flat_map}
 use Rattle.std.specs.Prelude.{slice_get}
 use Rattle.crew_fronts.specs.Fronts.{BaseFronts}
 use Rattle.crew_plan.specs.Machinery.Homes.{home_of}
-use Rattle.crew_solve.proofs.Keeping.{first-is-least}
-use Rattle.crew_solve.specs.Machinery.Keeps.{CheapestSoFar, keep_all}
+use Rattle.crew_fronts.proofs.crew_solve_lemmas.Keeping.{first-is-least}
+use Rattle.crew_fronts.specs.crew_solve.Machinery.Keeps.{CheapestSoFar, keep_all}
 use Rattle.crew_plan.proofs.homes.best_of.Goals as goal
 
 pub returns : goal.returns

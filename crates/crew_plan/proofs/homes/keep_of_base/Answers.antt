@@ -3,9 +3,9 @@ use Rattle.std.specs.List.{flat_map}
 use Rattle.crew_net.specs.Nets.{Net}
 use Rattle.crew_plan.proofs.Among.{duty-more}
 use Rattle.crew_plan.specs.Machinery.Homes.{home_at}
-use Rattle.crew_solve.proofs.Departing.{there}
-use Rattle.crew_solve.proofs.Keeping.{keep-append}
-use Rattle.crew_solve.specs.Machinery.Keeps.{CheapestSoFar, keep_all}
+use Rattle.crew_fronts.proofs.crew_solve_lemmas.Departing.{there}
+use Rattle.crew_fronts.proofs.crew_solve_lemmas.Keeping.{keep-append}
+use Rattle.crew_fronts.specs.crew_solve.Machinery.Keeps.{CheapestSoFar, keep_all}
 use Rattle.crew_plan.proofs.homes.keep_of_base.Goals as goal
 
 pub loop-rank-preserved : goal.loop-rank-preserved

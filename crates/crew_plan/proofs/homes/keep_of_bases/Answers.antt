@@ -5,9 +5,9 @@ use Rattle.crew_fronts.specs.Fronts.{BaseFronts}
 use Rattle.crew_pairing.proofs.Tree.{Each-member}
 use Rattle.crew_plan.specs.Machinery.Homes.{IsPayable, home_of}
 use Rattle.crew_resource.proofs.Members.{Member-get_or, Member-map_in}
-use Rattle.crew_solve.proofs.Keeping.{keep-append}
-use Rattle.crew_solve.proofs.Listed.{flat-more-of}
-use Rattle.crew_solve.specs.Machinery.Keeps.{CheapestSoFar, keep_all}
+use Rattle.crew_fronts.proofs.crew_solve_lemmas.Keeping.{keep-append}
+use Rattle.crew_fronts.proofs.crew_solve_lemmas.Listed.{flat-more-of}
+use Rattle.crew_fronts.specs.crew_solve.Machinery.Keeps.{CheapestSoFar, keep_all}
 use Rattle.crew_plan.proofs.homes.keep_of_bases.Goals as goal
 
 pub keep_of_base-requires : goal.keep_of_base-requires

@@ -2,7 +2,7 @@ use Rattle.std.proofs.Common.{◌≡◌, map, take}
 use Rattle.std.specs.Arc.{arc_value}
 use Rattle.std.specs.List.{flat_map}
 use Rattle.crew_plan.specs.Machinery.Homes.{home_of}
-use Rattle.crew_solve.specs.Machinery.Keeps.{keep_all}
+use Rattle.crew_fronts.specs.crew_solve.Machinery.Keeps.{keep_all}
 use Rattle.crew_plan.proofs.homes.keep_of_bases.Given as goal
 
 abbrev pub invariant-loop-base : goal.invariant-loop-base

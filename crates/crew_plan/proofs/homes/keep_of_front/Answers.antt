@@ -1,14 +1,14 @@
 use Rattle.std.proofs.Common.{◌≡◌, ◌∙◌, ◌<◌, ◌++◌, ◌∷◌, [], ℕ, zero, suc, List, Some, inl, refl, ap, sym, subst, arith, append_assoc, append-nil, length, map}
 use Rattle.std.specs.Prelude.{slice_get}
 use Rattle.std.proofs.lemmas.List.{map-append}
-use Rattle.crew_answers.specs.LongVectors.{LongVector}
+use Rattle.crew_fronts.specs.crew_answers.LongVectors.{LongVector}
 use Rattle.crew_fronts.specs.Fronts.{front_at}
 use Rattle.crew_pairing.specs.Legs.{Leg}
 use Rattle.crew_plan.specs.Machinery.Homes.{pairing_of}
 use Rattle.crew_resource.proofs.Members.{Member-append_right, Member-at}
 use Rattle.crew_resource.specs.Members.{Member}
-use Rattle.crew_solve.proofs.Keeping.{keep-append}
-use Rattle.crew_solve.specs.Machinery.Keeps.{CheapestSoFar, keep_all}
+use Rattle.crew_fronts.proofs.crew_solve_lemmas.Keeping.{keep-append}
+use Rattle.crew_fronts.specs.crew_solve.Machinery.Keeps.{CheapestSoFar, keep_all}
 use Rattle.crew_plan.proofs.homes.keep_of_front.Goals as goal
 
 abbrev Es : Type 0

@@ -1,8 +1,8 @@
 use Rattle.std.proofs.Common.{◌≡◌, ◌++◌, List, map}
-use Rattle.crew_answers.specs.LongVectors.{LongVector}
+use Rattle.crew_fronts.specs.crew_answers.LongVectors.{LongVector}
 use Rattle.crew_pairing.specs.Legs.{Leg}
 use Rattle.crew_plan.specs.Machinery.Homes.{pairing_of}
-use Rattle.crew_solve.specs.Machinery.Keeps.{keep_all}
+use Rattle.crew_fronts.specs.crew_solve.Machinery.Keeps.{keep_all}
 use Rattle.crew_plan.proofs.homes.keep_of_front.Given as goal
 
 abbrev pub invariant-loop-vector : goal.invariant-loop-vector

@@ -1,7 +1,7 @@
 use Rattle.std.proofs.Common.{◌≡◌, ◌∙◌, pos, ◌+ℤ◌, ◌-ℤ◌, ◌*ℤ◌, to_z, of_z, w64, arith}
 use Rattle.std.proofs.lemmas.Int.{ints, to_z-of_z}
 use Rattle.crew_pairing.specs.Vectors.{reduced_cost}
-use Rattle.crew_solve.proofs.Amounts.{product-fits, same-priced, sum-fits, within-fits}
+use Rattle.crew_fronts.proofs.crew_solve_lemmas.Amounts.{product-fits, same-priced, sum-fits, within-fits}
 use Rattle.crew_plan.proofs.homes.priced.Goals as goal
 
 pub overflow_mul-prices : goal.overflow_mul-prices

@@ -5,7 +5,7 @@ use Rattle.crew_flights.specs.Codes.{code_cmp}
 use Rattle.crew_resource.proofs.Members.{Member-at, Member-map_in}
 use Rattle.crew_fronts.specs.Fronts.{BaseFronts}
 use Rattle.crew_vector.proofs.Orders.{same-code}
-use Rattle.crew_solve.proofs.Departing.{read-at}
+use Rattle.crew_fronts.proofs.crew_solve_lemmas.Departing.{read-at}
 use Rattle.crew_plan.proofs.Among.{among-at, none-at}
 use Rattle.crew_plan.proofs.solution.fronts_of.Goals as goal
 

@@ -1,6 +1,6 @@
 use Rattle.std.proofs.Common.{◌≡◌, ◌∙◌, sym, subst}
 use Rattle.std.specs.Arc.{arc_value}
-use Rattle.crew_answers.specs.Schedules.{IsDated}
+use Rattle.crew_fronts.specs.crew_answers.Schedules.{IsDated}
 use Rattle.crew_flights.specs.Timetable.{IsSound, Timetable}
 use Rattle.crew_fronts.specs.Fronts.{BaseFronts, ShowsFronts}
 use Rattle.crew_net.specs.Nets.{Net}

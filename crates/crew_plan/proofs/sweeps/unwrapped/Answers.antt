@@ -9,10 +9,10 @@ use Rattle.crew_pairing.specs.Duties.{AreDuties}
 use Rattle.crew_plan.proofs.Among.{places-more}
 use Rattle.crew_plan.specs.Machinery.Kinds.{plan_by_sweeps}
 use Rattle.crew_plan.specs.Plans.{AreFrontsIn}
-use Rattle.crew_solve.proofs.Departing.{read-at}
-use Rattle.crew_solve.specs.Plans.{IsSweepIn, Plan}
+use Rattle.crew_fronts.proofs.crew_solve_lemmas.Departing.{read-at}
+use Rattle.crew_fronts.specs.crew_solve.Plans.{IsSweepIn, Plan}
 use Rattle.crew_net.proofs.Slices.{map-get}
-use Rattle.crew_sweep.specs.Sweeps.{BaseSweep, ShowsFronts}
+use Rattle.crew_fronts.specs.crew_sweep.Sweeps.{BaseSweep, ShowsFronts}
 use Rattle.crew_plan.proofs.sweeps.unwrapped.Goals as goal
 
 -- the sweep of fronts that stand at a place

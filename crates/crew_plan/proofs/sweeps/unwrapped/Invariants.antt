@@ -1,8 +1,8 @@
 use Rattle.std.proofs.Common.{◌≡◌, ℕ, Some, length, map}
 use Rattle.std.specs.Arc.{arc_value}
 use Rattle.std.specs.Prelude.{slice_get}
-use Rattle.crew_solve.specs.Plans.{IsSweepIn}
-use Rattle.crew_sweep.specs.Sweeps.{BaseSweep}
+use Rattle.crew_fronts.specs.crew_solve.Plans.{IsSweepIn}
+use Rattle.crew_fronts.specs.crew_sweep.Sweeps.{BaseSweep}
 use Rattle.crew_plan.proofs.sweeps.unwrapped.Given as goal
 
 abbrev pub invariant-loop-base : goal.invariant-loop-base

@@ -4,7 +4,7 @@ use Rattle.crew_fronts.specs.Fronts.{BaseFronts, IsOfSweep, is_plain}
 use Rattle.crew_pairing.proofs.Tree.{Each-member}
 use Rattle.crew_plan.proofs.Among.{one-more}
 use Rattle.crew_resource.proofs.Members.{Member-get_or, Member-map_in}
-use Rattle.crew_sweep.specs.Sweeps.{BaseSweep}
+use Rattle.crew_fronts.specs.crew_sweep.Sweeps.{BaseSweep}
 use Rattle.crew_plan.proofs.sweeps.wrapped.Goals as goal
 
 pub swept-requires : goal.swept-requires

@@ -1,8 +1,8 @@
 use Rattle.std.proofs.Common.{◌∙◌, ◌<◌, ◌+◌, ap, arith, get_or, length, sym, take, cond}
 use Rattle.std.specs.Prelude.{nat_eq, nat_lt}
 use Rattle.std.specs.List.{list_any}
-use Rattle.crew_solve.proofs.Flown.{again, all-at, as-often, first, is-less}
-use Rattle.crew_solve.proofs.Listed.{each-at}
+use Rattle.crew_fronts.proofs.crew_solve_lemmas.Flown.{again, all-at, as-often, first, is-less}
+use Rattle.crew_fronts.proofs.crew_solve_lemmas.Listed.{each-at}
 use Rattle.crew_plan.proofs.taken.count_each.Goals as goal
 use Rattle.crew_plan.proofs.taken.count_each.Goals.{then-not-stands_before, else-not-stands_before}
 

@@ -1,6 +1,6 @@
 use Rattle.std.proofs.Common.{◌≡◌, ◌<◌, take}
 use Rattle.crew_resource.specs.Members.{Each}
-use Rattle.crew_solve.specs.Apart.{flown}
+use Rattle.crew_fronts.specs.crew_solve.Apart.{flown}
 use Rattle.crew_plan.proofs.taken.flown.Given as goal
 
 abbrev pub invariant-loop-key : goal.invariant-loop-key

@@ -1,7 +1,7 @@
 use Rattle.std.proofs.Common.{◌≡◌, ◌++◌, ◌<◌, take}
 use Rattle.std.specs.List.{flat_map}
 use Rattle.crew_resource.specs.Members.{Each}
-use Rattle.crew_solve.specs.Apart.{flown_on}
+use Rattle.crew_fronts.specs.crew_solve.Apart.{flown_on}
 use Rattle.crew_plan.proofs.taken.push_key.Given as goal
 
 abbrev pub invariant-loop-leg : goal.invariant-loop-leg

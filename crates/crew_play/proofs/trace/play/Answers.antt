@@ -5,7 +5,7 @@ use Rattle.crew_core.specs.Replies.{act_of, acts_of}
 use Rattle.crew_core.specs.declared.reply.Reply.{Reply}
 use Rattle.crew_core.specs.declared.step.Step.{Step}
 use Rattle.crew_machine.specs.Crew.{CrewAct}
-use Rattle.crew_board.specs.Boards.{shown_version}
+use Rattle.crew_core.specs.crew_board.Boards.{shown_version}
 use Rattle.crew_rules.specs.declared.settings.Settings.{Settings}
 use Rattle.crew_play.proofs.trace.play.Goals as goal
 

@@ -2,7 +2,7 @@ use Rattle.std.proofs.Common.{◌∙◌, ap, sym, refl, List, []}
 use Rattle.std.proofs.lemmas.Bool.{and_from, and_parts}
 use Rattle.crew_pairing.specs.Legs.{Leg}
 use Rattle.crew_pairing.specs.declared.vector.PairingVector.{PairingVector}
-use Rattle.crew_step.proofs.Sames.{entry-decides}
+use Rattle.crew_sweep.proofs.crew_step_lemmas.Sames.{entry-decides}
 use Rattle.crew_solve.proofs.lookup.is_same_vector.Goals as goal
 
 pub returns : goal.returns

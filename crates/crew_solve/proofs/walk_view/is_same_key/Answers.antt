@@ -1,5 +1,5 @@
 use Rattle.std.proofs.Common.{◌∙◌, sym}
-use Rattle.crew_step.proofs.Sames.{key-decides}
+use Rattle.crew_sweep.proofs.crew_step_lemmas.Sames.{key-decides}
 use Rattle.crew_solve.proofs.walk_view.is_same_key.Goals as goal
 
 pub returns : goal.returns

@@ -13,7 +13,7 @@ use Rattle.crew_pairing.specs.declared.vector.PairingVector.{PairingVector}
 use Rattle.crew_pool.specs.LabelWalks.{IsPoolOf, shown}
 use Rattle.crew_pool.specs.declared.label_walk.LabelWalk.{LabelWalk}
 use Rattle.crew_resource.specs.Members.{Member}
-use Rattle.crew_step.specs.Pools.{boarded}
+use Rattle.crew_carry.specs.crew_step.Pools.{boarded}
 use Rattle.crew_vector.specs.Dominance.{is_at_most}
 use Rattle.crew_pool.proofs.MergeLemmas.{some_is}
 use Rattle.crew_sweep.proofs.AsGood.{as-good-boarded}

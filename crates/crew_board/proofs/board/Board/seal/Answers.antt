@@ -6,7 +6,7 @@ use Rattle.crew_board.specs.Calls.{HasSealed, IsSealFault}
 use Rattle.crew_board.specs.Machinery.Held.{Marked}
 use Rattle.crew_board.specs.Machinery.Settled.{IsRoundOver, board_of}
 use Rattle.crew_machine.specs.Crew.{CrewBoard}
-use Rattle.crew_version.specs.Versions.{Snapshot}
+use Rattle.crew_job.specs.crew_version.Versions.{Snapshot}
 use Rattle.crew_board.specs.declared.fault.SealFault.TheVariants as Seal
 use Rattle.crew_board.proofs.board.Board.seal.Goals as goal
 

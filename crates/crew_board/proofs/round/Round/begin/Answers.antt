@@ -4,7 +4,7 @@ use Rattle.std.proofs.lemmas.List.{length-map}
 use Rattle.crew_board.proofs.Keeping.{held-begun}
 use Rattle.crew_board.proofs.Nothing.{none-mapped, none-noted}
 use Rattle.crew_board.specs.Machinery.Held.{IsBegun, Marked}
-use Rattle.crew_dirty.specs.Carried.{IsCarriedOver}
+use Rattle.crew_job.specs.crew_dirty.Carried.{IsCarriedOver}
 use Rattle.crew_job.specs.Grounds.{Ground, data_of, sealed_data_of}
 use Rattle.crew_net.specs.Nets.{Net}
 use Rattle.crew_board.proofs.round.Round.begin.Goals as goal

@@ -5,7 +5,7 @@ use Rattle.std.proofs.lemmas.List.{length-append, length-map}
 use Rattle.crew_board.proofs.Gathered.{each-pushed}
 use Rattle.crew_board.specs.Machinery.Held.{Marked}
 use Rattle.crew_job.specs.Grounds.{Ground}
-use Rattle.crew_plan.specs.Plans.{AreAllIn, AreFrontsIn}
+use Rattle.crew_job.specs.crew_plan.Plans.{AreAllIn, AreFrontsIn}
 use Rattle.crew_board.proofs.round.Round.close.Goals as goal
 
 pub loop-base-init : goal.loop-base-init

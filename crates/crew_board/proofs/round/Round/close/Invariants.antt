@@ -1,8 +1,8 @@
 use Rattle.std.proofs.Common.{◌≡◌, ℕ, Some, length, map}
 use Rattle.std.specs.Prelude.{slice_get}
 use Rattle.std.specs.Arc.{arc_value}
-use Rattle.crew_fronts.specs.Fronts.{BaseFronts}
-use Rattle.crew_plan.specs.Plans.{AreFrontsIn}
+use Rattle.crew_job.specs.crew_fronts.Fronts.{BaseFronts}
+use Rattle.crew_job.specs.crew_plan.Plans.{AreFrontsIn}
 use Rattle.crew_board.proofs.round.Round.close.Given as goal
 
 -- one sweep for each base so far, in order

@@ -7,7 +7,7 @@ use Rattle.crew_board.specs.Machinery.Held.{Marked}
 use Rattle.crew_board.specs.Machinery.Turns.{IsNowhere}
 use Rattle.crew_job.specs.Grounds.{Ground, nodes_in}
 use Rattle.crew_job.specs.Jobs.{job_node}
-use Rattle.crew_plan.specs.Plans.{Plan}
+use Rattle.crew_job.specs.crew_plan.Plans.{Plan}
 use Rattle.crew_board.proofs.round.Round.place_of.Goals as goal
 
 pub returns-then-is_same_round : goal.returns-then-is_same_round

@@ -17,8 +17,8 @@ use Rattle.crew_job.specs.Jobs.{IsPlaced, Job}
 use Rattle.crew_job.specs.Shown.{IsAsSealed}
 use Rattle.crew_machine.specs.Crew.{DutyNode}
 use Rattle.crew_round.specs.Marks.{IsUndone}
-use Rattle.crew_plan.specs.Plans.{AreFrontsIn, Plan}
-use Rattle.crew_fronts.specs.Fronts.{BaseFronts}
+use Rattle.crew_job.specs.crew_plan.Plans.{AreFrontsIn, Plan}
+use Rattle.crew_job.specs.crew_fronts.Fronts.{BaseFronts}
 use Rattle.crew_board.proofs.round.Round.store.Goals as goal
 
 pub note-requires : goal.note-requires

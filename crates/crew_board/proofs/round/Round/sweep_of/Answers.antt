@@ -4,7 +4,7 @@ use Rattle.crew_board.proofs.Nothing.{option-at, read-at, some-within}
 use Rattle.crew_board.proofs.Inside.{marked_of, shown_of}
 use Rattle.crew_board.proofs.Keeping.{swept-there}
 use Rattle.crew_board.specs.Machinery.Held.{Marked}
-use Rattle.crew_plan.specs.Plans.{AreFrontsIn}
+use Rattle.crew_job.specs.crew_plan.Plans.{AreFrontsIn}
 use Rattle.crew_board.proofs.round.Round.sweep_of.Goals as goal
 
 pub returns-in_ok-try_clone-in-Some-index : goal.returns-in_ok-try_clone-in-Some-index

@@ -2,7 +2,7 @@ use Rattle.std.proofs.Common.{◌≡◌, ◌∙◌, ap, sym, subst}
 use Rattle.crew_pairing.specs.Duties.{RiseByKey}
 use Rattle.crew_resource.specs.Members.{Member}
 use Rattle.crew_solve.specs.Solutions.{ShowSame}
-use Rattle.crew_sweep.specs.Sweeps.{BaseSweep}
+use Rattle.crew_solve.specs.crew_sweep.Sweeps.{BaseSweep}
 use Rattle.crew_fronts.specs.Fronts.{BaseFronts, front_at}
 use Rattle.crew_fronts.specs.Machinery.Bases.{fronts_of}
 use Rattle.crew_fronts.proofs.Sweeps.{alike-at}

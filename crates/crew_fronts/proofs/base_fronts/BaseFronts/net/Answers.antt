@@ -1,9 +1,9 @@
 use Rattle.std.proofs.Common.{◌∙◌, ap, sym, subst}
-use Rattle.crew_answers.specs.Schedules.{IsDated}
+use Rattle.crew_pass.specs.crew_answers.Schedules.{IsDated}
 use Rattle.crew_flights.specs.Timetable.{IsSound, Timetable}
 use Rattle.crew_pairing.specs.Duties.{AreDuties, RiseByKey}
-use Rattle.crew_sweep.specs.Sweeps as Sweeps
-use Rattle.crew_sweep.specs.Sweeps.{BaseSweep}
+use Rattle.crew_solve.specs.crew_sweep.Sweeps as Sweeps
+use Rattle.crew_solve.specs.crew_sweep.Sweeps.{BaseSweep}
 use Rattle.crew_fronts.specs.Fronts.{BaseFronts, ShowsFronts}
 use Rattle.crew_fronts.specs.Machinery.Bases.{IsOfKind, fronts_of}
 use Rattle.crew_fronts.proofs.Sweeps.{plain-away, plain-cap, sweep-right}

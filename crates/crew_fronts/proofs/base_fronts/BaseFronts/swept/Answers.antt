@@ -1,7 +1,7 @@
 use Rattle.std.proofs.Common.{sym, subst}
 use Rattle.std.specs.Arc.{arc_value}
 use Rattle.crew_pairing.specs.Duties.{RiseByKey}
-use Rattle.crew_sweep.specs.Sweeps.{BaseSweep}
+use Rattle.crew_solve.specs.crew_sweep.Sweeps.{BaseSweep}
 use Rattle.crew_fronts.specs.Fronts.{IsOfSweep}
 use Rattle.crew_fronts.proofs.Sweeps.{of-sweep}
 use Rattle.crew_fronts.proofs.base_fronts.BaseFronts.swept.Goals as goal

@@ -5,7 +5,7 @@ use Rattle.crew_job.specs.Grounds.{data_of}
 use Rattle.crew_job.specs.Jobs.{IsJobOf, Job, job_node}
 use Rattle.crew_machine.specs.Crew.{DutyNode, DutyWork, IsFrontOf, IsLocalOf}
 use Rattle.crew_pairing.specs.declared.duty.Duty.{Duty}
-use Rattle.crew_fronts.specs.Fronts.{BaseFronts, front_at}
+use Rattle.crew_version.specs.crew_fronts.Fronts.{BaseFronts, front_at}
 use Rattle.crew_job.proofs.done.Done.front.Goals as goal
 
 pub returns-clause-local : goal.returns-clause-local

@@ -7,9 +7,9 @@ use Rattle.crew_net.specs.Nets.{Net}
 use Rattle.crew_pairing.specs.Events.{departure_of}
 use Rattle.crew_pairing.specs.declared.duty.Duty.{Duty}
 use Rattle.crew_rules.specs.declared.settings.Settings.{Settings}
-use Rattle.crew_plan.specs.Solutions.{HasNetOf, front_of}
-use Rattle.crew_fronts.specs.Fronts.{front_at}
-use Rattle.crew_answers.specs.Bests.{AreFronts}
+use Rattle.crew_version.specs.crew_plan.Solutions.{HasNetOf, front_of}
+use Rattle.crew_version.specs.crew_fronts.Fronts.{front_at}
+use Rattle.crew_dirty.specs.crew_answers.Bests.{AreFronts}
 use Rattle.crew_resource.specs.Members.{Member}
 use Rattle.crew_version.specs.Versions.{Snapshot, timetable_of}
 use Rattle.crew_job.proofs.ground.Ground.leaves_alike.Goals as goal

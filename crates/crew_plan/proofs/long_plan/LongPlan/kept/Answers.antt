@@ -8,8 +8,8 @@ use Rattle.crew_pairing.specs.Duties.{AreDuties}
 use Rattle.crew_plan.specs.Machinery.Kept.{AreAt}
 use Rattle.crew_plan.specs.Plans.{AreFrontsIn, AreMade, Plan}
 use Rattle.crew_resource.specs.Members.{Each}
-use Rattle.crew_solve.proofs.Departing.{read-at}
-use Rattle.crew_solve.proofs.Swept.{price-at}
+use Rattle.crew_fronts.proofs.crew_solve_lemmas.Departing.{read-at}
+use Rattle.crew_fronts.proofs.crew_solve_lemmas.Swept.{price-at}
 use Rattle.crew_plan.proofs.long_plan.LongPlan.kept.Goals as goal
 
 -- earlier fronts over a network are those of the base

@@ -5,7 +5,7 @@ use Rattle.crew_net.specs.Nets.{Net}
 use Rattle.crew_pairing.specs.declared.duty.Duty.{Duty}
 use Rattle.crew_plan.specs.Machinery.Kept.{IsLaid}
 use Rattle.crew_resource.specs.Members.{Each}
-use Rattle.crew_solve.proofs.Swept.{over-of}
+use Rattle.crew_fronts.proofs.crew_solve_lemmas.Swept.{over-of}
 use Rattle.crew_plan.proofs.long_plan.LongPlan.of.Goals as goal
 
 pub invariant_of-result : goal.invariant_of-result

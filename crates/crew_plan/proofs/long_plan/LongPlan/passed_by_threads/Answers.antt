@@ -4,8 +4,8 @@ use Rattle.std.specs.Arc.{arc_value}
 use Rattle.crew_flights.specs.Timetable.{IsBasePrice}
 use Rattle.crew_fronts.specs.Fronts.{BaseFronts}
 use Rattle.crew_plan.specs.Plans.{AreFrontsIn, Plan}
-use Rattle.crew_solve.proofs.Departing.{read-at}
-use Rattle.crew_solve.proofs.Swept.{price-at}
+use Rattle.crew_fronts.proofs.crew_solve_lemmas.Departing.{read-at}
+use Rattle.crew_fronts.proofs.crew_solve_lemmas.Swept.{price-at}
 use Rattle.crew_vector.proofs.LegalDuties.{duties-sound}
 use Rattle.crew_plan.proofs.long_plan.LongPlan.passed_by_threads.Goals as goal
 

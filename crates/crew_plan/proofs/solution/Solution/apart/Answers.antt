@@ -13,7 +13,7 @@ use Rattle.crew_plan.specs.Machinery.Kinds.{IsMadeAs, best_of, net_of}
 use Rattle.crew_plan.specs.Solutions.{Solution}
 use Rattle.crew_plan.specs.declared.solution.Made.{Made}
 use Rattle.crew_rules.specs.declared.settings.Settings.{Settings}
-use Rattle.crew_solve.specs.Apart as Plain
+use Rattle.crew_fronts.specs.crew_solve.Apart as Plain
 use Rattle.crew_plan.proofs.solution.Solution.apart.Goals as goal
 
 pub returns-in-Plain : goal.returns-in-Plain

@@ -9,7 +9,7 @@ use Rattle.crew_plan.specs.Machinery.Homes.{IsPayable, home_of}
 use Rattle.crew_plan.specs.Machinery.Kept.{IsSolved}
 use Rattle.crew_resource.specs.Members.{Each}
 use Rattle.crew_rules.specs.declared.settings.Settings.{Settings}
-use Rattle.crew_solve.specs.Machinery.Homes.{least_of}
+use Rattle.crew_fronts.specs.crew_solve.Machinery.Homes.{least_of}
 use Rattle.crew_plan.proofs.solution.Solution.passed.Goals as goal
 
 pub best_of-requires : goal.best_of-requires

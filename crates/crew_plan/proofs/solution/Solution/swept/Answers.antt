@@ -5,8 +5,8 @@ use Rattle.crew_plan.proofs.Among.{each-plain, still-solved}
 use Rattle.crew_plan.proofs.Shorter.{solved-too, still-plain}
 use Rattle.crew_plan.specs.Machinery.Kept.{AreOfSweeps}
 use Rattle.crew_resource.specs.Members.{Each}
-use Rattle.crew_solve.specs.Machinery.Solved.{IsSolved}
-use Rattle.crew_sweep.specs.Sweeps.{BaseSweep}
+use Rattle.crew_fronts.specs.crew_solve.Machinery.Solved.{IsSolved}
+use Rattle.crew_fronts.specs.crew_sweep.Sweeps.{BaseSweep}
 use Rattle.crew_plan.proofs.solution.Solution.swept.Goals as goal
 
 pub wrapped-requires : goal.wrapped-requires

@@ -1,6 +1,6 @@
 use Rattle.std.proofs.Common.{◌∙◌, ap, sym}
 use Rattle.std.specs.Prelude.{count_by}
-use Rattle.crew_solve.specs.Apart.{flies}
+use Rattle.crew_fronts.specs.crew_solve.Apart.{flies}
 use Rattle.crew_plan.proofs.taken.Taken.new.Goals as goal
 
 pub invariant_of-result : goal.invariant_of-result

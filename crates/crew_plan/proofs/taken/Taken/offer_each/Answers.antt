@@ -1,6 +1,6 @@
 use Rattle.std.proofs.Common.{◌∙◌, ap}
-use Rattle.crew_solve.specs.Machinery.Takes.{offered}
-use Rattle.crew_solve.proofs.Taking.{offered-more}
+use Rattle.crew_fronts.specs.crew_solve.Machinery.Takes.{offered}
+use Rattle.crew_fronts.proofs.crew_solve_lemmas.Taking.{offered-more}
 use Rattle.crew_plan.proofs.taken.Taken.offer_each.Goals as goal
 
 pub loop-pairing-preserved : goal.loop-pairing-preserved

@@ -1,5 +1,5 @@
 use Rattle.std.proofs.Common.{◌≡◌}
-use Rattle.crew_solve.specs.Machinery.Takes.{offered_each}
+use Rattle.crew_fronts.specs.crew_solve.Machinery.Takes.{offered_each}
 use Rattle.crew_plan.proofs.taken.Taken.offer_each.Given as goal
 
 abbrev pub invariant-loop-pairing : goal.invariant-loop-pairing

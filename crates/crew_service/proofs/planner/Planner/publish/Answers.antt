@@ -2,7 +2,7 @@ use Rattle.std.proofs.Common.{◌≡◌, ◌++◌, ◌∷◌, [], ◌∙◌, Lis
 use Rattle.crew_service.proofs.Plans.{with-shown}
 use Rattle.crew_service.specs.Machinery.Kept.{IsPlanning}
 use Rattle.crew_service.specs.Plans.{Planning}
-use Rattle.crew_version.specs.Versions.{Snapshot}
+use Rattle.crew_publish.specs.crew_version.Versions.{Snapshot}
 use Rattle.crew_service.proofs.planner.Planner.publish.Given.{Over}
 use Rattle.crew_service.proofs.planner.Planner.publish.Goals as goal
 

@@ -1,5 +1,5 @@
 use Rattle.std.proofs.Common.{◌≡◌, ◌∙◌, subst, sym}
-use Rattle.crew_carry.specs.Twins.{AreTwins}
+use Rattle.crew_sweep.specs.crew_carry.Twins.{AreTwins}
 use Rattle.crew_net.specs.Nets.{Net}
 use Rattle.crew_resource.specs.Members.{Each}
 use Rattle.crew_sweep.specs.Sweeps.{BaseSweep}

@@ -1,6 +1,6 @@
 use Rattle.std.proofs.Common.{◌≡◌, ◌∙◌, IfOk, ap, map, subst, sym}
 use Rattle.std.specs.Arc.{arc_value}
-use Rattle.crew_carry.specs.Twins.{AreTwins}
+use Rattle.crew_sweep.specs.crew_carry.Twins.{AreTwins}
 use Rattle.crew_flights.specs.Timetable.{IsBasePrice}
 use Rattle.crew_net.specs.Nets.{AreArrivalPlaces, Net}
 use Rattle.crew_pairing.proofs.Tree.{Each-member}

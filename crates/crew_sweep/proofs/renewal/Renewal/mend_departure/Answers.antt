@@ -2,7 +2,7 @@ use Rattle.std.proofs.Common.{◌∙◌, ◌++◌, ◌∷◌, [], List, ap, arit
 use Rattle.std.specs.Prelude.{IfSome}
 use Rattle.crew_pairing.specs.declared.vector.PairingVector.{PairingVector}
 use Rattle.crew_pool.specs.declared.label_walk.LabelWalk.{LabelWalk}
-use Rattle.crew_step.proofs.Grown.{grown-itself}
+use Rattle.crew_carry.proofs.crew_step_lemmas.Grown.{grown-itself}
 use Rattle.crew_sweep.specs.Machinery.Mending.{IsNextPool}
 use Rattle.crew_sweep.specs.Machinery.Passing.{IsPassing}
 use Rattle.crew_sweep.proofs.Keepings as keepings

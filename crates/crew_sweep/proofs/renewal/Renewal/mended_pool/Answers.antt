@@ -9,7 +9,7 @@ use Rattle.crew_pool.specs.LabelWalks.{shown}
 use Rattle.crew_pool.specs.declared.label_walk.LabelWalk.{LabelWalk}
 use Rattle.crew_resource.specs.Members.{Member}
 use Rattle.crew_resource.proofs.Members.{Member-map_in}
-use Rattle.crew_step.proofs.Grown.{grown-through}
+use Rattle.crew_carry.proofs.crew_step_lemmas.Grown.{grown-through}
 use Rattle.crew_sweep.specs.Machinery.Mending.{AreSound, IsFresh, IsMended, IsOldPool}
 use Rattle.crew_sweep.specs.Machinery.Renewing.{IsRenewing}
 use Rattle.crew_sweep.proofs.Besides as besides

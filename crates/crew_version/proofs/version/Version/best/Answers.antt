@@ -1,6 +1,6 @@
 use Rattle.std.proofs.Common.{None, sym, subst}
 use Rattle.crew_rules.specs.Settings.{IsChecked}
-use Rattle.crew_answers.specs.Bests.{IsBest}
+use Rattle.crew_plan.specs.crew_answers.Bests.{IsBest}
 use Rattle.crew_version.specs.Drafts.{IsSolutionOf}
 use Rattle.crew_version.specs.Versions.{IsRight, Snapshot, timetable_of}
 use Rattle.crew_version.proofs.SolutionFacts.{best-costs-least, best-legal, best-none, best-right, timetable-sound}
