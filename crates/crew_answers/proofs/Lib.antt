@@ -25,5 +25,6 @@ pub mod LongNodes
 pub mod LongSteps
 pub mod LongListed
 pub mod Scheduled
+-- of crates below this one, which those above cite through it
 pub use Rattle.crew_long.proofs.crew_history_lemmas
 pub use Rattle.crew_vector.proofs as crew_vector_lemmas

@@ -8,6 +8,7 @@ pub mod Shown
 pub mod Schedules
 pub mod ShortPairings
 pub mod Machinery
+-- of crates below this one, which those above cite through it
 pub use Rattle.crew_long.specs.crew_history
 pub use Rattle.crew_long.specs as crew_long
 pub use Rattle.crew_vector.specs as crew_vector

@@ -13,9 +13,9 @@ use thiserror::Error;
 pub struct Partial {
     /// The base that it leaves.
     pub base: Code,
-    /// The keys of its duties.
+    /// Its path: the keys of its duties.
     pub walk: Walk,
-    /// Its vector, less the prices of its flights and of its base.
+    /// Its resource vector, less the dual prices of its flights and of its base.
     pub vector: PairingVector,
     /// Whether it comes back to its base.
     pub pairing: bool,
@@ -39,7 +39,7 @@ pub enum AuditFault {
     /// 45: there are more than the limit.
     #[error("there are more partial pairings than the limit")]
     OverLimit,
-    /// There is no memory.
+    /// Out of memory.
     #[error("out of memory")]
     Memory,
 }

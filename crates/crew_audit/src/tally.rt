@@ -6,7 +6,7 @@ ghost use Rattle.crew_audit.specs.declared.partial.Partial.{Partial as Counted};
 
 use crate::partial::Partial;
 
-/// How many partial pairings there are, how many of them are pairings, and the least cost of a
+/// How many partial pairings there are, how many of them are pairings, and the least reduced cost of a
 /// pairing, in points.
 #[derive(Clone, Copy, Debug, PartialEq, Eq)]
 pub struct Tally {

@@ -22,5 +22,6 @@ pub mod Answered
 pub mod Arriving
 pub mod Each
 pub mod Likes
+-- of crates below this one, which those above cite through it
 pub use Rattle.crew_job.proofs.crew_plan_lemmas
 pub use Rattle.crew_job.proofs.crew_version_lemmas

@@ -60,7 +60,7 @@ pub enum SealFault {
     NoRound,
     /// 52: this node is the least that isn't done.
     NotDone(Node),
-    /// There is no memory.
+    /// Out of memory.
     Memory,
 }
 

@@ -16,6 +16,7 @@ mod round;
 mod tally;
 
 pub use board::Board;
+// Crates below this one, which those above cite through it.
 pub use crew_job;
 pub use crew_job::{crew_dirty, crew_fronts, crew_version};
 pub use crew_round;

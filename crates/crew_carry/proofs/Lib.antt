@@ -8,4 +8,5 @@ pub mod SameDuties
 pub mod Carrying
 pub mod CarriedLabels
 pub mod Permuted
+-- of crates below this one, which those above cite through it
 pub use Rattle.crew_step.proofs as crew_step_lemmas

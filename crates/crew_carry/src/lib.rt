@@ -15,6 +15,7 @@ mod twins;
 
 pub use alike::are_alike;
 pub use carrier::Carrier;
+// Crates below this one, which those above cite through it.
 pub use crew_step;
 pub use span::Span;
 pub use twins::Twins;

@@ -25,7 +25,7 @@ pub enum Fault {
     Usage(clap::Error),
     /// A word isn't text.
     Word,
-    /// There is no memory.
+    /// Out of memory.
     Memory,
     /// A setting is out of its range.
     Setting(BadSetting),

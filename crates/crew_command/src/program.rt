@@ -179,7 +179,7 @@ fn run_words<T: Threads + Wait + Sync + Clock + Eprint, S: AsStr, R: Read + Drop
 }
 
 /// Does what the words ask for, and gives the status: 0 done, or help or the version was asked for;
-/// 1 a read or write fault; 2 a fault in the words; 3 no memory; 4 a bad setting; 5 a strange log.
+/// 1 a read or write fault; 2 a fault in the words; 3 out of memory; 4 a bad setting; 5 a strange log.
 /// The line of a fault goes to `faults`, all else to `writer`; a fault in writing to `faults`
 /// changes nothing. The first word is the program's own name.
 pub fn command<

@@ -45,7 +45,7 @@ impl<W: Write + Drop> Held<W> {
 }
 
 impl<W: Write + Drop> Outlet<W> {
-    /// An outlet over a writer. `OutOfMemory` where there is no memory for a block.
+    /// An outlet over a writer. `OutOfMemory` where there is none for a block.
     ///
     /// No clause: what a `RefCell` holds is hidden from contracts, so none can tell what the ends of
     /// an outlet write. The tests of the program drive them, over memory and over pipes.

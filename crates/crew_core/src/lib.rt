@@ -7,6 +7,7 @@ mod machine;
 mod reply;
 mod step;
 
+// Crates below this one, which those above cite through it.
 pub use crew_board::{crew_fronts, crew_version};
 pub use machine::Machine;
 pub use reply::Reply;

@@ -57,7 +57,7 @@ pub enum Reply {
     Published(Arc<Version, Global>),
     /// 55: the version that was sealed last is published already.
     NothingNew,
-    /// A reader is answered this version.
+    /// A reader's query is answered from this version.
     Answered {
         reader: u8,
         version: Arc<Version, Global>,

@@ -11,5 +11,6 @@ pub mod Priced
 pub mod Unchanging
 pub mod Fronts
 pub mod BasePlaces
+-- of crates below this one, which those above cite through it
 pub use Rattle.crew_answers.proofs as crew_answers_lemmas
 pub use Rattle.crew_carry.proofs.crew_step_lemmas

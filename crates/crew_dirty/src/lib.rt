@@ -17,5 +17,6 @@ mod same;
 mod windows;
 
 pub use carried::{Carried, carry};
+// Crates below this one, which those above cite through it.
 pub use crew_carry::crew_step;
 pub use node_state::{NodeState, NodeStates};

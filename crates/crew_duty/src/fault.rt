@@ -12,7 +12,7 @@ pub enum DutyFault {
     /// 40: there are more than 200,000 legal duties.
     #[error("there are more than 200,000 legal duties")]
     TooManyDuties,
-    /// There is no memory.
+    /// Out of memory.
     #[error("out of memory")]
     Memory,
 }

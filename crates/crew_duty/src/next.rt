@@ -63,10 +63,10 @@ fn list_beside(
     Ok(fill_beside(alloc, &plan, kept, &counts, total)?)
 }
 
-/// The legal duties of a timetable, as `list_duties` lists them, beside those of an earlier one.
+/// The legal duties of a timetable, as `list_duties` lists them, warm from those of an earlier one.
 /// `TooManyDuties` where there are more than 200,000, and `Memory` only where a growth was refused.
 ///
-/// Where the flights differ in their prices alone, all duties are taken over, at their new prices.
+/// Where the flights differ in their dual prices alone, all duties are taken over, at their new prices.
 /// Otherwise the duties that begin with a flight are taken over where no flight that has come, gone
 /// or changed departs while one of them may last, and listed anew elsewhere. Where most would be
 /// listed anew, all are, by `list_duties`.

@@ -4,4 +4,5 @@ pub mod Fold
 pub mod Refusals
 pub mod Timetable
 pub mod Turns
+-- of crates below this one, which those above cite through it
 pub use Rattle.crew_time.specs as crew_time

@@ -21,15 +21,15 @@ use std::slice;
 /// What an offer did.
 #[derive(Clone, Copy, Debug, PartialEq, Eq)]
 pub enum Offer {
-    /// No entry was at most the vector: it joined, and those that it beats went.
+    /// No entry dominated or equalled the vector: it joined, and those that it dominates went.
     Kept,
-    /// An entry beats the vector.
+    /// An entry dominates the vector.
     Beaten,
-    /// The vector was there: the lesser walk stays.
+    /// The vector was there: the lesser path stays.
     Tied,
 }
 
-/// The vectors that no other beats, in order of vector, each with its least walk.
+/// A Pareto front: the non-dominated vectors, in order of vector, each with its least path.
 ///
 /// A contract sees the list of the vectors with their walks.
 ///
@@ -122,10 +122,10 @@ impl<R: Resource + Drop> Front<R> {
         self.entries.get(place)
     }
 
-    /// Offers a vector with a walk.
+    /// Offers a vector with a path.
     ///
-    /// `Beaten` exactly where an entry beats it, and nothing changes. `Tied` exactly where the
-    /// vector is there: the lesser walk stays. Else `Kept`: exactly the entries that it beats go,
+    /// `Beaten` exactly where an entry dominates it, and nothing changes. `Tied` exactly where the
+    /// vector is there: the lesser path stays. Else `Kept`: exactly the entries that it dominates go,
     /// and it joins. If the entries were what a list of candidates leaves, they are then what that
     /// list leaves with this one after it. Only a vector that joins takes memory; on want of it
     /// nothing changes.

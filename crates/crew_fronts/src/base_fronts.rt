@@ -24,7 +24,7 @@ use std::marker::Model;
 use std::sync::Arc;
 use std::thread::Threads;
 
-/// The fronts of a base at its price, one for each duty of a network.
+/// The Pareto fronts of a base at its dual price, one for each duty of a network.
 ///
 /// A contract sees the network, the base and its price, and the front of each duty, by rank.
 pub struct BaseFronts {
@@ -155,7 +155,7 @@ impl BaseFronts {
         }
     }
 
-    /// The base's price.
+    /// The base's dual price.
     pub fn price(&self) -> i64
         ensures { result ≡ self.now.price }
     {

@@ -9,7 +9,7 @@ use crate::vector::Vector;
 use crate::walk_view::WalkView;
 use std::marker::Model;
 
-/// The front of a base and a duty, lent.
+/// The Pareto front of a base and a duty (the non-dominated labels there), lent.
 ///
 /// A contract sees the list of its entries, in order of vector: each vector with its walk. No call
 /// takes memory.

@@ -1,5 +1,5 @@
-//! The fronts of one crew base, whichever pass made them, in the words of pairings of up to 240 hours
-//! (`crew_answers`).
+//! The Pareto fronts of one crew base, whichever label-setting pass made them, in the words of pairings
+//! of up to 240 hours (`crew_answers`).
 //!
 //! Where no pairing of the settings has more than 138 hours, a sweep of `crew_solve` makes them, whose
 //! labels are the seven sums; else a pass of `crew_pass`, whose labels remember a past too. The crate
@@ -17,6 +17,7 @@ mod vector;
 mod walk_view;
 
 pub use base_fronts::BaseFronts;
+// Crates below this one, which those above cite through it.
 pub use crew_pass;
 pub use crew_solve;
 pub use crew_solve::{crew_duty, crew_step};

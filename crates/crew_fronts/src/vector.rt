@@ -7,7 +7,7 @@ use crew_pairing::PairingVector;
 use crew_pass::crew_history::History;
 use std::marker::Model;
 
-/// The vector of a list of duties: the seven sums, the minutes since the last long rest, and the
+/// The resource vector of a path: the seven sums, the minutes since the last long rest, and the
 /// flight duty periods of the last window. Where no pairing of the settings has more than 138 hours
 /// the last two are the same for all lists.
 ///

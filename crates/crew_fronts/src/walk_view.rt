@@ -6,7 +6,7 @@ use crate::passed_walk::PassedWalk;
 use crew_pairing::Key;
 use std::marker::Model;
 
-/// A walk that a front lends: the keys of its duties in order.
+/// A path that a front lends: the keys of its duties in order.
 ///
 /// A contract sees the list of the keys. No call takes memory.
 #[derive(Drop)]

@@ -13,5 +13,6 @@
 mod history;
 pub mod laws;
 
+// Crates below this one, which those above cite through it.
 pub use crew_pairing;
 pub use history::History;

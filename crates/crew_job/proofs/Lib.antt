@@ -13,6 +13,7 @@ pub mod SealedNodes
 pub mod Standing
 pub mod Works
 pub mod Leaving
+-- of crates below this one, which those above cite through it
 pub use Rattle.crew_dirty.proofs as crew_dirty_lemmas
 pub use Rattle.crew_version.proofs.crew_duty_lemmas
 pub use Rattle.crew_version.proofs.crew_plan_lemmas

@@ -27,6 +27,7 @@ mod shown;
 mod timetables;
 
 pub use before::may_follow;
+// Crates below this one, which those above cite through it.
 pub use crew_dirty;
 pub use crew_version;
 pub use crew_version::crew_fronts;

@@ -25,8 +25,8 @@ use std::alloc::{AllocError, Global};
 // The most labels of a pool that a link can tell apart.
 const MOST: usize = 0xffff_ffff;
 
-/// The front of the labels that board an item from a departure's pool: what dominance by values
-/// leaves of them, each value with its least walk. It is a pool of its own labels, and so may be
+/// The Pareto front of the labels that board an item from a departure's pool: what dominance by values
+/// leaves of them, each value with its least path. It is a pool of its own labels, and so may be
 /// merged.
 ///
 /// In a departure's pool no label stands for another. Where nothing of two labels lapses as they

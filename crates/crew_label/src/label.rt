@@ -1,6 +1,6 @@
 //! Labels and links.
 
-/// The last duty of a walk, and where the label stands that boarded it.
+/// The last duty of a path, and where the label stands that was extended by it.
 ///
 /// The place is that of a label in the pool of the departure that the duty leaves from.
 #[derive(Clone, Copy, Debug, PartialEq, Eq)]
@@ -11,7 +11,7 @@ pub struct Link {
     pub place: u32,
 }
 
-/// A value, and the link that its walk ends with; `None` for the empty walk.
+/// A label: a value, and the link that its path ends with; `None` for the empty path.
 #[derive(Drop)]
 pub struct Label<V> {
     pub value: V,

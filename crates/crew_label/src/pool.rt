@@ -13,7 +13,7 @@ use crew_resource::{Placed, Resource};
 use std::alloc::{AllocError, Global};
 use std::marker::Model;
 
-/// The labels of one event, in the listing order of their values; no value stands twice.
+/// The labels of one event after dominance, in the listing order of their values; no value stands twice.
 ///
 /// A contract sees the list of the labels.
 pub struct Pool<R: Resource> {

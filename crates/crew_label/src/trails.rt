@@ -7,7 +7,7 @@ ghost use Rattle.crew_label.specs.Walks.{Leads, walk_of, ranks_at_most};
 use crate::label::Link;
 use std::cmp::Ordering;
 
-/// Where links lead: a walk is read from its last duty back, label by label.
+/// Where links lead: a path is read from its last duty back, label by label.
 pub trait Trails {
     ghost use Rattle.crew_label.specs.declared.label.Link.{Link};
 
@@ -24,7 +24,7 @@ pub trait Trails {
         ensures leads { Leads (leads self.now) result };
 }
 
-/// Compares two walks duty by duty, by rank, from the first duty on.
+/// Compares two paths duty by duty, by rank, from the first duty on.
 ///
 /// They are read from the last duties back, as far as to where both go on from the same label.
 pub fn compare_walks<T: Trails>(trails: &T, a: Option<Link>, b: Option<Link>) -> Ordering

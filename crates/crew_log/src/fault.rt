@@ -14,13 +14,13 @@ pub enum LogFault {
     /// 61: the seat has 1,000,000 entries.
     #[error("the seat has 1,000,000 entries")]
     SeatFull,
-    /// There is no memory.
+    /// Out of memory.
     #[error("out of memory")]
     Memory,
 }
 
 impl LogFault {
-    /// The number of the refusal; want of memory has none.
+    /// The number of the refusal; out of memory has none.
     pub fn number(self) -> Option<u8>
         ensures { result ≡ log_number self }
     {

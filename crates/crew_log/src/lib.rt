@@ -1,7 +1,7 @@
 //! A log that threads push edits to through seats, and that is read by place. The crate promises
 //! that a receipt's place has its entry, for good, that a seat's entries are numbered 0, 1, 2, ..,
 //! that a number of a seat has one place, that a submit is refused exactly where its seat is full or
-//! for want of memory and then gives the edit back, and that a reading has a receipt for each place
+//! out of memory, and then gives the edit back, and that a reading has a receipt for each place
 //! from the first on, with no gap, and ends at no place that its caller has a receipt of. Which
 //! place an entry gets, and when it is shown to one who has no receipt of it, no contract says.
 #![tactic(auto)]

@@ -13,6 +13,7 @@ mod rest_end;
 mod since_rest;
 mod window;
 
+// Crates below this one, which those above cite through it.
 pub use crew_history;
 pub use recent::Recent;
 pub use rest_end::RestEnd;

@@ -20,4 +20,5 @@ pub mod Reuse
 pub mod Runs
 pub mod Served
 pub mod Sorted
+-- of crates below this one, which those above cite through it
 pub use Rattle.crew_answers.proofs as crew_answers_lemmas

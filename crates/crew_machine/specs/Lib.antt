@@ -5,4 +5,5 @@ pub mod Chains
 pub mod Choices
 pub mod Crew
 pub mod Machinery
+-- of crates below this one, which those above cite through it
 pub use Rattle.crew_answers.specs as crew_answers

@@ -2,7 +2,7 @@
 //! duty, and the events at which duties leave and arrive. The crate promises that nodes stand by
 //! base and key, that the duties just before one are exactly those that may stand there, that each
 //! event has exactly its own duties, that a departure's window is exactly the arrivals that it may
-//! wait on, and that a duty's layer is the most arcs in a row that end there. No arc is stored, and
+//! wait on, and that a duty's layer is the arcs of a longest path that ends there. No arc is stored, and
 //! what doesn't depend on the base is kept once.
 #![tactic(auto)]
 

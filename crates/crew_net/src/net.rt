@@ -131,7 +131,7 @@ impl Net {
         })
     }
 
-    /// The network of the legal duties of another timetable under the same settings. Where the
+    /// Warm start: the network of another timetable's legal duties under the same settings. Where the
     /// duties leave and arrive as this one's do, one by one, the events are shared; else it is
     /// built.
     pub fn next(
@@ -255,7 +255,7 @@ impl Net {
         })
     }
 
-    /// The arrivals after which a crew may report for a departure.
+    /// The sliding window of a departure: the arrivals after which a crew may report for it.
     pub fn window(&self, departure: usize) -> Window
         requires { departure < length self.now.departures }
         ensures { (g : Departure) → slice_get self.now.departures departure ≡ Some g
@@ -356,7 +356,7 @@ impl Net {
         Ok(ranks)
     }
 
-    /// The duties that may stand just before a node's, by rank, at the same base: `None` where it
+    /// A node's predecessors: what may stand just before it at its base, by rank, and `None` where it
     /// isn't a node of the network.
     pub fn preds(&self, alloc: Global, node: &Node) -> Result<Option<Vec<u32>>, AllocError>
         ensures { IfOk result (ArePreds self.now node.now) }

@@ -14,6 +14,7 @@ mod key;
 mod leg;
 mod vector;
 
+// Crates below this one, which those above cite through it.
 pub use crew_rules;
 pub use duties::Duties;
 pub use duty::Duty;

@@ -12,5 +12,6 @@ pub mod Alike
 pub mod Rested
 pub mod Batched
 pub mod Arriving
+-- of crates below this one, which those above cite through it
 pub use Rattle.crew_answers.proofs as crew_answers_lemmas
 pub use Rattle.crew_answers.proofs.crew_history_lemmas

@@ -28,6 +28,7 @@ mod waits;
 
 pub use base_fronts::BaseFronts;
 pub use course::Course;
+// Crates below this one, which those above cite through it.
 pub use crew_answers;
 pub use crew_answers::crew_history;
 pub use long::long_fronts;

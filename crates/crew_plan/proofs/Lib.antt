@@ -8,5 +8,6 @@ pub mod Answering
 pub mod OneList
 pub mod Sharing
 pub mod Below
+-- of crates below this one, which those above cite through it
 pub use Rattle.crew_fronts.proofs.crew_answers_lemmas
 pub use Rattle.crew_fronts.proofs.crew_duty_lemmas

@@ -3,6 +3,7 @@ pub mod Solutions
 pub mod Cheapest
 pub mod Apart
 pub mod Machinery
+-- of crates below this one, which those above cite through it
 pub use Rattle.crew_fronts.specs.crew_answers
 pub use Rattle.crew_fronts.specs as crew_fronts
 pub use Rattle.crew_fronts.specs.crew_pass

@@ -9,20 +9,20 @@ ghost use Rattle.crew_plan.specs.Apart.{AreApart, flies};
 ghost use Rattle.crew_plan.specs.Cheapest.{AreCheapest, IsShown};
 ghost use Rattle.crew_vector.specs.declared.priced.PricedPairing.{PricedPairing};
 
-/// There is one list of the cheapest pairings, whatever the limit.
+/// There is one list of the columns of least reduced cost, whatever the limit.
 pub fn cheapest_are_unique()
     ensures { (s : Settings) (t : Timetable) (limit : ℕ) (a b : List PricedPairing)
         → AreCheapest s t limit a → AreCheapest s t limit b → a ≡ b }
 {}
 
-/// The first of the cheapest pairings is the best, and there is none exactly where there is no best.
+/// The first of the columns of least cost is the best, and there is none exactly where there is no best.
 pub fn first_of_the_cheapest_is_the_best()
     ensures { (s : Settings) (t : Timetable) (limit : ℕ) (pairings : List PricedPairing)
         (best : Option PricedPairing) → IsChecked s → IsSound t → 0 < limit
         → AreCheapest s t limit pairings → IsBest s s.fdp_total t best → best ≡ slice_get pairings 0 }
 {}
 
-/// Each legal pairing, also one that fronts don't show, has one that they show with the same base
+/// Each legal pairing, also one off the Pareto fronts, has one that they show with the same base
 /// and the same last duty that costs no more.
 pub fn fronts_show_one_that_costs_no_more()
     ensures { (s : Settings) (t : Timetable) (p : PricedPairing) → IsChecked s → IsSound t
@@ -31,25 +31,25 @@ pub fn fronts_show_one_that_costs_no_more()
         ≡ last_duty legal.first legal.others) × (q.cost ≤ℤ p.cost) }
 {}
 
-/// There is one list of pairings that share few flights, whatever the limit and the share.
+/// There is one list of diverse columns (they share few flights), whatever the limit and the share.
 pub fn apart_are_unique()
     ensures { (s : Settings) (t : Timetable) (limit share : ℕ) (a b : List PricedPairing)
         → AreApart s t limit share a → AreApart s t limit share b → a ≡ b }
 {}
 
-/// Of pairings that share few flights those up to a limit are the first of those up to a greater one.
+/// Of diverse columns those up to a limit are the first of those up to a greater one.
 pub fn apart_begin_those_up_to_more()
     ensures { (s : Settings) (t : Timetable) (limit more share : ℕ) (a b : List PricedPairing)
         → limit ≤ more → AreApart s t limit share a → AreApart s t more share b → a ≡ take limit b }
 {}
 
-/// Where as many may fly a flight as there are of the cheapest pairings, these are the ones.
+/// Where as many may fly a flight as there are columns of least cost, the diverse columns are these.
 pub fn apart_with_room_are_the_cheapest()
     ensures { (s : Settings) (t : Timetable) (limit share : ℕ) (a b : List PricedPairing)
         → AreApart s t limit share a → AreCheapest s t limit b → length b ≤ share → a ≡ b }
 {}
 
-/// Of pairings that share few flights no more than the share fly a flight.
+/// Of diverse columns no more than the share fly a flight.
 pub fn apart_fly_no_flight_more_often()
     ensures { (s : Settings) (t : Timetable) (limit share flight : ℕ) (pairings : List PricedPairing)
         → AreApart s t limit share pairings → count_by (flies flight) pairings ≤ share }

@@ -121,7 +121,7 @@ fn long_of(
 }
 
 impl Plan {
-    /// The plan of a timetable, given its legal duties, beside an earlier solution, if there is one,
+    /// The plan of a timetable, given its legal duties, warm from an earlier solution, if there is one,
     /// whatever that is of.
     pub fn of(
         alloc: Global,
@@ -161,7 +161,7 @@ impl Plan {
         }
     }
 
-    /// The network, shared. Takes no memory: `Err` is for want of room to count who shares it.
+    /// The network, shared. Takes no memory: `Err` is for no room to count who shares it.
     pub fn shared_net(&self) -> Result<Arc<Net, Global>, AllocError>
         ensures { IfOk result (λ net. arc_value net ≡ self.now.net) }
     {
@@ -181,7 +181,7 @@ impl Plan {
         }
     }
 
-    /// The fronts of the base at a place, in order of code. Where the earlier solution has some of
+    /// The Pareto fronts of the base at a place, by code. Where the earlier solution has some of
     /// the base at the same price, they are shared where the two networks are one, and else made
     /// beside these where no pairing of the settings is long; else they are made from scratch.
     pub fn sweep(&self, alloc: Global, place: usize) -> Result<Arc<BaseFronts, Global>, AllocError>
@@ -194,8 +194,8 @@ impl Plan {
         }
     }
 
-    /// All fronts and the best pairing. So many threads at most make the fronts of the bases, among
-    /// which they are shared out; where there are twice as many as bases or more, the pass over a base
+    /// All Pareto fronts and the best pairing. So many threads at most make those of the bases, among
+    /// which they are shared out; with twice as many as bases or more, the label setting of one base
     /// goes by several, for pairings that need more than the seven sums. With 0 workers or 1, and for
     /// few duties, the calling thread makes all of them, and also those for which no thread can be
     /// started.

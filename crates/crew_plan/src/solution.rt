@@ -37,7 +37,7 @@ pub(crate) enum Made {
     Long(Arc<Net, Global>, Option<PricedPairing>),
 }
 
-/// The fronts of all bases and legal duties of a timetable, and its best pairing.
+/// The Pareto fronts of all bases and legal duties of a timetable, and its best pairing.
 ///
 /// A contract sees the network, the fronts of each base, and the best.
 pub struct Solution {
@@ -183,7 +183,7 @@ impl Solution {
         }
     }
 
-    /// The best pairing, if there is one.
+    /// The pairing of least reduced cost, if there is one.
     pub fn best(&self) -> Option<&PricedPairing>
         ensures { option_copied result ≡ self.now.best }
     {
@@ -204,7 +204,7 @@ impl Solution {
         }
     }
 
-    /// Of the pairings of all bases that the fronts show those that come first by cost and walk: as
+    /// The columns of least reduced cost: of what the Pareto fronts show the first by cost and path, as
     /// many as the limit, or all where there are no more. The settings and the timetable are those
     /// whose network and fronts these are.
     pub fn cheapest(&self, alloc: Global, limit: usize) -> Result<Vec<PricedPairing>, AllocError>
@@ -220,7 +220,7 @@ impl Solution {
         }
     }
 
-    /// Of all pairings that the fronts show, by cost and walk, the first that are taken, up to a limit:
+    /// Diverse columns, up to a limit, of all that the Pareto fronts show, by cost and path:
     /// one after another each is taken unless so many as the share are taken already that fly a
     /// flight that it flies. The settings and the timetable are those whose network and fronts these
     /// are.
@@ -256,7 +256,7 @@ impl Solution {
         }
     }
 
-    /// The front of a base and the duty of a key, in order of vector: each vector with its walk.
+    /// The Pareto front of a base and the duty of a key, in order of vector: each vector with its path.
     /// `None` where the code is no base or the key is no legal duty's. It takes no memory.
     pub fn front(&self, base: Code, key: &Key) -> Option<FrontView<'_>>
         ensures { IsFrontOf self.now base key.now result }

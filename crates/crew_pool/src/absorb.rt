@@ -19,7 +19,7 @@ use crate::workspace::Workspace;
 use crew_resource::{Placed, Staged};
 use std::alloc::AllocError;
 
-/// Boards a duty with each label of a list that can, and merges them into a pool.
+/// Extends the labels of a list that can board a duty, and merges them into a pool by dominance.
 ///
 /// If the pool's labels were what a list of candidates leaves, they are then what that list leaves
 /// with those that boarded after it: each with its vector at the duty's end, and its walk a duty

@@ -16,7 +16,7 @@ use std::marker::Model;
 // The most walks with a duty, so that a place is a u32.
 const MOST: usize = 0xffff_ffff;
 
-/// Walks over duties by rank, each a duty longer than one that stands before it.
+/// Paths (walks) over duties by rank, each a duty longer than one that stands before it.
 ///
 /// A contract sees the list of the walks, by place. The walk at place 0 has no duty.
 pub struct Walks {

@@ -18,7 +18,7 @@ use std::alloc::{AllocError, Global};
 use std::marker::Model;
 use std::mem;
 
-/// A pool that others join: its labels, of which none is at most another, with their marks.
+/// A pool that other labels join: its labels, none of which dominates another, with their marks.
 ///
 /// A contract sees the list of the labels. Their order is free, and statements on pools speak of
 /// membership.
@@ -121,7 +121,7 @@ impl<R: Marked> GrowingPool<R> {
         self.labels.clear();
     }
 
-    /// Merges labels, of which none is at most another, into the pool.
+    /// Merges labels, none of which dominates another, into the pool; the dominated of both go.
     ///
     /// If the labels were what a list of candidates leaves, they are then what that list leaves
     /// with the others after it. On want of memory no label has gone or joined, but lesser walks

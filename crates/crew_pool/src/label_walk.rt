@@ -10,7 +10,7 @@ use std::cmp::Ordering;
 /// No duty after a walk.
 pub const NO_DUTY: u32 = u32::MAX;
 
-/// The walk of a label: the place of a walk, and the rank of the duty after it, or `NO_DUTY`.
+/// The path of a label: the place of a walk, and the rank of the duty after it, or `NO_DUTY`.
 #[derive(Clone, Copy, Debug, PartialEq, Eq, PartialOrd, Ord)]
 pub struct LabelWalk {
     /// The place of a walk.

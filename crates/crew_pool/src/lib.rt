@@ -1,7 +1,7 @@
-//! Pools: the labels of one event, of which none is at most another. `GrowingPool::merge` and
+//! Pools: the non-dominated labels of one event. `GrowingPool::merge` and
 //! `absorb_boarding` take a whole pool at once, and leave what all candidates so far leave; a glance
-//! at marks (`Marked`) tells of most labels that they aren't at most another. A `View` shows what of
-//! a departure's pool boards a duty, with no memory. The walks of labels share their beginnings in
+//! at marks (`Marked`) tells of most labels that they don't dominate another. A `View` shows what of
+//! a departure's pool extends along a duty, with no memory. Paths of labels share their beginnings in
 //! `Walks`, and are compared only at equal vectors.
 #![tactic(auto)]
 

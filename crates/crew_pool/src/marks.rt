@@ -4,9 +4,9 @@ ghost use Rattle.crew_pool.specs.Marks.{are_at_most};
 
 use crew_resource::Resource;
 
-/// A resource whose values have four marks: of two values, one at most the other, each mark of the
-/// one is at most the other's. So a glance at marks tells of most pairs of values that the one isn't
-/// at most the other.
+/// A resource whose values have four marks: where one dominates or equals another, each mark of the
+/// one is at most the other's. So a glance at marks tells of most pairs of values that the one doesn't
+/// dominate the other.
 ///
 /// An implementation proves the law, `marks_rise`.
 pub trait Marked: Resource {

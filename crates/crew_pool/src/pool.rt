@@ -11,7 +11,7 @@ use std::alloc::{AllocError, Global};
 use std::marker::Model;
 use std::slice;
 
-/// The labels of one event: vectors, of which none is at most another, each with its walk.
+/// The non-dominated labels of one event: vectors, none of which dominates another, each with its path.
 ///
 /// A contract sees the list of the labels. Their order is free, and statements on pools speak of
 /// membership.
@@ -43,7 +43,7 @@ impl<R: Resource> Pool<R> {
         }
     }
 
-    /// The labels of a list, of which none is at most another.
+    /// The labels of a list, of which none dominates or equals another.
     pub fn from_apart(labels: Vec<(R::Value, LabelWalk)>) -> Self
         requires { AreApart R.below (vectors_of labels.items) }
         ensures { result ≡ labels.items }

@@ -18,8 +18,8 @@ use crew_resource::{Placed, Resource, Staged};
 use std::alloc::{AllocError, Global};
 use std::marker::Model;
 
-/// The labels of a departure's pool that board a duty, after it: each with its vector at the duty's
-/// end, and its walk a duty longer.
+/// A departure's labels that board a duty, extended along it: each with its vector at the duty's
+/// end, and its path a duty longer.
 ///
 /// A contract sees the list of these entries, in the pool's order. No call but `list` takes memory.
 #[derive(Drop)]

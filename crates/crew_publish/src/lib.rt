@@ -15,6 +15,7 @@ mod publisher;
 mod shown;
 mod viewer;
 
+// Crates below this one, which those above cite through it.
 pub use crew_version;
 pub use crew_version::crew_solve;
 pub use fault::{PairFault, PublishFault, ViewFault};

@@ -4,9 +4,9 @@ ghost use Rattle.crew_resource.specs.Resource.{OrderLaws, StepLaws, RespectsOrde
 
 use std::alloc::AllocError;
 
-/// What a list of items has, kept item by item.
+/// A resource: what a list of items has, extended item by item.
 ///
-/// An implementation proves the laws: `order` (at most is an order, and the listing tells values
+/// An implementation proves the laws: `order` (weak dominance is an order, and the listing tells values
 /// apart), `steps` (extending keeps the order, and makes the value of the longer list) and
 /// `grading`.
 pub trait Resource {
@@ -21,7 +21,7 @@ pub trait Resource {
     /// The value after one more item: of the value so far, the last item and the next.
     ghost extends: { Self → Self.Value → Self.Item → Self.Item → Option Self.Value };
 
-    /// The first value is at most the second.
+    /// The first value is at most the second: it dominates or equals it.
     ghost below: { Self.Value → Self.Value → Bool };
 
     /// The value of a whole list, or none.
@@ -40,7 +40,7 @@ pub trait Resource {
         requires { can_start self.now item.now }
         ensures { IfOk result (λ value. value ≡ opens self.now item.now) };
 
-    /// The value of a list that has `value` and ends with `last`, with `next` after it; none where
+    /// Extends a list that has `value` and ends with `last` by `next`: the value then; none where
     /// it has no value.
     fn extend(
         &self,
@@ -51,7 +51,7 @@ pub trait Resource {
         requires { can_extend self.now value.now last.now next.now }
         ensures { IfOk result (λ longer. longer ≡ extends self.now value.now last.now next.now) };
 
-    /// Whether `a` is at most `b`.
+    /// Whether `a` is at most `b`: dominates or equals it.
     fn at_most(&self, a: &Self::Value, b: &Self::Value) -> bool
         ensures { result ≡ below a.now b.now };
 

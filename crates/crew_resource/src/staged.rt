@@ -32,7 +32,7 @@ pub trait Placed {
         ensures { result ≡ leaves self.now };
 }
 
-/// A resource whose step waits from the last item's arrival to the next one's departure, and boards
+/// A resource whose extension waits from the last item's arrival to the next one's departure, and boards
 /// the next.
 ///
 /// An implementation proves the laws: `staged` (the stages make the step, and keep the order),

@@ -1,5 +1,5 @@
 //! The running service: one planner, workers and viewers, each in a thread of its own. Seats push
-//! edits to a log, the planner settles them into versions by rounds on a board under a lock, workers
+//! edits to a log, the planner settles (reoptimizes) by rounds on a board under a lock, workers
 //! take part, and viewers see what is published and wait for nobody. The crate promises that a settle
 //! gives the next version over what the planner has read of the log, which has a place above each
 //! receipt that it was handed; that it publishes that version and no other; that it is refused only
@@ -19,6 +19,7 @@ mod service;
 mod shared;
 mod worker;
 
+// Crates below this one, which those above cite through it.
 pub use crew_publish;
 pub use crew_publish::{crew_solve, crew_version};
 pub use crew_seal::{crew_dirty, crew_round};

@@ -26,7 +26,7 @@ use std::snapshot::Snapshot;
 use std::sync::{Arc, Wait};
 use std::thread::Threads;
 
-/// The one who settles: it makes versions of what the log shows, and publishes them. It keeps its
+/// The one who settles: it reoptimizes over what the log shows, and publishes the versions. It keeps its
 /// last version, and a receipt for each entry that it has read.
 ///
 /// A contract sees its log, its version, its receipts, and the list of what it has published. The
@@ -143,7 +143,7 @@ impl<'a, R: Wait, G: Gate> Planner<'a, R, G> {
     /// greater one: what a receipt shows counts as shown. Else
     /// `LastVersion` exactly where its version has the greatest number. Else `TooManyDuties`
     /// exactly where what it has read comes to more than 200,000 legal duties. Else `Memory`.
-    /// Nothing is published then. After want of memory its version may be one that it hasn't
+    /// Nothing is published then. Once out of memory its version may be one that it hasn't
     /// published: the next settle goes on from that.
     ///
     /// The work is done by the threads of `rt`, and by the workers; the planner waits by its own

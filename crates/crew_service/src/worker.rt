@@ -10,7 +10,7 @@ use std::sync::Wait;
 pub enum Ended {
     /// The service was closed.
     Closed,
-    /// There was no memory: what the worker had it has given back.
+    /// Out of memory: what the worker had it has given back.
     Memory,
 }
 

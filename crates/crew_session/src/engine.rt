@@ -43,7 +43,7 @@ pub trait Engine {
         ensures err { OnErr result (entries self.new ≡ entries self.old) }
         ensures version { shown self.new ≡ shown self.old };
 
-    /// Makes the next version, of all entries so far, where they come to at most 200,000 legal
+    /// Reoptimizes: the next version, of all entries so far, where they come to at most 200,000 legal
     /// duties. It is `TooManyDuties` where they come to more, `LastVersion` where the version has
     /// the greatest number, or `Memory`; the version is then unchanged. The entries stay in any
     /// case.

@@ -28,13 +28,13 @@ pub enum EngineFault {
     /// 65: the published version can't be read.
     #[error("the published version can't be read")]
     NoView,
-    /// There is no memory.
+    /// Out of memory.
     #[error("out of memory")]
     Memory,
 }
 
 impl EngineFault {
-    /// The number of the refusal; want of memory has none.
+    /// The number of the refusal; out of memory has none.
     pub fn number(self) -> Option<u8>
         ensures { result ≡ engine_number self }
     {

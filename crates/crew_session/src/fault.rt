@@ -16,7 +16,7 @@ pub enum SessionFault {
     /// The writer failed.
     #[error("write fault")]
     Write,
-    /// There is no memory.
+    /// Out of memory.
     #[error("out of memory")]
     Memory,
     /// The engine answered 57, 62 or 65, whose number this is; or what it found doesn't come of the

@@ -3,8 +3,8 @@
 //! promises that what `run` writes is the text of the session, for any reader, any writer and any
 //! engine: each refusal is named by its record, nothing that was taken is lost, a settle makes a
 //! version exactly where there are no more than 200,000 legal duties, the best that a version shows
-//! is the best pairing of its timetable, whatever its length, the pairings that it lists are the
-//! cheapest that fronts show, and an audit counts the partial pairings of its timetable by their
+//! is its timetable's legal pairing of least reduced cost, whatever its length, the columns that it
+//! lists are the cheapest on Pareto fronts, and an audit counts the timetable's partials by their
 //! definition. Where it ends otherwise, only an engine that may be strange is called strange, and
 //! only where what its last settle found is odd: another version than the next whole one, a refusal
 //! that no session brings about, or too many duties where the edits come to few.

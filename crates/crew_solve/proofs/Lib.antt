@@ -34,6 +34,7 @@ pub mod Below
 pub mod Sharing
 pub mod Choosing
 pub mod SameLabels
+-- of crates below this one, which those above cite through it
 pub use Rattle.crew_duty.proofs as crew_duty_lemmas
 pub use Rattle.crew_sweep.proofs.crew_step_lemmas
 pub use Rattle.crew_vector.proofs as crew_vector_lemmas

@@ -20,7 +20,7 @@ use crew_sweep::Sweep;
 use std::alloc::{AllocError, Global};
 use std::marker::Model;
 
-/// The fronts of a base at its price, one for each duty of a network.
+/// The Pareto fronts of a base at its dual price, one for each duty of a network.
 ///
 /// A contract sees the sweep of the network that shows them.
 pub struct BaseFronts {
@@ -84,7 +84,7 @@ impl BaseFronts {
         self.sweep.base()
     }
 
-    /// The base's price.
+    /// The base's dual price.
     pub fn price(&self) -> i64
         ensures { result ≡ self.now.price }
     {
@@ -102,7 +102,7 @@ impl BaseFronts {
         self.sweep.net()
     }
 
-    /// The front of the duty of a rank, in order of vector: each vector with its walk. It takes no
+    /// The Pareto front of the duty of a rank, by vector: each vector with its path. It takes no
     /// memory.
     pub fn front(&self, rank: usize) -> FrontView<'_>
         requires { rank < length self.now.net.duties }

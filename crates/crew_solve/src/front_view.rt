@@ -17,7 +17,7 @@ use crew_pool::{LabelWalk, View};
 use crew_sweep::Sweep;
 use std::marker::Model;
 
-/// The front of a base and a duty, lent.
+/// The Pareto front of a base and a duty (the non-dominated labels there), lent.
 ///
 /// A contract sees the list of its entries, in order of vector: each vector with its walk. No call
 /// takes memory.

@@ -1,7 +1,7 @@
-//! All fronts and the best pairing of a timetable: a pass over the network for each base, and the
-//! least of what comes home; and the pairings that cost least. `solve_next` does so beside an earlier
-//! solution, from which it takes what is as it was, and gives what is given from scratch. A `Plan`
-//! has what the passes share, so that threads can make the fronts of one base each, in any order, and
+//! Resource-constrained shortest paths: all Pareto fronts and the pairing of least reduced cost, by one
+//! label-setting pass over the network for each base; and the columns that cost least. `solve_next`
+//! reoptimizes, warm from an earlier solution, of which it keeps what is as it was, and gives what is
+//! given from scratch. A `Plan` has what passes share, so that threads make the fronts base by base, and
 //! promises that these are what the whole gives. `CheapestSoFar` keeps the least of pairings that come
 //! one after another. `laws` has that the pairings that cost least are one list.
 #![tactic(auto)]
@@ -29,6 +29,7 @@ mod walk_view;
 
 pub use base_fronts::BaseFronts;
 pub use cheapest_so_far::CheapestSoFar;
+// Crates below this one, which those above cite through it.
 pub use crew_duty;
 pub use crew_sweep::crew_step;
 pub use crew_vector;

@@ -25,8 +25,8 @@ use std::marker::Model;
 use std::sync::Arc;
 use std::thread::Threads;
 
-/// What is to be made for a timetable: its network, which all bases share, and its bases, each of
-/// which is swept by itself, on any thread. Beside an earlier solution a base's sweep takes from it
+/// What is to be made for a timetable: its network, which all bases share, and its bases, each with its
+/// own label-setting pass, on any thread. Warm from an earlier solution a base's pass takes from it
 /// what is as it was.
 ///
 /// A contract sees the network, and the bases with their prices by code.
@@ -325,7 +325,7 @@ impl Plan {
         }
     }
 
-    /// All fronts and the best pairing. So many threads at most sweep the bases, and are shared out
+    /// All Pareto fronts and the best pairing. So many threads at most go over the bases, shared out
     /// among those that are still under way, so several go over each of the last bases. With 0 workers
     /// or 1, and for few duties, the calling thread sweeps all of them, and also what no thread can be
     /// started for.

@@ -37,7 +37,7 @@ pub fn solve_listed<R: Threads + Sync>(
     plan.solve(rt, alloc, workers)
 }
 
-/// All fronts and the best pairing of a timetable, from scratch. `TooManyDuties` exactly where it
+/// All Pareto fronts and the best pairing of a timetable, from scratch. `TooManyDuties` exactly where it
 /// has more than 200,000 legal duties, or `Memory`.
 pub fn solve<R: Threads + Sync>(
     rt: &R,
@@ -80,7 +80,7 @@ pub fn solve_with<R: Threads + Sync>(
     Ok(solve_listed(rt, alloc, settings, timetable, duties, None, workers)?)
 }
 
-/// As `solve_with`, beside an earlier solution, from which it takes what is as it was: the pool of a
+/// Reoptimizes: as `solve_with`, warm from an earlier solution, of which it keeps the labels of a
 /// departure of a base at the same price, where the same duties can be waited on and all of them
 /// leave from pools that are as they were. The answer is that from scratch, whatever the earlier
 /// solution is of.

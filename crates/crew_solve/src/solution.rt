@@ -30,7 +30,7 @@ use std::alloc::{AllocError, Global};
 use std::marker::Model;
 use std::sync::Arc;
 
-/// The fronts of all bases and legal duties of a timetable, and its best pairing.
+/// The Pareto fronts of all bases and legal duties of a timetable, and its best pairing.
 ///
 /// A contract sees the network, the sweep of each base, and the best.
 pub struct Solution {
@@ -112,7 +112,7 @@ impl Solution {
         self.best.take()
     }
 
-    /// Of the pairings of all bases that the fronts show those that come first by cost and walk: as
+    /// The columns of least reduced cost: of what the Pareto fronts show the first by cost and path, as
     /// many as the limit, or all where there are no more. The settings and the timetable are those
     /// whose network and fronts these are.
     pub fn cheapest(&self, alloc: Global, limit: usize) -> Result<Vec<PricedPairing>, AllocError>
@@ -126,7 +126,7 @@ impl Solution {
         Ok(kept.into_vec(alloc)?)
     }
 
-    /// Of all pairings that the fronts show, by cost and walk, the first that are taken, up to a limit:
+    /// Diverse columns, up to a limit, of all that the Pareto fronts show, by cost and path:
     /// one after another each is taken unless so many as the share are taken already that fly a
     /// flight that it flies. The settings and the timetable are those whose network and fronts these
     /// are.

@@ -29,4 +29,5 @@ pub mod Slidings
 pub mod Standing
 pub mod Steps
 pub mod Unders
+-- of crates below this one, which those above cite through it
 pub use Rattle.crew_carry.proofs.crew_step_lemmas

@@ -38,6 +38,7 @@ mod swept;
 mod windows;
 
 pub use anew::{renew, renew_by_threads};
+// Crates below this one, which those above cite through it.
 pub use crew_carry;
 pub use crew_carry::crew_step;
 pub use pass::{sweep, sweep_by_threads};

@@ -6,7 +6,7 @@ use crate::resource::VectorResource;
 use crew_pairing::PairingVector;
 use crew_resource::Cost;
 
-/// The reduced cost of a pairing: its pay, less the prices of its flights and of its base.
+/// The reduced cost of a pairing: its pay, less the dual prices of its flights and of its base.
 #[derive(Clone, Copy, Debug)]
 pub struct ReducedCost;
 

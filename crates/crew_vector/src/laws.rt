@@ -32,7 +32,7 @@ use crate::resource::VectorResource;
 use crew_pairing::Duty;
 use crew_resource::{Resource, Staged};
 
-/// The cost of a vector is the pairing's pay, less the prices of its flights and of its base.
+/// The cost of a vector is the pairing's pay, less the dual prices of its flights and of its base.
 pub fn cost_is_pay_less_prices()
     ensures { (s : Settings) (base_price : ℤ) (duties : List Duty)
         → reduced_cost (vector_of s base_price duties) ≡ cost_of s base_price duties }
@@ -59,21 +59,21 @@ pub fn legal_duties_are_sound()
         → IsSound d }
 {}
 
-/// Each undominated vector of a node has a clean partial there.
+/// Each non-dominated vector of a node has a clean (prefix-optimal) partial there.
 pub fn undominated_vectors_have_clean_partials()
     ensures { (s : Settings) (t : Timetable) (base : List ℕ) (price : ℤ) (d : Duty)
         (v : PairingVector) → IsChecked s → TimetableSpec.IsSound t
         → IsUndominated s t base price d v → (w : List (List Leg)) × Clean s t base price d v w }
 {}
 
-/// Each node has a front.
+/// Each node has a Pareto front.
 pub fn each_node_has_a_front()
     ensures { (s : Settings) (t : Timetable) (base : List ℕ) (price : ℤ) (d : Duty)
         → IsChecked s → TimetableSpec.IsSound t → IsDuty s (flights_of t) d
         → (entries : List (PairingVector × List (List Leg))) × IsFrontAt s t base price d entries }
 {}
 
-/// A node has one front: two of them have the same entries, and in order of vector they are one
+/// A node has one Pareto front: two of them have the same entries, and in order of vector they are one
 /// list.
 pub fn fronts_are_unique()
     ensures entries { (s : Settings) (t : Timetable) (base : List ℕ) (price : ℤ) (d : Duty)
@@ -85,7 +85,7 @@ pub fn fronts_are_unique()
         → IsFrontAt s t base price d fs → RiseByVector es → RiseByVector fs → es ≡ fs }
 {}
 
-/// Under each pairing lies a clean one that costs no more; so the best costs the least of all
+/// Under each pairing lies a clean one that costs no more; so the best has the least reduced cost of all
 /// pairings, clean or not.
 pub fn best_costs_least()
     ensures clean { (s : Settings) (t : Timetable) (p : PricedPairing) → IsChecked s

@@ -5,14 +5,14 @@ use crew_flights::Code;
 use crew_pairing::Walk;
 use std::alloc::{AllocError, Global};
 
-/// A pairing by its walk, with its reduced cost, pay and minutes away. Money is in points.
+/// A column: a pairing by its path, with its reduced cost, pay and minutes away. Money is in points.
 #[derive(Debug, Drop)]
 pub struct PricedPairing {
     /// The base that it leaves and comes back to.
     pub base: Code,
     /// The keys of its duties.
     pub walk: Walk,
-    /// Its pay, less the prices of the flights that it flies and of its base.
+    /// Its reduced cost: its pay, less the dual prices of the flights that it flies and of its base.
     pub cost: i64,
     /// Its pay.
     pub pay: i64,

@@ -26,7 +26,7 @@ type Limits = Both<Both<Sum<DutyMinutes>, Sum<FlightMinutes>>, Both<Count<Duty>,
 /// The seven parts side by side.
 type Sides = Both<Money, Limits>;
 
-/// The resource of a base's pairings: seven parts over duties.
+/// The resource extension function of a base's labels: seven parts over duties.
 #[derive(Clone, Copy, Debug)]
 pub struct VectorResource {
     base_price: i32,

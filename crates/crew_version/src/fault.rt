@@ -15,13 +15,13 @@ pub enum VersionFault {
     /// 57: the version has the greatest number that there is.
     #[error("the version has the greatest number that there is")]
     LastVersion,
-    /// There is no memory.
+    /// Out of memory.
     #[error("out of memory")]
     Memory,
 }
 
 impl VersionFault {
-    /// The number of the refusal; want of memory has none.
+    /// The number of the refusal; out of memory has none.
     pub fn number(self) -> Option<u8>
         ensures { result ≡ version_number self }
     {

@@ -161,7 +161,7 @@ impl Version {
         self.draft.timetable()
     }
 
-    /// All fronts and the best pairing of its timetable. None is there only where the timetable is
+    /// Pareto fronts and best pairing of its timetable. None is there only where the timetable is
     /// empty, as it is before any entry.
     pub fn solution(&self) -> Option<&Solution>
         ensures scratch { IfSome result (λ solution. IsScratch self.now.settings
@@ -177,7 +177,7 @@ impl Version {
         }
     }
 
-    /// The best pairing: a legal one than which no legal pairing of the timetable costs less. None is
+    /// The best pairing: a legal one, than which none of the timetable has less reduced cost. None is
     /// there exactly where there is no legal pairing.
     pub fn best(&self) -> Option<&PricedPairing>
         ensures value { option_copied result ≡ self.now.best }
@@ -195,7 +195,7 @@ impl Version {
         }
     }
 
-    /// Of the pairings of all bases that fronts show those that come first by cost and walk: as many
+    /// The columns of least reduced cost: of what Pareto fronts show the first by cost and path, as many
     /// as the limit, or all where there are no more.
     pub fn cheapest(&self, alloc: Global, limit: usize) -> Result<Vec<PricedPairing>, AllocError>
         ensures { IfOk result (λ pairings. AreCheapest self.now.settings
@@ -207,7 +207,7 @@ impl Version {
         }
     }
 
-    /// Of all pairings that fronts show, by cost and walk, the first that are taken, up to a limit: one
+    /// Diverse columns, up to a limit, of all that Pareto fronts show, by cost and path: one
     /// after another each is taken unless so many as the share are taken already that fly a flight
     /// that it flies.
     pub fn apart(
@@ -225,7 +225,7 @@ impl Version {
         }
     }
 
-    /// The front of a base and the duty of a key, in order of vector: each vector with its walk.
+    /// The Pareto front of a base and the duty of a key, in order of vector: each vector with its path.
     /// `None` where the code is no base, or no legal duty has the key. It takes no memory.
     pub fn front(&self, base: Code, key: &Key) -> Option<FrontView<'_>>
         ensures { IsFrontByKey self.now.settings (Spec.timetable_of self.now.entries) base key.now
@@ -314,7 +314,7 @@ impl Version {
         Ok(Version::of(draft, solution))
     }
 
-    /// The next version: its entries and these. `LastVersion` where the number is the greatest,
+    /// Reoptimizes: the next version, of its entries and these. `LastVersion` at the greatest number,
     /// `TooManyDuties` exactly where all entries come to more than 200,000 legal duties, or
     /// `Memory`; these entries then come back.
     pub fn next<R: Threads + Sync>(

@@ -87,7 +87,7 @@ pub static OPTIONS: [SettingOption; 15] = [
         unit: "MINUTES",
         meaning: "Most time from first report to last release of a pairing",
         range: "1 to 14400 minutes",
-        note: "\nWith 30 hours free from duty right before it, a pairing of 8280 fits in 168 hours (14 CFR 117.25(b));\na longer one has such free hours on its way too, within the 168 before each report",
+        note: "\nWith 30 hours free from duty right before it, a pairing of 8280 fits in 168 hours (14 CFR 117.25(b));\na longer one has such free hours on its way too, within the 168 before each report,\nso above 8280 let --max-rest rise above its 1800 too: a rest of just 1800 is seldom to be had",
     },
     SettingOption {
         name: "duty-rig",

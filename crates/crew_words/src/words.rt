@@ -29,7 +29,7 @@ static REPLAY: &str =
 
 // What `--help` says of the number of workers.
 static WORKERS: &str =
-    "Threads that take part in the work of each settle, beside the one that reads the session: 0 to 64, 0 unless given\nWhat is written is the same for every number; with 0 a settle shares out its bases";
+    "Threads of the running service that take part in the work of each settle: 0 to 64, 0 unless given\nWhat is written is the same for every number. With 0 a settle shares its work out over all processors by itself;\nwith four workers a session was measured to take 1.1 to 1.3 times as long.\nThey are for --progress, and to try the service that programs use as a crate";
 
 // What `--help` says of how often it is told how far a settle is.
 static PROGRESS: &str =
@@ -145,7 +145,7 @@ fn program<'a>(
 {
     Command::new(alloc, "crewprice")
         .about(
-            "Finds the legal crew pairing of least reduced cost, again after each change of flights and prices",
+            "Prices crew pairings for column generation: the legal pairing of least reduced cost, by an incremental resource-constrained shortest path, again after each change of flights and dual prices",
         )
         .version(VERSION)
         .subcommand_required(true)

@@ -14,6 +14,7 @@ mod report;
 mod sessions;
 mod threaded;
 
+// Crates below this one, which those above cite through it.
 pub use crew_service;
 pub use crew_service::{crew_dirty, crew_publish, crew_solve, crew_version};
 pub use crew_session;
