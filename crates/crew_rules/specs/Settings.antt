@@ -61,6 +61,14 @@ pub record IsChecked (s : Settings) : Type 0 where
   pub fdp_total : 1 ≤ s.fdp_total
   pub fdp_total_most : s.fdp_total ≤ 11_400
 
+-- settings under which the sums over a pairing's duties tell whether it is legal: with 30 hours free from
+-- duty right before it all of it lies in 168 hours, so that no window of 168 hours (14 CFR 117.23(c)(1)) and
+-- no free hours on its way (117.25(b)) ask for more, and the cap of a window is the lesser one on its flight
+-- duty time
+pub record SumsTellAll (s : Settings) : Type 0 where
+  pub away : s.away_cap ≤ 8_280
+  pub total : s.fdp_cap ≤ s.fdp_total
+
 -- the defaults
 abbrev pub standard : Settings
 standard = record {

@@ -78,12 +78,13 @@ fn first_out(ranges: &[(u32, u32, u32)]) -> Option<usize>
 }
 
 impl Settings {
-    ghost use Rattle.crew_rules.specs.Settings.{IsChecked, check_of, standard};
+    ghost use Rattle.crew_rules.specs.Settings.{IsChecked, SumsTellAll, check_of, standard};
 
     /// The defaults.
     pub fn standard() -> Self
         ensures value { result ≡ standard }
         ensures checked { IsChecked result }
+        ensures sums { SumsTellAll result }
     {
         Settings {
             lead: 60,

@@ -1,5 +1,7 @@
 //! Resource-constrained shortest paths: all Pareto fronts and the pairing of least reduced cost, by one
-//! label-setting pass over the network for each base; and the columns that cost least. `solve_next`
+//! label-setting pass over the network for each base; and the columns that cost least. All of it is for
+//! settings under which the sums over a pairing's duties tell whether it is legal (at most 138 hours
+//! away from base, and no lesser cap on all flight duty time than on that of 168 hours). `solve_next`
 //! reoptimizes, warm from an earlier solution, of which it keeps what is as it was, and gives what is
 //! given from scratch. A `Plan` has what passes share, so that threads make the fronts base by base, and
 //! promises that these are what the whole gives. `CheapestSoFar` keeps the least of pairings that come

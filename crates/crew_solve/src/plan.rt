@@ -5,7 +5,7 @@ ghost use Rattle.std.specs.FinMap as fin;
 ghost use Rattle.crew_flights.specs.Timetable.{IsSound, Timetable as TimetableOf};
 ghost use Rattle.crew_net.specs.Nets.{IsNetOf};
 ghost use Rattle.crew_pairing.specs.Duties.{AreDuties};
-ghost use Rattle.crew_rules.specs.Settings.{IsChecked};
+ghost use Rattle.crew_rules.specs.Settings.{IsChecked, SumsTellAll};
 ghost use Rattle.crew_solve.specs.Machinery.Planned.{IsOver, IsPast};
 ghost use Rattle.crew_solve.specs.Machinery.Solved.{IsShowing};
 ghost use Rattle.crew_solve.specs.Plans.{IsPlanOf, IsSolutionIn, IsSweepIn};
@@ -210,6 +210,7 @@ impl Plan {
         earlier: Option<&Solution>,
     ) -> Result<Plan, AllocError>
         requires checked { IsChecked settings.now }
+        requires sums { SumsTellAll settings.now }
         requires duties { AreDuties settings.now timetable.now duties }
         requires few { length duties ≤ 200_000 }
         ensures plan { IfOk result (IsPlanOf settings.now timetable.now) }

@@ -1,7 +1,7 @@
 //! From a timetable to its fronts and its best pairing.
 ghost use Rattle.std.specs.Prelude.{◌≡◌, ◌≤◌, Err, IfOk, OnOk, length};
 ghost use Rattle.crew_pairing.specs.Duties.{AreDuties, HasFew, HasTooMany};
-ghost use Rattle.crew_rules.specs.Settings.{IsChecked};
+ghost use Rattle.crew_rules.specs.Settings.{IsChecked, SumsTellAll};
 ghost use Rattle.crew_solve.specs.Solutions.{HasNetOf, front_of};
 ghost use Rattle.crew_vector.specs.Bests.{IsScratch};
 
@@ -27,6 +27,7 @@ pub fn solve_listed<R: Threads + Sync>(
     workers: usize,
 ) -> Result<Solution, AllocError>
     requires checked { IsChecked settings.now }
+    requires sums { SumsTellAll settings.now }
     requires duties { AreDuties settings.now timetable.now duties }
     requires few { length duties ≤ 200_000 }
     ensures scratch { IfOk result (λ solution. IsScratch settings.now timetable.now
@@ -37,15 +38,17 @@ pub fn solve_listed<R: Threads + Sync>(
     plan.solve(rt, alloc, workers)
 }
 
-/// All Pareto fronts and the best pairing of a timetable, from scratch. `TooManyDuties` exactly where it
-/// has more than 200,000 legal duties, or `Memory`.
+/// All Pareto fronts and the best pairing of a timetable, from scratch, under settings under which the
+/// sums over a pairing's duties tell whether it is legal; `crew_plan` answers for any others too.
+/// `TooManyDuties` exactly where it has more than 200,000 legal duties, or `Memory`.
 pub fn solve<R: Threads + Sync>(
     rt: &R,
     alloc: Global,
     settings: &Settings,
     timetable: &Timetable,
 ) -> Result<Solution, DutyFault>
-    requires { IsChecked settings.now }
+    requires checked { IsChecked settings.now }
+    requires sums { SumsTellAll settings.now }
     ensures scratch { IfOk result (λ solution. IsScratch settings.now timetable.now
         (front_of solution) solution.best) }
     ensures network { IfOk result (HasNetOf settings.now timetable.now) }
@@ -68,7 +71,8 @@ pub fn solve_with<R: Threads + Sync>(
     timetable: &Timetable,
     workers: usize,
 ) -> Result<Solution, DutyFault>
-    requires { IsChecked settings.now }
+    requires checked { IsChecked settings.now }
+    requires sums { SumsTellAll settings.now }
     ensures scratch { IfOk result (λ solution. IsScratch settings.now timetable.now
         (front_of solution) solution.best) }
     ensures network { IfOk result (HasNetOf settings.now timetable.now) }
@@ -92,7 +96,8 @@ pub fn solve_next<R: Threads + Sync>(
     earlier: &Solution,
     workers: usize,
 ) -> Result<Solution, DutyFault>
-    requires { IsChecked settings.now }
+    requires checked { IsChecked settings.now }
+    requires sums { SumsTellAll settings.now }
     ensures scratch { IfOk result (λ solution. IsScratch settings.now timetable.now
         (front_of solution) solution.best) }
     ensures network { IfOk result (HasNetOf settings.now timetable.now) }

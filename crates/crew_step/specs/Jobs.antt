@@ -8,7 +8,7 @@ use Rattle.crew_pairing.specs.Pairings.{last_duty, may_stand_after}
 use Rattle.crew_pairing.specs.declared.duty.Duty.{Duty}
 use Rattle.crew_pairing.specs.declared.vector.PairingVector.{PairingVector}
 use Rattle.crew_resource.specs.Members.{Member}
-use Rattle.crew_rules.specs.Settings.{IsChecked}
+use Rattle.crew_rules.specs.Settings.{IsChecked, SumsTellAll}
 use Rattle.crew_rules.specs.declared.settings.Settings.{Settings}
 use Rattle.crew_vector.specs.Fronts.{RiseByVector, walk_of}
 use Rattle.crew_vector.specs.Locals.{Feed, IsLocalAt}
@@ -46,6 +46,7 @@ pub record AreBefore (s : Settings) (price : ℤ) (d : Duty) (feed : Feed) : Typ
 -- what a job keeps
 pub record IsJob (j : Job) : Type 0 where
   pub checked : IsChecked j.settings
+  pub sums : SumsTellAll j.settings
   pub price : IsBasePrice j.base_price
   pub sound : IsSound j.duty
   pub before : AreBefore j.settings j.base_price j.duty j.feed

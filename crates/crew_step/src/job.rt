@@ -2,7 +2,7 @@
 ghost use Rattle.std.specs.Prelude.{◌≡◌, ◌↔◌, IsTrue, IfOk};
 ghost use Rattle.crew_flights.specs.Timetable.{IsBasePrice};
 ghost use Rattle.crew_pairing.specs.Events.{IsSound};
-ghost use Rattle.crew_rules.specs.Settings.{IsChecked};
+ghost use Rattle.crew_rules.specs.Settings.{IsChecked, SumsTellAll};
 
 use crate::feed::Feed;
 use crate::same::{are_same_settings, is_same_airport, is_same_duty};
@@ -16,7 +16,8 @@ use std::sync::Arc;
 /// The work on one node: a base with its price, a duty, and the duties just before it, each with
 /// its front.
 ///
-/// A contract sees all of these. The settings are checked, the duty is sound and may stand just
+/// A contract sees all of these. The settings are checked, and such that the sums over a pairing's
+/// duties tell whether it is legal; the duty is sound and may stand just
 /// after each of those before it, these rise by key, and each entry of their fronts is the value of
 /// its walk.
 #[derive(Drop)]
@@ -56,6 +57,7 @@ impl Job {
     /// The job of a base and a duty, from the duties just before it.
     pub fn new(settings: Settings, base: Code, base_price: i64, duty: Duty, feed: Arc<Feed>) -> Self
         requires checked { IsChecked settings }
+        requires sums { SumsTellAll settings }
         requires price { IsBasePrice base_price }
         requires sound { IsSound duty }
         requires before { AreBefore settings base_price duty feed.value }
@@ -80,6 +82,7 @@ impl Job {
     pub fn settings(&self) -> &Settings
         ensures same { result.now ≡ self.now.settings }
         ensures checked { IsChecked self.now.settings }
+        ensures sums { SumsTellAll self.now.settings }
     {
         &self.settings
     }

@@ -1,4 +1,5 @@
 use Rattle.std.proofs.Common.{◌≡◌, sym, subst, true}
+use Rattle.crew_fronts.proofs.Sweeps.{plain-away, plain-cap}
 use Rattle.crew_fronts.specs.Fronts.{is_plain}
 use Rattle.crew_plan.proofs.plan.plain_of.Goals as goal
 
@@ -8,4 +9,10 @@ returns-clause-kind c = record {
   settings = c.args.settings.now;
   timetable = c.args.timetable.now;
   planned = c.in_ok-plan.ensures.plan;
+}
+
+pub of-requires-clause-sums : goal.of-requires-clause-sums
+of-requires-clause-sums c = record {
+  away = plain-away c.args.settings.now c.requires.plain;
+  total = plain-cap c.args.settings.now c.requires.plain;
 }
