@@ -1,4 +1,5 @@
 pub mod Kept
+pub mod Played
 pub mod Stepped
 pub mod Wanting
 -- of crates below this one, which those above cite through it

@@ -2,9 +2,11 @@
 
 ghost use Rattle.std.specs.Prelude.{◌≡◌, ℕ, List};
 ghost use Rattle.std.specs.FinMap as map;
+ghost use Rattle.crew_core.specs.Plays.{MeetsHeadline};
 ghost use Rattle.crew_machine.specs.Choices.{ChosenRun};
 ghost use Rattle.crew_machine.specs.Crew.{CrewReply, CrewState, crew};
 ghost use Rattle.crew_machine.specs.Steps.{start};
+ghost use Rattle.crew_rules.specs.Settings.{IsChecked};
 ghost use Rattle.crew_rules.specs.declared.settings.Settings.{Settings};
 ghost use Rattle.crew_session.specs.Replay.{IsReplayText};
 ghost use Rattle.crew_session.specs.Replies.{acts_in, text_in};
@@ -25,4 +27,15 @@ pub fn schedules_are_runs()
         → (replies : List CrewReply) × (state : CrewState)
         × ChosenRun (crew s) (start (crew s)) (acts_in s map.empty (records_of bytes)) replies state
         × (text ≡ text_in s 0 map.empty (records_of bytes) replies) }
+{}
+
+/// A schedule is a play: of the run whose replies it writes the headline holds, word for word as
+/// `crew_core::play` promises it. Each version that it publishes is from scratch of its entries, and each
+/// query is answered a published version, none older than its reader had seen.
+pub fn schedules_meet_the_headline()
+    ensures { (s : Settings) (bytes text : List ℕ) → IsChecked s → IsReplayText s bytes text
+        → (replies : List CrewReply) × (state : CrewState)
+        × ChosenRun (crew s) (start (crew s)) (acts_in s map.empty (records_of bytes)) replies state
+        × (text ≡ text_in s 0 map.empty (records_of bytes) replies)
+        × MeetsHeadline s (acts_in s map.empty (records_of bytes)) replies state.published }
 {}

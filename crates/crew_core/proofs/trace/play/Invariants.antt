@@ -1,7 +1,7 @@
 use Rattle.std.proofs.Common.{take}
-use Rattle.crew_play.proofs.Played.{IsPlayed}
+use Rattle.crew_core.proofs.Played.{IsPlayed}
 use Rattle.crew_core.specs.Replies.{acts_of}
-use Rattle.crew_play.proofs.trace.play.Given as goal
+use Rattle.crew_core.proofs.trace.play.Given as goal
 
 -- the steps so far are played
 abbrev pub invariant-loop-step : goal.invariant-loop-step

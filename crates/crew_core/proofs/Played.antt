@@ -3,7 +3,7 @@ use Rattle.std.proofs.Common.{◌≡◌, ◌∙◌, List, [], ◌∷◌, ◌++�
 use mathlib.Core.List.{IsPrefix}
 use Rattle.crew_core.proofs.Kept.{run-more}
 use Rattle.crew_core.specs.Machines.{IsMachineOf, ShownMachine, settings_of}
-use Rattle.crew_play.specs.Plays.{MeetsHeadline}
+use Rattle.crew_core.specs.Plays.{MeetsHeadline}
 use Rattle.crew_core.specs.Replies.{AreRepliesOf, IsReplyOf, IsStep}
 use Rattle.crew_core.specs.declared.reply.Reply.{Reply}
 use Rattle.crew_machine.proofs.Chosen.{chosen_run}

@@ -1,13 +1,13 @@
 use Rattle.std.proofs.Common.{◌≡◌, ◌∙◌, ◌+◌, ◌++◌, ◌∷◌, [], List, map, sym, ap, subst, take}
 use Rattle.std.proofs.lemmas.List.{map-append, take_all, take_more}
-use Rattle.crew_play.proofs.Played.{IsPlayed, headline, played-more, played-none}
+use Rattle.crew_core.proofs.Played.{IsPlayed, headline, played-more, played-none}
 use Rattle.crew_core.specs.Replies.{act_of, acts_of}
 use Rattle.crew_core.specs.declared.reply.Reply.{Reply}
 use Rattle.crew_core.specs.declared.step.Step.{Step}
 use Rattle.crew_machine.specs.Crew.{CrewAct}
-use Rattle.crew_core.specs.crew_board.Boards.{shown_version}
+use Rattle.crew_board.specs.Boards.{shown_version}
 use Rattle.crew_rules.specs.declared.settings.Settings.{Settings}
-use Rattle.crew_play.proofs.trace.play.Goals as goal
+use Rattle.crew_core.proofs.trace.play.Goals as goal
 
 pub loop-step-init : goal.loop-step-init
 loop-step-init g c =

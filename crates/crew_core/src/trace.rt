@@ -1,11 +1,13 @@
 //! Plays of steps.
 ghost use Rattle.std.specs.Prelude.{◌≡◌, IfOk};
 ghost use Rattle.crew_core.specs.Replies.{acts_of};
-ghost use Rattle.crew_play.specs.Plays.{IsTraceOf};
+ghost use Rattle.crew_core.specs.Plays.{IsTraceOf};
 ghost use Rattle.crew_rules.specs.Settings.{IsChecked};
 
-use crew_core::crew_version::Version;
-use crew_core::{Machine, Reply, Step};
+use crate::machine::Machine;
+use crate::reply::Reply;
+use crate::step::Step;
+use crew_board::crew_version::Version;
 use crew_rules::Settings;
 use std::alloc::{AllocError, Global};
 use std::sync::Arc;

@@ -3,9 +3,9 @@ use Rattle.std.specs.Prelude.{◌≡◌, ℕ, List, Some, map}
 use Rattle.std.specs.Arc.{arc_value}
 use Rattle.std.specs.List.{slice_get}
 use mathlib.Core.List.{IsPrefix}
-use Rattle.crew_core.specs.crew_board.Boards.{shown_version}
+use Rattle.crew_board.specs.Boards.{shown_version}
 use Rattle.crew_core.specs.Replies.{AreRepliesOf}
-use Rattle.crew_play.specs.declared.trace.Trace.{Trace}
+use Rattle.crew_core.specs.declared.trace.Trace.{Trace}
 use Rattle.crew_machine.specs.Chains.{Follows, NeverFalls, answers_to}
 use Rattle.crew_resource.specs.Chains.{IsChain}
 use Rattle.crew_machine.specs.Choices.{ChosenRun}
