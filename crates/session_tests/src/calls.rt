@@ -7,6 +7,7 @@
 
 mod carries;
 mod lists;
+mod plays;
 mod solves;
 mod steps;
 
@@ -74,6 +75,7 @@ fn ask<R: Threads + Sync>(
 ) -> Option<()> {
     match *words {
         ["fold"] => lists::write_fold(alloc, &desk.entries, out),
+        ["play", ref steps @ ..] => plays::write_play(rt, alloc, &desk.entries, steps, out),
         ["audit", limit] => lists::write_audit(alloc, &desk.timetable, count_of(limit), out),
         ["solve"] => solves::write_solved(rt, alloc, &desk.timetable, out),
         ["solve", workers] => {
