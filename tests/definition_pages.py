@@ -53,6 +53,9 @@ def path_faults(text: str, told: Cited, before: set[str]) -> Iterator[str]:
         items = files[names[name]]
         if cells[3].replace(",", "") != str(lines_of(items)):
             yield f"{name} has {lines_of(items)} cited lines, and not {cells[3]}"
+        listed = set(re.findall(r"`([^`]+)`", cells[0]))
+        if listed and listed != {it.name for it in items}:
+            yield f"of {name} are cited {', '.join(it.name for it in items)}"
         below = {sources.short(it) for it in cited.files_below(items, set(files))}
         for missing in sorted(below - above - before):
             yield f"{name} stands on {missing}, which doesn't stand above it"
