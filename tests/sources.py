@@ -157,7 +157,7 @@ def definitions(file: str) -> Definitions:
             block, inside, head = [line], "", None
         elif begins(line, inside):
             if is_head_line(block):
-                head = Item(Kind.DEFINITION, Place(file, "module"), "\n".join(block), count(block))
+                head = Item(Kind.DEFINITION, Place(file, "module"), "\n".join(block), len(whole_lines(block)))
             else:
                 close(told, block, head)
             block = [line]
@@ -180,14 +180,15 @@ def begins(line: str, inside: str) -> bool:
     return bool(SIGNED.match(rest) or TYPED.match(rest))
 
 
-def count(block: list[str]) -> int:
-    return sum(1 for it in block if it.strip() and not it.strip().startswith(("--", "infix")))
+def whole_lines(block: list[str]) -> list[str]:
+    """The lines of a definition, without blank ones, comments, and what tells how operators bind."""
+    return [it for it in block if it.strip() and not it.strip().startswith(("--", "infix"))]
 
 
 def close(told: Definitions, block: list[str], head: Item | None) -> None:
     """Takes the definition of these lines into its file, with the head of the block around it."""
-    whole = [it for it in block if it.strip() and not it.strip().startswith("--")]
-    if not whole or whole[0].startswith(("infix", "module")):
+    whole = whole_lines(block)
+    if not whole or is_head_line(whole):
         return
     found = DECLARES.match(whole[0].strip())
     if found is None:
