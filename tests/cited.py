@@ -3,7 +3,7 @@
 
 Usage: tests/cited.py [--names] [--working] [--dropped]
 
-The calls are `crew_play::play`, whose contract is the headline, and `crew_session::run`, whose is the
+The calls are `crew_core::play`, whose contract is the headline, and `crew_session::run`, whose is the
 session's. What their `requires` and `ensures` name is followed through all folders `specs/`,
 definition by definition: through `use` and `ghost use` lines, names that are passed on by `pub use`,
 and types of the code. Of a type the fields count, and where it has a `Model` only what that shows:
@@ -26,7 +26,7 @@ import sources
 from sources import Item, Kind, Place
 
 # The calls whose contracts are followed, in the order in which their definitions are to be read.
-CALLS = (("crew_play", "play"), ("crew_session", "run"))
+CALLS = (("crew_core", "play"), ("crew_session", "run"))
 
 
 @dataclass
