@@ -1,4 +1,8 @@
 //! Vectors as of a common instant.
+//!
+//! A label's vector takes 40 bytes, and a label 48: minutes and duties stay within caps of 32 bits,
+//! and the minutes away are told by the report of the first duty; money keeps 64 bits, as prices
+//! may be great. Clauses see the seven parts.
 ghost use Rattle.std.proofs.Common.{refl};
 ghost use Rattle.std.specs.Cmp.{eq_by_cmp_equiv, partial_equiv_from_equiv, partial_order_from_total};
 ghost use Rattle.std.specs.Ordering.{as_partial_cmp, eq_by_cmp};

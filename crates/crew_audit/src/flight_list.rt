@@ -1,4 +1,8 @@
 //! Flights by the airport that they leave, and by when.
+//!
+//! Flights stand by number, and again by the airport that they leave, in blocks of time as wide as
+//! the gap between two legs may be, and as the rest between two duties: what comes next is looked
+//! for among the few flights of one block, still in order of number.
 
 ghost use Rattle.std.specs.Prelude.{◌≡◌, List, [], false, true, IfOk, IfSome, OnOk};
 ghost use Rattle.std.specs.List.{filter};

@@ -1,4 +1,11 @@
 //! The search for partial pairings: depth first, leg by leg and duty by duty.
+//!
+//! Depth first: from a base, and then after each partial, each flight that leaves there at a lawful
+//! rest begins a duty, leg by leg in order; where the legs are a legal duty the partial is taken,
+//! then what goes on from it, and then longer duties. That is the order of walks, so nothing is
+//! sorted, and nothing is kept but the path. Legs are left where no duty can begin with them, or
+//! where they pass a cap on totals with the duties before. No search is shared with `crew_duty`,
+//! only the facts of legs and pay.
 
 ghost use Rattle.std.specs.Prelude.{◌≡◌, ◌+◌, ◌-◌, ◌<◌, ◌≤◌, ◌++◌, ◌∷◌, [], false, true, OnOk, Err, length, if◌then◌else◌};
 ghost use Rattle.std.specs.List.{flat_map};

@@ -1,4 +1,9 @@
 //! The board: the version that was sealed last, and the round that is open.
+//!
+//! A board is told by the machine's boards that it could be, and not by a list of cells with
+//! fronts: it shows entries and marks, and a clause holds for each board of the machine that shows
+//! the same. Fronts needn't be kept as lists to be spoken of, since what is done is right and a
+//! node has one front.
 ghost use Rattle.std.specs.Prelude.{◌≡◌, ℕ, IfErr, IfOk, List, MatchOption, None, OnErr, OnOk, Some, filter, length};
 ghost use Rattle.std.specs.Arc.{arc_value};
 ghost use Rattle.crew_board.specs.Boards.{IsBoardOf, ShownRound};

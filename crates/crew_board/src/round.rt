@@ -1,4 +1,9 @@
 //! A round: its ground, what is known of its nodes, and what shows the fronts of those that are done.
+//!
+//! A lot is of one base: who works it out makes the sweep of a base that has none, which is nearly
+//! all of a round's work, so several can do so at once. With 256 jobs a lot the comparing of
+//! grounds took as long as all else. A lot has an eighth of what waits at most, but for 64, so that
+//! nobody works long when the others have nothing left.
 ghost use Rattle.std.specs.Prelude.{◌≡◌, ◌↔◌, ◌⊎◌, ◌+◌, ◌<◌, ◌≤◌, [], ℕ, Bool, IfOk, IfSome, IsTrue, List, MatchOption, None, OnErr, OnOk, Some, filter, get_or, length, map, slice_get, slice_set, true};
 ghost use Rattle.std.specs.Arc.{arc_value};
 ghost use Rattle.std.specs.Option.{option_map};

@@ -1,4 +1,7 @@
 //! Where walks of one list stand in another.
+//!
+//! Places that stay as they are need no list: those walks alone stand here, in order, that go
+//! nowhere since a duty of theirs has no twin.
 ghost use Rattle.std.specs.Prelude.{◌≡◌, ◌≤◌, ◌<◌, ◌⊎◌, ℕ, IfOk, None, Some, false, get_or, length, replicate, slice_get, slice_set, true};
 ghost use Rattle.crew_carry.specs.Carried.{IsCarried};
 ghost use Rattle.crew_carry.specs.Machinery.Places.{HaveTwins, Rise, is_missing};

@@ -4,6 +4,12 @@
 //! bounds, so it is no more than a hint of which index to call next. Each thread hands out its
 //! results with their indices; each result goes to its place; and for a place that has none the
 //! calling thread makes the call itself. So the results are right whatever the counter says.
+//!
+//! The calling thread starts all others itself: a tree of threads, each of which starts half of the
+//! rest, is the shorter program, but a kernel often leaves two of them on one processor for ten
+//! milliseconds or more, while another stands idle. Four threads that compute for 2 to 30
+//! milliseconds each took 1.3 to 1.8 times as long as one by a tree or a chain, and 1.01 to 1.06
+//! times so.
 ghost use Rattle.std.specs.Prelude.{◌≡◌, ◌<◌, ◌++◌, ◌∷◌, [], ℕ, All, IfOk, IfSome, None, Ok, length, vec_len};
 ghost use Rattle.std.specs.Fn.{FnReturns};
 ghost use Rattle.std.specs.Fork.{AcceptsJobs, GivesEach, GivesJobs};

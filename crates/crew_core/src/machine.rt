@@ -1,4 +1,8 @@
 //! The machine.
+//!
+//! Of readers nothing is kept: the version published last answers each of them, and that is never
+//! before one that it was answered. A round over the whole log is never refused for a log that is
+//! too short, since what is sealed is a beginning of the log in each state that can be reached.
 ghost use Rattle.std.specs.Prelude.{◌≡◌, ◌≢◌, ◌↔◌, ◌<◌, IfOk, IsTrue, OnErr, Some, length, map};
 ghost use Rattle.std.specs.Arc.{arc_value};
 ghost use Rattle.crew_board.specs.declared.fault.BeginFault.TheVariants.{Ground};

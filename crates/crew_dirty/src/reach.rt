@@ -1,4 +1,9 @@
 //! Which duties no change reaches.
+//!
+//! Departures are gone to once in order of report, with a mark at each arrival of a duty that a
+//! change reaches; what leaves is reached where it isn't the same or an arrival in its window is
+//! marked. Duties that may stand just before report ten hours earlier or more, so their marks stand
+//! by then. No arc is walked.
 ghost use Rattle.std.specs.Prelude.{◌≡◌, ◌<◌, ◌≤ℤ◌, ℕ, IfOk, length, true};
 ghost use Rattle.crew_dirty.specs.Carried.{AreFlags, AreSameUpTo};
 ghost use Rattle.crew_dirty.specs.Dirty.{IsSameDuty};

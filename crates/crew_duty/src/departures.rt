@@ -1,4 +1,10 @@
 //! Departures by airport and time: which flights may follow one, by binary search.
+//!
+//! Where and when a flight departs is one number, the letters of its airport and then the minute:
+//! airports lie further apart than any two minutes, so the flights that may follow one are one
+//! range. Up to 32 of them are put in order once, before the search. Where they are more nothing is
+//! stored, and each beginning takes those that don't depart too late for Table B: so a dense
+//! timetable is refused quickly.
 
 ghost use Rattle.std.specs.Prelude.{◌≡◌, ◌≤◌, ◌<◌, ◌≤ℤ◌, ◌+ℤ◌, ℤ, pos, true, IfOk, List, IsPermutation, IsSorted, filter, length, map};
 ghost use Rattle.std.specs.Ordering.{nat_cmp};

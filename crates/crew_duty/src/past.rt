@@ -1,4 +1,9 @@
 //! The duties of an earlier timetable, of which those are kept that can't have changed.
+//!
+//! The legs of a duty depart from its first departure on, and no later than its report and the most
+//! that Table B allows: where no flight that has come, gone or changed departs in that time, the
+//! duties that begin with the flight are those of before. By time alone: a test by what can be
+//! reached would keep more, and cost more than listing does, which is a few hundredths of a settle.
 
 ghost use Rattle.std.specs.Prelude.{◌≡◌, ◌≤◌, ◌<◌, ◌≤ℤ◌, ℕ, pos, List, IfOk, IfSome, IsTrue, get_or, length};
 ghost use Rattle.crew_flights.specs.declared.flight.Flight.{Flight};

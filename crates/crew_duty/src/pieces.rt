@@ -1,5 +1,7 @@
 //! All duties of a timetable, counted and then listed by as many threads as there are processors, each
 //! of which takes first flights that stand beside one another.
+//!
+//! Below 32 first flights to count, or 8,192 duties to list, a thread costs more than it gives.
 
 ghost use Rattle.std.specs.Prelude.{◌≡◌, ◌+◌, ◌≤◌, ◌<◌, All, IfOk, OnOk, length, map, min, sum};
 ghost use Rattle.std.specs.Thread.{IsSync};

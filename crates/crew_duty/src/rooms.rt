@@ -1,6 +1,9 @@
 //! Room for the duties of each first flight, which the calling thread takes and any thread may fill.
 //! What is let go of in another thread than it was taken in may stay with that one, for nobody's use:
 //! so blocks, which outlive the call, are taken in the thread that lets go of them, too.
+//!
+//! One list whose blanks the calling thread writes takes nearly half of a listing by four threads;
+//! lists of threads put one behind the other at the end write each duty twice.
 
 ghost use Rattle.std.specs.Prelude.{◌≡◌, ◌≤◌, ◌+◌, All, IfOk, OnOk, length, map};
 ghost use Rattle.std.specs.Arc.{arc_value};

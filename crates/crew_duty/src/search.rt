@@ -1,4 +1,14 @@
 //! The search for legal duties: a tree for each first leg, with the next legs in order.
+//!
+//! A beginning is left where no duty can begin with it: more deadheads than are allowed, more
+//! flight time than Table A gives, or more flight duty period than Table B gives to the segments so
+//! far, which is never less than what it gives to more of them. In preorder the tree is in order of
+//! keys, so nothing is sorted. The path is one key, to which legs are put and from which they are
+//! taken off, with running totals beside it: no flight is copied, no minute is added twice on one
+//! path, and a next leg is tested before it joins. Most beginnings are a duty that no leg goes on
+//! from; the earliest arrival of what may follow tells that without a call. Duties are counted
+//! first and then listed, by one walk with two uses: a count passes no room for duties. Each count
+//! ends at one more than may be listed, so a timetable with far too many is refused quickly.
 
 ghost use Rattle.std.specs.Prelude.{◌≡◌, ◌-◌, ◌<◌, ◌≤◌, ◌++◌, ◌∷◌, [], List, OnOk, IfOk, false, length, slice_get, Some};
 ghost use Rattle.crew_flights.specs.declared.flight.Flight.{Flight};

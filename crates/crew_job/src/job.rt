@@ -1,4 +1,8 @@
 //! Jobs.
+//!
+//! A job holds no front, but the ground of its round, two places and its base's sweep where one
+//! stands: the fronts before its node follow from the ground, since a node has one in a timetable.
+//! So a claim copies nothing, and what is done is the sweep of the whole base.
 ghost use Rattle.std.specs.Arc.{arc_value};
 ghost use Rattle.std.specs.Option.{option_copied, option_map};
 ghost use Rattle.std.specs.Prelude.{◌≡◌, ◌<◌, IfOk, IfSome, Some, length, slice_get};

@@ -1,5 +1,8 @@
 //! Whether a job's node has the front that it had, with what is known of the departure that was looked
 //! at last.
+//!
+//! Jobs of a lot come in order of key and mostly leave where the one before did, so one look at a
+//! departure's labels serves some forty; where they differ the fronts are compared one by one.
 ghost use Rattle.std.specs.Prelude.{◌≡◌, ◌↔◌, ℕ, IfSome, IsTrue, Some};
 ghost use Rattle.crew_job.specs.Grounds.{sealed_data_of};
 ghost use Rattle.crew_job.specs.Jobs.{job_node};

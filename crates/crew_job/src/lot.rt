@@ -1,4 +1,8 @@
 //! Lots of jobs.
+//!
+//! To compare two grounds takes tens of microseconds, a node's work less than one, and there is no
+//! comparison of two owners by address: so jobs of one ground go together, and it is compared once
+//! a call.
 ghost use Rattle.std.specs.Prelude.{◌≡◌, ◌++◌, ◌∷◌, [], IfOk, List, MatchOption, OnErr, OnOk, length};
 ghost use Rattle.crew_job.specs.Lots.{IsLot, StandOn};
 

@@ -1,4 +1,9 @@
 //! Whether a job is its node's own now.
+//!
+//! By value, and not by a round's number: a late result of an older round may still be the node's
+//! own. What is cheap is compared first. Where settings and timetables are equal the works are one;
+//! else the base's price, the duties that may stand just before, looked up in each other's network,
+//! and of each of them the front in both grounds.
 ghost use Rattle.std.specs.Arc.{arc_value};
 ghost use Rattle.std.specs.Option.{option_copied, option_map};
 ghost use Rattle.std.specs.Prelude.{◌≡◌, ◌↔◌, ◌<◌, ◌+◌, ◌*◌, ℕ, IsTrue, None, Some, get_or, length, map, slice_get, true};

@@ -1,4 +1,11 @@
 //! An index of labels by their marks.
+//!
+//! Where both lists have 32 labels or more, labels that may stand for another are looked up here:
+//! places are cut in two where marks at some 64 of them lie the furthest from each other, again and
+//! again, into groups of at most 256 and these into blocks of at most 16, each with the least marks
+//! of its entries. A group, block or entry with a mark above the label's is passed over. What the
+//! index finds is proved to be what trying each label finds, whatever the cuts are: where to cut is
+//! not proved, and may be done otherwise at no cost in proof.
 ghost use Rattle.std.specs.Prelude.{◌≡◌, ◌<◌, ◌∷◌, [], true, ℕ, length, IfOk, OnOk};
 ghost use Rattle.crew_label.specs.Machinery.Marks.{are_at_most};
 ghost use Rattle.std.specs.List.{list_any};

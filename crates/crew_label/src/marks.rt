@@ -1,4 +1,8 @@
 //! Marks, place by place.
+//!
+//! Marks are 32-bit numbers: an amount that doesn't fit is held at the greatest or the least that
+//! does, which keeps the order and only tells less. Sixteen are compared in one row without a
+//! branch.
 ghost use Rattle.std.specs.Prelude.{◌≡◌, true};
 ghost use Rattle.crew_label.specs.Machinery.Marks.{are_at_most};
 

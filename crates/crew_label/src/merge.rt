@@ -1,4 +1,8 @@
 //! Two pools, as one.
+//!
+//! Each label is tried against the whole other list, and none against its own. The listing order
+//! and the order of dominance need not agree: of two histories the lesser may be listed later. The
+//! listing order serves to lay the two lists together, and to tell that no value stands twice.
 ghost use Rattle.std.specs.Prelude.{◌≡◌, ◌⊎◌, ◌++◌, true, ℕ, List, IfOk};
 ghost use Rattle.crew_resource.specs.Members.{Member};
 ghost use Rattle.crew_forgetful.specs.Sweeps.{TellCount};

@@ -1,4 +1,8 @@
 //! Labels where they stand, with their marks.
+//!
+//! A label with a past has some 180 bytes, and its marks cost as much as comparing it with many
+//! others: so both are handled where they stand, marks are made once for all pools of one event,
+//! and what stays is copied once, into a list of its size.
 ghost use Rattle.std.specs.Prelude.{◌≡◌, [], ◌∷◌, ◌++◌, true, ℤ, List, None, Some, MatchOption, map, slice_get, IfOk, OnOk};
 ghost use Rattle.crew_label.specs.Machinery.Seeing.{AreTold, labels_of};
 

@@ -1,6 +1,14 @@
 //! Which place has which number of which seat. All threads share the history of what was claimed,
 //! in which a number of a seat has one place. It exists in proofs alone: what is there at run time
 //! are the counters of the seats.
+//!
+//! That a place shows one entry doesn't say that an entry stands at one place only, so a submit
+//! that pushes twice would keep to it. A claim ties the seat's next number to a place that was
+//! drawn, in a history that exists in proofs alone; and the row takes an entry only with what shows
+//! that the place is that of its number. A right can't be copied, and only a seat's turn gets one,
+//! by going on to the next number. It costs a submit two atomic steps, and an entry no memory. A
+//! row of `boxcar` that gives places by itself couldn't serve: the closure that is told the place
+//! can't refuse.
 
 ghost use Rattle.std.specs.Prelude.{◌≡◌, ◌<◌, ◌≤◌, ◌+◌, ◌-◌, Some, IfOk, IfSome, IfNone};
 ghost use mathlib.Core.List.{IsPrefix};

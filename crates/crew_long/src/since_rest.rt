@@ -1,4 +1,9 @@
 //! The end of the last long rest as a resource.
+//!
+//! An instant, the later the lesser, and no count of minutes: labels that stand at one release may
+//! have had their last reports at several times, and what each would count from there can't be
+//! compared. A wait of 1,800 minutes or more sets it to the report, so there a wait does change a
+//! value.
 ghost use Rattle.std.specs.Prelude.{◌≡◌, Bool, true, false, pos, None, ℤ, ◌-ℤ◌, Option, Some, cond, not, ◌||◌, int_le, FitsSigned};
 ghost use Rattle.std.specs.Int.{w64};
 ghost use Rattle.crew_history.specs.crew_pairing.Events.{IsSound, MayFollow, arrival_of, departure_of};

@@ -1,4 +1,7 @@
 //! The flight duty periods of the last 168 hours as a resource.
+//!
+//! Beside the periods the number of duties: of two histories the one with no more minutes may have
+//! more periods, so without the number the lesser could be full where the greater has room.
 ghost use Rattle.std.specs.Prelude.{◌≡◌, Bool, true, false, pos, None, ℤ, Option, Some};
 ghost use Rattle.crew_history.specs.crew_pairing.Events.{IsSound};
 ghost use Rattle.crew_resource.specs.Machinery.SumLaws.{no_grades};

@@ -1,4 +1,9 @@
 //! The network.
+//!
+//! No arc is stored, and nothing is kept twice for two bases. A rest has at least ten hours and at
+//! most what the settings allow, so the arrivals that a departure may wait on stand side by side
+//! among those of its airport, and so do the departures that may follow an arrival: windows, found
+//! by binary search when they are asked for. Departures in order of report are a topological order.
 
 ghost use Rattle.std.specs.Prelude.{◌≡◌, ◌≤◌, ◌<◌, ◌*◌, IfOk, Some, length, map, slice_get};
 ghost use Rattle.std.specs.Arc.{arc_value};

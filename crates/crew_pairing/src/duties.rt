@@ -1,4 +1,8 @@
 //! Lists of duties.
+//!
+//! A block for each first flight: an edit changes the duties of few, so the next list takes the
+//! blocks of all others as they stand, and so does one at new prices where a block's prices have
+//! stayed. Of each duty its block's place is kept, so that a duty is found by its rank at once.
 
 ghost use Rattle.std.specs.Prelude.{◌≡◌, ◌↔◌, ◌≤◌, ◌<◌, ◌+◌, ◌-◌, ◌++◌, [], ℕ, List, IsTrue, IfOk, OnErr, OnOk, Some, length, map, slice_get, replicate, vec_capacity, vec_len};
 ghost use Rattle.std.specs.Arc.{arc_value};

@@ -1,4 +1,7 @@
 //! The facts of a list of legs, which stands as its first leg and the list of the others.
+//!
+//! What a list of legs comes to is computed here alone, by plain passes over the list. The search
+//! for duties keeps running totals, which are proved to be the same.
 
 ghost use Rattle.std.specs.Prelude.{◌≡◌, ◌+◌, ◌*◌, ◌≤◌, ◌+ℤ◌, ◌-ℤ◌, ◌*ℤ◌, ◌≤ℤ◌, pos, length, ◌∷◌};
 ghost use Rattle.crew_flights.specs.Timetable.{IsFlight};

@@ -1,4 +1,8 @@
 //! Keys of duties, and walks.
+//!
+//! A key holds up to eight legs in place, as many as a duty may have, so that making, copying and
+//! letting go of a duty asks for no memory. It is made by `of` and `push`: a list would have to be
+//! tested, and the searches have a leg at a time.
 
 ghost use Rattle.std.specs.Prelude.{◌≡◌, ◌≤◌, ◌-◌, ◌++◌, ◌∷◌, [], List, IfOk, length, take};
 ghost use Rattle.std.proofs.Common.{refl};

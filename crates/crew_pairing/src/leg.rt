@@ -1,4 +1,6 @@
 //! Legs.
+//!
+//! A leg is one number of 32 bits: twice its flight's, and one more where the crew rides.
 
 ghost use Rattle.std.specs.Prelude.{◌≡◌, ◌/◌};
 ghost use Rattle.std.proofs.Common.{refl};

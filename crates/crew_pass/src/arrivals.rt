@@ -1,4 +1,10 @@
 //! The pools of arrivals, which are made once: before the first departures that may wait on them.
+//!
+//! The pool of an arrival is made when departures report that come after its release, of all its
+//! fronts at once: what is made is told by two minutes, and no look at windows is needed. A duty
+//! that arrives there has left before, and one that leaves now ends no earlier than it reports, so
+//! no front of a pool that is made can change. The pool of its rested labels is made with it, for
+//! all departures to which the wait is a rest.
 ghost use Rattle.std.specs.Prelude.{◌≡◌, ◌<◌, ◌≤◌, ◌≤ℤ◌, ◌<ℤ◌, ℕ, FitsSigned, Some, MatchOption, IfOk, OnOk, length, map, set, slice_get, slice_index_or, vec_len};
 ghost use Rattle.std.specs.Arc.{arc_value};
 ghost use Rattle.std.specs.Int.{w64};

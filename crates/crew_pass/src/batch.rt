@@ -1,4 +1,8 @@
 //! Departures that report so soon after one another that none waits on another's duties.
+//!
+//! A batch ends where a departure reports the least rest after the first. It could go on where
+//! airports differ, or where no duty of it lands in time; the plain rule needs no look at duties,
+//! and a day makes two or three batches.
 ghost use Rattle.std.specs.Prelude.{◌≡◌, ◌<◌, ◌≤◌, ℕ, Some, length, slice_get};
 ghost use Rattle.crew_net.specs.Events.{AreEvents, departure_cmp};
 ghost use Rattle.crew_net.specs.Machinery.Moments.{IsReal};

@@ -1,4 +1,7 @@
 //! When flights depart.
+//!
+//! That flights depart at instants is no part of a sound timetable: it is what the type of a minute
+//! keeps, so each flight is looked at once as a plan is made.
 ghost use Rattle.std.specs.Prelude.{◌≡◌, IfOk, OnOk};
 ghost use Rattle.crew_fronts.specs.crew_answers.Schedules.{IsDated};
 ghost use Rattle.crew_flights.specs.Timetable.{IsSound};

@@ -1,4 +1,7 @@
 //! The pairings that come home.
+//!
+//! All labels that come home, each with its walk, in order: simpler than what `crew_solve` does,
+//! and slower, with memory for each of them.
 ghost use Rattle.std.specs.Prelude.{◌≡◌, ◌+◌, ◌<◌, IfOk, None, OnOk, Some, length, map, slice_get, take};
 ghost use Rattle.std.specs.Arc.{arc_value};
 ghost use Rattle.std.specs.List.{flat_map};

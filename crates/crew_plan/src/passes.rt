@@ -1,4 +1,8 @@
 //! The passes of a plan's bases, by one thread or more.
+//!
+//! Threads are shared out from 64 duties on, where those of short pairings are from 1,000: a pass
+//! over labels that remember takes some hundred times as long. The share of a base is fixed, so
+//! with three bases and four threads one stands idle.
 ghost use Rattle.std.specs.Prelude.{◌≡◌, ◌<◌, IfOk, IfSome, Some, length, map, slice_index_or};
 ghost use Rattle.std.specs.Arc.{arc_value};
 ghost use Rattle.crew_plan.specs.Plans.{AreAllIn, AreFrontsIn};

@@ -1,4 +1,9 @@
 //! Pools under way.
+//!
+//! A pool that nothing joins any more keeps no marks: the next that is made of it makes them anew,
+//! which costs less than the memory. A pool that grows from nothing is five lists that double some
+//! ten times each, and ends with room for up to twice its labels; so each thread has one such pool,
+//! and what it leaves is copied out at its size, with room for the empty label.
 ghost use Rattle.std.specs.Prelude.{◌≡◌, ℕ, List, [], ◌++◌, ◌⊎◌, map, IfOk, OnOk, OnErr};
 ghost use Rattle.std.specs.List.Sorted.{IsPermutation};
 ghost use Rattle.crew_resource.specs.Members.{Member};

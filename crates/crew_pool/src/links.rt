@@ -1,4 +1,10 @@
 //! Links that lists of walks may share.
+//!
+//! A link has a duty by its rank, and ranks change with each flight that comes or goes, so a list
+//! can't have another's links as they stand. What it has of its own is what has become of the
+//! ranks, 4 bytes a duty in place of 8 a walk, and nothing where none has changed. What a pass adds
+//! stands behind; once that comes to half of what is shared the pass ends by joining the two. So a
+//! walk is read from two lists at most, and a chain of edits copies a list once in many settles.
 ghost use Rattle.std.specs.Prelude.{◌≡◌, ◌<◌, ◌≤◌, ◌∷◌, ◌++◌, [], ℕ, List, IfOk, OnErr, OnOk, Some, length, map, slice_get, true};
 ghost use Rattle.crew_pool.specs.Machinery.Links.{begun, link_under, rank_now};
 ghost use Rattle.crew_pool.specs.Renumbered.{rank_under};

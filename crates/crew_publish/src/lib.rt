@@ -6,6 +6,10 @@
 //! version that its viewer was told of by a note, by number and entries, or follows it. So is that
 //! of a viewer that goes on as a fresh one, whose list it then has, by what it saw and was told of
 //! before.
+//!
+//! That a version may cross threads is found type by type (`proofs/Crossing`), from a pool of
+//! labels up, since a search over a sweep with shared pools at once breaks off: so this crate names
+//! `crew_pool` in `crates.txt`, of which its code says nothing.
 #![tactic(auto)]
 
 mod fault;

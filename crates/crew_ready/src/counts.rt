@@ -1,4 +1,10 @@
 //! What keeps the nodes of a base from being ready, as counts.
+//!
+//! Of each arrival the duties that aren't done, of each departure the arrivals of its window that
+//! have such a duty. All duties that leave at a departure have the same predecessors, so where its
+//! count is nought all of them are ready that aren't done. A count for each node would want a walk
+//! over all arcs when it falls; so each window is gone over once for each of its arrivals, and no
+//! node for each of its predecessors.
 ghost use Rattle.std.specs.Prelude.{◌≡◌, ◌↔◌, ◌⊎◌, ◌≤◌, ◌<◌, ◌-◌, ℕ, Bool, IfOk, IsTrue, List, Some, false, get_or, length, slice_get, slice_set, true};
 ghost use Rattle.crew_net.specs.Events.{AreEvents, arrival_cmp, arrives_at};
 ghost use Rattle.crew_net.specs.Nets as Nets;

@@ -1,4 +1,10 @@
 //! Sets of places.
+//!
+//! Places are bits of words, with a row of bits above, one for each word that isn't nought, and one
+//! above that; once made it takes no memory. To find the least place goes over the row at the top:
+//! 1 word for 200,000 places, 13 for 3,200,000. A tree would hold a set of its own kind, and a type
+//! that holds itself can't be shown to cross threads. With two rows in place of three a round over
+//! 640,000 nodes spent more here than on any other of the board's steps.
 ghost use Rattle.std.specs.Prelude.{◌≡◌, ◌<◌, ◌≤◌, IfOk, MatchOption, false, get_or, length, replicate, slice_set};
 ghost use Rattle.crew_ready.specs.Firsts.{IsFirst, NoneSet};
 

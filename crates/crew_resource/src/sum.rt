@@ -1,4 +1,7 @@
 //! Sums of an amount along a list.
+//!
+//! An amount is told by its stages alone: what stands before any item, what a wait adds, what an
+//! item adds. What a first item and a next one come to are sums of these.
 ghost use Rattle.std.specs.Prelude.{◌≡◌, ℕ, ℤ, ◌+ℤ◌, int_le, Option, None, FitsSigned, List};
 ghost use Rattle.std.specs.Int.{w64};
 ghost use Rattle.crew_resource.specs.Machinery.Sum.{capped, capped_sum, first_adds, next_adds};

@@ -1,4 +1,11 @@
 //! Nodes that wait until all just before them have a flag.
+//!
+//! The same structure serves twice: for the nodes that are ready, and, by other flags, for those
+//! whose work is what it was. A store marks what the second has until it is empty, so that none is
+//! left needs no argument of its own. A node that is done leaves both lines; where it was the last
+//! without its flag at its arrival, the departures that may follow are gone over. The second line
+//! is empty between calls: a claim and a node given back add no flag, and a node that is out has
+//! all before it done.
 ghost use Rattle.std.specs.Prelude.{◌≡◌, ◌↔◌, ◌⊎◌, ◌*◌, ◌+◌, ◌<◌, ◌≤◌, ℕ, Bool, IfOk, IsTrue, List, Some, false, get_or, length, slice_get, slice_set, true};
 ghost use Rattle.crew_pairing.specs.declared.duty.Duty.{Duty};
 ghost use Rattle.crew_ready.specs.Counts as Ready;

@@ -1,4 +1,7 @@
 //! The marks of a round's nodes.
+//!
+//! Marks stand flat, by place, and counts by base: the least ready node and the least undone one
+//! are the first of one set, and a mark is one read.
 ghost use Rattle.std.specs.Prelude.{◌≡◌, ◌↔◌, ◌<◌, IfOk, IsTrue, MatchOption, false, filter, get_or, length, slice_get};
 ghost use Rattle.std.specs.Arc.{arc_value};
 ghost use Rattle.crew_round.specs.Marks as Spec;

@@ -1,4 +1,9 @@
 //! The one who settles.
+//!
+//! Receipts are what shows that an entry is the log's, so the planner keeps one for each entry that
+//! it has read, and makes the list of entries anew for each round: some 40 bytes an entry. What the
+//! log showed is read before the round is begun, so as the round is sealed no growth is left to be
+//! made but one further owner of its version.
 ghost use Rattle.std.specs.Prelude.{◌≡◌, ◌<◌, ◌↔◌, ◌++◌, ◌∷◌, [], IfErr, IfOk, IsTrue, OnErr, OnOk, Some, length, slice_get};
 ghost use Rattle.std.specs.Arc.{arc_value};
 ghost use mathlib.Core.List.{IsPrefix};

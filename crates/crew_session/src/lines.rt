@@ -1,4 +1,7 @@
 //! The lines that a session writes.
+//!
+//! A line goes out by `write`, and not by `write_all`, whose contract says nothing of what was
+//! written where it fails.
 
 ghost use Rattle.std.specs.Prelude.{◌≡◌, ◌++◌, ◌+◌, ◌≤◌, IfErr, IfOk, OnErr, OnOk, Some, decimal, drop, length, string_bytes};
 ghost use Rattle.std.specs.Fmt.{signed_decimal};

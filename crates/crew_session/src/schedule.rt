@@ -1,4 +1,9 @@
 //! A schedule: records to steps of the machine, and its replies to lines.
+//!
+//! A schedule stands at a state of the machine, and not at what the machine in code shows of one:
+//! each record that is a step leads from a state to the next, and the code keeps that there is such
+//! a state. What a record comes to is told by the zones alone, which don't depend on replies; so
+//! the acts of a schedule are a function of its bytes.
 
 ghost use Rattle.std.specs.Prelude.{◌≡◌, ◌≤◌, List, ℕ, IfErr, IfOk, IfSome, OnErr, OnOk, length};
 ghost use Rattle.std.specs.Io.KnownBytes.{Appends, IsAtEnd};

@@ -1,4 +1,11 @@
 //! Places that items keep.
+//!
+//! A place is a key of a slab. What two networks have alike keeps its key in a copy of the slab,
+//! what goes away leaves its key vacant, and what is new takes a vacant one; which of several no
+//! contract says. The places before stay as they are, also where memory runs out midway. A slab
+//! promises that a new key was vacant and below its capacity, and no more: so each new key is
+//! tested against the most items that a network in the row had, and one that isn't below is out of
+//! memory.
 ghost use Rattle.std.specs.Prelude.{◌≡◌, ◌≤◌, ◌<◌, ◌↔◌, ℕ, IfOk, IfSome, None, Some, length, replicate, slice_get, slice_index_or};
 ghost use Rattle.slab.specs.Slab.{ContainsKey, SameValues, Updates, get};
 ghost use Rattle.crew_slots.specs.Machinery.Places.{AreKept, ArePlaces, IsBelow, Keeps};

@@ -1,4 +1,7 @@
 //! Whether two networks are one.
+//!
+//! Told by what `Twins` found, and not by comparing duties again: all arrivals have twins, so each
+//! duty of the new network is in the old one, and there are as many.
 ghost use Rattle.std.specs.Prelude.{◌≡◌, ◌<◌, ◌↔◌, ℕ, IsTrue, Some, length, slice_get, true};
 ghost use Rattle.crew_sweep.specs.crew_carry.Twins.{AreTwins};
 ghost use Rattle.crew_solve.specs.Machinery.Planned.{AreAlike, IsLaidOut};

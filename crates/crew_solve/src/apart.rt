@@ -1,4 +1,9 @@
 //! The least pairings of all that comes home that share few flights.
+//!
+//! A round looks at the cheapest that may still be taken: 32 at least, twice as many after a round
+//! of which more than half were taken. What is used up stays so, hence none is passed over that
+//! would be taken; and the first that a round looks at is always taken, so none goes by for
+//! nothing. From 8 to 128 the size of a round made no difference.
 
 ghost use Rattle.std.specs.Prelude.{◌≡◌, ◌<◌, List, [], IfOk, OnOk, Some, length, map, take};
 ghost use Rattle.std.specs.Arc.{arc_value};

@@ -1,4 +1,8 @@
 //! The fronts of a base.
+//!
+//! The type keeps that the fronts can be shown, and that they are those of any timetable that the
+//! network is of: so who holds some can read each without memory and without a further premise,
+//! when the plan and the solution that they were made for are gone.
 ghost use Rattle.std.specs.Prelude.{◌≡◌, ◌<◌, ◌≤◌, IfOk, IsPermutation, None, Some, length, slice_get};
 ghost use Rattle.crew_flights.specs.Timetable.{IsSound, Timetable};
 ghost use Rattle.crew_pairing.specs.Duties.{AreDuties};

@@ -1,4 +1,10 @@
 //! The least pairings of all that comes home.
+//!
+//! One pass over the labels that come home serves the best and the cheapest: it keeps the least so
+//! far, up to a limit, and a walk is made only where its cost is at most the greatest of a full
+//! list. A pairing costs at least its duty pay less prices, so where the least duty pay of a
+//! departure's labels, with a duty's pay and price, is more than that, the labels that board the
+//! duty are not gone over.
 ghost use Rattle.std.specs.Prelude.{◌≡◌, ◌⊎◌, ◌<◌, ◌≤◌, ◌≤ℤ◌, ◌∷◌, ℕ, IfOk, None, OnOk, Some, [], false, get_or, length, map, slice_get, true};
 ghost use Rattle.std.specs.Arc.{arc_value};
 ghost use Rattle.std.specs.List.{flat_map};

@@ -1,4 +1,10 @@
 //! What the pairings of each departure cost at least that may still be taken.
+//!
+//! A round goes through those departures alone whose floors are at most the greatest of its list,
+//! those of the lowest floors first. Floors are found as a base's fronts are made, from the least
+//! duty pay of each departure's labels and what its duties add; a look at its labels makes one
+//! higher. A duty that may end no pairing any more has no floor. A mark takes one byte a walk of
+//! each base.
 ghost use Rattle.std.specs.Prelude.{◌≡◌, ◌<◌, IfOk, List, None, OnOk, Option, false, length, map, replicate};
 ghost use Rattle.std.specs.Arc.{arc_value};
 ghost use Rattle.std.specs.List.{flat_map};

@@ -1,4 +1,8 @@
 //! Fronts that a solution lends.
+//!
+//! Pools stand in no order of vector, since to keep them in one would cost each sweep a sort of
+//! each pool. So each step over a front looks through its labels once for the least that comes
+//! after the last: a front of n entries takes n^2 looks.
 ghost use Rattle.std.specs.Prelude.{◌≡◌, Some, length, map, slice_get};
 ghost use Rattle.std.specs.Iterator.{YieldsFirst, item_count};
 ghost use Rattle.crew_pairing.specs.Events.{IsSound, departure_of};

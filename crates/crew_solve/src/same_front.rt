@@ -1,4 +1,8 @@
 //! Whether two lent fronts are one.
+//!
+//! Each entry of the one is looked for among the labels of the other from where the one before it
+//! was found: so fronts whose labels stand alike are gone over once, and the first that isn't found
+//! ends it.
 ghost use Rattle.std.specs.Prelude.{◌≡◌, ◌↔◌, IsTrue, List};
 ghost use Rattle.crew_pairing.specs.Legs.{Leg};
 ghost use Rattle.crew_pairing.specs.declared.vector.PairingVector.{PairingVector as Vector};

@@ -1,4 +1,10 @@
 //! The sweeps of a plan's bases, by one thread or more.
+//!
+//! Bases go to threads one by one, each to whichever is free: dearer ones aren't known before they
+//! are swept. Below 1,000 legal duties all passes take a few milliseconds, and no thread is
+//! started. A pass takes its part of the threads that are left before each step and gives it back
+//! after it, so the last base goes by all. Bases one after another with all threads took half as
+//! long again with four bases.
 ghost use Rattle.std.specs.Prelude.{◌≡◌, ◌<◌, ℕ, IfOk, IfSome, Ok, length, map, slice_index_or, vec_len};
 ghost use Rattle.std.specs.Arc.{arc_value};
 ghost use Rattle.crew_flights.specs.Timetable.{IsBasePrice};

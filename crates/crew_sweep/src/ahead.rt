@@ -6,6 +6,11 @@
 //! they wait, and the pools of these can be made side by side. Which arrivals are made ahead is a
 //! hint: a pool comes out the same whenever it is made, and what wasn't made ahead is made when it
 //! is first waited on.
+//!
+//! Those into which the most labels may board are begun first: one that takes long and is begun
+//! last keeps all threads but its own waiting. That nothing more reaches a place is looked up in
+//! the positions of its duties' departures, once more as it is taken. Departures write walks into
+//! one arena, so they stay with the calling thread.
 ghost use Rattle.std.specs.Prelude.{◌≡◌, ◌<◌, ◌≤◌, ℕ, IfOk, OnOk, length, set, true};
 ghost use Rattle.crew_sweep.specs.Machinery.Ahead.{AreAhead, IsSlid};
 ghost use Rattle.crew_sweep.specs.Machinery.Lanes.{AllMadeAt, AreDone, AreGrouped, AreLanes, AreMadeAt, IsDone};

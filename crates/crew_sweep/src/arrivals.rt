@@ -1,4 +1,10 @@
 //! The pools of arrivals.
+//!
+//! An arrival's pool is made when it is first waited on: by then nothing more arrives, since a rest
+//! has ten hours at least. What left last boards first: a shorter duty to the same event is mostly
+//! the better one, so what comes later is ruled out at once, where in order of time it would join
+//! and go again; half to two fifths of the comparisons are left. Any order gives the same pool. An
+//! arrival serves only to be waited on, so nothing boards into it that has no duty to spare.
 ghost use Rattle.std.specs.Prelude.{◌≡◌, ◌<◌, ◌≤◌, ℕ, Bool, IfOk, IsPermutation, List, OnOk, Some, [], false, get_or, length, slice_get};
 ghost use Rattle.crew_net.specs.Events.{arrives_at};
 ghost use Rattle.crew_net.specs.Ranks.{ranks_where};

@@ -3,6 +3,9 @@
 //! Where a pass comes to a batch, it lets go of the pools of arrivals that lie behind it, but for
 //! those that a slide has merged: no departure that follows waits on them. That is a hint: a pool
 //! that is waited on after all is made once more.
+//!
+//! A departure's labels are put into a list with room for one more, the empty label that half of
+//! all departures take in.
 ghost use Rattle.std.specs.Prelude.{◌≡◌, ◌<◌, ◌≤◌, IfSome, [], false, length, set, true};
 ghost use Rattle.crew_sweep.specs.Machinery.Grounds.{IsGround, Stands};
 ghost use Rattle.crew_sweep.specs.Machinery.Slides.{CoverAny};

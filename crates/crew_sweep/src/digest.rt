@@ -1,4 +1,9 @@
 //! What is known of a pool without going over it.
+//!
+//! The least duty pay, and between which places of the walks the labels' stand. It is made with the
+//! pool, while its labels are at hand, and goes along where the pool is kept. Without it an edit
+//! that is felt nowhere goes over all labels of all pools twice: to see whether the walks of a kept
+//! pool stand at their places, and for the floors of the best. It takes 16 bytes a departure.
 ghost use Rattle.crew_sweep.specs.Machinery.Digests.{IsDigest, IsFloor};
 
 use crew_anchor::{AnchoredResource, AnchoredVector};

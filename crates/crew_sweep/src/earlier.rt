@@ -1,4 +1,8 @@
 //! What an earlier pass left.
+//!
+//! Where the same duties arrive at fewer than an eighth of all arrivals, as after new prices for
+//! all flights, a pass goes as if there were nothing earlier: next to nothing could be kept, and to
+//! look for it has the earlier walks go along.
 ghost use Rattle.std.specs.Arc.{arc_value};
 ghost use Rattle.std.specs.Prelude.{◌≡◌, ◌<◌, ◌≤◌, ℕ, Option, IfOk, IfSome, [], get_or, length, slice_get, true, Some, ◌-◌};
 ghost use Rattle.crew_anchor.specs.Machinery.Bounds.{fits_in};

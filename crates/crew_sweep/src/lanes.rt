@@ -1,6 +1,12 @@
 //! The slides of airports as lanes, which threads share out among them: each goes on to the windows of
 //! the departures that come next at its airport, while others make the pools of arrivals on which
 //! later departures wait.
+//!
+//! A slide changes as it goes on, so it is handed to a thread as a value and comes back with what
+//! stands in the windows of its airport's next departures. Groups of lanes are about as heavy as
+//! one another, by the labels of the last window times the windows to come, the heaviest first: a
+//! base's own airport has about half of all departures. What is merged tells the place of its
+//! departure, which is compared; so nothing is proved of the order in which lanes come back.
 ghost use Rattle.std.specs.Prelude.{◌≡◌, ◌<◌, ◌≤◌, ◌⊎◌, ℕ, Bool, IfOk, List, OnOk, Some, Vec, [], length};
 ghost use Rattle.std.specs.Global.{Global};
 ghost use Rattle.crew_net.specs.Nets.{Net};

@@ -1,5 +1,12 @@
 //! Departures whose pool is mended: beside an earlier pass a pool has the labels that it had, but for
 //! those that come from where something has changed.
+//!
+//! Into what comes from the changed arrivals the old pool is merged whole; that is the new pool
+//! where each label of it either came in just now or ends with a duty that arrives where nothing
+//! has changed. Where an old label stays that nothing brings any more, as after a cancelled flight,
+//! what it had ruled out isn't known, and the pool is made anew. An arrival costs far more to make
+//! than to merge: so a pool is mended only where that spares eight arrivals that aren't made yet
+//! for each that has changed.
 ghost use Rattle.std.specs.Arc.{arc_value};
 ghost use Rattle.std.specs.Prelude.{◌≡◌, ◌<◌, ◌≤◌, ◌++◌, ◌∷◌, ℕ, IfOk, IfSome, List, Ok, OnOk, Some, [], false, get_or, length, map, slice_get, true};
 ghost use Rattle.crew_carry.specs.Carried.{IsCarried};

@@ -5,6 +5,9 @@
 //! number shows something else, which is known without making the old one; where the numbers are one,
 //! both are made, and compared. So all of this is a hint: nothing is kept that wasn't seen to be the
 //! same.
+//!
+//! The number of an arrival is the sum of one for each of its labels' vectors, and takes 16 bytes.
+//! Numbers that are the same by chance cost a comparison, and nothing else hangs on them.
 ghost use Rattle.std.specs.Prelude.{◌≡◌, ◌<◌, length};
 
 use crate::earlier::Earlier;

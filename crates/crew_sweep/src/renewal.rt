@@ -1,4 +1,14 @@
 //! What a pass keeps of an earlier one.
+//!
+//! A departure is kept where its window holds just the arrivals that its twin's held, each as it
+//! was; else it shares the pool of the one before it where both wait on the same; else it is mended
+//! where few arrivals of its window have changed; else it is made anew. Where it then shows what
+//! its twin showed nothing is marked, and else all arrivals of the duties that leave there are.
+//! Where all of these are marked by then, or have other duties than they had, the two pools aren't
+//! compared. From one retimed flight arcs lead to most of what leaves later, and few fronts there
+//! change: so change is told by comparing pools and not by following arcs. The pass begins with the
+//! walks of the earlier one, each in its place; where more than half of them are of no label any
+//! more it begins with none, and copies what it keeps.
 ghost use Rattle.std.specs.Arc.{arc_value};
 ghost use Rattle.std.specs.Prelude.{◌≡◌, ◌<◌, ◌+◌, ℕ, IfOk, IfSome, Ok, OnOk, false, get_or, length, slice_get, true, Some};
 ghost use Rattle.crew_carry.specs.Carried.{IsCarried};

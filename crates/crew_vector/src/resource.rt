@@ -1,4 +1,8 @@
 //! The vector of a pairing as a resource.
+//!
+//! The theory takes a vector for seven resources side by side (`Both`, `Sum`, `Count`), and the
+//! ghosts say so; the bodies are seven sums and one look at the caps, since bodies that named all
+//! seven types had them spelled out in their proofs: a quarter of the crate's time.
 ghost use Rattle.std.specs.Prelude.{◌≡◌, ◌≤◌, ℕ, List, Some, pos};
 ghost use Rattle.std.specs.Option.{option_map};
 ghost use Rattle.crew_pairing.specs.declared.duty.Duty.{Duty};

@@ -1,4 +1,8 @@
 //! Sessions beside workers.
+//!
+//! The session stays with the caller, whose streams needn't cross threads; the workers' threads are
+//! started by one thread beside it and joined at its end, so no session fails for want of threads.
+//! What was written is known after the join, since the session is lent by `&mut` and not moved.
 ghost use Rattle.std.specs.Prelude.{◌≡◌, ◌⊎◌, ◌≤◌, ◌∷◌, [], ℕ, All, List, IfErr, IfSome, OnErr, OnOk, length};
 ghost use Rattle.std.specs.Io.KnownBytes.{Appends, IsAtEnd};
 ghost use Rattle.crew_rules.specs.Settings.{IsChecked};
