@@ -13,8 +13,8 @@ use Rattle.crew_pairing.specs.Legs.{Leg}
 use Rattle.crew_pairing.specs.Pairings.{IsDuty, may_stand_after}
 use Rattle.crew_pairing.specs.declared.duty.Duty.{Duty}
 use Rattle.crew_vector.proofs.Orders.{code-itself, same-code, walk-order}
-use Rattle.crew_long.specs.crew_history.Histories.{follows}
-use Rattle.crew_long.specs.crew_history.Limits.{period_of}
+use Rattle.crew_history.specs.Histories.{follows}
+use Rattle.crew_history.specs.Limits.{period_of}
 use Rattle.crew_answers.specs.Dominance.{is_at_most}
 use Rattle.crew_answers.specs.Fronts.{IsFrontAt}
 use Rattle.crew_answers.specs.Locals.{AreFrontsBefore, Candidate, Feed, IsLocalAt, grown, is_within_limits}

@@ -12,11 +12,11 @@ use Rattle.crew_pairing.specs.Pairings.{AllRested, IsDuty, last_duty, may_stand_
 use Rattle.crew_pairing.specs.declared.duty.Duty.{Duty}
 use Rattle.crew_vector.proofs.Cuts.{before_last, last-pushed, last-split, whole-split}
 use Rattle.crew_vector.proofs.Extended.{none-goes-on}
-use Rattle.crew_long.specs.crew_history.Histories.{EndsBefore, follows}
-use Rattle.crew_long.specs.crew_history.Limits.{IsTimed, arrival, history_of, period_of}
-use Rattle.crew_long.specs.crew_history.LongPairings.{IsLongPartial}
-use Rattle.crew_long.proofs.crew_history_lemmas.Histories.{ends_before_cut, follows_decides}
-use Rattle.crew_long.proofs.crew_history_lemmas.LegalOrder.{in_order}
+use Rattle.crew_history.specs.Histories.{EndsBefore, follows}
+use Rattle.crew_history.specs.Limits.{IsTimed, arrival, history_of, period_of}
+use Rattle.crew_history.specs.LongPairings.{IsLongPartial}
+use Rattle.crew_history.proofs.Histories.{ends_before_cut, follows_decides}
+use Rattle.crew_history.proofs.LegalOrder.{in_order}
 use Rattle.crew_answers.specs.Locals.{grown, is_within_limits}
 use Rattle.crew_answers.specs.LongVectors.{LongVector, is_long, long_vector_of}
 use Rattle.crew_answers.specs.Ranges.{IsInRange}

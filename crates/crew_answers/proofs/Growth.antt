@@ -14,10 +14,10 @@ use Rattle.crew_pairing.specs.declared.vector.PairingVector.{PairingVector}
 use Rattle.crew_vector.specs.Locals as Sums
 use Rattle.crew_vector.proofs.Growth as SumsGrowth
 use Rattle.crew_vector.proofs.Steps as SumsSteps
-use Rattle.crew_long.specs.crew_history.Histories.{EndsBefore, fits_window, follows, grown, may_board, minutes_after}
-use Rattle.crew_long.specs.crew_history.Limits.{AreInOrder, IsTimed, arrival, period_of}
-use Rattle.crew_long.proofs.crew_history_lemmas.Histories.{follows_decides}
-use Rattle.crew_long.proofs.crew_history_lemmas.OfDuties.{lasts}
+use Rattle.crew_history.specs.Histories.{EndsBefore, fits_window, follows, grown, may_board, minutes_after}
+use Rattle.crew_history.specs.Limits.{AreInOrder, IsTimed, arrival, period_of}
+use Rattle.crew_history.proofs.Histories.{follows_decides}
+use Rattle.crew_history.proofs.OfDuties.{lasts}
 use Rattle.crew_long.specs.RestEnds.{rest_end_at, wait_rest}
 use Rattle.crew_long.specs.Machinery.RestStages.{extend_rest, open_rest}
 use Rattle.crew_long.specs.declared.rest_end.RestEnd.{RestEnd}

@@ -7,11 +7,11 @@ use Rattle.crew_resource.specs.Resource.{StepLaws}
 use Rattle.crew_resource.proofs.Order.{IsOrder}
 use Rattle.crew_resource.proofs.Pools.{and_then_out}
 use Rattle.crew_pairing.specs.declared.duty.Duty.{Duty}
-use Rattle.crew_long.specs.crew_history.Histories.{IsHistory, IsNoMore, boarded_history, fits_window, follows, grown, history_from, is_no_more, may_board}
-use Rattle.crew_long.specs.crew_history.Limits.{AreInOrder, KeepsWindows, history_of, period_of}
-use Rattle.crew_long.specs.crew_history.Machinery.Kept.{history_prop}
-use Rattle.crew_long.proofs.crew_history_lemmas.Histories.{follows_decides, grown_history, grown_monotone, is_no_more_decides, may_board_monotone, no_more_antisym, no_more_refl, no_more_trans}
-use Rattle.crew_long.proofs.crew_history_lemmas.OfDuties.{windows_told}
+use Rattle.crew_history.specs.Histories.{IsHistory, IsNoMore, boarded_history, fits_window, follows, grown, history_from, is_no_more, may_board}
+use Rattle.crew_history.specs.Limits.{AreInOrder, KeepsWindows, history_of, period_of}
+use Rattle.crew_history.specs.Machinery.Kept.{history_prop}
+use Rattle.crew_history.proofs.Histories.{follows_decides, grown_history, grown_monotone, is_no_more_decides, may_board_monotone, no_more_antisym, no_more_refl, no_more_trans}
+use Rattle.crew_history.proofs.OfDuties.{windows_told}
 use Rattle.crew_long.specs.Machinery.Folds.{value_by, value_from, value_steps}
 use Rattle.crew_answers.proofs.Missing.{same-some, test-out}
 

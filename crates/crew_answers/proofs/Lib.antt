@@ -26,5 +26,5 @@ pub mod LongSteps
 pub mod LongListed
 pub mod Scheduled
 -- of crates below this one, which those above cite through it
-pub use Rattle.crew_long.proofs.crew_history_lemmas
+pub use Rattle.crew_history.proofs as crew_history_lemmas
 pub use Rattle.crew_vector.proofs as crew_vector_lemmas

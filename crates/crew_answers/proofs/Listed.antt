@@ -12,11 +12,11 @@ use Rattle.std.proofs.lemmas.Int.{clamps, ints}
 use Rattle.std.proofs.lemmas.List.{length-take, take-append-drop}
 use Rattle.crew_resource.specs.Members.{Each}
 use Rattle.crew_resource.proofs.ListOrder.{lists_exact}
-use Rattle.crew_long.specs.crew_history.Histories.{IsHistory, cut}
-use Rattle.crew_long.specs.crew_history.HistoryValues.{periods_of}
-use Rattle.crew_long.specs.crew_history.declared.history.History.{History}
-use Rattle.crew_long.proofs.crew_history_lemmas.FixedHistories.{history_cmp, pair_exact}
-use Rattle.crew_long.proofs.crew_history_lemmas.Histories.{history_after}
+use Rattle.crew_history.specs.Histories.{IsHistory, cut}
+use Rattle.crew_history.specs.HistoryValues.{periods_of}
+use Rattle.crew_history.specs.declared.history.History.{History}
+use Rattle.crew_history.proofs.FixedHistories.{history_cmp, pair_exact}
+use Rattle.crew_history.proofs.Histories.{history_after}
 use Rattle.crew_answers.specs.Fronts.{period_cmp}
 use Rattle.crew_answers.proofs.Tests.{same-tests}
 

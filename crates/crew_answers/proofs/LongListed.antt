@@ -19,9 +19,9 @@ use Rattle.crew_pairing.specs.declared.duty.Duty.{Duty}
 use Rattle.crew_vector.specs.Fronts as Plain
 use Rattle.crew_vector.specs.Machinery.Named.{named_order}
 use Rattle.crew_vector.specs.Values.{value_of}
-use Rattle.crew_long.specs.crew_history.Limits.{arrival, history_of, period_of}
-use Rattle.crew_long.specs.crew_history.LongPairings.{IsLongPartial}
-use Rattle.crew_long.proofs.crew_history_lemmas.FixedHistories.{history_cmp}
+use Rattle.crew_history.specs.Limits.{arrival, history_of, period_of}
+use Rattle.crew_history.specs.LongPairings.{IsLongPartial}
+use Rattle.crew_history.proofs.FixedHistories.{history_cmp}
 use Rattle.crew_long.specs.Recents.{is_dated, recent_periods}
 use Rattle.crew_long.specs.RestEnds.{rest_end_at, rest_end_cmp}
 use Rattle.crew_long.specs.Machinery.RecentStages.{recent_cmp}

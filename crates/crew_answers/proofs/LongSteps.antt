@@ -5,7 +5,7 @@ use Rattle.crew_rules.specs.declared.settings.Settings.{Settings}
 use Rattle.crew_pairing.specs.Duties.{flights_of}
 use Rattle.crew_pairing.specs.Pairings.{IsDuty, last_duty, may_stand_after}
 use Rattle.crew_pairing.specs.declared.duty.Duty.{Duty}
-use Rattle.crew_long.specs.crew_history.LongPairings.{IsLongPartial}
+use Rattle.crew_history.specs.LongPairings.{IsLongPartial}
 use Rattle.crew_answers.specs.Locals.{grown, is_within_limits}
 use Rattle.crew_answers.specs.LongVectors.{long_vector_of}
 use Rattle.crew_answers.specs.Ranges.{IsInRange}

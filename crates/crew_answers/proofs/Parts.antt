@@ -22,10 +22,10 @@ use Rattle.crew_vector.specs.Values.{value_of}
 use Rattle.crew_vector.proofs.Fitting.{caps-of-whole, value-out}
 use Rattle.crew_vector.proofs.LegalDuties.{legal-sound}
 use Rattle.crew_vector.proofs.Paths.{follows}
-use Rattle.crew_long.specs.crew_history.Histories.{is_no_more}
-use Rattle.crew_long.specs.crew_history.Limits.{AreInOrder, KeepsWindows, history_of, last_rest_end, since_rest}
-use Rattle.crew_long.specs.crew_history.LongPairings.{IsLongPartial, is_within_totals}
-use Rattle.crew_long.proofs.crew_history_lemmas.LegalOrder.{in_order}
+use Rattle.crew_history.specs.Histories.{is_no_more}
+use Rattle.crew_history.specs.Limits.{AreInOrder, KeepsWindows, history_of, last_rest_end, since_rest}
+use Rattle.crew_history.specs.LongPairings.{IsLongPartial, is_within_totals}
+use Rattle.crew_history.proofs.LegalOrder.{in_order}
 use Rattle.crew_long.specs.RestEnds.{rest_end_at, rest_end_at_most}
 use Rattle.crew_long.specs.Machinery.Folds.{value_by}
 use Rattle.crew_long.specs.Machinery.RestStages.{extend_rest, open_rest}

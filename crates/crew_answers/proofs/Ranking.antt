@@ -11,8 +11,8 @@ use Rattle.crew_resource.specs.Members.{Member}
 use Rattle.crew_pairing.specs.Duties.{flights_of}
 use Rattle.crew_pairing.specs.Pairings.{IsDuty, may_stand_after, rest}
 use Rattle.crew_pairing.specs.declared.duty.Duty.{Duty}
-use Rattle.crew_long.proofs.crew_history_lemmas.LegalOrder.{in_order}
-use Rattle.crew_long.proofs.crew_history_lemmas.OfDuties.{lasts}
+use Rattle.crew_history.proofs.LegalOrder.{in_order}
+use Rattle.crew_history.proofs.OfDuties.{lasts}
 use Rattle.crew_answers.specs.Machinery.Ranks.{rank_of, reach}
 
 size : (z : ℤ) → pos 0 ≤ℤ (z +ℤ pos (unsigned_abs z))

@@ -11,10 +11,10 @@ use Rattle.crew_pairing.specs.Duties.{flights_of}
 use Rattle.crew_pairing.specs.Legality.{duty_of, total}
 use Rattle.crew_pairing.specs.Pairings.{IsDuty, minutes_away}
 use Rattle.crew_pairing.specs.declared.duty.Duty.{Duty}
-use Rattle.crew_long.specs.crew_history.HistoryValues.{history_at_most}
-use Rattle.crew_long.specs.crew_history.LongPairings.{IsLongPartial}
-use Rattle.crew_long.specs.crew_history.Limits as Limits
-use Rattle.crew_long.specs.crew_history.Limits.{keeps_total}
+use Rattle.crew_history.specs.HistoryValues.{history_at_most}
+use Rattle.crew_history.specs.LongPairings.{IsLongPartial}
+use Rattle.crew_history.specs.Limits as Limits
+use Rattle.crew_history.specs.Limits.{keeps_total}
 use Rattle.crew_long.specs.Recents.{is_dated, recent_at_most, recent_periods}
 use Rattle.crew_long.specs.Machinery.Folds.{value_by, value_from}
 use Rattle.crew_long.specs.Machinery.RecentStages.{extend_recent, idle_periods, idle_recent, open_recent}

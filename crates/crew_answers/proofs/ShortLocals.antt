@@ -8,8 +8,8 @@ use Rattle.crew_pairing.specs.declared.duty.Duty.{Duty}
 use Rattle.crew_pairing.specs.declared.vector.PairingVector.{PairingVector}
 use Rattle.crew_vector.specs.Dominance as PlainOrder
 use Rattle.crew_vector.specs.Locals as Plain
-use Rattle.crew_long.specs.crew_history.Histories as Histories
-use Rattle.crew_long.specs.crew_history.Limits.{arrival, period_of}
+use Rattle.crew_history.specs.Histories as Histories
+use Rattle.crew_history.specs.Limits.{arrival, period_of}
 use Rattle.crew_answers.specs.Dominance.{is_at_most}
 use Rattle.crew_answers.specs.Locals.{Candidate, IsLocalAt, grown, is_within_limits}
 use Rattle.crew_answers.specs.LongVectors.{LongVector, is_long, long_vector_of, settings_of_sums}

@@ -11,9 +11,9 @@ use Rattle.crew_pairing.specs.Legality.{total}
 use Rattle.crew_pairing.specs.Pairings.{IsPartial, minutes_away}
 use Rattle.crew_pairing.specs.Vectors.{vector_of}
 use Rattle.crew_pairing.specs.declared.duty.Duty.{Duty}
-use Rattle.crew_long.specs.crew_history.LongPairings.{IsLongPartial}
-use Rattle.crew_long.specs.crew_history.Limits as Limits
-use Rattle.crew_long.proofs.crew_history_lemmas.ShortPairings.{long_from_short, short_from_long}
+use Rattle.crew_history.specs.LongPairings.{IsLongPartial}
+use Rattle.crew_history.specs.Limits as Limits
+use Rattle.crew_history.proofs.ShortPairings.{long_from_short, short_from_long}
 use Rattle.crew_answers.specs.LongVectors.{LongVector, is_long, long_vector_of, settings_of_sums}
 use Rattle.crew_answers.specs.ShortPairings.{with_no_past}
 use Rattle.crew_answers.proofs.Caps.{same-duties, same-rests}

@@ -19,7 +19,7 @@ use Rattle.crew_vector.specs.Fronts.{walk_of}
 use Rattle.crew_vector.proofs.Cuts.{before_last, by-first, cut, each-of, last-split, whole-split}
 use Rattle.crew_vector.proofs.Extended.{none-goes-on}
 use Rattle.crew_vector.proofs.Orders.{code-itself, same-code}
-use Rattle.crew_long.specs.crew_history.LongPairings.{IsLongPartial}
+use Rattle.crew_history.specs.LongPairings.{IsLongPartial}
 use Rattle.crew_answers.specs.Dominance.{is_at_most}
 use Rattle.crew_answers.specs.Fronts.{At, Clean, IsFrontAt, IsUndominated}
 use Rattle.crew_answers.specs.LongVectors.{LongVector, long_vector_of}

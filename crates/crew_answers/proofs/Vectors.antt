@@ -9,10 +9,10 @@ use Rattle.crew_pairing.specs.Vectors.{reduced_cost}
 use Rattle.crew_pairing.specs.declared.duty.Duty.{Duty}
 use Rattle.crew_pairing.specs.declared.vector.PairingVector.{PairingVector}
 use Rattle.crew_vector.specs.Dominance as Plain
-use Rattle.crew_long.specs.crew_history.Histories.{IsHistory, IsNoMore, is_no_more}
-use Rattle.crew_long.specs.crew_history.Limits.{AreInOrder, arrival, history_of, period_of}
-use Rattle.crew_long.proofs.crew_history_lemmas.Histories.{cut_history, is_no_more_decides}
-use Rattle.crew_long.proofs.crew_history_lemmas.OfDuties.{is_history}
+use Rattle.crew_history.specs.Histories.{IsHistory, IsNoMore, is_no_more}
+use Rattle.crew_history.specs.Limits.{AreInOrder, arrival, history_of, period_of}
+use Rattle.crew_history.proofs.Histories.{cut_history, is_no_more_decides}
+use Rattle.crew_history.proofs.OfDuties.{is_history}
 use Rattle.crew_answers.specs.Dominance.{is_at_most}
 use Rattle.crew_answers.specs.LongVectors.{LongVector, is_long, long_vector_of}
 

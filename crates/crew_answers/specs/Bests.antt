@@ -12,7 +12,7 @@ use Rattle.crew_pairing.specs.declared.duty.Duty.{Duty}
 use Rattle.crew_vector.specs.Bests.{NoDearer}
 use Rattle.crew_vector.specs.Fronts.{walk_of}
 use Rattle.crew_vector.specs.declared.priced.PricedPairing.{PricedPairing}
-use Rattle.crew_long.specs.crew_history.LongPairings.{IsLongPartial}
+use Rattle.crew_history.specs.LongPairings.{IsLongPartial}
 use Rattle.crew_answers.specs.Fronts.{IsFrontAt, StaysUndominated}
 use Rattle.crew_answers.specs.LongVectors.{LongVector}
 

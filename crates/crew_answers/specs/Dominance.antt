@@ -4,7 +4,7 @@
 -- which decides it of all instants.
 use Rattle.std.specs.Prelude.{Bool, ◌&&◌, int_le}
 use Rattle.crew_vector.specs.Dominance as Sums
-use Rattle.crew_long.specs.crew_history.Histories.{is_no_more}
+use Rattle.crew_history.specs.Histories.{is_no_more}
 use Rattle.crew_answers.specs.LongVectors.{LongVector}
 
 abbrev pub is_at_most : LongVector → LongVector → Bool

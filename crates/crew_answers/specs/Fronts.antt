@@ -19,7 +19,7 @@ use Rattle.crew_pairing.specs.Pairings.{last_duty}
 use Rattle.crew_pairing.specs.declared.duty.Duty.{Duty}
 use Rattle.crew_vector.specs.Fronts as Sums
 use Rattle.crew_vector.specs.Fronts.{walk_of}
-use Rattle.crew_long.specs.crew_history.LongPairings.{IsLongPartial}
+use Rattle.crew_history.specs.LongPairings.{IsLongPartial}
 use Rattle.crew_answers.specs.Dominance.{is_at_most}
 use Rattle.crew_answers.specs.LongVectors.{LongVector, long_vector_of}
 

@@ -9,6 +9,6 @@ pub mod Schedules
 pub mod ShortPairings
 pub mod Machinery
 -- of crates below this one, which those above cite through it
-pub use Rattle.crew_long.specs.crew_history
+pub use Rattle.crew_history.specs as crew_history
 pub use Rattle.crew_long.specs as crew_long
 pub use Rattle.crew_vector.specs as crew_vector

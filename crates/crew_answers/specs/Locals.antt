@@ -11,8 +11,8 @@ use Rattle.crew_pairing.specs.Legs.{Leg}
 use Rattle.crew_pairing.specs.Pairings.{IsDuty, may_stand_after, rest}
 use Rattle.crew_pairing.specs.declared.duty.Duty.{Duty}
 use Rattle.crew_vector.specs.Locals as Sums
-use Rattle.crew_long.specs.crew_history.Histories as Histories
-use Rattle.crew_long.specs.crew_history.Limits.{arrival, period_of}
+use Rattle.crew_history.specs.Histories as Histories
+use Rattle.crew_history.specs.Limits.{arrival, period_of}
 use Rattle.crew_answers.specs.Dominance.{is_at_most}
 use Rattle.crew_answers.specs.Fronts.{IsFrontAt}
 use Rattle.crew_answers.specs.LongVectors.{LongVector, is_long, long_vector_of, settings_of_sums}

@@ -8,7 +8,7 @@ use Rattle.crew_rules.specs.declared.settings.Settings.{Settings}
 use Rattle.crew_pairing.specs.Vectors.{vector_of}
 use Rattle.crew_pairing.specs.declared.duty.Duty.{Duty}
 use Rattle.crew_pairing.specs.declared.vector.PairingVector.{PairingVector}
-use Rattle.crew_long.specs.crew_history.Limits as Limits
+use Rattle.crew_history.specs.Limits as Limits
 
 -- the settings allow pairings of more than 138 hours
 abbrev pub is_long : Settings → Bool

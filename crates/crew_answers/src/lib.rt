@@ -19,7 +19,7 @@ mod resource;
 mod value;
 
 // Crates below this one, which those above cite through it.
-pub use crew_long::crew_history;
+pub use crew_history;
 pub use crew_vector;
 pub use resource::{LongResource, settings_of_sums};
 pub use value::LongValue;

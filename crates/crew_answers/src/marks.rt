@@ -4,7 +4,7 @@ ghost use Rattle.crew_answers.specs.Machinery.Marks.{narrowed, turned, minutes_s
 
 use crate::{LongResource, LongValue};
 use crew_forgetful::Marked;
-use crew_long::crew_history::History;
+use crew_history::History;
 use crew_pairing::Duty;
 
 /// The nearest number of 32 bits.

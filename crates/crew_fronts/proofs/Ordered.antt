@@ -7,12 +7,12 @@ use Rattle.std.specs.declared.cmp.Ordering.TheVariants.{Equal, Less}
 use Rattle.std.proofs.lemmas.Bool.{cases_Bool}
 use Rattle.std.proofs.lemmas.Cmp.{tied_itself}
 use Rattle.std.proofs.lemmas.Int.{ints}
-use Rattle.crew_pass.proofs.crew_answers_lemmas.Listed.{histories-listed, then-equal, then-under, turned}
-use Rattle.crew_pass.proofs.crew_answers_lemmas.LongListed.{value_cmp}
-use Rattle.crew_pass.specs.crew_answers.Fronts.{RiseByVector, period_cmp, vector_cmp}
-use Rattle.crew_pass.specs.crew_answers.LongVectors.{is_long}
-use Rattle.crew_pass.specs.crew_answers.Shown.{shown}
-use Rattle.crew_pass.specs.crew_answers.declared.value.LongValue.{LongValue}
+use Rattle.crew_answers.proofs.Listed.{histories-listed, then-equal, then-under, turned}
+use Rattle.crew_answers.proofs.LongListed.{value_cmp}
+use Rattle.crew_answers.specs.Fronts.{RiseByVector, period_cmp, vector_cmp}
+use Rattle.crew_answers.specs.LongVectors.{is_long}
+use Rattle.crew_answers.specs.Shown.{shown}
+use Rattle.crew_answers.specs.declared.value.LongValue.{LongValue}
 use Rattle.crew_pass.proofs.crew_history_lemmas.FixedHistories.{history_cmp}
 use Rattle.crew_label.specs.Pools.{AreRising}
 use Rattle.crew_label.specs.Tables.{Tabled}

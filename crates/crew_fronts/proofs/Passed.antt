@@ -2,10 +2,10 @@
 use Rattle.std.proofs.Common.{◌≡◌, ◌∙◌, ◌<◌, ◌+◌, ℕ, zero, suc, List, [], Some, get_or, length, ℤ, sym, ap, subst, arith}
 use Rattle.std.specs.Prelude.{slice_get}
 use Rattle.std.specs.List.{range_with_len}
-use Rattle.crew_pass.specs.crew_answers.Fronts.{IsFrontAt, RiseByVector}
-use Rattle.crew_pass.specs.crew_answers.Ranges.{IsInRange}
-use Rattle.crew_pass.specs.crew_answers.Shown.{shown_entries}
-use Rattle.crew_pass.specs.crew_answers.declared.value.LongValue.{LongValue}
+use Rattle.crew_answers.specs.Fronts.{IsFrontAt, RiseByVector}
+use Rattle.crew_answers.specs.Ranges.{IsInRange}
+use Rattle.crew_answers.specs.Shown.{shown_entries}
+use Rattle.crew_answers.specs.declared.value.LongValue.{LongValue}
 use Rattle.crew_flights.specs.Timetable.{Timetable}
 use Rattle.crew_pairing.specs.Duties.{RiseByKey}
 use Rattle.crew_pairing.specs.declared.duty.Duty.{Duty}

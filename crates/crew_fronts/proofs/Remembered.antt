@@ -4,12 +4,12 @@ use Rattle.std.specs.Prelude.{◌≤ℤ◌, slice_get}
 use Rattle.std.specs.Option.{option_map}
 use Rattle.std.proofs.lemmas.Bool.{and_parts, cases_Bool, false≢true}
 use Rattle.std.proofs.lemmas.Int.{ints}
-use Rattle.crew_pass.proofs.crew_answers_lemmas.Listed.{StartsLate, cut-starts}
-use Rattle.crew_pass.specs.crew_answers.LongVectors.{is_long, settings_of_sums}
-use Rattle.crew_pass.specs.crew_answers.Machinery.Joined.{joined, parts_of}
-use Rattle.crew_pass.specs.crew_answers.Machinery.JoinedLaws.{unjoined}
-use Rattle.crew_pass.specs.crew_answers.Schedules.{schedule_of}
-use Rattle.crew_pass.specs.crew_answers.declared.value.LongValue.{LongValue}
+use Rattle.crew_answers.proofs.Listed.{StartsLate, cut-starts}
+use Rattle.crew_answers.specs.LongVectors.{is_long, settings_of_sums}
+use Rattle.crew_answers.specs.Machinery.Joined.{joined, parts_of}
+use Rattle.crew_answers.specs.Machinery.JoinedLaws.{unjoined}
+use Rattle.crew_answers.specs.Schedules.{schedule_of}
+use Rattle.crew_answers.specs.declared.value.LongValue.{LongValue}
 use Rattle.crew_forgetful.specs.Sweeps.{network_of}
 use Rattle.crew_pass.specs.crew_history.Histories.{may_board}
 use Rattle.crew_pass.specs.crew_history.Limits.{period_of}

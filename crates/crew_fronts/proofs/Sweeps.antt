@@ -5,9 +5,9 @@ use Rattle.std.specs.Ordering.{ordering_then}
 use Rattle.std.specs.declared.cmp.Ordering.TheVariants.{Less}
 use Rattle.std.proofs.lemmas.Bool.{and_parts}
 use Rattle.std.proofs.lemmas.Bool.Decides.{nat_tests}
-use Rattle.crew_pass.specs.crew_answers.Fronts as Long
-use Rattle.crew_pass.specs.crew_answers.LongVectors.{is_long, settings_of_sums}
-use Rattle.crew_pass.specs.crew_answers.ShortPairings.{sums_of, with_no_past, with_no_pasts}
+use Rattle.crew_answers.specs.Fronts as Long
+use Rattle.crew_answers.specs.LongVectors.{is_long, settings_of_sums}
+use Rattle.crew_answers.specs.ShortPairings.{sums_of, with_no_past, with_no_pasts}
 use Rattle.crew_flights.specs.Timetable.{Timetable}
 use Rattle.crew_pairing.specs.Duties.{AreDuties, RiseByKey, flights_of}
 use Rattle.crew_pairing.specs.Pairings.{IsDuty}

@@ -1,9 +1,9 @@
 -- The fronts of a crew base at its price, one for each duty of a network.
 use Rattle.std.specs.Prelude.{◌≡◌, ℕ, ℤ, suc, Bool, ◌&&◌, cond, nat_le, not, List, [], ◌∷◌, get_or}
 use Rattle.std.specs.Ordering.{eq_by_cmp}
-use Rattle.crew_pass.specs.crew_answers.Fronts.{IsFrontAt, RiseByVector}
-use Rattle.crew_pass.specs.crew_answers.LongVectors.{LongVector, is_long}
-use Rattle.crew_pass.specs.crew_answers.ShortPairings.{with_no_pasts}
+use Rattle.crew_answers.specs.Fronts.{IsFrontAt, RiseByVector}
+use Rattle.crew_answers.specs.LongVectors.{LongVector, is_long}
+use Rattle.crew_answers.specs.ShortPairings.{with_no_pasts}
 use Rattle.crew_flights.specs.Timetable.{Timetable}
 use Rattle.crew_net.specs.Nets.{Net}
 use Rattle.crew_pairing.specs.Duties.{flights_of}

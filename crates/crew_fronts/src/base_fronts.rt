@@ -1,8 +1,8 @@
 //! The fronts of a base.
 ghost use Rattle.std.specs.Prelude.{◌≡◌, ◌<◌, ◌≤◌, IfOk, IfSome, IsTrue, None, Some, false, length, slice_get, true};
 ghost use Rattle.std.specs.Arc.{arc_value};
-ghost use Rattle.crew_pass.specs.crew_answers.Fronts.{RiseByVector};
-ghost use Rattle.crew_pass.specs.crew_answers.Schedules.{IsDated};
+ghost use Rattle.crew_answers.specs.Fronts.{RiseByVector};
+ghost use Rattle.crew_answers.specs.Schedules.{IsDated};
 ghost use Rattle.crew_flights.specs.Timetable.{IsBasePrice, IsSound, Timetable};
 ghost use Rattle.crew_fronts.specs.Fronts.{IsOfSweep, ShowsFronts, front_at, is_plain};
 ghost use Rattle.crew_pairing.specs.Duties.{AreDuties, RiseByKey};
@@ -14,11 +14,11 @@ ghost use Rattle.crew_rules.specs.Settings.{IsChecked};
 
 use crate::front_view::FrontView;
 use crate::passed_fronts::PassedFronts;
+use crew_answers::laws::{short_fronts_are_as_before, short_settings_stay};
 use crew_flights::Code;
 use crew_net::Net;
 use crew_pairing::Duty;
 use crew_pass::Course;
-use crew_pass::crew_answers::laws::{short_fronts_are_as_before, short_settings_stay};
 use std::alloc::{AllocError, Global};
 use std::marker::Model;
 use std::sync::Arc;

@@ -1,7 +1,7 @@
 //! Fronts that are lent.
 ghost use Rattle.std.specs.Prelude.{◌≡◌, ◌↔◌, IsTrue, length};
 ghost use Rattle.std.specs.Iterator.{YieldsFirst, item_count};
-ghost use Rattle.crew_pass.specs.crew_answers.ShortPairings.{with_no_pasts};
+ghost use Rattle.crew_answers.specs.ShortPairings.{with_no_pasts};
 ghost use Rattle.crew_fronts.specs.Fronts.{Entries};
 
 use crate::passed_front::PassedFront;

@@ -1,16 +1,16 @@
 //! Fronts of a pass.
 ghost use Rattle.std.specs.Prelude.{◌≡◌, length};
 ghost use Rattle.std.specs.Iterator.{YieldsFirst, item_count};
-ghost use Rattle.crew_pass.specs.crew_answers.Shown as Shown;
+ghost use Rattle.crew_answers.specs.Shown as Shown;
 ghost use Rattle.crew_fronts.specs.Machinery.Lent as Spec;
 ghost use Rattle.crew_fronts.specs.Machinery.Values.{IsReal};
 
 use crate::passed_walk::PassedWalk;
 use crate::vector::Vector;
 use crate::walk_view::WalkView;
+use crew_answers::{LongResource, LongValue};
 use crew_label::{Label, Table};
 use crew_pairing::{Duties, Duty};
-use crew_pass::crew_answers::{LongResource, LongValue};
 use crew_rules::Settings;
 use std::marker::Model;
 

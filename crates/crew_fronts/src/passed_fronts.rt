@@ -1,9 +1,9 @@
 //! The fronts of a base that a pass has left.
 ghost use Rattle.std.specs.Prelude.{◌≡◌, ◌<◌, ◌≤◌, IfOk, Some, false, length, slice_get};
-ghost use Rattle.crew_pass.specs.crew_answers.Fronts.{RiseByVector};
-ghost use Rattle.crew_pass.specs.crew_answers.Schedules.{IsDated, schedule_of};
-ghost use Rattle.crew_pass.specs.crew_answers.Shown as Answers;
-ghost use Rattle.crew_pass.specs.crew_answers.declared.resource.LongResource.{LongResource};
+ghost use Rattle.crew_answers.specs.Fronts.{RiseByVector};
+ghost use Rattle.crew_answers.specs.Schedules.{IsDated, schedule_of};
+ghost use Rattle.crew_answers.specs.Shown as Answers;
+ghost use Rattle.crew_answers.specs.declared.resource.LongResource.{LongResource};
 ghost use Rattle.crew_flights.specs.Timetable.{IsSound, Timetable};
 ghost use Rattle.crew_forgetful.specs.Sweeps.{network_of};
 ghost use Rattle.crew_fronts.specs.Fronts.{ShowsFronts, front_at};
@@ -16,11 +16,11 @@ ghost use Rattle.crew_pass.specs.Passes.{CountsDuties, IsCoveredBy};
 ghost use Rattle.crew_resource.specs.Members.{Member};
 
 use crate::passed_front::PassedFront;
+use crew_answers::{LongResource, settings_of_sums};
 use crew_flights::Code;
 use crew_forgetful::Forgets;
 use crew_net::Net;
 use crew_pairing::Duty;
-use crew_pass::crew_answers::{LongResource, settings_of_sums};
 use crew_pass::laws::long_passes_show_the_fronts;
 use crew_pass::{Course, pass, pass_by_threads};
 use crew_resource::{Resource, Staged};

@@ -4,9 +4,9 @@ ghost use Rattle.std.specs.Option.{option_copied};
 ghost use Rattle.crew_fronts.specs.Machinery.Lent as Spec;
 ghost use Rattle.crew_label.specs.Walks.{Leads, walk_of};
 
+use crew_answers::{LongResource, LongValue};
 use crew_label::{Label, Link, Table, Trails};
 use crew_pairing::{Duties, Key};
-use crew_pass::crew_answers::{LongResource, LongValue};
 use std::marker::Model;
 
 /// The walk of a label of a pass's fronts, read along its links.

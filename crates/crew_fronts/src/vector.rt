@@ -1,6 +1,6 @@
 //! What a front shows of a pairing.
 ghost use Rattle.std.specs.Prelude.{◌≡◌, ◌↔◌, IsTrue};
-ghost use Rattle.crew_pass.specs.crew_answers.ShortPairings as Short;
+ghost use Rattle.crew_answers.specs.ShortPairings as Short;
 ghost use Rattle.crew_pass.specs.crew_history.HistoryValues.{periods_of};
 
 use crew_pairing::PairingVector;
@@ -21,7 +21,7 @@ pub struct Vector {
 
 impl Model for Vector {
     ghost use Rattle.std.specs.Coded.{codes};
-    ghost use Rattle.crew_pass.specs.crew_answers.LongVectors.{LongVector};
+    ghost use Rattle.crew_answers.specs.LongVectors.{LongVector};
     ghost use Rattle.crew_pass.specs.crew_history.HistoryValues.{periods_of};
     ghost use Rattle.crew_pass.specs.crew_history.contracts.history.History as kept;
 

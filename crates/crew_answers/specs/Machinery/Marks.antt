@@ -6,10 +6,10 @@ use Rattle.std.proofs.lemmas.Bool.{and_parts}
 use Rattle.std.proofs.lemmas.Int.{ints, clamps}
 use Rattle.crew_vector.specs.Dominance.{is_at_most}
 use Rattle.crew_forgetful.specs.Marks.{AreAtMost}
-use Rattle.crew_long.specs.crew_history.Histories.{minutes_after}
-use Rattle.crew_long.specs.crew_history.HistoryValues.{periods_of, history_at_most}
-use Rattle.crew_long.specs.crew_history.declared.history.History.{History}
-use Rattle.crew_long.proofs.crew_history_lemmas.FixedHistories.{at_most_is}
+use Rattle.crew_history.specs.Histories.{minutes_after}
+use Rattle.crew_history.specs.HistoryValues.{periods_of, history_at_most}
+use Rattle.crew_history.specs.declared.history.History.{History}
+use Rattle.crew_history.proofs.FixedHistories.{at_most_is}
 use Rattle.crew_long.specs.Recents.{recent_at_most}
 use Rattle.crew_long.specs.RestEnds.{rest_end_at_most}
 use Rattle.crew_answers.specs.declared.value.LongValue.{LongValue}

@@ -1,12 +1,12 @@
 -- What the fronts of a base keep, and what they show.
 use Rattle.std.specs.Prelude.{◌≡◌, ◌<◌, ℕ, ℤ, false, List, Option, Some, None, [], get_or, length, map, slice_get}
 use Rattle.std.specs.List.{range_with_len}
-use Rattle.crew_pass.specs.crew_answers.LongVectors.{is_long}
-use Rattle.crew_pass.specs.crew_answers.Schedules.{IsDated}
-use Rattle.crew_pass.specs.crew_answers.ShortPairings.{with_no_pasts}
-use Rattle.crew_pass.specs.crew_answers.Shown.{shown_entries}
-use Rattle.crew_pass.specs.crew_answers.declared.value.LongValue.{LongValue}
-use Rattle.crew_pass.proofs.crew_answers_lemmas.LongListed.{value_cmp}
+use Rattle.crew_answers.specs.LongVectors.{is_long}
+use Rattle.crew_answers.specs.Schedules.{IsDated}
+use Rattle.crew_answers.specs.ShortPairings.{with_no_pasts}
+use Rattle.crew_answers.specs.Shown.{shown_entries}
+use Rattle.crew_answers.specs.declared.value.LongValue.{LongValue}
+use Rattle.crew_answers.proofs.LongListed.{value_cmp}
 use Rattle.crew_flights.specs.Timetable.{IsBasePrice, IsSound, Timetable}
 use Rattle.crew_fronts.specs.Fronts.{BaseFronts, Entries, ShowsFronts, is_plain}
 use Rattle.crew_fronts.specs.Machinery.Listed.{listed}

@@ -1,5 +1,5 @@
 -- Fronts that are lent.
-use Rattle.crew_pass.specs.crew_answers.ShortPairings.{with_no_pasts}
+use Rattle.crew_answers.specs.ShortPairings.{with_no_pasts}
 use Rattle.crew_fronts.specs.Fronts.{Entries}
 use Rattle.crew_fronts.specs.declared.front_view.FrontKind.{FrontKind}
 use Rattle.crew_fronts.specs.declared.front_view.FrontKind.TheVariants as front

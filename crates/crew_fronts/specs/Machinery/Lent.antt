@@ -1,7 +1,7 @@
 -- The labels of a pass's fronts as they are lent.
 use Rattle.std.specs.Prelude.{◌≡◌, ◌<◌, ℕ, pos, List, length, map}
-use Rattle.crew_pass.specs.crew_answers.Shown.{shown_entries}
-use Rattle.crew_pass.specs.crew_answers.declared.value.LongValue.{LongValue}
+use Rattle.crew_answers.specs.Shown.{shown_entries}
+use Rattle.crew_answers.specs.declared.value.LongValue.{LongValue}
 use Rattle.crew_fronts.specs.Fronts.{Entries}
 use Rattle.crew_fronts.specs.Machinery.Values.{IsReal}
 use Rattle.crew_label.specs.Tables.{Tabled, leads_in, trail_in}

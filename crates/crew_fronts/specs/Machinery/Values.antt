@@ -1,7 +1,7 @@
 -- What the values of a pass's labels have, whatever network the pass goes over.
 use Rattle.std.specs.Prelude.{◌≡◌, ◌≤ℤ◌, ◌⊎◌, ℕ, Bool, true, false, ℤ, pos}
-use Rattle.crew_pass.specs.crew_answers.declared.value.LongValue.{LongValue}
-use Rattle.crew_pass.proofs.crew_answers_lemmas.Listed.{StartsLate}
+use Rattle.crew_answers.specs.declared.value.LongValue.{LongValue}
+use Rattle.crew_answers.proofs.Listed.{StartsLate}
 use Rattle.crew_pass.specs.crew_long.Recents.{recent_periods}
 use Rattle.crew_pass.specs.crew_long.RestEnds.{rest_end_at}
 use Rattle.crew_pass.specs.crew_long.Machinery.RecentStages.{idle_recent}

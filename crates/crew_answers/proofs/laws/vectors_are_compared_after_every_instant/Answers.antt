@@ -1,6 +1,6 @@
 use Rattle.std.proofs.Common.{◌≡◌, true, sym, subst}
 use Rattle.std.specs.Prelude.{◌≤ℤ◌}
-use Rattle.crew_long.specs.crew_history.Histories.{IsNoMore}
+use Rattle.crew_history.specs.Histories.{IsNoMore}
 use Rattle.crew_vector.specs.Dominance as Plain
 use Rattle.crew_answers.specs.Dominance.{is_at_most}
 use Rattle.crew_answers.specs.LongVectors.{LongVector, long_vector_of}

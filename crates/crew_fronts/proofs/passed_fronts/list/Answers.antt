@@ -1,6 +1,6 @@
 use Rattle.std.proofs.Common.{◌≡◌, ◌∙◌, ◌⊎◌, ◌<◌, ◌+◌, ℕ, [], get_or, inl, inr, sym, subst, ⊎_elim, arith}
 use Rattle.std.proofs.lemmas.Bool.Decides.{eqb_tells}
-use Rattle.crew_pass.proofs.crew_answers_lemmas.LongListed.{value_cmp}
+use Rattle.crew_answers.proofs.LongListed.{value_cmp}
 use Rattle.crew_label.specs.Pools.{AreRising}
 use Rattle.crew_fronts.proofs.passed_fronts.list.Goals as goal
 

@@ -1,5 +1,5 @@
 use Rattle.std.proofs.Common.{◌<◌, ℕ, [], get_or}
-use Rattle.crew_pass.proofs.crew_answers_lemmas.LongListed.{value_cmp}
+use Rattle.crew_answers.proofs.LongListed.{value_cmp}
 use Rattle.crew_label.specs.Pools.{AreRising}
 use Rattle.crew_fronts.proofs.passed_fronts.list.Given as goal
 

@@ -1,5 +1,5 @@
 use Rattle.std.proofs.Common.{◌≡◌, rules}
-use Rattle.crew_pass.specs.crew_answers.Shown.{long_resource}
+use Rattle.crew_answers.specs.Shown.{long_resource}
 use Rattle.crew_fronts.proofs.Passed.{in-range}
 use Rattle.crew_fronts.proofs.passed_fronts.resource_of.Goals as goal
 

@@ -1,6 +1,6 @@
 use Rattle.std.proofs.Common.{◌≡◌, ◌∙◌, ◌<◌, Some, ap, length, sym, subst}
 use Rattle.std.specs.Prelude.{slice_get}
-use Rattle.crew_pass.specs.crew_answers.Fronts.{RiseByVector}
+use Rattle.crew_answers.specs.Fronts.{RiseByVector}
 use Rattle.crew_pairing.specs.Duties.{RiseByKey}
 use Rattle.crew_solve.specs.crew_sweep.Sweeps.{BaseSweep}
 use Rattle.crew_fronts.specs.Fronts.{BaseFronts, front_at}

@@ -1,5 +1,5 @@
 use Rattle.std.proofs.Common.{◌∙◌, ap, sym, subst}
-use Rattle.crew_pass.specs.crew_answers.Schedules.{IsDated}
+use Rattle.crew_answers.specs.Schedules.{IsDated}
 use Rattle.crew_flights.specs.Timetable.{IsSound, Timetable}
 use Rattle.crew_pairing.specs.Duties.{AreDuties, RiseByKey}
 use Rattle.crew_solve.specs.crew_sweep.Sweeps as Sweeps

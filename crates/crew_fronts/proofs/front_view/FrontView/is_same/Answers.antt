@@ -1,5 +1,5 @@
 use Rattle.std.proofs.Common.{◌∙◌, ap, sym}
-use Rattle.crew_pass.specs.crew_answers.ShortPairings.{with_no_pasts}
+use Rattle.crew_answers.specs.ShortPairings.{with_no_pasts}
 use Rattle.crew_fronts.specs.Machinery.Kinds.{entries_of}
 use Rattle.crew_fronts.proofs.Sweeps.{same-sums}
 use Rattle.crew_fronts.proofs.front_view.FrontView.is_same.Goals as goal

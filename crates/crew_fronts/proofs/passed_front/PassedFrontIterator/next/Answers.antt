@@ -1,5 +1,5 @@
 use Rattle.std.proofs.Common.{List, inr, sym, subst}
-use Rattle.crew_pass.specs.crew_answers.declared.value.LongValue.{LongValue}
+use Rattle.crew_answers.specs.declared.value.LongValue.{LongValue}
 use Rattle.crew_label.specs.declared.label.Label.{Label}
 use Rattle.crew_resource.specs.Members.{Member}
 use Rattle.crew_fronts.proofs.passed_front.PassedFrontIterator.next.Goals as goal

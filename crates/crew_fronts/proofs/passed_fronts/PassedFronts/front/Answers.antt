@@ -1,8 +1,8 @@
 use Rattle.std.proofs.Common.{◌≡◌, ◌∙◌, ◌<◌, List, Some, [], ap, get_or, length, sym, subst}
 use Rattle.std.specs.Prelude.{slice_get}
-use Rattle.crew_pass.specs.crew_answers.Fronts.{RiseByVector}
-use Rattle.crew_pass.specs.crew_answers.Shown.{shown_entries}
-use Rattle.crew_pass.specs.crew_answers.declared.value.LongValue.{LongValue}
+use Rattle.crew_answers.specs.Fronts.{RiseByVector}
+use Rattle.crew_answers.specs.Shown.{shown_entries}
+use Rattle.crew_answers.specs.declared.value.LongValue.{LongValue}
 use Rattle.crew_label.specs.Tables.{Tabled}
 use Rattle.crew_label.specs.declared.label.Label.{Label}
 use Rattle.crew_net.specs.Nets.{Net}

@@ -1,5 +1,5 @@
 use Rattle.std.proofs.Common.{subst}
-use Rattle.crew_pass.specs.crew_answers.Schedules.{IsDated}
+use Rattle.crew_answers.specs.Schedules.{IsDated}
 use Rattle.crew_flights.specs.Timetable.{IsSound, Timetable}
 use Rattle.crew_pairing.specs.Duties.{AreDuties}
 use Rattle.crew_fronts.specs.Fronts.{BaseFronts, ShowsFronts}

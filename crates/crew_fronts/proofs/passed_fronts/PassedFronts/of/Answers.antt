@@ -1,7 +1,7 @@
 use Rattle.std.proofs.Common.{refl, rules, subst, sym, w64}
 use Rattle.std.proofs.lemmas.Int.{to_z-of_z}
-use Rattle.crew_pass.specs.crew_answers.Schedules.{IsDated}
-use Rattle.crew_pass.specs.crew_answers.Shown.{long_resource}
+use Rattle.crew_answers.specs.Schedules.{IsDated}
+use Rattle.crew_answers.specs.Shown.{long_resource}
 use Rattle.crew_flights.specs.Timetable.{IsSound, Timetable}
 use Rattle.crew_pairing.specs.Duties.{AreDuties}
 use Rattle.crew_pass.specs.Passes as Passes
