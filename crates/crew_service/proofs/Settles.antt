@@ -1,5 +1,5 @@
 -- What a settle does, step by step.
-use Rattle.std.proofs.Common.{◌≡◌, ◌<◌, ◌++◌, ◌∷◌, [], ◌∙◌, ℕ, List, Result, Ok, Err, OnErr, OnOk, inr, length, sym, ap, subst}
+use Rattle.std.proofs.Common.{◌≡◌, ◌<◌, ◌++◌, ◌∷◌, [], ◌∙◌, ℕ, List, Result, Ok, Err, OnErr, OnOk, length, sym, ap, subst}
 use mathlib.Core.List.{IsPrefix}
 use Rattle.boxcar.specs.Table.{Where}
 use Rattle.crew_flights.specs.declared.entries.Entry.{Entry}
@@ -23,10 +23,6 @@ pub on-err : {T E A B : Type 0} (r : Result T E) → OnErr r A → (A → B) →
 on-err (Ok t) a f = tt
 on-err (Err e) a f = f a
 
--- a planner with another version
-abbrev pub with_version : Planning → Snapshot → Planning
-with_version p v = record { log = p.log; version = v; receipts = p.receipts; published = p.published }
-
 module _ (old mid : Planning) (wanted : List (Where Entry)) (read : HasRead old mid) (passed : AreBelow (length mid.receipts) wanted) where
   -- all is read, and no version is made
   pub refused : (fault : SettleFault) → IsRoundFault mid.version (entries_of mid.receipts) fault → IsSettleFault old wanted mid fault
@@ -44,7 +40,7 @@ module _ (old mid : Planning) (wanted : List (Where Entry)) (read : HasRead old 
     after = subst (λ (w : Snapshot). IsNextOver w (entries_of mid.receipts) v) read.version next
 
     -- the version is made and published
-    pub settled : (new : Planning) → HasShown (with_version mid v) new → HasSettled old wanted new
+    pub settled : (new : Planning) → HasShown mid v new → HasSettled old wanted new
     settled new h = record {
       log = h.log ∙ read.log;
       read = subst (IsPrefix old.receipts) (sym h.receipts) read.read;
@@ -53,11 +49,11 @@ module _ (old mid : Planning) (wanted : List (Where Entry)) (read : HasRead old 
       shown = h.shown ∙ (ap (λ (list : List Snapshot). list ++ v ∷ []) read.shown ∙ ap (λ (w : Snapshot). old.published ++ w ∷ []) (sym h.version));
     }
 
-    -- the version is made, and not published
-    pub unpublished : (new : Planning) → new ≡ with_version mid v → HasPublishedNothing old new
-    unpublished new e = subst (HasPublishedNothing old) (sym e) (record {
-      log = read.log;
-      read = read.read;
-      version = inr after;
-      shown = read.shown;
-    })
+  -- all is read, and no version is published
+  pub unpublished : (new : Planning) → new ≡ mid → HasPublishedNothing old new
+  unpublished new e = subst (HasPublishedNothing old) (sym e) (record {
+    log = read.log;
+    read = read.read;
+    version = read.version;
+    shown = read.shown;
+  })

@@ -1,5 +1,5 @@
 -- What a planner keeps, and what a settle does.
-use Rattle.std.specs.Prelude.{◌≡◌, ◌<◌, ◌⊎◌, ℕ, suc, All, List, [], ◌∷◌, ◌++◌, length, map}
+use Rattle.std.specs.Prelude.{◌≡◌, ◌<◌, ℕ, suc, All, List, [], ◌∷◌, ◌++◌, length, map}
 use mathlib.Core.List.{IsPrefix}
 use Rattle.boxcar.specs.Table.{Where}
 use Rattle.crew_flights.specs.declared.entries.Entry.{Entry}
@@ -47,10 +47,9 @@ pub record HasSettled (old : Planning) (wanted : List (Where Entry)) (new : Plan
   pub covers : AreBelow (length new.version.entries) wanted
   pub shown : new.published ≡ old.published ++ new.version ∷ []
 
--- a settle that is refused: the version may be the next one, which isn't published
+-- a settle that is refused: the log may be read on, and all else is as it was
 pub record HasPublishedNothing (old : Planning) (new : Planning) : Type 0 where
   pub log : new.log ≡ old.log
   pub read : IsPrefix old.receipts new.receipts
-  pub version : (new.version ≡ old.version)
-      ⊎ IsNextOver old.version (entries_of new.receipts) new.version
+  pub version : new.version ≡ old.version
   pub shown : new.published ≡ old.published

@@ -4,7 +4,7 @@
 //! it has read, and makes the list of entries anew for each round: some 40 bytes an entry. What the
 //! log showed is read before the round is begun, so as the round is sealed no growth is left to be
 //! made but one further owner of its version.
-ghost use Rattle.std.specs.Prelude.{◌≡◌, ◌<◌, ◌↔◌, ◌++◌, ◌∷◌, [], IfErr, IfOk, IsTrue, OnErr, OnOk, Some, length, slice_get};
+ghost use Rattle.std.specs.Prelude.{◌≡◌, ◌<◌, ◌↔◌, ◌++◌, ◌∷◌, [], IfErr, IfOk, IsTrue, OnErr, OnOk, Some, false, length, slice_get};
 ghost use Rattle.std.specs.Arc.{arc_value};
 ghost use mathlib.Core.List.{IsPrefix};
 ghost use Rattle.crew_log.specs.Logs.{AreOf, HaveNone, IsOf};
@@ -118,10 +118,11 @@ impl<'a, R: Wait, G: Gate> Planner<'a, R, G> {
         &self.version
     }
 
-    /// A fresh viewer, which has seen all that was published. `NoViewer` where there is no place
+    /// A fresh viewer, which has seen all that was published, and isn't lost. `NoViewer` where there is no place
     /// for one more.
     pub fn viewer(&mut self) -> Result<Viewer, PairFault>
         ensures told { IfOk result (λ w. w.seen ≡ self.old.published) }
+        ensures found { IfOk result (λ w. w.lost ≡ false) }
         ensures fault { IfErr result (λ fault. fault ≡ NoViewer) }
         ensures same { self.new ≡ self.old }
     {
@@ -148,8 +149,8 @@ impl<'a, R: Wait, G: Gate> Planner<'a, R, G> {
     /// greater one: what a receipt shows counts as shown. Else
     /// `LastVersion` exactly where its version has the greatest number. Else `TooManyDuties`
     /// exactly where what it has read comes to more than 200,000 legal duties. Else `Memory`.
-    /// Nothing is published then. Once out of memory its version may be one that it hasn't
-    /// published: the next settle goes on from that.
+    /// Nothing is published then, and its version is as it was, with its number: the next settle goes
+    /// on from that.
     ///
     /// The work is done by the threads of `rt`, and by the workers; the planner waits by its own
     /// handle.
@@ -170,8 +171,7 @@ impl<'a, R: Wait, G: Gate> Planner<'a, R, G> {
     {
         self.read_up_to(alloc, shared, receipts)?;
         let version = self.make_next(rt, alloc, shared)?;
-        self.version = version;
-        self.publish()
+        self.publish(version)
     }
 
     // Reads the log on, past each place of these receipts where no place below it is missing.
@@ -242,19 +242,20 @@ impl<'a, R: Wait, G: Gate> Planner<'a, R, G> {
         next_over(rt, alloc, shared, &mut self.gate, &self.version, &entries)
     }
 
-    // Publishes its version.
-    fn publish(&mut self) -> Result<Note<&'a R>, SettleFault>
-        requires { IsNext self.old.published self.old.version }
-        ensures ok { OnOk result (HasShown self.old self.new) }
+    // Publishes the next version, which is its own from then on.
+    fn publish(&mut self, version: Arc<Version, Global>) -> Result<Note<&'a R>, SettleFault>
+        requires { IsNextOver self.old.version (entries_of self.old.receipts) (arc_value version) }
+        ensures ok { OnOk result (HasShown self.old (arc_value version) self.new) }
         ensures note { IfOk result (λ note. (note.number ≡ self.new.version.number)
             × (note.count ≡ length self.new.version.entries) × (note.list ≡ self.new.published)) }
         ensures fault { IfErr result (λ fault. fault ≡ Memory) }
         ensures err { OnErr result (self.new ≡ self.old) }
     {
-        let version = Arc::try_clone(&self.version)?;
-        let Ok(note) = add(&mut self.publisher, version) else {
+        let shared = Arc::try_clone(&version)?;
+        let Ok(note) = add(&mut self.publisher, shared) else {
             return Err(SettleFault::Memory);
         };
+        self.version = version;
         Ok(note)
     }
 }

@@ -31,9 +31,9 @@ pub record HasRead (old new : Planning) : Type 0 where
   pub shown : new.published ≡ old.published
   pub read : IsPrefix old.receipts new.receipts
 
--- the version is published
-pub record HasShown (old new : Planning) : Type 0 where
+-- a version is published, and the planner's own now
+pub record HasShown (old : Planning) (version : Snapshot) (new : Planning) : Type 0 where
   pub log : new.log ≡ old.log
-  pub version : new.version ≡ old.version
+  pub version : new.version ≡ version
   pub receipts : new.receipts ≡ old.receipts
-  pub shown : new.published ≡ old.published ++ old.version ∷ []
+  pub shown : new.published ≡ old.published ++ version ∷ []

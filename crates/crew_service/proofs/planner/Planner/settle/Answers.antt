@@ -2,8 +2,7 @@ use Rattle.std.proofs.Common.{◌≡◌, ◌∙◌, subst, sym}
 use Rattle.std.specs.Arc.{arc_value}
 use Rattle.crew_seal.proofs.crew_board_lemmas.Answered.{refused-as}
 use Rattle.crew_seal.specs.Next.{IsNextOver}
-use Rattle.crew_service.proofs.Plans.{with-next}
-use Rattle.crew_service.proofs.Settles.{on-err, on-ok, refused, settled, unpublished, with_version}
+use Rattle.crew_service.proofs.Settles.{on-err, on-ok, refused, settled, unpublished}
 use Rattle.crew_service.specs.Faults.{IsSettleFault}
 use Rattle.crew_service.specs.Machinery.Kept.{HasShown}
 use Rattle.crew_service.specs.Plans.{Planning, entries_of}
@@ -19,17 +18,10 @@ returns-in_err-version-clause-fault g c =
     let here = subst (λ (p : Planning). IsSettleFault old wanted p fault) (sym c.in_err-version.ensures.same) h in
     refused-as (IsSettleFault old wanted c.make_next.new.self) c.from_residual-in_err-version.result fault c.from_residual-in_err-version.ensures.1 here
 
-pub invariant_of-self : goal.invariant_of-self
-invariant_of-self g c =
-    let p : Planning = record {
-      log = c.self.inside.of.value;
-      version = c.self.inside.version.value;
-      receipts = c.self.inside.receipts.items;
-      published = c.self.inside.publisher.list;
-    } in
+pub publish-requires : goal.publish-requires
+publish-requires g c =
     let v = arc_value c.in_ok-version.version in
-    let is : p ≡ c.read_up_to.new.self = c.self.view_is ∙ c.in_ok-version.ensures.same in
-    with-next p v c.self.invariant (subst (λ (q : Planning). IsNextOver q.version (entries_of q.receipts) v) (sym is) c.in_ok-version.ensures.ok)
+    subst (λ (q : Planning). IsNextOver q.version (entries_of q.receipts) v) (sym c.in_ok-version.ensures.same) c.in_ok-version.ensures.ok
 
 pub returns-clause-ok : goal.returns-clause-ok
 returns-clause-ok g c =
@@ -37,16 +29,13 @@ returns-clause-ok g c =
     let mid = c.read_up_to.new.self in
     let new = c.publish.new.self in
     let v = arc_value c.in_ok-version.version in
-    let is = c.self.view_is ∙ c.in_ok-version.ensures.same in
     let all = settled old mid c.args.receipts.now c.read_up_to.ensures.read c.in_ok-read_up_to.ensures.ok v c.in_ok-version.ensures.ok new in
-    on-ok c.publish.result c.publish.ensures.ok (λ h. all (subst (λ (q : Planning). HasShown (with_version q v) new) is h))
+    on-ok c.publish.result c.publish.ensures.ok (λ h. all (subst (λ (q : Planning). HasShown q v new) c.in_ok-version.ensures.same h))
 
 pub returns-clause-err : goal.returns-clause-err
 returns-clause-err g c =
     let old = c.args.self.now in
     let mid = c.read_up_to.new.self in
     let new = c.publish.new.self in
-    let v = arc_value c.in_ok-version.version in
-    let is = c.self.view_is ∙ c.in_ok-version.ensures.same in
-    let all = unpublished old mid c.args.receipts.now c.read_up_to.ensures.read c.in_ok-read_up_to.ensures.ok v c.in_ok-version.ensures.ok new in
-    on-err c.publish.result c.publish.ensures.err (λ e. all (subst (λ (q : Planning). new ≡ with_version q v) is e))
+    let none = unpublished old mid c.args.receipts.now c.read_up_to.ensures.read c.in_ok-read_up_to.ensures.ok new in
+    on-err c.publish.result c.publish.ensures.err (λ e. none (e ∙ c.in_ok-version.ensures.same))
