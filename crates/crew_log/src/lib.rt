@@ -8,6 +8,8 @@
 
 mod fault;
 mod log;
+mod look;
+mod places;
 mod receipt;
 mod rights;
 mod seat;
