@@ -8,10 +8,11 @@ ghost use Rattle.crew_log.specs.declared.fault.LogFault.TheVariants.{TooManySeat
 
 use crate::fault::LogFault;
 use crate::look::{Unshown, look};
-use crate::places::{Drawn, Places};
+use crate::places::{Drawings, Drawn, Places, Taken};
 use crate::receipt::{Receipt, copy_at};
-use crate::rights::{InPlace, Right, Rights, Stamped, Turn, Turns};
+use crate::rights::{Rights, Turn, Turns};
 use crate::seat::Seat;
+use crate::stamped::{InPlace, Stamped, tag};
 use boxcar::table::Table;
 use crew_flights::{Edit, Entry};
 use std::alloc::{AllocError, Global};
@@ -50,7 +51,23 @@ impl Model for Log {
 
     ghost view = { λ l. record { row = l.row; seats = l.turns.given } };
 
-    ghost invariant = { λ l. (l.turns.given ≤ 64) × (l.row.tag ≡ names_of l.rights) };
+    ghost invariant = { λ l. (l.turns.given ≤ 64) × (l.row.tag ≡ names_of l.rights l.places) };
+}
+
+// The next place of a row, which has memory for its entry: it is drawn only where there is some. The
+// places that were drawn then are the first ones up to it, each once, and it is the last.
+fn draw<R: Wait>(rt: &R, row: &Table<Stamped, InPlace, Global>, places: &Places) -> Option<Drawn>
+    ensures { IfSome result (λ drawn. (drawn.history.book ≡ places.now)
+        × (drawn.history.log ≡ first_places (drawn.place + 1))) }
+{
+    for _ in rt.forever() {
+        let place = places.next();
+        row.reserve_at(place).ok()?;
+        if let Some(drawn) = places.draw(place) {
+            return Some(drawn);
+        }
+    }
+    unreachable!()
 }
 
 impl Log {
@@ -59,11 +76,12 @@ impl Log {
         ensures { IfOk result (λ log. log.seats ≡ 0) }
     {
         let (rights, turns) = Rights::new(alloc)?;
+        let places = Places::new();
         Ok(Log {
-            row: Table::new(alloc, rights.tag())?,
+            row: Table::new(alloc, tag(&rights, &places))?,
             rights,
             turns,
-            places: Places::new(),
+            places,
         })
     }
 
@@ -81,33 +99,19 @@ impl Log {
         }
     }
 
-    // The next place, which has memory for its entry: it is drawn only where there is some. The
-    // places that were drawn then are the first ones up to it, each once, and it is the last.
-    fn draw<R: Wait>(&self, rt: &R) -> Option<Drawn>
-        ensures { IfSome result (λ drawn. drawn.history.log ≡ first_places (drawn.place + 1)) }
-    {
-        for _ in rt.forever() {
-            let place = self.places.next();
-            self.row.reserve_at(place).ok()?;
-            if let Some(drawn) = self.places.draw(place) {
-                return Some(drawn);
-            }
-        }
-        unreachable!()
-    }
-
     // The next place, with the right to it for a turn's number.
-    fn take<R: Wait>(&self, rt: &R, turn: &mut Turn) -> Option<(usize, Right)>
+    fn take<R: Wait>(&self, rt: &R, turn: &mut Turn) -> Option<Taken>
         requires { turn.old.made < 1_000_000 }
-        ensures some { IfSome result (λ r. (turn.new ≡ with_entry turn.old)
-            × (names_of r.1.history.book ≡ self.now.row.tag)
-            × (place_of r.1.history.log turn.old.number turn.old.made ≡ Some r.0)) }
+        ensures turn { IfSome result (λ _. turn.new ≡ with_entry turn.old) }
+        ensures names { IfSome result (λ taken. names_of taken.right.history.book taken.drawn.book ≡ self.now.row.tag) }
+        ensures claimed { IfSome result (λ taken. place_of taken.right.history.log turn.old.number turn.old.made ≡ Some taken.place) }
+        ensures drawn { IfSome result (λ taken. taken.drawn.log ≡ first_places (taken.place + 1)) }
         ensures none { IfNone result (turn.new ≡ turn.old) }
     {
         if !self.rights.is_next(turn) {
             return None;
         }
-        self.draw(rt)?.claim(&self.rights, turn)
+        draw(rt, &self.row, &self.places)?.claim(&self.rights, turn)
     }
 
     // Enters an edit, as the next entry of the seat whose turn it is.
@@ -123,12 +127,33 @@ impl Log {
             number: turn.made(),
             edit,
         };
-        let Some((place, right)) = self.take(rt, turn) else {
+        let Some(
+            Taken {
+                place,
+                right,
+                drawn,
+            },
+        ) = self.take(rt, turn)
+        else {
             return Err(entry.edit);
         };
-        match self.row.set_placed(rt, place, Stamped { entry, right }) {
+        match self.row.set_placed(
+            rt,
+            place,
+            Stamped {
+                entry,
+                right,
+                drawn,
+            },
+        ) {
             Ok(at) => Ok(Receipt { at }),
-            Err(Stamped { entry, right }) => {
+            Err(
+                Stamped {
+                    entry,
+                    right,
+                    drawn: _,
+                },
+            ) => {
                 turn.give_back(right);
                 Err(entry.edit)
             }
@@ -225,5 +250,14 @@ impl Log {
     {
         let (one, other) = (self.row.value(&a.at), self.row.value(&b.at));
         one.right.meet(&other.right);
+    }
+
+    /// What a receipt shows of the draws: the places that were drawn up to its own are the first
+    /// ones, each once and with none left out, and its own is the last of them.
+    pub fn drawn_to(&self, receipt: &Receipt) -> Drawings
+        requires { IsOf self.now receipt.now }
+        ensures { result.log ≡ first_places (receipt.now.index + 1) }
+    {
+        self.row.value(&receipt.at).drawn.again()
     }
 }

@@ -3,7 +3,7 @@
 ghost use Rattle.std.specs.Prelude.{◌≡◌, IfOk, IfErr};
 ghost use Rattle.boxcar.specs.Table.{Shows};
 
-use crate::rights::{InPlace, Stamped};
+use crate::stamped::{InPlace, Stamped};
 use boxcar::table::{Placed, Table};
 use std::alloc::Global;
 use std::snapshot::Snapshot;

@@ -99,6 +99,14 @@ pub struct Drawn {
     history: Drawings,
 }
 
+/// A place that was drawn, with the right to it, and with what was drawn up to it.
+#[derive(Drop)]
+pub struct Taken {
+    pub place: usize,
+    pub right: Right,
+    pub drawn: Drawings,
+}
+
 impl Places {
     /// A counter of which no place is drawn.
     pub fn new() -> Places {
@@ -106,6 +114,13 @@ impl Places {
         let mut pen = pens.take();
         let next = Word::tracked(0, &mut pen);
         Places { history, next }
+    }
+
+    /// What is drawn by now, or more.
+    pub fn history(&self) -> Drawings
+        ensures { result.book ≡ self.now }
+    {
+        self.history.again()
     }
 
     /// The place that is next, until somebody draws it.
@@ -149,15 +164,21 @@ impl Places {
 impl Drawn {
     /// Claims the place for a turn's number, and the turn goes on to the next. None where it isn't
     /// at its seat's next number, as that of another log may be: then no entry takes the place.
-    pub fn claim(self, rights: &Rights, turn: &mut Turn) -> Option<(usize, Right)>
+    pub fn claim(self, rights: &Rights, turn: &mut Turn) -> Option<Taken>
         requires { turn.old.made < 1_000_000 }
-        ensures some { IfSome result (λ r. (r.0 ≡ self.place) × (turn.new ≡ with_entry turn.old)
-            × (r.1.history.book ≡ rights.now)
-            × (place_of r.1.history.log turn.old.number turn.old.made ≡ Some r.0)) }
+        ensures turn { IfSome result (λ _. turn.new ≡ with_entry turn.old) }
+        ensures claimed { IfSome result (λ taken. (taken.right.history.book ≡ rights.now)
+            × (place_of taken.right.history.log turn.old.number turn.old.made ≡ Some taken.place)) }
+        ensures drawn { IfSome result (λ taken. (taken.place ≡ self.place)
+            × (taken.drawn ≡ self.history)) }
         ensures none { IfNone result (turn.new ≡ turn.old) }
     {
-        let Drawn { place, history: _ } = self;
+        let Drawn { place, history } = self;
         let right = rights.take(turn, place)?;
-        Some((place, right))
+        Some(Taken {
+            place,
+            right,
+            drawn: history,
+        })
     }
 }
