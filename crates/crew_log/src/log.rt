@@ -103,8 +103,10 @@ impl Log {
     fn take<R: Wait>(&self, rt: &R, turn: &mut Turn) -> Option<Taken>
         requires { turn.old.made < 1_000_000 }
         ensures turn { IfSome result (λ _. turn.new ≡ with_entry turn.old) }
-        ensures names { IfSome result (λ taken. names_of taken.right.history.book taken.drawn.book ≡ self.now.row.tag) }
-        ensures claimed { IfSome result (λ taken. place_of taken.right.history.log turn.old.number turn.old.made ≡ Some taken.place) }
+        ensures names { IfSome result (λ taken. names_of taken.right.history.book taken.drawn.book
+            ≡ self.now.row.tag) }
+        ensures claimed { IfSome result (λ taken. place_of taken.right.history.log turn.old.number turn.old.made
+            ≡ Some taken.place) }
         ensures drawn { IfSome result (λ taken. taken.drawn.log ≡ first_places (taken.place + 1)) }
         ensures none { IfNone result (turn.new ≡ turn.old) }
     {
@@ -127,33 +129,22 @@ impl Log {
             number: turn.made(),
             edit,
         };
-        let Some(
-            Taken {
-                place,
-                right,
-                drawn,
-            },
-        ) = self.take(rt, turn)
-        else {
+        let Some(taken) = self.take(rt, turn) else {
             return Err(entry.edit);
         };
-        match self.row.set_placed(
-            rt,
+        let Taken {
             place,
-            Stamped {
-                entry,
-                right,
-                drawn,
-            },
-        ) {
+            right,
+            drawn,
+        } = taken;
+        let stamped = Stamped {
+            entry,
+            right,
+            drawn,
+        };
+        match self.row.set_placed(rt, place, stamped) {
             Ok(at) => Ok(Receipt { at }),
-            Err(
-                Stamped {
-                    entry,
-                    right,
-                    drawn: _,
-                },
-            ) => {
+            Err(Stamped { entry, right, .. }) => {
                 turn.give_back(right);
                 Err(entry.edit)
             }
@@ -165,7 +156,8 @@ impl Log {
     fn receipt_at(&self, place: usize, receipts: &[Receipt]) -> Result<Receipt, Unshown>
         requires { AreOf self.now receipts.now }
         ensures ok { IfOk result (λ receipt. IsOf self.now receipt × (receipt.index ≡ place)) }
-        ensures looked { IfErr result (λ unshown. (unshown.row.value ≡ self.now.row) × (unshown.place ≡ place)) }
+        ensures looked { IfErr result (λ unshown. (unshown.row.value ≡ self.now.row)
+            × (unshown.place ≡ place)) }
         ensures none { IfErr result (λ _. HaveNone receipts.now place) }
     {
         let unshown = match look(&self.row, place) {

@@ -24,7 +24,8 @@ pub(crate) fn look(
     place: usize,
 ) -> Result<Placed<Stamped, InPlace, Global>, Unshown>
     ensures ok { IfOk result (λ at. (at.index ≡ place) × Shows row.now at) }
-    ensures err { IfErr result (λ unshown. (unshown.row.value ≡ row.now) × (unshown.place ≡ place)) }
+    ensures err { IfErr result (λ unshown. (unshown.row.value ≡ row.now)
+        × (unshown.place ≡ place)) }
 {
     match row.witness(place) {
         Some(at) => Ok(at),
