@@ -2,19 +2,22 @@
 
 ghost use Rattle.std.specs.Prelude.{◌≡◌, ◌<◌, ◌+◌, ◌^◌, Some, IfOk, IfErr, IfSome, IfNone, OnOk, length};
 ghost use Rattle.crew_log.specs.Logs.{AreOf, HaveNone, IsOf, IsRun, new_seat, next_entry, with_entry, with_seat};
+ghost use Rattle.crew_log.specs.Machinery.Draws.{first_places};
 ghost use Rattle.crew_log.specs.Machinery.Rights.{names_of, place_of};
 ghost use Rattle.crew_log.specs.declared.fault.LogFault.TheVariants.{TooManySeats};
 
 use crate::fault::LogFault;
+use crate::look::{Unshown, look};
+use crate::places::{Drawings, Drawn, Places, Taken};
 use crate::receipt::{Receipt, copy_at};
-use crate::rights::{InPlace, Right, Rights, Stamped, Turn, Turns};
+use crate::rights::{Rights, Turn, Turns};
 use crate::seat::Seat;
+use crate::stamped::{InPlace, Stamped, tag};
 use boxcar::table::Table;
 use crew_flights::{Edit, Entry};
 use std::alloc::{AllocError, Global};
 use std::marker::Model;
 use std::sync::Wait;
-use std::sync::atomic::{AtomicUsize, Ordering};
 
 /// Entries by place, 0 and up. A place that shows its entry shows it for good, and a number of a
 /// seat has one place.
@@ -25,8 +28,7 @@ pub struct Log {
     pub(crate) row: Table<Stamped, InPlace, Global>,
     rights: Rights,
     turns: Turns,
-    // The place that is drawn next.
-    next: AtomicUsize,
+    places: Places,
 }
 
 impl Drop for Log {
@@ -35,7 +37,7 @@ impl Drop for Log {
             row: _,
             rights: _,
             turns: _,
-            next: _,
+            places: _,
         } = self;
     }
 }
@@ -49,7 +51,23 @@ impl Model for Log {
 
     ghost view = { λ l. record { row = l.row; seats = l.turns.given } };
 
-    ghost invariant = { λ l. (l.turns.given ≤ 64) × (l.row.tag ≡ names_of l.rights) };
+    ghost invariant = { λ l. (l.turns.given ≤ 64) × (l.row.tag ≡ names_of l.rights l.places) };
+}
+
+// The next place of a row, which has memory for its entry: it is drawn only where there is some. The
+// places that were drawn then are the first ones up to it, each once, and it is the last.
+fn draw<R: Wait>(rt: &R, row: &Table<Stamped, InPlace, Global>, places: &Places) -> Option<Drawn>
+    ensures { IfSome result (λ drawn. (drawn.history.book ≡ places.now)
+        × (drawn.history.log ≡ first_places (drawn.place + 1))) }
+{
+    for _ in rt.forever() {
+        let place = places.next();
+        row.reserve_at(place).ok()?;
+        if let Some(drawn) = places.draw(place) {
+            return Some(drawn);
+        }
+    }
+    unreachable!()
 }
 
 impl Log {
@@ -58,11 +76,12 @@ impl Log {
         ensures { IfOk result (λ log. log.seats ≡ 0) }
     {
         let (rights, turns) = Rights::new(alloc)?;
+        let places = Places::new();
         Ok(Log {
-            row: Table::new(alloc, rights.tag())?,
+            row: Table::new(alloc, tag(&rights, &places))?,
             rights,
             turns,
-            next: AtomicUsize::new(0),
+            places,
         })
     }
 
@@ -80,29 +99,21 @@ impl Log {
         }
     }
 
-    // A place that nobody else draws, with memory for it. It is taken only where there is some, but
-    // where others draw meanwhile, a place may be left without.
-    fn draw(&self) -> Result<usize, AllocError> {
-        self.row.reserve_at(self.next.load(Ordering::SeqCst))?;
-        let place = self.next.fetch_add(1, Ordering::SeqCst);
-        self.row.reserve_at(place)?;
-        Ok(place)
-    }
-
-    // A place that nobody else draws, with the right to it for a turn's number.
-    fn take(&self, turn: &mut Turn) -> Option<(usize, Right)>
+    // The next place, with the right to it for a turn's number.
+    fn take<R: Wait>(&self, rt: &R, turn: &mut Turn) -> Option<Taken>
         requires { turn.old.made < 1_000_000 }
-        ensures some { IfSome result (λ r. (turn.new ≡ with_entry turn.old)
-            × (names_of r.1.history.book ≡ self.now.row.tag)
-            × (place_of r.1.history.log turn.old.number turn.old.made ≡ Some r.0)) }
+        ensures turn { IfSome result (λ _. turn.new ≡ with_entry turn.old) }
+        ensures names { IfSome result (λ taken. names_of taken.right.history.book taken.drawn.book
+            ≡ self.now.row.tag) }
+        ensures claimed { IfSome result (λ taken. place_of taken.right.history.log turn.old.number turn.old.made
+            ≡ Some taken.place) }
+        ensures drawn { IfSome result (λ taken. taken.drawn.log ≡ first_places (taken.place + 1)) }
         ensures none { IfNone result (turn.new ≡ turn.old) }
     {
         if !self.rights.is_next(turn) {
             return None;
         }
-        let place = self.draw().ok()?;
-        let right = self.rights.take(turn, place)?;
-        Some((place, right))
+        draw(rt, &self.row, &self.places)?.claim(&self.rights, turn)
     }
 
     // Enters an edit, as the next entry of the seat whose turn it is.
@@ -118,28 +129,69 @@ impl Log {
             number: turn.made(),
             edit,
         };
-        let Some((place, right)) = self.take(turn) else {
+        let Some(taken) = self.take(rt, turn) else {
             return Err(entry.edit);
         };
-        match self.row.set_placed(rt, place, Stamped { entry, right }) {
+        let Taken {
+            place,
+            right,
+            drawn,
+        } = taken;
+        let stamped = Stamped {
+            entry,
+            right,
+            drawn,
+        };
+        match self.row.set_placed(rt, place, stamped) {
             Ok(at) => Ok(Receipt { at }),
-            Err(Stamped { entry, right }) => {
+            Err(Stamped { entry, right, .. }) => {
                 turn.give_back(right);
                 Err(entry.edit)
             }
         }
     }
 
-    // What shows the entry at a place: as the row shows it now, or else as one of these receipts.
-    fn receipt_at(&self, place: usize, receipts: &[Receipt]) -> Option<Receipt>
+    // What shows the entry at a place: as the row shows it now, or else as one of these receipts;
+    // or that the row was looked at there and showed nothing, and none of these is of the place.
+    fn receipt_at(&self, place: usize, receipts: &[Receipt]) -> Result<Receipt, Unshown>
         requires { AreOf self.now receipts.now }
-        ensures some { IfSome result (λ receipt. IsOf self.now receipt × (receipt.index ≡ place)) }
-        ensures none { IfNone result (HaveNone receipts.now place) }
+        ensures ok { IfOk result (λ receipt. IsOf self.now receipt × (receipt.index ≡ place)) }
+        ensures looked { IfErr result (λ unshown. (unshown.row.value ≡ self.now.row)
+            × (unshown.place ≡ place)) }
+        ensures none { IfErr result (λ _. HaveNone receipts.now place) }
     {
-        match self.row.witness(place) {
-            Some(at) => Some(Receipt { at }),
-            None => copy_at(place, receipts),
+        let unshown = match look(&self.row, place) {
+            Ok(at) => return Ok(Receipt { at }),
+            Err(unshown) => unshown,
+        };
+        match copy_at(place, receipts) {
+            Some(receipt) => Ok(receipt),
+            None => Err(unshown),
         }
+    }
+
+    // The reading of `read_past`, with the look at the place where it ends, which showed nothing.
+    fn read_until(
+        &self,
+        alloc: Global,
+        from: usize,
+        shown: &[Receipt],
+    ) -> Result<(Vec<Receipt>, Unshown), AllocError>
+        requires { AreOf self.now shown.now }
+        ensures of { IfOk result (λ r. AreOf self.now r.0.items) }
+        ensures places { IfOk result (λ r. IsRun from r.0.items) }
+        ensures end { IfOk result (λ r. HaveNone shown.now (from + length r.0.items)) }
+        ensures looked { IfOk result (λ r. (r.1.row.value ≡ self.now.row)
+            × (r.1.place ≡ from + length r.0.items)) }
+    {
+        let mut receipts = Vec::new(alloc);
+        for place in from..=usize::MAX {
+            match self.receipt_at(place, shown) {
+                Ok(receipt) => receipts.push(receipt)?,
+                Err(unshown) => return Ok((receipts, unshown)),
+            }
+        }
+        Err(AllocError)
     }
 
     /// Receipts of the entries from a place on, up to the first place that isn't shown yet.
@@ -166,14 +218,8 @@ impl Log {
         ensures places { IfOk result (λ receipts. IsRun from receipts.items) }
         ensures end { IfOk result (λ receipts. HaveNone shown.now (from + length receipts.items)) }
     {
-        let mut receipts = Vec::new(alloc);
-        for place in from..=usize::MAX {
-            let Some(receipt) = self.receipt_at(place, shown) else {
-                return Ok(receipts);
-            };
-            receipts.push(receipt)?;
-        }
-        Err(AllocError)
+        let (receipts, _) = self.read_until(alloc, from, shown)?;
+        Ok(receipts)
     }
 
     /// Receipts of one place have one entry.
@@ -196,5 +242,14 @@ impl Log {
     {
         let (one, other) = (self.row.value(&a.at), self.row.value(&b.at));
         one.right.meet(&other.right);
+    }
+
+    /// What a receipt shows of the draws: the places that were drawn up to its own are the first
+    /// ones, each once and with none left out, and its own is the last of them.
+    pub fn drawn_to(&self, receipt: &Receipt) -> Drawings
+        requires { IsOf self.now receipt.now }
+        ensures { result.log ≡ first_places (receipt.now.index + 1) }
+    {
+        self.row.value(&receipt.at).drawn.again()
     }
 }

@@ -4,7 +4,7 @@ ghost use Rattle.std.specs.Prelude.{◌≡◌, IfSome, IfNone};
 ghost use Rattle.crew_log.specs.Logs.{AreOf, HaveNone, IsOf};
 
 use crate::log::Log;
-use crate::rights::{InPlace, Stamped};
+use crate::stamped::{InPlace, Stamped};
 use boxcar::table::Placed;
 use crew_flights::Entry;
 use std::alloc::Global;

@@ -13,11 +13,8 @@
 ghost use Rattle.std.specs.Prelude.{◌≡◌, ◌<◌, ◌≤◌, ◌+◌, ◌-◌, Some, IfOk, IfSome, IfNone};
 ghost use mathlib.Core.List.{IsPrefix};
 ghost use Rattle.crew_log.specs.Logs.{unused_seat, with_entry};
-ghost use Rattle.crew_log.specs.Machinery.Rights.{counter_of, names_of, place_of};
+ghost use Rattle.crew_log.specs.Machinery.Rights.{counter_of, place_of};
 
-use boxcar::Keeps;
-use boxcar::tag::{Names, Tag};
-use crew_flights::Entry;
 use logbook::{Gain, Offer, Opening, Pens, Plain, Play, Rule, Seen, Start, Word};
 use std::alloc::{AllocError, Global};
 use std::marker::Model;
@@ -99,31 +96,6 @@ type Counter = Word<Claim, u64, Once>;
 #[derive(Drop)]
 pub struct Right {
     history: History,
-}
-
-/// What stands at a place: an entry, with the right to the place.
-#[derive(Drop)]
-pub struct Stamped {
-    pub entry: Entry,
-    pub right: Right,
-}
-
-/// The rule of a row of places.
-pub struct InPlace;
-
-impl Keeps<Stamped> for InPlace {
-    ghost use Rattle.crew_log.specs.Machinery.Rights.{IsInPlace};
-
-    ghost holds = { λ tag place s. IsInPlace tag place s.right.history.book s.right.history.log s.entry };
-}
-
-/// How a row is named after its history.
-struct ByBook;
-
-impl Names<History> for ByBook {
-    ghost use Rattle.crew_log.specs.Machinery.Rights.{names_of};
-
-    ghost numbers = { λ history. names_of history.book };
 }
 
 /// A seat's turn to enter its next number: who holds it is the seat. Nobody makes one but `Turns`.
@@ -255,11 +227,11 @@ impl Rights {
         Ok((Rights { history, counters }, Turns { given: 0 }))
     }
 
-    /// The name that a row gets of the history.
-    pub fn tag(&self) -> Tag
-        ensures { result.numbers ≡ names_of self.now }
+    /// What is claimed by now, or more.
+    pub fn history(&self) -> History
+        ensures { result.book ≡ self.now }
     {
-        Tag::of::<History, ByBook>(&self.history)
+        self.history.again()
     }
 
     // How many numbers of a seat are claimed.

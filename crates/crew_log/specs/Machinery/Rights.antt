@@ -1,8 +1,9 @@
 -- The history of what was claimed, and the rule over it and the counters of the seats.
-use Rattle.std.specs.Prelude.{◌≡◌, ◌==◌, ◌<◌, ℕ, List, [], ◌∷◌, length, slice_index_or, Option, Some, None, cond, ◌&&◌, true, MatchBool}
+use Rattle.std.specs.Prelude.{◌≡◌, ◌==◌, ◌<◌, ◌+◌, ℕ, List, [], ◌∷◌, length, slice_index_or, Option, Some, None, cond, ◌&&◌, true, MatchBool}
 use Rattle.logbook.specs.Pages.{Book, Cell, cell, Named, Step, View}
 use Rattle.crew_flights.specs.declared.entries.Entry.{Entry}
 use Rattle.crew_log.specs.declared.rights.Claim.{Claim}
+use Rattle.crew_log.specs.Machinery.Draws.{first_places}
 
 -- the place that was claimed first for a number of a seat
 abbrev pub place_of : List Claim → ℕ → ℕ → Option ℕ
@@ -36,11 +37,16 @@ AreCounters book count counters =
     (length counters ≡ count)
     × ((seat : ℕ) (d : Named) → seat < count → slice_index_or counters seat d ≡ counter_of book seat)
 
--- what tells a history from others
-abbrev pub names_of : Book → List ℕ
-names_of book = book.number ∷ book.log_name ∷ book.cells_name ∷ []
+-- what tells a log's two histories from others: that of what was claimed, and that of what was drawn
+abbrev pub names_of : Book → Book → List ℕ
+names_of claims draws =
+    claims.number ∷ claims.log_name ∷ claims.cells_name
+    ∷ draws.number ∷ draws.log_name ∷ draws.cells_name ∷ []
 
--- an entry stands at the place of its number, by the history of this name
-abbrev pub IsInPlace : List ℕ → ℕ → Book → List Claim → Entry → Type 0
-IsInPlace tag place book log entry =
-    (names_of book ≡ tag) × (place_of log entry.seat entry.number ≡ Some place)
+-- by the histories of these names, an entry stands at the place of its number, and that place was
+-- drawn right after those below it
+abbrev pub IsInPlace : List ℕ → ℕ → Book → List Claim → Book → List ℕ → Entry → Type 0
+IsInPlace tag place claims claimed draws drawn entry =
+    (names_of claims draws ≡ tag)
+    × (place_of claimed entry.seat entry.number ≡ Some place)
+    × (drawn ≡ first_places (place + 1))
