@@ -3,7 +3,7 @@ use Rattle.std.proofs.Common.{◌≡◌, ◌∙◌, ◌<◌, ◌≤◌, ℕ, ◌
 use Rattle.std.proofs.lemmas.Bool.{cases_lt}
 use Rattle.std.proofs.lemmas.List.{get_or_append_left, get_or_default, get_or_push, length_push}
 use Rattle.boxcar.specs.Slot.{Named}
-use Rattle.crew_cells.specs.Machinery.Seats.{AreOf}
+use Rattle.crew_cells.specs.Machinery.Addresses.{AreOf}
 
 -- a step of the loop that takes the token of the next slot
 pub tokens-more : {W : Type 0} (name_of : W → ℕ) (before all : List W) (slots : List Named) (token : W) (slot : Named) (count : ℕ) → all ≡ before ++ token ∷ []

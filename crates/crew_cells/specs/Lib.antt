@@ -1,3 +1,3 @@
 pub mod Rules
-pub mod Tables
+pub mod Shapes
 pub mod Machinery

@@ -1,3 +1,3 @@
 -- What code needs, and no definition rests on.
 pub mod Places
-pub mod Seats
+pub mod Addresses

@@ -4,8 +4,8 @@
 //! The token of a table is made once, by a slot that is let go of at once, and outlives it.
 ghost use Rattle.std.specs.Prelude.{◌≡◌, ◌<◌, ◌∷◌, [], IfOk, IfSome, slice_index};
 
-use crate::held::Held;
 use crate::rule::CellRule;
+use crate::value::CellValue;
 use boxcar::slot::{OnceSlot, SlotRule, Written};
 use boxcar::tag::{Names, Tag};
 use std::alloc::{AllocError, Global};
@@ -17,59 +17,59 @@ type Token<B> = Written<Snapshot<B>>;
 
 // A value, and the token of the basis that it is right for.
 #[derive(Drop)]
-struct Entry<B, T> {
+struct Stamped<B, T> {
     value: T,
     of: Token<B>,
 }
 
-// A slot's tag is the name of a basis and the number of a cell.
-struct Right<R> {
+// The rule of a slot, whose tag is the name of a basis and the number of a cell.
+struct ByRule<R> {
     rule: PhantomData<R>,
 }
 
-impl<B, T, R: CellRule<B, T>> SlotRule<Entry<B, T>> for Right<R> {
-    ghost holds = { λ tag entry. (slice_index tag 0 ≡ entry.of.of)
-        × R.holds entry.of.value.value (slice_index tag 1) entry.value };
+impl<B, T, R: CellRule<B, T>> SlotRule<Stamped<B, T>> for ByRule<R> {
+    ghost holds = { λ tag stamped. (slice_index tag 0 ≡ stamped.of.of)
+        × R.holds stamped.of.value.value (slice_index tag 1) stamped.value };
 }
 
 // A slot that gives a token may hold anything.
-struct Any;
+struct Anything;
 
-impl<B> SlotRule<Snapshot<B>> for Any {
+impl<B> SlotRule<Snapshot<B>> for Anything {
     ghost use Rattle.std.specs.Prelude.{⊤};
 
     ghost holds = { λ _ _. ⊤ };
 }
 
-// A cell of a table, which its slot is named by.
+// Where a cell is: in a table over this basis, at this number.
 #[derive(Drop)]
-struct Seat<B> {
+struct Address<B> {
     of: Token<B>,
     number: usize,
 }
 
-struct Seating;
+struct ByAddress;
 
-impl<B> Names<Seat<B>> for Seating {
-    ghost numbers = { λ seat. seat.of.of ∷ seat.number ∷ [] };
+impl<B> Names<Address<B>> for ByAddress {
+    ghost numbers = { λ address. address.of.of ∷ address.number ∷ [] };
 }
 
 // The tag of a cell.
 fn tag<B>(of: &Token<B>, number: usize) -> Tag
     ensures { result.numbers ≡ of.now.of ∷ number ∷ [] }
 {
-    let seat = Seat {
+    let address = Address {
         of: of.again(),
         number,
     };
-    Tag::of::<Seat<B>, Seating>(&seat)
+    Tag::of::<Address<B>, ByAddress>(&address)
 }
 
 // A token of a basis. The slot is new, so it takes what it is given; but no clause of it says so.
 fn token<B>(basis: &B) -> Result<Token<B>, AllocError>
     ensures { IfOk result (λ of. of.value.value ≡ basis.now) }
 {
-    let slot: OnceSlot<Snapshot<B>, Any> = OnceSlot::new(&Tag::empty());
+    let slot: OnceSlot<Snapshot<B>, Anything> = OnceSlot::new(&Tag::empty());
     slot.set_written(Snapshot::of(basis))
         .map_err(|_| AllocError)
 }
@@ -78,30 +78,33 @@ fn token<B>(basis: &B) -> Result<Token<B>, AllocError>
 ///
 /// A contract sees the basis and how many cells there are.
 #[derive(Drop)]
-pub struct Cells<B, T, R: CellRule<B, T>> {
+pub struct OnceCells<B, T, R: CellRule<B, T>> {
     of: Token<B>,
-    slots: Vec<OnceSlot<Entry<B, T>, Right<R>>>,
+    slots: Vec<OnceSlot<Stamped<B, T>, ByRule<R>>>,
 }
 
-impl<B, T, R: CellRule<B, T>> Model for Cells<B, T, R> {
+impl<B, T, R: CellRule<B, T>> Model for OnceCells<B, T, R> {
     ghost use Rattle.std.specs.Prelude.{length};
-    ghost use Rattle.crew_cells.specs.Tables.{Table, table_code};
-    ghost use Rattle.crew_cells.specs.Machinery.Seats.{IsSeated};
+    ghost use Rattle.crew_cells.specs.Shapes.{CellsOver, cells_code};
+    ghost use Rattle.crew_cells.specs.Machinery.Addresses.{AreAddressed};
 
-    ghost Value = { Table B };
+    ghost Value = { CellsOver B };
 
-    ghost coded = { table_code B.code };
+    ghost coded = { cells_code B.code };
 
-    ghost view = { λ cells. record { basis = cells.of.value.value; count = length cells.slots.items } };
+    ghost view = { λ cells. record {
+      basis = cells.of.value.value;
+      count = length cells.slots.items;
+    } };
 
-    ghost invariant = { λ cells. IsSeated cells.of.of cells.slots.items };
+    ghost invariant = { λ cells. AreAddressed cells.of.of cells.slots.items };
 }
 
-impl<B, T: Drop, R: CellRule<B, T>> Cells<B, T, R> {
+impl<B, T: Drop, R: CellRule<B, T>> OnceCells<B, T, R> {
     /// So many cells over a basis, all of them empty.
     ///
     /// `Err` means that memory ran out, and nothing is kept then.
-    pub fn new(alloc: Global, basis: &B, count: usize) -> Result<Cells<B, T, R>, AllocError>
+    pub fn new(alloc: Global, basis: &B, count: usize) -> Result<OnceCells<B, T, R>, AllocError>
         ensures basis { IfOk result (λ cells. cells.basis ≡ basis.now) }
         ensures count { IfOk result (λ cells. cells.count ≡ count) }
     {
@@ -110,11 +113,11 @@ impl<B, T: Drop, R: CellRule<B, T>> Cells<B, T, R> {
         for number in 0..count {
             slots.push(OnceSlot::new(&tag(&of, number)))?;
         }
-        Ok(Cells { of, slots })
+        Ok(OnceCells { of, slots })
     }
 }
 
-impl<B, T, R: CellRule<B, T>> Cells<B, T, R> {
+impl<B, T, R: CellRule<B, T>> OnceCells<B, T, R> {
     /// How many cells there are.
     pub fn count(&self) -> usize
         ensures { result ≡ self.now.count }
@@ -127,71 +130,74 @@ impl<B, T, R: CellRule<B, T>> Cells<B, T, R> {
         requires { number < self.now.count }
         ensures { IfSome result (λ value. R.holds self.now.basis number value.now) }
     {
-        let entry = self.slots[number].get()?;
-        entry.of.agrees(&self.of);
-        Some(&entry.value)
+        let stamped = self.slots[number].get()?;
+        stamped.of.agrees(&self.of);
+        Some(&stamped.value)
     }
 }
 
-impl<B, T: Drop, R: CellRule<B, T>> Cells<B, T, R> {
+impl<B, T: Drop, R: CellRule<B, T>> OnceCells<B, T, R> {
     /// Puts a value into a cell, unless another is there, and tells what is to be used from then on.
     /// Where another thread was quicker, that is its value; where it is just writing, the caller's
     /// own.
-    pub fn offer(&self, number: usize, value: T) -> Held<'_, T>
+    pub fn offer(&self, number: usize, value: T) -> CellValue<'_, T>
         requires inside { number < self.now.count }
         requires right { R.holds self.now.basis number value }
         ensures { R.holds self.now.basis number result }
     {
-        let entry = Entry {
+        let stamped = Stamped {
             value,
             of: self.of.again(),
         };
-        match self.slots[number].set(entry) {
-            Ok(entry) => Held::there(&entry.value),
-            Err(Entry { value, of: _ }) => self.other_or_own(number, value),
+        match self.slots[number].set(stamped) {
+            Ok(stamped) => CellValue::there(&stamped.value),
+            Err(Stamped { value, of: _ }) => self.other_or_own(number, value),
         }
     }
 
     // What another thread has put into a cell, or the caller's own value while it is just writing.
-    fn other_or_own(&self, number: usize, value: T) -> Held<'_, T>
+    fn other_or_own(&self, number: usize, value: T) -> CellValue<'_, T>
         requires inside { number < self.now.count }
         requires right { R.holds self.now.basis number value }
         ensures { R.holds self.now.basis number result }
     {
         if let Some(other) = self.get(number) {
-            return Held::there(other);
+            return CellValue::there(other);
         }
-        Held::own(value)
+        CellValue::own(value)
     }
 }
 
 /// A table of which each cell is written, so that each read gives a value.
 ///
-/// A contract sees of it what it sees of the `Cells` that it was.
+/// A contract sees of it what it sees of the `OnceCells` that it was.
 #[derive(Drop)]
-pub struct Full<B, T, R: CellRule<B, T>> {
+pub struct FullCells<B, T, R: CellRule<B, T>> {
     of: Token<B>,
-    slots: Vec<OnceSlot<Entry<B, T>, Right<R>>>,
-    written: Vec<Written<Entry<B, T>>>,
+    slots: Vec<OnceSlot<Stamped<B, T>, ByRule<R>>>,
+    written: Vec<Written<Stamped<B, T>>>,
 }
 
-impl<B, T, R: CellRule<B, T>> Model for Full<B, T, R> {
+impl<B, T, R: CellRule<B, T>> Model for FullCells<B, T, R> {
     ghost use Rattle.std.specs.Prelude.{◌≡◌, length};
-    ghost use Rattle.crew_cells.specs.Tables.{Table, table_code};
-    ghost use Rattle.crew_cells.specs.Machinery.Seats.{IsSeated, AreOf};
+    ghost use Rattle.crew_cells.specs.Shapes.{CellsOver, cells_code};
+    ghost use Rattle.crew_cells.specs.Machinery.Addresses.{AreAddressed, AreOf};
 
-    ghost Value = { Table B };
+    ghost Value = { CellsOver B };
 
-    ghost coded = { table_code B.code };
+    ghost coded = { cells_code B.code };
 
-    ghost view = { λ full. record { basis = full.of.value.value; count = length full.slots.items } };
+    ghost view = { λ full. record {
+      basis = full.of.value.value;
+      count = length full.slots.items;
+    } };
 
-    ghost invariant = { λ full. IsSeated full.of.of full.slots.items
+    ghost invariant = { λ full. AreAddressed full.of.of full.slots.items
         × (length full.written.items ≡ length full.slots.items)
         × AreOf full.written.items full.slots.items (λ token. token.of) };
 }
 
-impl<B, T, R: CellRule<B, T>> Full<B, T, R> {
+impl<B, T, R: CellRule<B, T>> FullCells<B, T, R> {
     /// How many cells there are.
     pub fn count(&self) -> usize
         ensures { result ≡ self.now.count }
@@ -204,18 +210,18 @@ impl<B, T, R: CellRule<B, T>> Full<B, T, R> {
         requires { number < self.now.count }
         ensures { R.holds self.now.basis number result.now }
     {
-        let entry = self.slots[number].value(&self.written[number]);
-        entry.of.agrees(&self.of);
-        &entry.value
+        let stamped = self.slots[number].value(&self.written[number]);
+        stamped.of.agrees(&self.of);
+        &stamped.value
     }
 }
 
-impl<B, T: Drop, R: CellRule<B, T>> Cells<B, T, R> {
+impl<B, T: Drop, R: CellRule<B, T>> OnceCells<B, T, R> {
     /// The table once all of its cells are written: `None` where one is empty, and then it is let go
     /// of.
     ///
     /// `Err` means that memory ran out, and nothing is kept then.
-    pub fn full(self, alloc: Global) -> Result<Option<Full<B, T, R>>, AllocError>
+    pub fn full(self, alloc: Global) -> Result<Option<FullCells<B, T, R>>, AllocError>
         ensures { IfOk result (λ found. IfSome found (λ full. full ≡ self)) }
     {
         let count = self.slots.len();
@@ -226,7 +232,7 @@ impl<B, T: Drop, R: CellRule<B, T>> Cells<B, T, R> {
             };
             written.push(token)?;
         }
-        let Cells { of, slots } = self;
-        Ok(Some(Full { of, slots, written }))
+        let OnceCells { of, slots } = self;
+        Ok(Some(FullCells { of, slots, written }))
     }
 }

@@ -2,7 +2,7 @@
 ghost use Rattle.std.specs.Prelude.{◌≡◌, ℕ};
 ghost use Rattle.crew_cells.specs.Rules.{IsFunctional};
 
-use crate::cells::Cells;
+use crate::cells::OnceCells;
 use crate::rule::CellRule;
 
 /// Why any thread's value may be taken: of a rule that allows one value a cell, two values that hold
@@ -17,6 +17,6 @@ pub fn one_value_a_cell<B, T, R: CellRule<B, T>>()
 fn shared<X: Sync>(_: &X) {}
 
 /// Threads may share a table, where they may send and share its values.
-pub fn tables_may_be_shared<B, T: Send + Sync, R: CellRule<B, T>>(cells: &Cells<B, T, R>) {
+pub fn tables_may_be_shared<B, T: Send + Sync, R: CellRule<B, T>>(cells: &OnceCells<B, T, R>) {
     shared(cells);
 }

@@ -1,6 +1,6 @@
 -- A value, wherever it lies.
-use Rattle.crew_cells.specs.declared.held.Place.{Place}
-use Rattle.crew_cells.specs.declared.held.Place.TheVariants.{There, Own}
+use Rattle.crew_cells.specs.declared.value.Place.{Place}
+use Rattle.crew_cells.specs.declared.value.Place.TheVariants.{There, Own}
 
 abbrev pub value_of : {T : Type 0} → Place T → T
 value_of (There value) = value.now

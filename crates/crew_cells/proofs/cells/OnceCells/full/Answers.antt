@@ -1,6 +1,6 @@
 use Rattle.std.proofs.Common.{arith, ◌<◌, length}
 use Rattle.crew_cells.proofs.Tokens.{tokens-more}
-use Rattle.crew_cells.proofs.cells.Cells.full.Goals as goal
+use Rattle.crew_cells.proofs.cells.OnceCells.full.Goals as goal
 
 pub loop-number-preserved : goal.loop-number-preserved
 loop-number-preserved g c =

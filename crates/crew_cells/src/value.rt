@@ -15,35 +15,35 @@ pub(crate) enum Place<'a, T> {
 ///
 /// A contract sees the value.
 #[derive(Drop)]
-pub struct Held<'a, T> {
+pub struct CellValue<'a, T> {
     place: Place<'a, T>,
 }
 
-impl<'a, T> Model for Held<'a, T> {
+impl<'a, T> Model for CellValue<'a, T> {
     ghost use Rattle.crew_cells.specs.Machinery.Places.{value_of};
 
     ghost Value = { T };
 
     ghost coded = { T.code };
 
-    ghost view = { λ held. value_of held.place };
+    ghost view = { λ value. value_of value.place };
 }
 
-impl<'a, T> Held<'a, T> {
+impl<'a, T> CellValue<'a, T> {
     /// One that lies in its cell.
-    pub fn there(value: &'a T) -> Held<'a, T>
+    pub fn there(value: &'a T) -> CellValue<'a, T>
         ensures { result ≡ value.now }
     {
-        Held {
+        CellValue {
             place: Place::There(value),
         }
     }
 
     /// One that lies with the caller.
-    pub fn own(value: T) -> Held<'a, T>
+    pub fn own(value: T) -> CellValue<'a, T>
         ensures { result ≡ value }
     {
-        Held {
+        CellValue {
             place: Place::Own(value),
         }
     }

@@ -3,8 +3,8 @@ use Rattle.std.specs.Prelude.{◌≡◌, ℕ, ◌<◌, List, [], ◌∷◌, leng
 use Rattle.boxcar.specs.Slot.{Named}
 
 -- the tag of slot j is the name of the basis and j
-abbrev pub IsSeated : ℕ → List Named → Type 0
-IsSeated name slots = (j : ℕ) (d : Named) → j < length slots → (slice_index_or slots j d).tag ≡ name ∷ j ∷ []
+abbrev pub AreAddressed : ℕ → List Named → Type 0
+AreAddressed name slots = (j : ℕ) (d : Named) → j < length slots → (slice_index_or slots j d).tag ≡ name ∷ j ∷ []
 
 -- each token is of the slot at its place
 abbrev pub AreOf : {W : Type 0} → List W → List Named → (W → ℕ) → Type 0
