@@ -1,0 +1,3 @@
+-- What code needs, and no definition rests on.
+pub mod Places
+pub mod Addresses
