@@ -8,11 +8,7 @@ mod fault;
 mod program;
 mod streams;
 
-pub use crew_workers::crew_session::{NotedReader, NotedWriter};
-// Crates below this one, which those above cite through it.
-pub use crew_workers::{
-    crew_core, crew_dirty, crew_publish, crew_service, crew_session, crew_solve, crew_version,
-};
+pub use crew_session::{NotedReader, NotedWriter};
 pub use fault::Fault;
 pub use program::command;
 pub use streams::{Outlet, OutletWriter, SendingReader};

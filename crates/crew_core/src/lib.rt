@@ -10,8 +10,6 @@ mod reply;
 mod step;
 mod trace;
 
-// Crates below this one, which those above cite through it.
-pub use crew_board::{crew_fronts, crew_version};
 pub use machine::Machine;
 pub use reply::Reply;
 pub use step::Step;

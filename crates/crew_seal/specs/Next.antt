@@ -1,7 +1,7 @@
 -- The version after another.
 use Rattle.std.specs.Prelude.{◌≡◌, ◌+◌, List}
 use Rattle.crew_flights.specs.declared.entries.Entry.{Entry}
-use Rattle.crew_board.specs.crew_version.Versions.{IsRight, Snapshot}
+use Rattle.crew_version.specs.Versions.{IsRight, Snapshot}
 
 -- the next version, over these entries
 pub record IsNextOver (before : Snapshot) (entries : List Entry) (after : Snapshot) : Type 0 where

@@ -6,7 +6,4 @@
 
 mod round;
 
-// Crates below this one, which those above cite through it.
-pub use crew_board;
-pub use crew_board::{crew_dirty, crew_job, crew_round};
 pub use round::seal_round;

@@ -4,11 +4,11 @@ ghost use Rattle.std.specs.Arc.{arc_value};
 ghost use Rattle.crew_seal.specs.Machinery.Rounds.{IsOwn, IsSealedOf};
 ghost use Rattle.crew_seal.specs.Next.{IsNextOver};
 
-use crew_board::crew_job::Ground;
-use crew_board::crew_version::{Version, is_same_entry};
 use crew_board::{Board, SealFault};
 use crew_flights::Entry;
+use crew_job::Ground;
 use crew_rules::Settings;
+use crew_version::{Version, is_same_entry};
 use std::alloc::{AllocError, Global};
 use std::sync::Arc;
 

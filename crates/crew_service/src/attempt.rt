@@ -10,7 +10,7 @@ use crate::gate::Gate;
 use crate::jobs::perform;
 use crate::shared::Shared;
 use crew_flights::Entry;
-use crew_publish::crew_version::Version;
+use crew_version::Version;
 use std::alloc::{AllocError, Global};
 use std::sync::{Arc, Wait};
 use std::thread::Threads;

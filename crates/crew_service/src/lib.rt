@@ -19,10 +19,6 @@ mod service;
 mod shared;
 mod worker;
 
-// Crates below this one, which those above cite through it.
-pub use crew_publish;
-pub use crew_publish::{crew_solve, crew_version};
-pub use crew_seal::{crew_dirty, crew_round};
 pub use fault::{ServiceFault, SettleFault};
 pub use gate::{Gate, Open};
 pub use planner::Planner;

@@ -19,7 +19,7 @@ use Rattle.crew_session.specs.declared.engine_fault.EngineFault.TheVariants.{Too
 use Rattle.crew_session.specs.declared.fault.SessionFault.{SessionFault}
 use Rattle.crew_session.specs.declared.fault.SessionFault.TheVariants as stop
 use Rattle.crew_session.proofs.LeadFacts.{HasLed}
-use Rattle.crew_core.specs.crew_version.Versions.{Snapshot, timetable_of}
+use Rattle.crew_version.specs.Versions.{Snapshot, timetable_of}
 
 -- what is odd where a session stands
 odd-there : (strange : Bool) (a : State) (found was : Found) (number : ℕ) → IsTrue strange → found ≡ was → IsOddAt a was number → MeetsOdd strange (λ at. at ≡ a) found number

@@ -19,20 +19,20 @@ use Rattle.crew_pairing.specs.declared.duty.Duty.{Duty}
 use Rattle.crew_pairing.proofs.InOrder.{all-duties}
 use Rattle.crew_pairing.proofs.Timetables.{flights-of-timetable}
 use Rattle.crew_duty.proofs.Unique.{unique}
-use Rattle.crew_machine.specs.crew_answers.Bests.{IsBest}
-use Rattle.crew_machine.specs.crew_answers.Fronts.{IsFrontAt}
-use Rattle.crew_machine.specs.crew_answers.LongVectors.{LongVector}
-use Rattle.crew_machine.proofs.crew_answers_lemmas.OneBest.{one-best}
-use Rattle.crew_machine.proofs.crew_answers_lemmas.Unique.{same-listed}
-use Rattle.crew_core.proofs.crew_plan_lemmas.OneList.{one-list}
-use Rattle.crew_core.proofs.crew_plan_lemmas.Sharing.{one-apart}
+use Rattle.crew_answers.specs.Bests.{IsBest}
+use Rattle.crew_answers.specs.Fronts.{IsFrontAt}
+use Rattle.crew_answers.specs.LongVectors.{LongVector}
+use Rattle.crew_answers.proofs.OneBest.{one-best}
+use Rattle.crew_answers.proofs.Unique.{same-listed}
+use Rattle.crew_plan.proofs.OneList.{one-list}
+use Rattle.crew_plan.proofs.Sharing.{one-apart}
 use Rattle.crew_audit.specs.Partials.{ArePartials, Rise, partial_cmp}
 use Rattle.crew_audit.specs.Tallies.{IsLeast, IsTally}
 use Rattle.crew_audit.specs.declared.partial.Partial.{Partial}
 use Rattle.crew_audit.specs.declared.tally.Tally.{Tally}
-use Rattle.crew_core.specs.crew_version.Fronts.{IsFrontByKey}
-use Rattle.crew_core.specs.crew_version.Versions.{IsNext, IsRight, Snapshot, timetable_of, verdicts_of}
-use Rattle.crew_core.proofs.crew_version_lemmas.SolutionFacts.{timetable-sound}
+use Rattle.crew_version.specs.Fronts.{IsFrontByKey}
+use Rattle.crew_version.specs.Versions.{IsNext, IsRight, Snapshot, timetable_of, verdicts_of}
+use Rattle.crew_version.proofs.SolutionFacts.{timetable-sound}
 use Rattle.crew_records.specs.Commands.{command_of}
 use Rattle.crew_records.specs.Fields.{Fields}
 use Rattle.crew_records.specs.declared.command.Command.{Command}

@@ -16,7 +16,7 @@ use Rattle.crew_rules.specs.declared.settings.Settings.{Settings}
 use Rattle.crew_session.specs.Machinery.Told.{answer_line, claim_line, told_lines}
 use Rattle.crew_session.specs.ReplyLines.{abandoned_line, brought_text, freed_text, node_text, numbered, place_lines, reply_lines}
 use Rattle.crew_session.specs.Verdicts.{place_text}
-use Rattle.crew_core.specs.crew_version.Versions.{Snapshot, verdicts_of}
+use Rattle.crew_version.specs.Versions.{Snapshot, verdicts_of}
 use Rattle.std.specs.Prelude.{codes}
 
 -- ---- the refusals among entries

@@ -15,7 +15,7 @@ use Rattle.crew_session.specs.Machinery.Journals.{Came, IsInStep, IsRefusal, sin
 use Rattle.crew_session.specs.Lines.{refused_line, refused_lines, version_line}
 use Rattle.crew_session.specs.Session.{Does, Obeys, Publishes, Settles, State, add_zone, entry_count, refuse, start, submit, submit_at, with_entry, zone_or_refuse}
 use Rattle.crew_session.specs.Zones.{zone_fault}
-use Rattle.crew_core.specs.crew_version.Versions.{IsRight, Snapshot, opening, timetable_of, verdicts_of}
+use Rattle.crew_version.specs.Versions.{IsRight, Snapshot, opening, timetable_of, verdicts_of}
 use Rattle.crew_pairing.specs.Duties.{HasTooMany}
 use Rattle.crew_session.specs.declared.journal.Journal.{Journal}
 use Rattle.crew_session.specs.Audits.{Audits}

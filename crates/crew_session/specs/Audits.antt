@@ -5,7 +5,7 @@ use Rattle.crew_audit.specs.Tallies.{IsTally}
 use Rattle.crew_audit.specs.declared.partial.Partial.{Partial}
 use Rattle.crew_audit.specs.declared.tally.Tally.{Tally}
 use Rattle.crew_session.specs.Lines.{audit_line, refused_line}
-use Rattle.crew_core.specs.crew_version.Versions.{Snapshot, timetable_of}
+use Rattle.crew_version.specs.Versions.{Snapshot, timetable_of}
 
 -- the counts of the partial pairings of its data, where there are no more than a limit
 pub record Counts (limit : ℕ) (v : Snapshot) (text : List ℕ) : Type 0 where

@@ -2,8 +2,8 @@
 use Rattle.std.specs.Prelude.{◌≡◌, ◌⊎◌, ◌<◌, ◌++◌, ℕ, Bool, IsTrue, List, length, Option, Some, None, Result, Ok, Err}
 use Rattle.crew_flights.specs.declared.entries.Entry.{Entry}
 use Rattle.crew_pairing.specs.Duties.{HasTooMany}
-use Rattle.crew_core.specs.crew_version.Versions.{Snapshot, timetable_of}
-use Rattle.crew_core.specs.crew_version.declared.fault.VersionFault.{VersionFault}
+use Rattle.crew_version.specs.Versions.{Snapshot, timetable_of}
+use Rattle.crew_version.specs.declared.fault.VersionFault.{VersionFault}
 use Rattle.crew_session.specs.Oddities.{Found, IsWhole}
 use Rattle.crew_session.specs.declared.engine_fault.EngineFault.{EngineFault}
 use Rattle.crew_session.specs.declared.engine_fault.EngineFault.TheVariants.{TooManyDuties, LastVersion, SeatFull, Gap, OtherLog, NoView, Memory}

@@ -1,10 +1,10 @@
 -- What a record of a front writes.
 use Rattle.std.specs.Prelude.{◌≡◌, ℕ, List, Option}
-use Rattle.crew_machine.specs.crew_answers.LongVectors.{LongVector}
+use Rattle.crew_answers.specs.LongVectors.{LongVector}
 use Rattle.crew_pairing.specs.Legs.{Leg}
 use Rattle.crew_session.specs.Lines.{front_lines}
-use Rattle.crew_core.specs.crew_version.Fronts.{IsFrontByKey}
-use Rattle.crew_core.specs.crew_version.Versions.{Snapshot, timetable_of}
+use Rattle.crew_version.specs.Fronts.{IsFrontByKey}
+use Rattle.crew_version.specs.Versions.{Snapshot, timetable_of}
 
 -- the lines of that front in a version
 pub record ShowsFront (base : List ℕ) (key : List Leg) (v : Snapshot) (text : List ℕ) : Type 0 where

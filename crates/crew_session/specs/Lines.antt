@@ -8,10 +8,10 @@ use Rattle.crew_flights.specs.declared.edit.Verdict.{Verdict}
 use Rattle.crew_flights.specs.declared.edit.Verdict.TheVariants.{Accepted, Refused}
 use Rattle.crew_pairing.specs.Legs.{Leg}
 use Rattle.crew_pairing.specs.declared.vector.PairingVector.{PairingVector}
-use Rattle.crew_machine.specs.crew_answers.LongVectors.{LongVector, is_long}
+use Rattle.crew_answers.specs.LongVectors.{LongVector, is_long}
 use Rattle.crew_audit.specs.declared.tally.Tally.{Tally}
 use Rattle.crew_rules.specs.declared.settings.Settings.{Settings}
-use Rattle.crew_core.specs.crew_version.Versions.{Snapshot, timetable_of}
+use Rattle.crew_version.specs.Versions.{Snapshot, timetable_of}
 use Rattle.crew_vector.specs.declared.priced.PricedPairing.{PricedPairing}
 
 -- texts with a byte between each two

@@ -11,7 +11,7 @@ use Rattle.crew_session.specs.Session.{ObeysRow, State, start}
 use Rattle.crew_session.specs.Writes.{LeadsBy}
 use Rattle.crew_session.specs.declared.engine_fault.EngineFault.{EngineFault}
 use Rattle.crew_session.specs.declared.engine_fault.EngineFault.TheVariants.{TooManyDuties, LastVersion, SeatFull, Gap, OtherLog, NoView, Memory}
-use Rattle.crew_core.specs.crew_version.Versions.{Snapshot, timetable_of}
+use Rattle.crew_version.specs.Versions.{Snapshot, timetable_of}
 
 -- what a settle of an engine finds: a version, or why there is none
 abbrev pub Found : Type 0

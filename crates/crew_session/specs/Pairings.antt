@@ -1,9 +1,9 @@
 -- What a record of pairings writes.
 use Rattle.std.specs.Prelude.{◌≡◌, ℕ, List}
 use Rattle.crew_session.specs.Lines.{pairings_lines}
-use Rattle.crew_core.specs.crew_version.Versions.{Snapshot, timetable_of}
-use Rattle.crew_core.specs.crew_plan.Apart.{AreApart}
-use Rattle.crew_core.specs.crew_plan.Cheapest.{AreCheapest}
+use Rattle.crew_version.specs.Versions.{Snapshot, timetable_of}
+use Rattle.crew_plan.specs.Apart.{AreApart}
+use Rattle.crew_plan.specs.Cheapest.{AreCheapest}
 use Rattle.crew_vector.specs.declared.priced.PricedPairing.{PricedPairing}
 
 -- the lines of the cheapest pairings of a version, up to a limit

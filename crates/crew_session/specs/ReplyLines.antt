@@ -9,7 +9,7 @@ use Rattle.crew_machine.specs.declared.rounds.Brought.{Brought}
 use Rattle.crew_machine.specs.declared.rounds.Brought.TheVariants.{Stale, Again, Stored}
 use Rattle.crew_pairing.specs.Legs.{Leg}
 use Rattle.crew_session.specs.Lines.{best_line, key_text}
-use Rattle.crew_core.specs.crew_version.Versions.{verdicts_of}
+use Rattle.crew_version.specs.Versions.{verdicts_of}
 
 -- a line with a number between two texts
 abbrev pub numbered : List ℕ → ℕ → List ℕ → List ℕ

@@ -18,7 +18,7 @@ use Rattle.crew_session.specs.Rows.{records_of}
 use Rattle.crew_session.specs.Entries.{entry_of}
 use Rattle.crew_session.specs.Writes.{BeginsBy, WritesBy}
 use Rattle.crew_session.specs.Zones.{Zones, clock_at, flight_with, zone_fault}
-use Rattle.crew_core.specs.crew_version.Versions.{IsNext, IsRight, Snapshot, opening, timetable_of, verdicts_of}
+use Rattle.crew_version.specs.Versions.{IsNext, IsRight, Snapshot, opening, timetable_of, verdicts_of}
 use Rattle.crew_records.specs.declared.command.Command.{Command}
 use Rattle.crew_records.specs.declared.command.Command.TheVariants.{AddZone, Submit, AddFlight, Retime, Settle, Best, ShowFront, Cheapest, Apart, Audit, Refuse}
 use Rattle.crew_records.specs.declared.fault.RecordFault.{RecordFault}

@@ -9,7 +9,7 @@ ghost use Rattle.crew_session.specs.Texts.{BeginsOne};
 use crate::fault::SessionFault;
 use crate::lines::{write_audit, write_refused};
 use crew_audit::tally_all;
-use crew_core::crew_version::Version;
+use crew_version::Version;
 use std::alloc::Global;
 use std::io::Write;
 

@@ -6,11 +6,11 @@ ghost use Rattle.crew_flights.specs.declared.entries.Entry.{Entry};
 ghost use Rattle.crew_session.specs.Engines.{BeginsWith, IsFound, IsSettleFault, IsSubmitFault};
 ghost use Rattle.crew_session.specs.Entries.{entry_of};
 ghost use Rattle.crew_session.specs.Oddities.{Found, IsWhole};
-ghost use Rattle.crew_core.specs.crew_version.Versions.{IsRight, Snapshot};
+ghost use Rattle.crew_version.specs.Versions.{IsRight, Snapshot};
 
 use crate::engine_fault::EngineFault;
-use crew_core::crew_version::Version;
 use crew_flights::Edit;
+use crew_version::Version;
 use std::thread::Threads;
 
 /// What takes edits and keeps a version, on a runtime that starts threads.

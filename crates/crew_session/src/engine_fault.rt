@@ -3,7 +3,7 @@
 ghost use Rattle.std.specs.Prelude.{◌≡◌};
 ghost use Rattle.crew_session.specs.Engines.{engine_number};
 
-use crew_core::crew_version::VersionFault;
+use crew_version::VersionFault;
 use std::alloc::AllocError;
 use thiserror::Error;
 

@@ -10,11 +10,11 @@ ghost use Rattle.crew_session.specs.Texts.{AppendsBeginning, BeginsOne};
 
 use crate::fault::SessionFault;
 use crate::lines::{put_key, put_number, put_signed, write_line};
-use crew_core::crew_fronts::{FrontView, Vector, WalkView};
-use crew_core::crew_version::Version;
 use crew_flights::Code;
+use crew_fronts::{FrontView, Vector, WalkView};
 use crew_pairing::{Key, PairingVector};
 use crew_rules::Settings;
+use crew_version::Version;
 use std::alloc::{AllocError, Global};
 use std::io::Write;
 

@@ -37,8 +37,6 @@ mod session;
 mod text;
 mod zones;
 
-// A crate below this one, which those above cite through it.
-pub use crew_core;
 pub use engine::Engine;
 pub use engine_fault::EngineFault;
 pub use fault::SessionFault;

@@ -10,15 +10,15 @@ ghost use Rattle.crew_session.specs.Faults.{IsLineFault};
 ghost use Rattle.crew_session.specs.Lines as Spec;
 ghost use Rattle.crew_session.specs.Texts.{AppendsBeginning};
 ghost use Rattle.crew_session.specs.Verdicts.{verdict_text};
-ghost use Rattle.crew_core.specs.crew_version.Versions.{verdicts_of};
+ghost use Rattle.crew_version.specs.Versions.{verdicts_of};
 
 use crate::fault::SessionFault;
 use crate::text::write_text;
 use crew_audit::Tally;
-use crew_core::crew_version::Version;
 use crew_flights::Verdict;
 use crew_pairing::{Key, Leg, Walk};
 use crew_vector::PricedPairing;
+use crew_version::Version;
 use std::alloc::{AllocError, Global};
 use std::io::Write;
 

@@ -10,8 +10,8 @@ ghost use Rattle.crew_session.specs.Pairings.{ShowsApart, ShowsCheapest};
 
 use crate::fault::SessionFault;
 use crate::lines::{pairing_line, put_number, write_line};
-use crew_core::crew_version::Version;
 use crew_vector::PricedPairing;
+use crew_version::Version;
 use std::alloc::{AllocError, Global};
 use std::io::Write;
 

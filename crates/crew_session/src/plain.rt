@@ -2,14 +2,14 @@
 
 ghost use Rattle.std.specs.Prelude.{◌≡◌, ◌+◌, ◌≤◌, [], false, length, vec_len};
 ghost use Rattle.crew_rules.specs.Settings.{IsChecked};
-ghost use Rattle.crew_core.specs.crew_version.Versions.{opening};
+ghost use Rattle.crew_version.specs.Versions.{opening};
 
 use crate::engine::Engine;
 use crate::engine_fault::EngineFault;
 use crate::entry::make_entry;
-use crew_core::crew_version::Version;
 use crew_flights::{Edit, Entry};
 use crew_rules::Settings;
+use crew_version::Version;
 use std::alloc::Global;
 use std::mem::replace;
 use std::thread::Threads;

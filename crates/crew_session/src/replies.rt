@@ -8,15 +8,15 @@ ghost use Rattle.crew_session.specs.Machinery.Told.{answer_line, claim_line, tol
 ghost use Rattle.crew_session.specs.ReplyLines as Spec;
 ghost use Rattle.crew_session.specs.Texts.{AppendsBeginning};
 ghost use Rattle.crew_session.specs.Verdicts.{place_text};
-ghost use Rattle.crew_core.specs.crew_version.Versions.{verdicts_of};
+ghost use Rattle.crew_version.specs.Versions.{verdicts_of};
 
 use crate::fault::SessionFault;
 use crate::lines::{pairing_line, put_key, put_number, write_line};
 use crew_core::Reply;
-use crew_core::crew_version::Version;
 use crew_flights::Verdict;
 use crew_machine::Brought;
 use crew_net::Node;
+use crew_version::Version;
 use std::alloc::{AllocError, Global};
 use std::io::Write;
 

@@ -2,12 +2,12 @@
 use Rattle.std.proofs.Common.{◌≡◌, ◌≤◌, ◌<◌, ◌+◌, ◌∙◌, ◌++◌, ℕ, List, [], ◌∷◌, length, ap, arith, refl, subst, sym}
 use Rattle.std.specs.Prelude.{slice_get}
 use mathlib.Core.List.{IsPrefix}
-use Rattle.crew_service.specs.crew_publish.Chain.{Ends, Follows, last_or}
+use Rattle.crew_publish.specs.Chain.{Ends, Follows, last_or}
 use Rattle.crew_resource.specs.Chains.{ChainFrom, IsChain}
-use Rattle.crew_service.specs.crew_publish.Views.{IsViewOf, Watching}
-use Rattle.crew_service.proofs.crew_version_lemmas.Places.{prefix-from}
+use Rattle.crew_publish.specs.Views.{IsViewOf, Watching}
+use Rattle.crew_version.proofs.Places.{prefix-from}
 use Rattle.crew_workers.specs.Machinery.Threads.{IsNewView}
-use Rattle.crew_service.specs.crew_version.Versions.{Snapshot}
+use Rattle.crew_version.specs.Versions.{Snapshot}
 
 -- numbers don't fall in a chain
 rising : (v : Snapshot) (ws : List Snapshot) → ChainFrom Follows v ws → v.number ≤ (last_or v ws).number

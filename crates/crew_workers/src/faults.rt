@@ -2,8 +2,8 @@
 ghost use Rattle.std.specs.Prelude.{◌≡◌};
 ghost use Rattle.crew_workers.specs.Machinery.Threads.{settled_fault_of, view_fault_of};
 
+use crew_publish::ViewFault;
 use crew_service::SettleFault;
-use crew_service::crew_publish::ViewFault;
 use crew_session::EngineFault;
 
 /// Why a planner doesn't settle, as an engine says it.

@@ -14,10 +14,5 @@ mod report;
 mod sessions;
 mod threaded;
 
-// Crates below this one, which those above cite through it.
-pub use crew_service;
-pub use crew_service::{crew_dirty, crew_publish, crew_solve, crew_version};
-pub use crew_session;
-pub use crew_session::crew_core;
 pub use sessions::{Crew, run_with_workers};
 pub use threaded::Threaded;

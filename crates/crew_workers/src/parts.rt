@@ -3,10 +3,10 @@ ghost use Rattle.std.specs.Prelude.{◌≡◌, ◌∷◌, [], All, length};
 ghost use Rattle.crew_log.specs.Logs.{unused_seat};
 ghost use Rattle.crew_rules.specs.declared.settings.Settings.{Settings as SettingsOf};
 ghost use Rattle.crew_service.specs.Plans.{AreSeatsFrom};
-ghost use Rattle.crew_service.specs.crew_version.Versions.{opening};
+ghost use Rattle.crew_version.specs.Versions.{opening};
 
 use crew_log::Seat;
-use crew_service::crew_publish::Viewer;
+use crew_publish::Viewer;
 
 /// The one seat.
 pub(crate) fn only_seat(mut seats: Vec<Seat>) -> Seat

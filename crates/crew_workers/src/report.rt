@@ -1,7 +1,7 @@
 //! Lines that tell how far the work of a service is.
 
+use crew_round::Progress;
 use crew_service::Shared;
-use crew_service::crew_round::Progress;
 use std::io::Eprint;
 use std::sync::Wait;
 use std::thread;

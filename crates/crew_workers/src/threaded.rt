@@ -3,21 +3,21 @@
 ghost use Rattle.std.specs.Prelude.{◌≡◌, ◌⊎◌, ◌↔◌, ◌+◌, ◌∷◌, [], Err, IfErr, IfOk, IsTrue, Ok, OnErr, OnOk, Some, slice_get};
 ghost use mathlib.Core.List.{IsPrefix};
 ghost use Rattle.crew_log.specs.Logs.{AreOf, unused_seat};
-ghost use Rattle.crew_service.specs.crew_publish.Views.{IsViewOf};
+ghost use Rattle.crew_publish.specs.Views.{IsViewOf};
 ghost use Rattle.crew_service.specs.Plans.{entries_of};
 ghost use Rattle.crew_workers.specs.Machinery.Threads.{IsNewView, IsThreadedFault};
 ghost use Rattle.crew_session.specs.Oddities.{IsWhole};
 ghost use Rattle.crew_session.specs.declared.engine_fault.EngineFault.TheVariants.{NoView, Memory, OtherLog};
-ghost use Rattle.crew_service.specs.crew_version.Versions.{IsRight};
+ghost use Rattle.crew_version.specs.Versions.{IsRight};
 
 use crate::faults::{of_settle, of_view};
 use crew_flights::{Edit, Entry};
 use crew_log::{Log, Receipt, Seat};
+use crew_publish::{View, Viewer};
 use crew_rules::Settings;
-use crew_service::crew_publish::{View, Viewer};
-use crew_service::crew_version::{Version, is_same_entry};
 use crew_service::{Gate, Planner, Shared};
 use crew_session::{Engine, EngineFault};
+use crew_version::{Version, is_same_entry};
 use std::alloc::Global;
 use std::marker::Model;
 use std::sync::Wait;

@@ -9,8 +9,8 @@ mod flights;
 mod office;
 mod queries;
 
+use crew_publish::Viewer;
 use crew_rules::Settings;
-use crew_service::crew_publish::Viewer;
 use crew_service::{Open, Service, Shared, Worker};
 use office::Office;
 use queries::watch;

@@ -1,6 +1,6 @@
 //! A query thread: it looks at what is published, and waits for nobody.
 
-use crew_service::crew_publish::Viewer;
+use crew_publish::Viewer;
 use std::thread;
 use std::time::{Clock, Duration};
 

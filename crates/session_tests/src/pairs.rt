@@ -2,8 +2,8 @@
 
 use crate::versions::fill;
 use crate::words::{Answer, count_at, read};
-use crew_command::crew_publish::{Note, PairFault, Publisher, View, Viewer, pair};
-use crew_command::crew_version::Version;
+use crew_publish::{Note, PairFault, Publisher, View, Viewer, pair};
+use crew_version::Version;
 use std::alloc::Global;
 use std::io::{self, Print};
 use std::sync::{Arc, Wait};

@@ -1,9 +1,9 @@
 //! What a view shows.
 
 use crate::words::{Answer, code_of, key_of};
-use crew_command::crew_publish::{View, Viewer};
-use crew_command::crew_version::Version;
 use crew_flights::Verdict;
+use crew_publish::{View, Viewer};
+use crew_version::Version;
 
 /// The number of the version that a viewer sees.
 pub fn see(viewer: &mut Viewer) -> Answer {

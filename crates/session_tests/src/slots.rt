@@ -6,7 +6,7 @@
 //! that begins with `;` says what follows is about. `crate::calls` tells the other lines.
 
 ghost use Rattle.std.specs.Prelude.{◌≡◌, IfSome};
-ghost use Rattle.crew_command.specs.crew_dirty.Dirty.{IsNetOver};
+ghost use Rattle.crew_dirty.specs.Dirty.{IsNetOver};
 ghost use Rattle.crew_rules.specs.Settings.{standard};
 
 use crate::calls;

@@ -2,15 +2,13 @@
 
 ghost use Rattle.std.specs.Prelude.{◌≡◌, [], Err, Some, true};
 ghost use Rattle.crew_rules.specs.Settings.{IsChecked};
-ghost use Rattle.crew_command.specs.crew_session.Machinery.Plains.{taken_by};
-ghost use Rattle.crew_command.specs.crew_version.Versions.{opening};
+ghost use Rattle.crew_session.specs.Machinery.Plains.{taken_by};
+ghost use Rattle.crew_version.specs.Versions.{opening};
 
-use crew_command::crew_session::{
-    Engine, EngineFault, NotedReader, NotedWriter, Plain, SessionFault, run,
-};
-use crew_command::crew_version::Version;
 use crew_flights::Edit;
 use crew_rules::Settings;
+use crew_session::{Engine, EngineFault, NotedReader, NotedWriter, Plain, SessionFault, run};
+use crew_version::Version;
 use std::alloc::Global;
 use std::io::{self, Print};
 use std::thread::Threads;
@@ -52,7 +50,7 @@ impl Strange {
 }
 
 impl Engine for Strange {
-    ghost use Rattle.crew_command.specs.crew_session.Machinery.Plains.{shown_by, taken_by};
+    ghost use Rattle.crew_session.specs.Machinery.Plains.{shown_by, taken_by};
     ghost use Rattle.session_tests.specs.Tricks.{found_by};
 
     ghost entries = { λ e. taken_by e.plain };
@@ -104,7 +102,7 @@ struct Forgetful {
 }
 
 impl Engine for Forgetful {
-    ghost use Rattle.crew_command.specs.crew_session.Machinery.Plains.{shown_by, taken_by};
+    ghost use Rattle.crew_session.specs.Machinery.Plains.{shown_by, taken_by};
     ghost use Rattle.session_tests.specs.Tricks.{found_by};
 
     ghost entries = { λ e. taken_by e.plain };

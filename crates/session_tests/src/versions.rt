@@ -1,8 +1,8 @@
 //! Versions to publish.
 
-use crew_command::crew_version::Version;
 use crew_flights::{Code, Edit, Entry};
 use crew_rules::Settings;
+use crew_version::Version;
 use std::alloc::Global;
 use std::sync::Arc;
 use std::thread::Threads;

@@ -2,7 +2,7 @@
 use Rattle.std.specs.Prelude.{◌≡◌, ◌+◌, List, Some}
 use Rattle.crew_board.specs.Boards.{ShownBoard, ShownRound}
 use Rattle.crew_flights.specs.declared.entries.Entry.{Entry}
-use Rattle.crew_board.specs.crew_version.Versions.{IsRight, Snapshot}
+use Rattle.crew_version.specs.Versions.{IsRight, Snapshot}
 
 -- the open round is one over these entries, after a version with this one's number and settings
 pub record IsOwn (board : ShownBoard) (version : Snapshot) (entries : List Entry) : Type 0 where

@@ -11,7 +11,7 @@ use Rattle.crew_session.specs.declared.engine_fault.EngineFault.{EngineFault}
 use Rattle.crew_session.specs.Machinery.Endings.{HasEndedBy}
 use Rattle.crew_session.specs.Session.{ObeysRow, State}
 use Rattle.crew_session.specs.Zones.{Zones as ZoneMap}
-use Rattle.crew_core.specs.crew_version.Versions.{Snapshot}
+use Rattle.crew_version.specs.Versions.{Snapshot}
 use Rattle.crew_session.specs.declared.zones.Zones.{Zones}
 use Rattle.crew_session.specs.declared.journal.Journal.{Journal}
 use Rattle.crew_session.specs.declared.ending.Ending.{Ending}

@@ -1,7 +1,7 @@
 -- What the engine without workers holds.
 use Rattle.std.specs.Prelude.{◌++◌, List}
 use Rattle.crew_flights.specs.declared.entries.Entry.{Entry}
-use Rattle.crew_core.specs.crew_version.Versions.{Snapshot}
+use Rattle.crew_version.specs.Versions.{Snapshot}
 use Rattle.crew_session.specs.declared.plain.Plain.{Plain}
 
 -- its version

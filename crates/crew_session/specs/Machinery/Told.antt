@@ -6,7 +6,7 @@ use Rattle.crew_core.specs.declared.reply.Reply.TheVariants.{Pushed, Begun, Busy
 use Rattle.crew_net.specs.declared.node.Node.{Node}
 use Rattle.crew_session.specs.Lines.{best_line}
 use Rattle.crew_session.specs.ReplyLines.{abandoned_line, brought_text, freed_text, node_text, numbered, place_lines}
-use Rattle.crew_core.specs.crew_version.Versions.{Snapshot, verdicts_of}
+use Rattle.crew_version.specs.Versions.{Snapshot, verdicts_of}
 
 -- the line of a job that is handed out
 abbrev pub claim_line : ℕ → Node → List ℕ

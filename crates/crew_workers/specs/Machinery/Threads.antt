@@ -3,10 +3,10 @@ use Rattle.std.specs.Prelude.{◌≡◌, ◌≤◌, ◌∷◌, [], ℕ, List, Ok
 use Rattle.boxcar.specs.Table.{Where}
 use Rattle.crew_flights.specs.declared.entries.Entry.{Entry}
 use Rattle.crew_log.specs.Logs.{AreOf, Log, Seat}
-use Rattle.crew_service.specs.crew_publish.Views.{Watching}
+use Rattle.crew_publish.specs.Views.{Watching}
 use Rattle.crew_service.specs.Plans.{Planning}
-use Rattle.crew_service.specs.crew_publish.declared.fault.ViewFault.{ViewFault}
-use Rattle.crew_service.specs.crew_publish.declared.fault.ViewFault.TheVariants as Sight
+use Rattle.crew_publish.specs.declared.fault.ViewFault.{ViewFault}
+use Rattle.crew_publish.specs.declared.fault.ViewFault.TheVariants as Sight
 use Rattle.crew_service.specs.declared.fault.SettleFault.{SettleFault}
 use Rattle.crew_service.specs.declared.fault.SettleFault.TheVariants as Settle
 use Rattle.crew_session.specs.Oddities.{Found}
@@ -14,7 +14,7 @@ use Rattle.crew_session.specs.declared.engine_fault.EngineFault.{EngineFault}
 use Rattle.crew_session.specs.declared.engine_fault.EngineFault.TheVariants.{TooManyDuties, LastVersion, SeatFull, Gap, OtherLog, NoView, Memory}
 use Rattle.crew_workers.specs.declared.threaded.Last.{Last}
 use Rattle.crew_workers.specs.declared.threaded.Last.TheVariants.{Shown, Refused, Other}
-use Rattle.crew_service.specs.crew_version.Versions.{Snapshot}
+use Rattle.crew_version.specs.Versions.{Snapshot}
 
 -- the log of its service, all entries that it took, the version that it shows, and what its last
 -- settle found

@@ -1,11 +1,11 @@
 //! Calls of what the edits leave standing since the timetable was kept.
 ghost use Rattle.std.specs.Prelude.{◌≡◌};
-ghost use Rattle.crew_command.specs.crew_dirty.Dirty.{IsNetOver};
+ghost use Rattle.crew_dirty.specs.Dirty.{IsNetOver};
 ghost use Rattle.crew_rules.specs.Settings.{standard};
 
 use crate::slots::net_over;
 use crate::words::{code_of, count_of, key_of};
-use crew_command::crew_dirty::{Carried, NodeState, NodeStates, carry};
+use crew_dirty::{Carried, NodeState, NodeStates, carry};
 use crew_flights::{Code, Timetable};
 use crew_net::{Net, Node};
 use std::alloc::Global;

@@ -2,9 +2,9 @@
 
 use crate::versions::fill;
 use crew_audit::{Partial, enumerate};
-use crew_command::crew_version::Version;
 use crew_flights::{Entry, Timetable, Verdict, fold};
 use crew_rules::Settings;
+use crew_version::Version;
 use std::alloc::{AllocError, Global};
 use std::thread::Threads;
 

@@ -1,8 +1,8 @@
 //! Calls of all fronts of a timetable.
 
-use crew_command::crew_solve::{Solution, solve, solve_next, solve_with};
 use crew_flights::Timetable;
 use crew_rules::Settings;
+use crew_solve::{Solution, solve, solve_next, solve_with};
 use crew_vector::PricedPairing;
 use std::alloc::Global;
 use std::thread::Threads;

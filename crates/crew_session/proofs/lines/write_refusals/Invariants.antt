@@ -1,6 +1,6 @@
 use Rattle.std.proofs.Common.{◌≡◌, ◌++◌, ◌+◌, drop, List, ℕ}
 use Rattle.crew_session.specs.Lines.{refused_lines}
-use Rattle.crew_core.specs.crew_version.Versions.{verdicts_of}
+use Rattle.crew_version.specs.Versions.{verdicts_of}
 use Rattle.std.specs.Io.KnownBytes.{Appends}
 use Rattle.crew_session.proofs.lines.write_refusals.Given as goal
 

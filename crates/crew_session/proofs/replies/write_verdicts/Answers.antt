@@ -1,7 +1,7 @@
 use Rattle.std.proofs.Common.{◌++◌, [], List, ℕ, refl, sym, ap, ◌∙◌, append_assoc, arith, subst}
 use Rattle.std.proofs.lemmas.List.{append-nil}
 use Rattle.std.specs.Io.KnownBytes.{Appends}
-use Rattle.crew_core.specs.crew_version.Versions.{verdicts_of}
+use Rattle.crew_version.specs.Versions.{verdicts_of}
 use Rattle.crew_session.proofs.BeginFacts.{begins-after, on-err}
 use Rattle.crew_session.proofs.LineFacts.{appends-both, appends-none}
 use Rattle.crew_session.proofs.ReplyFacts.{places-more, places-over}

@@ -1,7 +1,7 @@
 use Rattle.std.proofs.Common.{◌≡◌, ◌++◌, drop, List, ℕ}
 use Rattle.std.specs.Io.KnownBytes.{Appends}
 use Rattle.crew_session.specs.ReplyLines.{place_lines}
-use Rattle.crew_core.specs.crew_version.Versions.{verdicts_of}
+use Rattle.crew_version.specs.Versions.{verdicts_of}
 use Rattle.crew_session.proofs.replies.write_verdicts.Given as goal
 
 abbrev pub invariant-loop-place : goal.invariant-loop-place

@@ -3,7 +3,7 @@ use Rattle.crew_session.proofs.BeginFacts.{on-err}
 use Rattle.crew_session.proofs.OddFacts.{refused-odd, shown-odd}
 use Rattle.crew_session.specs.Machinery.Journals.{since, state_of}
 use Rattle.std.proofs.Common.{◌≡◌, ◌∙◌, ◌+◌, ap, arith, length, length-append, refl, sym, true≢false}
-use Rattle.crew_core.specs.crew_version.Versions.{Snapshot}
+use Rattle.crew_version.specs.Versions.{Snapshot}
 use Rattle.crew_session.proofs.session.settle.Goals as goal
 
 pub returns-in-TooManyDuties-clause-begun : goal.returns-in-TooManyDuties-clause-begun

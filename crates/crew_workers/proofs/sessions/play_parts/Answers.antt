@@ -1,5 +1,5 @@
 use Rattle.std.proofs.Common.{refl}
-use Rattle.crew_service.specs.crew_version.Versions.{opening}
+use Rattle.crew_version.specs.Versions.{opening}
 use Rattle.crew_workers.proofs.Played.{is-ended, not-begun}
 use Rattle.crew_workers.proofs.sessions.play_parts.Goals as goal
 

@@ -1,7 +1,7 @@
 use Rattle.std.proofs.Common.{◌∙◌, ap, sym}
 use Rattle.crew_workers.proofs.Views.{first-seen}
 use Rattle.crew_workers.proofs.threaded.first_view.Goals as goal
-use Rattle.crew_service.specs.crew_version.Versions.{Snapshot}
+use Rattle.crew_version.specs.Versions.{Snapshot}
 
 pub returns-clause-ok : goal.returns-clause-ok
 returns-clause-ok c =

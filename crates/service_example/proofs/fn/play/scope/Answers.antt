@@ -1,4 +1,4 @@
-use Rattle.crew_service.proofs.crew_publish_lemmas.Crossing.{with_viewers}
+use Rattle.crew_publish.proofs.Crossing.{with_viewers}
 use Rattle.service_example.proofs.fn.play.scope.Goals as goal
 
 pub spawn-first-requires-send-F : goal.spawn-first-requires-send-F

@@ -1,9 +1,9 @@
 use Rattle.std.proofs.Common.{◌≡◌, ◌⊎◌, ◌++◌, ◌∙◌, List, [], ap, false, inl, inr, sym, true≢false}
 use Rattle.std.specs.Prelude.{IsTrue}
 use Rattle.crew_flights.specs.declared.entries.Entry.{Entry}
-use Rattle.crew_command.specs.crew_session.Engines.{BeginsWith}
-use Rattle.crew_command.specs.crew_session.Oddities.{IsWhole}
-use Rattle.crew_command.specs.crew_version.Versions.{Snapshot}
+use Rattle.crew_session.specs.Engines.{BeginsWith}
+use Rattle.crew_session.specs.Oddities.{IsWhole}
+use Rattle.crew_version.specs.Versions.{Snapshot}
 use Rattle.session_tests.proofs.strange.ForgetfulEngine.settle.Goals as goal
 
 -- no entries begin all entries
