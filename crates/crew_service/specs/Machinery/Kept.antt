@@ -32,8 +32,8 @@ pub record HasRead (old new : Planning) : Type 0 where
   pub read : IsPrefix old.receipts new.receipts
 
 -- a version is published, and the planner's own now
-pub record HasShown (old : Planning) (version : Snapshot) (new : Planning) : Type 0 where
+pub record HasShown (old : Planning) (next : Snapshot) (new : Planning) : Type 0 where
   pub log : new.log ≡ old.log
-  pub version : new.version ≡ version
+  pub version : new.version ≡ next
   pub receipts : new.receipts ≡ old.receipts
-  pub shown : new.published ≡ old.published ++ version ∷ []
+  pub shown : new.published ≡ old.published ++ next ∷ []

@@ -1,4 +1,4 @@
-use Rattle.std.proofs.Common.{◌≡◌, ◌∙◌, subst, sym}
+use Rattle.std.proofs.Common.{◌∙◌, subst, sym}
 use Rattle.std.specs.Arc.{arc_value}
 use Rattle.crew_board.proofs.Answered.{refused-as}
 use Rattle.crew_seal.specs.Next.{IsNextOver}
