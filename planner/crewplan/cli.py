@@ -1,0 +1,233 @@
+"""The command `plan`: from a schedule to whole pairings and their reports."""
+from __future__ import annotations
+
+import argparse
+import math
+import os
+import signal
+import sys
+import tempfile
+import time
+from collections.abc import Sequence
+from dataclasses import replace
+from pathlib import Path
+
+from . import page, proving
+from .chart import size_of
+from .dive import Step, Steps, dive
+from .engine import Engine
+from .faults import Fault, ScheduleFault
+from .pairing import Pairing
+from .plan import Whole, whole_of
+from .progress import Progress
+from .relaxation import PENALTY, Cost, Result, Round, Ways, relax, ways_of
+from .report import Figures, Report, csv_of, hours, json_of, report_of, text_of
+from .settings import Settings, settings_of
+from .timetable import Timetable, read
+from .uncovered import causes, unreachable
+from .whole import improve
+
+ABOUT = '''Plans the crews of a schedule: which legal pairings fly its flights at the least pay.
+
+SCHEDULE is a session's file: its records zone, base and flight, up to its first settle. planner/ssim makes one of an
+airline's schedule. Prices in it don't matter. Words after `--` are options of the engine, as -- --max-rest 1500.'''
+AFTER = '''Standard output has the figures, and with --text the pairings; standard error how far the run is. The status is 0,
+2 where the words of the command can't be read, 1 where the schedule can't be read or planned, and 70 where the engine
+can't be had: each with one line that says what to do. Reports are written at the end, each whole or not at all.'''
+
+
+def parser() -> argparse.ArgumentParser:
+    made = argparse.ArgumentParser(prog='plan', description=ABOUT, epilog=AFTER,
+                                   formatter_class=argparse.RawDescriptionHelpFormatter)
+    made.add_argument('schedule', type=Path, metavar='SCHEDULE')
+    reports = made.add_argument_group('reports')
+    reports.add_argument('--html', type=Path, metavar='FILE', help='a page: pairings over time, totals, each leg')
+    reports.add_argument('--png', type=Path, metavar='FILE', help='the same as a picture, without the list of legs; '
+                                                                  'needs Chromium')
+    reports.add_argument('--csv', type=Path, metavar='FILE', help='a row for each leg')
+    reports.add_argument('--json', type=Path, metavar='FILE', help='all of it, for programs')
+    reports.add_argument('--text', action='store_true', help='the pairings on standard output')
+    reports.add_argument('--title', help="the page's title (the schedule's name)")
+    run = made.add_argument_group('the run')
+    run.add_argument('--seconds', type=positive, metavar='N',
+                     help='how long better plans are looked for after the dive (20, or by flights: 0.2 for each)')
+    run.add_argument('--relax-seconds', type=positive, default=math.inf, metavar='N',
+                     help='ends the relaxation after so long, with the bound that it has (to its optimum)')
+    run.add_argument('--gap', type=positive, default=0.0, metavar='PERCENT',
+                     help='ends the relaxation where it is so near to its bound (0: at its optimum)')
+    run.add_argument('--dives', type=int, default=3, metavar='N', help='dives for whole pairings (%(default)s)')
+    run.add_argument('--capacity', type=int, metavar='N', help='the most pairings of one base (any number)')
+    run.add_argument('--penalty', type=positive, default=PENALTY, metavar='POINTS',
+                     help='what an uncovered flight costs while pairings are chosen, and no figure shows (100,000)')
+    run.add_argument('--pairings', type=int, metavar='N', help='the most pairings that a settle lists (by flights)')
+    run.add_argument('--share', type=int, metavar='N', help='no flight is in more than N of these; 0: any number')
+    run.add_argument('--drop', type=positive, default=math.inf, metavar='POINTS',
+                     help='columns whose reduced cost stays above that leave the master problem (none)')
+    run.add_argument('--master', choices=('auto', 'clp', 'highs'), default='auto',
+                     help='the solver of linear programs: Clp where it is installed, else HiGHS')
+    run.add_argument('--quiet', action='store_true', help='no progress')
+    engine = made.add_argument_group('the engine')
+    engine.add_argument('--program', metavar='FILE', help='an engine to use as it is (crewprice of this repository)')
+    engine.add_argument('--no-prove', action='store_true', help='ends at once where the engine is not proved yet')
+    return made
+
+
+def positive(text: str) -> float:
+    value = float(text)
+    if not value >= 0:
+        raise argparse.ArgumentTypeError(f'{text} is less than 0')
+    return value
+
+
+def main(words: Sequence[str] | None = None) -> int:
+    words = list(sys.argv[1:] if words is None else words)
+    end = words.index('--') if '--' in words else len(words)
+    given = parser().parse_args(words[:end])
+    # Who stops this program stops the engine too.
+    signal.signal(signal.SIGTERM, lambda *_: sys.exit(143))
+    progress = Progress(is_quiet=given.quiet)
+    try:
+        run(given, words[end + 1:], progress)
+        return 0
+    except Fault as fault:
+        progress.close()
+        print(f'plan: {fault}', file=sys.stderr)
+        return fault.status
+    except BrokenPipeError:
+        os.dup2(os.open(os.devnull, os.O_WRONLY), sys.stdout.fileno())
+        return 1
+    except KeyboardInterrupt:
+        progress.close()
+        print('plan: stopped; no report was written', file=sys.stderr)
+        return 130
+
+
+def run(given: argparse.Namespace, options: list[str], progress: Progress) -> None:
+    timetable = read(given.schedule)
+    for path in (given.html, given.png, given.csv, given.json):
+        if path and not os.access(path.parent if path.parent != Path('') else Path('.'), os.W_OK):
+            raise Fault(f'{path}: its folder is not there, or nothing can be written to it')
+    if given.program is None:
+        proving.see_to_it(not given.no_prove)
+    report = plan(timetable, given, options, progress)
+    write_all(given, report)
+    if given.text:
+        print(text_of(report))
+    print(summary(report), flush=True)
+
+
+def plan(timetable: Timetable, given: argparse.Namespace, options: list[str], progress: Progress) -> Report:
+    """The whole run: what can't be flown, the relaxation, dives, better plans."""
+    settings = settings_of(options)
+    with Engine(given.program or str(proving.SCRIPT), options, timetable) as engine:
+        progress.tell('reach', 'which flights any legal pairing flies')
+        numbers = unreachable(timetable, engine)
+        if len(numbers) == len(timetable.flights):
+            raise ScheduleFault(f'{given.schedule}: no legal pairing flies any of its flights; the first: '
+                                + causes(timetable, settings, numbers)[0].cause)
+        reached = timetable.without(numbers)
+        ways = ways_from(given, len(reached.flights))
+        relaxed = relax(reached, engine, ways, penalty=given.penalty, capacity=given.capacity,
+                        tell=lambda turn: progress.tell('relaxation', round_line(turn)))
+        found = whole_plan(reached, settings, engine, relaxed, ways, given, progress)
+        tell_run(relaxed, engine, progress)
+    pool = relaxed.problem.pool
+    bound = relaxed.bound - relaxed.problem.penalty * len(found.uncovered)
+    figures = Figures(len(timetable.flights), found.cost.pay, bound, relaxed.relaxed.cost.pay,
+                      relaxed.relaxed.cost.uncovered, relaxed.is_optimal, progress.seconds)
+    return report_of(timetable, settings, [pool.pairings[place] for place in found.places],
+                     [pool.rows.numbers[row] for row in found.uncovered], causes(timetable, settings, numbers), figures)
+
+
+def ways_from(given: argparse.Namespace, flights: int) -> Ways:
+    ways = ways_of(flights)
+    return replace(ways, most=given.pairings or ways.most, share=ways.share if given.share is None else given.share,
+                   dear=given.drop, gap=given.gap / 100, seconds=given.relax_seconds, master=given.master)
+
+
+def whole_plan(timetable: Timetable, settings: Settings, engine: Engine, relaxed: Result, ways: Ways,
+               given: argparse.Namespace, progress: Progress) -> Whole:
+    """The best plan of some dives, and then of integer programs around it."""
+    problem, base = relaxed.problem, relaxed.relaxed.cost
+    best: Whole | None = None
+    for number, steps in enumerate(kinds_of_steps(given.dives), 1):
+        found = dive(timetable, settings, engine, problem, problem.relax(), ways, steps,
+                     lambda step: progress.tell(f'dive {number}', step_line(step, base)))
+        if found and (best is None or found.cost.all < best.cost.all):
+            best = found
+        if best and best.cost.all - base.all < 1:
+            break
+    best = best or whole_of(problem, [])
+    seconds = max(20.0, 0.2 * problem.count) if given.seconds is None else given.seconds
+    better, _ = improve(problem, relaxed.relaxed.duals, base.all, best, seconds,
+                        lambda it, columns: progress.tell('better', better_line(it, columns, base)))
+    return better
+
+
+def kinds_of_steps(dives: int) -> list[Steps]:
+    """Dives that differ in how much a step enforces."""
+    kinds = [Steps(), Steps(part=0.02, least=0.9), Steps(part=0.1, least=0.6), Steps(part=0.01, least=0.8)]
+    return [kinds[place % len(kinds)] for place in range(max(dives, 0))]
+
+
+def round_line(turn: Round) -> str:
+    return (f'round {turn.number}: pay {hours(turn.cost.pay)}, {turn.cost.uncovered:.2f} flights uncovered, least '
+            f'reduced cost {turn.least}, {turn.columns} columns of {turn.pool}, {turn.masters} masters '
+            f'{turn.master_seconds:.2f} s, pricing {turn.pricing_seconds:.2f} s')
+
+
+def above(cost: Cost, base: Cost) -> str:
+    return f'{100 * (cost.all - base.all) / base.pay:.3f} % of pay above the relaxation' if base.pay else 'no pay'
+
+
+def step_line(step: Step, base: Cost) -> str:
+    return (f'step {step.number}: {step.enforced} follow-ons, {above(step.cost, base)}, {step.cost.uncovered:.2f} '
+            f'uncovered, {step.split} split' + (', undone' if step.undone else ''))
+
+
+def better_line(plan: Whole, columns: int, base: Cost) -> str:
+    return f'{above(plan.cost, base)}, {len(plan.uncovered)} uncovered, {columns} columns within the gap'
+
+
+def tell_run(relaxed: Result, engine: Engine, progress: Progress) -> None:
+    problem = relaxed.problem
+    progress.close(f'{progress.seconds:8.1f} s  {len(relaxed.rounds)} rounds in {relaxed.seconds:.1f} s, '
+                   f'{engine.settles} settles, {len(problem.places)} columns of {len(problem.pool)} pairings; '
+                   f'{problem.master.name}: {problem.masters} masters, {problem.processor_seconds:.1f} s of a processor '
+                   f'with the pool; engine: {engine.seconds:.1f} s by the clock, {engine.processor_seconds():.1f} s of '
+                   'processors')
+
+
+def summary(report: Report) -> str:
+    """The figures, pay and uncovered flights apart."""
+    it = report.figures
+    uncovered = len(report.by_choice)
+    end = 'at its optimum' if it.is_optimal else 'not at its optimum'
+    return (f'plan: {len(report.lines)} pairings, pay {hours(it.pay)}; {it.flights} flights, {uncovered} left uncovered '
+            f'by choice, {len(report.unreachable)} that no legal pairing flies\n'
+            f'relaxation ({end}): pay {hours(it.relaxation)}, {it.relaxation_uncovered:.2f} left uncovered\n'
+            f'least pay of any plan that leaves {uncovered} uncovered: {hours(it.bound)}; this plan is '
+            f'{100 * it.above:.3f} % above it\n{it.seconds:.1f} s')
+
+
+def write_all(given: argparse.Namespace, report: Report) -> None:
+    title = given.title or f'Crew plan of {given.schedule.name.removesuffix(".session")}'
+    makers = ((given.csv, lambda: csv_of(report).encode()), (given.json, lambda: json_of(report).encode()),
+              (given.html, lambda: page.page_of(report, title).encode()),
+              (given.png, lambda: page.picture_of(report, title)))
+    for path, make in makers:
+        if path:
+            write(path, make())
+
+
+def write(path: Path, content: bytes) -> None:
+    """Writes a file whole, or leaves what was there."""
+    try:
+        with tempfile.NamedTemporaryFile(dir=path.parent, prefix=f'.{path.name}.', delete=False) as file:
+            file.write(content)
+        mask = os.umask(0)
+        os.umask(mask)
+        os.chmod(file.name, 0o666 & ~mask)
+        os.replace(file.name, path)
+    except OSError as fault:
+        raise Fault(f'{path}: {fault.strerror}') from None

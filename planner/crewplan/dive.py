@@ -1,0 +1,137 @@
+"""A dive: from the relaxation to whole pairings by follow-ons.
+
+In an optimum of the relaxation much is whole already: most flights are followed by one other in all pairings that fly
+them. Those follow-ons are enforced, and then the greatest others, a few at a time. After each step the masters are
+solved again and the engine is asked for pairings that keep what is enforced. A step after which the objective has risen
+too far is undone, and tried again with the greater half of it.
+"""
+from __future__ import annotations
+
+import time
+from collections.abc import Callable
+from dataclasses import dataclass, replace
+
+import numpy
+
+from .enforce import FollowOns, Pair
+from .engine import Engine
+from .plan import Whole, whole_of
+from .relaxation import Cost, Problem, Relaxed, Ways, feed
+from .settings import Settings
+from .timetable import Timetable
+
+WHOLE = 1e-6  # so near to 0 or 1 a value is that
+
+
+@dataclass(frozen=True)
+class Steps:
+    """How a dive goes. A step takes follow-ons of at least the `least` weight, up to a `part` of the flights; where
+    there is none the few of `few` or more, and where there is none the greatest alone. It is undone where the objective
+    rises by more than `rise` of the pay. Between two steps there are up to `settles` settles, and no further one where
+    the least cost is above `-close` points."""
+    part: float = 0.05
+    least: float = 0.75
+    few: float = 0.6
+    rise: float = 0.0005
+    settles: int = 6
+    close: float = 200.0
+    most: int = 400
+    share: int = 8
+
+
+@dataclass(frozen=True)
+class Step:
+    """What a step came to: how many follow-ons are enforced, the objective, how many columns lie between 0 and 1, and
+    whether it was undone."""
+    number: int
+    enforced: int
+    cost: Cost
+    split: int
+    undone: bool
+
+
+Tell = Callable[[Step], None]
+
+
+@dataclass
+class Dive:
+    """One dive over a problem. Its follow-ons are released at its end."""
+    problem: Problem
+    engine: Engine
+    follow_ons: FollowOns
+    steps: Steps
+    ways: Ways
+    tell: Tell = lambda _: None
+    deadline: float = numpy.inf
+
+    def run(self, relaxed: Relaxed) -> Whole | None:
+        """The plan that the dive ends at; none where it stopped at its deadline, or no zone was left for a follow-on
+        that it wanted."""
+        try:
+            for number in range(1, 10 * self.problem.count):
+                split = self.split(relaxed)
+                if not split:
+                    return self.plan(relaxed)
+                pairs = self.next_pairs(relaxed)
+                if not pairs or time.perf_counter() > self.deadline:
+                    return None
+                relaxed = self.step(number, relaxed, pairs)
+            return None
+        finally:
+            self.follow_ons.release(self.follow_ons.pairs)
+            self.leave_out()
+
+    def split(self, relaxed: Relaxed) -> int:
+        """How many columns, and flights, are neither taken nor left."""
+        values = numpy.concatenate((relaxed.values, relaxed.uncovered))
+        return int(numpy.count_nonzero((values > WHOLE) & (values < 1 - WHOLE)))
+
+    def plan(self, relaxed: Relaxed) -> Whole:
+        return whole_of(self.problem, numpy.flatnonzero(relaxed.values > 0.5).tolist())
+
+    def next_pairs(self, relaxed: Relaxed) -> list[Pair]:
+        """Those that are whole, and then some others, the greatest first."""
+        weighed = [(weight, pair) for weight, pair in self.problem.pool.follow_ons(relaxed.values)
+                   if self.follow_ons.fits(pair)]
+        sure = [pair for weight, pair in weighed if weight > 1 - WHOLE]
+        others = [(weight, pair) for weight, pair in weighed if weight <= 1 - WHOLE]
+        most = max(1, int(self.steps.part * self.problem.count))
+        great = [pair for weight, pair in others if weight >= self.steps.least][:most]
+        few = [pair for weight, pair in others if weight >= self.steps.few][:4]
+        return sure + (great or few or [pair for _, pair in others[:1]])
+
+    def step(self, number: int, relaxed: Relaxed, pairs: list[Pair]) -> Relaxed:
+        """Enforces the pairs, or the greater half of them where the objective rises too far, and so on."""
+        limit = relaxed.cost.all + self.steps.rise * abs(relaxed.cost.pay)
+        while True:
+            done = self.follow_ons.enforce(pairs)
+            after = self.settle()
+            undone = after.cost.all > limit and len(done) > 1
+            self.tell(Step(number, len(self.follow_ons.pairs), after.cost, self.split(after), undone))
+            if not undone:
+                return after
+            self.follow_ons.release(done)
+            pairs = done[:len(done) // 2]
+
+    def leave_out(self) -> Relaxed:
+        self.problem.leave_out(self.problem.pool.against(self.follow_ons.after, self.follow_ons.before))
+        return self.problem.relax()
+
+    def settle(self) -> Relaxed:
+        """An optimum of the master with what is enforced, after a few settles."""
+        relaxed, _ = feed(self.problem, self.leave_out(), self.ways)
+        for _ in range(self.steps.settles):
+            self.engine.set_prices(self.problem.prices(relaxed.duals, numpy.floor))
+            listed = self.engine.cheapest(self.steps.most, self.steps.share)
+            self.problem.take_in([pairing for pairing, _ in listed])
+            relaxed, took = feed(self.problem, relaxed, self.ways)
+            if not took or listed[0][1] > -self.steps.close:
+                break
+        return relaxed
+
+
+def dive(timetable: Timetable, settings: Settings, engine: Engine, problem: Problem, relaxed: Relaxed, ways: Ways,
+         steps: Steps = Steps(), tell: Tell = lambda _: None, deadline: float = numpy.inf) -> Whole | None:
+    """A plan by a dive from this relaxation, or none before the deadline (of `time.perf_counter`)."""
+    follow_ons = FollowOns(timetable, settings, engine)
+    return Dive(problem, engine, follow_ons, steps, replace(ways, gap=0.0), tell, deadline).run(relaxed)

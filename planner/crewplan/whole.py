@@ -1,0 +1,163 @@
+"""Better plans: integer programs over the columns that a better plan can have.
+
+Under duals of the relaxation no pairing's reduced cost is negative, and those of a plan's pairings come, with what its
+uncovered flights cost beyond their duals, to how far the plan lies above the relaxation. So a better plan has only
+pairings whose reduced cost is at most that gap. An integer program over all of them takes too long where there are many.
+So a few of the plan's pairings are given up, those that many such columns touch together, and their flights are covered
+anew at least cost by columns that touch no other; then others, and more at once where none does better.
+"""
+from __future__ import annotations
+
+import time
+from collections.abc import Callable
+from dataclasses import dataclass
+
+import numpy
+from scipy.optimize import Bounds, LinearConstraint, milp
+from scipy.sparse import coo_array, csr_array, diags
+
+from .plan import Whole, whole_of
+from .relaxation import Problem
+
+SLACK = 1e-6
+SMALLEST = 400  # columns of the first integer programs; twice as many in each turn after one without a better plan
+ONE_PROGRAM = 20.0  # most seconds of one
+
+
+Tell = Callable[[Whole, int], None]
+
+
+@dataclass
+class Better:
+    """What is at hand around one plan: columns within the gap, the parts of the plan, and which parts each column
+    touches. A part is a pairing of the plan, or a flight that it leaves uncovered."""
+    problem: Problem
+    duals: numpy.ndarray
+    plan: Whole
+    gap: float
+
+    def __post_init__(self) -> None:
+        problem, plan = self.problem, self.plan
+        reduced = problem.pool.reduced(self.duals)
+        self.columns = numpy.flatnonzero(reduced <= self.gap + SLACK)
+        self.columns = numpy.union1d(self.columns, numpy.array(plan.places, int))
+        self.reduced = numpy.maximum(reduced[self.columns], 0)
+        self.owners = numpy.full(problem.count, -1)
+        for part, place in enumerate(plan.places):
+            self.owners[[row for row in problem.pool.rows_of[place] if row < problem.count]] = part
+        for part, row in enumerate(plan.uncovered, len(plan.places)):
+            self.owners[row] = part
+        self.count = len(plan.places) + len(plan.uncovered)
+        self.cover = problem.pool.matrix[self.columns][:, :problem.count]
+        owner = csr_array((numpy.ones(problem.count), (numpy.arange(problem.count), self.owners)),
+                          shape=(problem.count, self.count))
+        touched = self.cover @ owner
+        self.touches = csr_array((numpy.ones(touched.nnz), touched.indices, touched.indptr), shape=touched.shape)
+        self.breadths = numpy.diff(self.touches.indptr)
+        scale = max(1.0, self.gap / 10)
+        weights = numpy.exp(-self.reduced / scale)
+        self.near = (self.touches.T @ diags(weights) @ self.touches).tocsr()
+        may_miss = problem.penalty - self.duals[:problem.count] <= self.gap + SLACK
+        may_miss[list(plan.uncovered)] = True
+        self.may_miss = may_miss
+
+    def excess(self) -> numpy.ndarray:
+        """How much each part costs above its duals."""
+        pool = self.problem.pool
+        pairings = pool.reduced(self.duals)[list(self.plan.places)]
+        missing = self.problem.penalty - self.duals[list(self.plan.uncovered)]
+        return numpy.concatenate((pairings, missing))
+
+    def around(self, seed: int, most: int) -> numpy.ndarray:
+        """A mask of parts with the seed, each time the one more that most columns touch together with those, up to
+        where so many columns touch no other."""
+        chosen = numpy.zeros(self.count, bool)
+        chosen[seed] = True
+        nearness = self.near[[seed]].toarray()[0]
+        while not chosen.all():
+            nearness[chosen] = -1
+            new = numpy.argsort(-nearness, kind='stable')[:max(1, int(chosen.sum()) // 4)]
+            new = new[nearness[new] > 0]
+            if not len(new):
+                break
+            wider = chosen.copy()
+            wider[new] = True
+            if chosen.sum() > 1 and self.inside(wider).sum() > most:
+                break
+            chosen = wider
+            nearness += self.near[new].sum(axis=0)
+        return chosen
+
+    def inside(self, parts: numpy.ndarray) -> numpy.ndarray:
+        """Which columns touch no other parts."""
+        return self.touches @ parts.astype(float) == self.breadths
+
+    def covered_anew(self, parts: numpy.ndarray, seconds: float) -> tuple[Whole | None, bool]:
+        """A better plan that has all other parts, where one is found, and whether the search was whole."""
+        problem, pool = self.problem, self.problem.pool
+        places = self.columns[self.inside(parts)]
+        rows = numpy.flatnonzero(parts[self.owners])
+        missing = rows[self.may_miss[rows]]
+        kept = [place for part, place in enumerate(self.plan.places) if not parts[part]]
+        costs = numpy.concatenate((pool.pays[places], numpy.full(len(missing), problem.penalty)))
+        row_of = {row: at for at, row in enumerate(rows)}
+        slack = coo_array((numpy.ones(len(missing)), ([row_of[row] for row in missing], numpy.arange(len(missing)))),
+                          shape=(len(rows), len(missing)))
+        from scipy.sparse import hstack
+        limits = [LinearConstraint(hstack((pool.matrix[places][:, rows].T, slack)).tocsc(), 1, 1)]
+        if pool.rows.bases:
+            used = pool.matrix[kept][:, problem.count:].sum(axis=0) if kept else numpy.zeros(len(pool.rows.bases))
+            counts = hstack((pool.matrix[places][:, problem.count:].T,
+                             coo_array((len(pool.rows.bases), len(missing))))).tocsc()
+            limits.append(LinearConstraint(counts, 0, numpy.array(pool.rows.limits[problem.count:]) - used))
+        found = milp(costs, constraints=limits, integrality=numpy.ones(len(costs)), bounds=Bounds(0, 1),
+                     options={'time_limit': max(seconds, 0.1), 'mip_rel_gap': 0.0})
+        is_whole = found.status == 0
+        if found.x is None:
+            return None, is_whole
+        plan = whole_of(problem, kept + places[found.x[:len(places)] > 0.5].tolist())
+        return (plan, is_whole) if plan.cost.all < self.plan.cost.all - 0.5 else (None, is_whole)
+
+
+def improve(problem: Problem, duals: numpy.ndarray, objective: float, plan: Whole, seconds: float,
+            tell: Tell = lambda _, __: None, seed: int = 1) -> tuple[Whole, bool]:
+    """A plan that costs no more, and whether it is the best of all plans of the pool's pairings. `objective` is the
+    relaxation's under these duals; pays are whole points, so a plan less than one above it is the best of all."""
+    deadline = time.perf_counter() + seconds
+    draw = numpy.random.default_rng(seed)
+    most = SMALLEST
+    while (gap := plan.cost.all - objective) >= 1 - SLACK and time.perf_counter() < deadline:
+        at_hand = Better(problem, duals, plan, gap)
+        better, is_all = turn(at_hand, most, deadline, draw)
+        tell(better or plan, len(at_hand.columns))
+        if better:
+            plan = better
+        elif is_all:
+            return plan, True
+        else:
+            most *= 2
+    return plan, gap < 1 - SLACK
+
+
+def turn(at_hand: Better, most: int, deadline: float, draw: numpy.random.Generator) -> tuple[Whole | None, bool]:
+    """Tries around parts that cost most above their duals, until a better plan is found or each was tried; and whether
+    a search over all columns was whole."""
+    excess = at_hand.excess()
+    order = numpy.argsort(-excess * draw.uniform(0.5, 1.5, len(excess)), kind='stable')
+    tried = numpy.zeros(at_hand.count, bool)
+    for part in order:
+        if tried[part] or excess[part] <= SLACK:
+            continue
+        left = deadline - time.perf_counter()
+        if left <= 0:
+            break
+        parts = at_hand.around(part, most)
+        if parts.sum() == 1:
+            continue
+        better, is_whole = at_hand.covered_anew(parts, min(left, ONE_PROGRAM))
+        if better:
+            return better, False
+        if is_whole and len(at_hand.columns) == at_hand.inside(parts).sum():
+            return None, True
+        tried |= parts & (draw.uniform(size=at_hand.count) < 0.5)
+    return None, False
