@@ -6,18 +6,15 @@ import math
 import os
 import signal
 import sys
-import tempfile
-import time
 from collections.abc import Sequence
 from dataclasses import replace
 from pathlib import Path
 
 from . import page, proving
-from .chart import size_of
 from .dive import Step, Steps, dive
 from .engine import Engine
 from .faults import Fault, ScheduleFault
-from .pairing import Pairing
+from .files import check_folder, write_whole
 from .plan import Whole, whole_of
 from .progress import Progress
 from .relaxation import PENALTY, Cost, Result, Round, Ways, relax, ways_of
@@ -104,9 +101,8 @@ def main(words: Sequence[str] | None = None) -> int:
 
 def run(given: argparse.Namespace, options: list[str], progress: Progress) -> None:
     timetable = read(given.schedule)
-    for path in (given.html, given.png, given.csv, given.json):
-        if path and not os.access(path.parent if path.parent != Path('') else Path('.'), os.W_OK):
-            raise Fault(f'{path}: its folder is not there, or nothing can be written to it')
+    for path in filter(None, (given.html, given.png, given.csv, given.json)):
+        check_folder(path)
     if given.program is None:
         proving.see_to_it(not given.no_prove)
     report = plan(timetable, given, options, progress)
@@ -215,19 +211,4 @@ def write_all(given: argparse.Namespace, report: Report) -> None:
     makers = ((given.csv, lambda: csv_of(report).encode()), (given.json, lambda: json_of(report).encode()),
               (given.html, lambda: page.page_of(report, title).encode()),
               (given.png, lambda: page.picture_of(report, title)))
-    for path, make in makers:
-        if path:
-            write(path, make())
-
-
-def write(path: Path, content: bytes) -> None:
-    """Writes a file whole, or leaves what was there."""
-    try:
-        with tempfile.NamedTemporaryFile(dir=path.parent, prefix=f'.{path.name}.', delete=False) as file:
-            file.write(content)
-        mask = os.umask(0)
-        os.umask(mask)
-        os.chmod(file.name, 0o666 & ~mask)
-        os.replace(file.name, path)
-    except OSError as fault:
-        raise Fault(f'{path}: {fault.strerror}') from None
+    write_whole({path: make() for path, make in makers if path})
