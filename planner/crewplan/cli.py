@@ -11,18 +11,18 @@ from dataclasses import replace
 from pathlib import Path
 
 from . import page, proving
-from .dive import Step, Steps, dive
+from .dive import Step
 from .engine import Engine
 from .faults import Fault, ScheduleFault
 from .files import check_folder, write_whole
-from .plan import Whole, whole_of
+from .plan import Whole
 from .progress import Progress
 from .relaxation import PENALTY, Cost, Result, Round, Ways, relax, ways_of
 from .report import Figures, Report, csv_of, hours, json_of, report_of, text_of
+from .search import Search
 from .settings import Settings, settings_of
 from .timetable import Timetable, read
 from .uncovered import causes, unreachable
-from .whole import improve
 
 ABOUT = '''Plans the crews of a schedule: which legal pairings fly its flights at the least pay.
 
@@ -143,27 +143,13 @@ def ways_from(given: argparse.Namespace, flights: int) -> Ways:
 
 def whole_plan(timetable: Timetable, settings: Settings, engine: Engine, relaxed: Result, ways: Ways,
                given: argparse.Namespace, progress: Progress) -> Whole:
-    """The best plan of some dives, and then of integer programs around it."""
-    problem, base = relaxed.problem, relaxed.relaxed.cost
-    best: Whole | None = None
-    for number, steps in enumerate(kinds_of_steps(given.dives), 1):
-        found = dive(timetable, settings, engine, problem, problem.relax(), ways, steps,
-                     lambda step: progress.tell(f'dive {number}', step_line(step, base)))
-        if found and (best is None or found.cost.all < best.cost.all):
-            best = found
-        if best and best.cost.all - base.all < 1:
-            break
-    best = best or whole_of(problem, [])
-    seconds = max(20.0, 0.2 * problem.count) if given.seconds is None else given.seconds
-    better, _ = improve(problem, relaxed.relaxed.duals, base.all, best, seconds,
-                        lambda it, columns: progress.tell('better', better_line(it, columns, base)))
-    return better
-
-
-def kinds_of_steps(dives: int) -> list[Steps]:
-    """Dives that differ in how much a step enforces."""
-    kinds = [Steps(), Steps(part=0.02, least=0.9), Steps(part=0.1, least=0.6), Steps(part=0.01, least=0.8)]
-    return [kinds[place % len(kinds)] for place in range(max(dives, 0))]
+    """The best plan that the search finds in its time."""
+    base = relaxed.relaxed.cost
+    search = Search(timetable, settings, engine, relaxed.problem, relaxed.relaxed, ways,
+                    lambda name, step: progress.tell(name, step_line(step, base)),
+                    lambda name, plan: progress.tell(name, plan_line(plan, base)))
+    seconds = max(20.0, 0.2 * relaxed.problem.count) if given.seconds is None else given.seconds
+    return search.run(given.dives, seconds)
 
 
 def round_line(turn: Round) -> str:
@@ -181,8 +167,8 @@ def step_line(step: Step, base: Cost) -> str:
             f'uncovered, {step.split} split' + (', undone' if step.undone else ''))
 
 
-def better_line(plan: Whole, columns: int, base: Cost) -> str:
-    return f'{above(plan.cost, base)}, {len(plan.uncovered)} uncovered, {columns} columns within the gap'
+def plan_line(plan: Whole, base: Cost) -> str:
+    return f'a plan {above(plan.cost, base)}, {len(plan.uncovered)} uncovered'
 
 
 def tell_run(relaxed: Result, engine: Engine, progress: Progress) -> None:

@@ -21,6 +21,7 @@ from .settings import Settings
 from .timetable import Timetable
 
 WHOLE = 1e-6  # so near to 0 or 1 a value is that
+NEXT = 0.999  # pays are whole points, so a better plan costs a point less at least
 
 
 @dataclass(frozen=True)
@@ -33,10 +34,10 @@ class Steps:
     least: float = 0.75
     few: float = 0.6
     rise: float = 0.0005
-    settles: int = 6
-    close: float = 200.0
-    most: int = 400
-    share: int = 8
+    settles: int = 15
+    close: float = 20.0
+    most: int = 2_000
+    share: int = 20
 
 
 @dataclass(frozen=True)
@@ -63,17 +64,19 @@ class Dive:
     ways: Ways
     tell: Tell = lambda _: None
     deadline: float = numpy.inf
+    below: float = numpy.inf
 
-    def run(self, relaxed: Relaxed) -> Whole | None:
-        """The plan that the dive ends at; none where it stopped at its deadline, or no zone was left for a follow-on
-        that it wanted."""
+    def run(self, kept: list[Pair]) -> Whole | None:
+        """The plan that the dive ends at, from where these follow-ons are enforced; none where it stopped: at its
+        deadline, where no plan below a cost can come any more, or where no zone was left for a follow-on."""
         try:
+            self.follow_ons.enforce(kept)
+            relaxed = self.settle()
             for number in range(1, 10 * self.problem.count):
-                split = self.split(relaxed)
-                if not split:
+                if not self.split(relaxed):
                     return self.plan(relaxed)
                 pairs = self.next_pairs(relaxed)
-                if not pairs or time.perf_counter() > self.deadline:
+                if not pairs or time.perf_counter() > self.deadline or relaxed.cost.all > self.below - NEXT:
                     return None
                 relaxed = self.step(number, relaxed, pairs)
             return None
@@ -130,8 +133,8 @@ class Dive:
         return relaxed
 
 
-def dive(timetable: Timetable, settings: Settings, engine: Engine, problem: Problem, relaxed: Relaxed, ways: Ways,
-         steps: Steps = Steps(), tell: Tell = lambda _: None, deadline: float = numpy.inf) -> Whole | None:
-    """A plan by a dive from this relaxation, or none before the deadline (of `time.perf_counter`)."""
-    follow_ons = FollowOns(timetable, settings, engine)
-    return Dive(problem, engine, follow_ons, steps, replace(ways, gap=0.0), tell, deadline).run(relaxed)
+def follow_ons_of(problem: Problem, plan: Whole) -> list[Pair]:
+    """Each flight and the next of each pairing of a plan, where the crew flies both."""
+    pairings = (problem.pool.pairings[place] for place in plan.places)
+    return [pair for pairing in pairings for pair in zip(pairing.legs, pairing.legs[1:])
+            if not pairing.ridden.intersection(pair)]

@@ -14,17 +14,18 @@ from dataclasses import dataclass
 
 import numpy
 from scipy.optimize import Bounds, LinearConstraint, milp
-from scipy.sparse import coo_array, csr_array, diags
+from scipy.sparse import coo_array, csr_array, diags, hstack
 
 from .plan import Whole, whole_of
 from .relaxation import Problem
 
 SLACK = 1e-6
 SMALLEST = 400  # columns of the first integer programs; twice as many in each turn after one without a better plan
-ONE_PROGRAM = 20.0  # most seconds of one
+BREADTH = 5  # columns for each flight that are at hand at first, those of least reduced cost
+MOST = 1600  # .. up to so many, and then with twice as many columns at hand
+ONE_PROGRAM = 5.0  # most seconds of one
 
-
-Tell = Callable[[Whole, int], None]
+Tell = Callable[[Whole], None]
 
 
 @dataclass
@@ -35,11 +36,14 @@ class Better:
     duals: numpy.ndarray
     plan: Whole
     gap: float
+    breadth: int
 
     def __post_init__(self) -> None:
         problem, plan = self.problem, self.plan
         reduced = problem.pool.reduced(self.duals)
-        self.columns = numpy.flatnonzero(reduced <= self.gap + SLACK)
+        within = numpy.flatnonzero(reduced <= self.gap + SLACK)
+        self.is_all = len(within) <= self.breadth
+        self.columns = within[numpy.argsort(reduced[within], kind='stable')[:self.breadth]]
         self.columns = numpy.union1d(self.columns, numpy.array(plan.places, int))
         self.reduced = numpy.maximum(reduced[self.columns], 0)
         self.owners = numpy.full(problem.count, -1)
@@ -88,6 +92,18 @@ class Better:
             nearness += self.near[new].sum(axis=0)
         return chosen
 
+    def nearest(self, seed: int, count: int) -> numpy.ndarray:
+        """A mask of so many parts: the seed, and each time the one that most columns touch together with those."""
+        chosen = numpy.zeros(self.count, bool)
+        chosen[seed] = True
+        nearness = self.near[[seed]].toarray()[0]
+        while chosen.sum() < min(count, self.count):
+            nearness[chosen] = -1
+            new = int(nearness.argmax())
+            chosen[new] = True
+            nearness += self.near[[new]].toarray()[0]
+        return chosen
+
     def inside(self, parts: numpy.ndarray) -> numpy.ndarray:
         """Which columns touch no other parts."""
         return self.touches @ parts.astype(float) == self.breadths
@@ -103,7 +119,6 @@ class Better:
         row_of = {row: at for at, row in enumerate(rows)}
         slack = coo_array((numpy.ones(len(missing)), ([row_of[row] for row in missing], numpy.arange(len(missing)))),
                           shape=(len(rows), len(missing)))
-        from scipy.sparse import hstack
         limits = [LinearConstraint(hstack((pool.matrix[places][:, rows].T, slack)).tocsc(), 1, 1)]
         if pool.rows.bases:
             used = pool.matrix[kept][:, problem.count:].sum(axis=0) if kept else numpy.zeros(len(pool.rows.bases))
@@ -120,28 +135,31 @@ class Better:
 
 
 def improve(problem: Problem, duals: numpy.ndarray, objective: float, plan: Whole, seconds: float,
-            tell: Tell = lambda _, __: None, seed: int = 1) -> tuple[Whole, bool]:
-    """A plan that costs no more, and whether it is the best of all plans of the pool's pairings. `objective` is the
-    relaxation's under these duals; pays are whole points, so a plan less than one above it is the best of all."""
+            tell: Tell = lambda _: None, seed: int = 1) -> Whole:
+    """A plan that costs no more. It ends where no plan of the pool's pairings costs less, where all was tried, or after
+    so many seconds. `objective` is the relaxation's under these duals; pays are whole points, so a plan less than one
+    above it is the best of all."""
     deadline = time.perf_counter() + seconds
     draw = numpy.random.default_rng(seed)
-    most = SMALLEST
+    most, breadth = SMALLEST, BREADTH * problem.count
     while (gap := plan.cost.all - objective) >= 1 - SLACK and time.perf_counter() < deadline:
-        at_hand = Better(problem, duals, plan, gap)
-        better, is_all = turn(at_hand, most, deadline, draw)
-        tell(better or plan, len(at_hand.columns))
+        at_hand = Better(problem, duals, plan, gap, breadth)
+        better, is_proved = turn(at_hand, most, deadline, draw)
         if better:
             plan = better
-        elif is_all:
-            return plan, True
+            tell(plan)
+        elif is_proved or (most >= MOST and at_hand.is_all):
+            break
+        elif most >= MOST:
+            most, breadth = SMALLEST, 2 * breadth
         else:
             most *= 2
-    return plan, gap < 1 - SLACK
+    return plan
 
 
 def turn(at_hand: Better, most: int, deadline: float, draw: numpy.random.Generator) -> tuple[Whole | None, bool]:
     """Tries around parts that cost most above their duals, until a better plan is found or each was tried; and whether
-    a search over all columns was whole."""
+    a search over all columns within the gap was whole."""
     excess = at_hand.excess()
     order = numpy.argsort(-excess * draw.uniform(0.5, 1.5, len(excess)), kind='stable')
     tried = numpy.zeros(at_hand.count, bool)
@@ -157,7 +175,7 @@ def turn(at_hand: Better, most: int, deadline: float, draw: numpy.random.Generat
         better, is_whole = at_hand.covered_anew(parts, min(left, ONE_PROGRAM))
         if better:
             return better, False
-        if is_whole and len(at_hand.columns) == at_hand.inside(parts).sum():
+        if is_whole and at_hand.is_all and at_hand.inside(parts).all():
             return None, True
         tried |= parts & (draw.uniform(size=at_hand.count) < 0.5)
     return None, False
