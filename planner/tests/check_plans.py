@@ -30,7 +30,7 @@ from crewplan.settings import settings_of
 from crewplan.timetable import POINTS, read_text
 from crewplan.uncovered import causes
 
-SEED, TIMETABLES = 77, ((60, (6, 14)), (40, (16, 28)))
+SEED, TIMETABLES = 77, ((48, (6, 14)), (24, (16, 28)))
 PENALTY = 100_000
 
 
