@@ -77,6 +77,8 @@ def background(timetable: Timetable, base: str, span: Span, height: int) -> Iter
         if at.minute == 0 and at.hour % 6 == 0 and minute <= span.end:
             ticks.append((span.x(minute), at))
     yield text(4, 14, f'{base}, its clock', 'font-weight="700"')
+    if ticks and ticks[0][1].hour:
+        yield text(ticks[0][0] + 2, 14, f'{ticks[0][1]:%a %d %b}', 'font-weight="700"')
     for x, at in ticks:
         yield (f'<line x1="{x:.1f}" y1="{14 if at.hour == 0 else 22}" x2="{x:.1f}" y2="{height}" '
                f'stroke="{"#9aa3b0" if at.hour == 0 else "#dfe3e9"}"/>')

@@ -47,12 +47,13 @@ def parser() -> argparse.ArgumentParser:
     reports.add_argument('--title', help="the page's title (the schedule's name)")
     run = made.add_argument_group('the run')
     run.add_argument('--seconds', type=positive, metavar='N',
-                     help='how long better plans are looked for after the dive (20, or by flights: 0.2 for each)')
+                     help='how long plans are looked for after the relaxation, the first dive apart (20 and more: 45 at 500 '
+                          'flights, 180 at 1,000, 720 at 2,000)')
     run.add_argument('--relax-seconds', type=positive, default=math.inf, metavar='N',
                      help='ends the relaxation after so long, with the bound that it has (to its optimum)')
     run.add_argument('--gap', type=positive, default=0.0, metavar='PERCENT',
                      help='ends the relaxation where it is so near to its bound (0: at its optimum)')
-    run.add_argument('--dives', type=int, default=3, metavar='N', help='dives for whole pairings (%(default)s)')
+    run.add_argument('--dives', type=int, default=2, metavar='N', help='dives for whole pairings (%(default)s)')
     run.add_argument('--capacity', type=int, metavar='N', help='the most pairings of one base (any number)')
     run.add_argument('--penalty', type=positive, default=PENALTY, metavar='POINTS',
                      help='what an uncovered flight costs while pairings are chosen, and no figure shows (100,000)')
@@ -148,7 +149,7 @@ def whole_plan(timetable: Timetable, settings: Settings, engine: Engine, relaxed
     search = Search(timetable, settings, engine, relaxed.problem, relaxed.relaxed, ways,
                     lambda name, step: progress.tell(name, step_line(step, base)),
                     lambda name, plan: progress.tell(name, plan_line(plan, base)))
-    seconds = max(20.0, 0.2 * relaxed.problem.count) if given.seconds is None else given.seconds
+    seconds = max(20.0, 45 * (relaxed.problem.count / 500) ** 2) if given.seconds is None else given.seconds
     return search.run(given.dives, seconds)
 
 

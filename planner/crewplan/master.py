@@ -17,7 +17,8 @@ from scipy.sparse import csc_array
 
 from .faults import Fault
 
-MANY = 0.3  # of the columns that are new: then an interior point method goes first
+FEW, MANY = 500, 0.3  # where more columns than that, and of all that part, are new an interior point method goes first
+VERTEX = 1e-9  # values above that are not 0
 
 
 @dataclass(frozen=True)
@@ -79,7 +80,7 @@ def clp_library() -> ctypes.CDLL | None:
             ('addRows', None, [model, number] + [array] * 5), ('addColumns', None, [model, number] + [array] * 6),
             ('deleteColumns', None, [model, number, array]), ('chgColumnUpper', None, [model, array]),
             ('primal', number, [model, number]), ('dual', number, [model, number]),
-            ('initialBarrierSolve', number, [model]), ('status', number, [model]),
+            ('copyinStatus', None, [model, array]), ('status', number, [model]),
             ('numberIterations', number, [model]), ('getObjValue', ctypes.c_double, [model]),
             ('getRowPrice', doubles, [model]), ('getColSolution', doubles, [model])):
         function = getattr(library, f'Clp_{name}')
@@ -93,10 +94,12 @@ def pointer(array: numpy.ndarray) -> int:
 
 class ClpMaster:
     """Clp: from the basis of the last optimum by the primal simplex method where columns came, and by the dual one
-    where columns are held at 0; its own interior point method first where many are new."""
+    where columns are held at 0. From cold, or where many columns are new, HiGHS's interior point method comes first, and
+    Clp goes on from the vertex that it ends at."""
     name = 'Clp'
     ENDLESS = 1e30  # no upper bound
     PERTURB = 50
+    BASIC, AT_LOWER, FIXED = 1, 3, 5  # what Clp calls the place of a column or a row in a basis
 
     def __init__(self, limits: Sequence[float], exact: int):
         self.library = clp_library()
@@ -104,8 +107,9 @@ class ClpMaster:
         self.library.Clp_setLogLevel(self.model, 0)
         self.library.Clp_setPerturbation(self.model, self.PERTURB)
         self.rows, self.width, self.iterations = len(limits), 0, 0
-        self.new = 0
-        self.is_cut = False  # whether a column is held at 0 since the last optimum
+        self.new = 0  # columns since the last optimum
+        self.is_cut = False  # whether a column is held at 0 since then
+        self.interior = HighsMaster(limits, exact)
         upper = numpy.array(limits, float)
         lower = numpy.where(numpy.arange(len(limits)) < exact, upper, -self.ENDLESS)
         starts = numpy.zeros(len(limits) + 1, numpy.int32)
@@ -127,23 +131,29 @@ class ClpMaster:
                                     pointer(starts), pointer(places), pointer(ones))
         self.width += count
         self.new += count
+        self.interior.add(costs, rows)
 
     def forbid(self, forbidden: numpy.ndarray) -> None:
+        self.interior.forbid(forbidden)
         upper = numpy.where(forbidden, 0.0, self.ENDLESS)
         self.library.Clp_chgColumnUpper(self.model, pointer(upper))
         self.is_cut = True
 
     def drop(self, dropped: numpy.ndarray) -> None:
+        self.interior.drop(dropped)
         places = numpy.flatnonzero(dropped).astype(numpy.int32)
         self.library.Clp_deleteColumns(self.model, len(places), pointer(places))
         self.width -= len(places)
 
     def solve(self) -> Solved:
         clp, model = self.library, self.model
-        if self.is_cut:
+        is_cold = self.new > max(FEW, MANY * self.width)
+        if is_cold:
+            self.begin_at_vertex()
+        elif self.is_cut:
             clp.Clp_dual(model, 0)
             self.iterations += clp.Clp_numberIterations(model)
-        if not self.is_cut or clp.Clp_status(model) != 0:
+        if is_cold or not self.is_cut or clp.Clp_status(model) != 0:
             clp.Clp_primal(model, 0)
             self.iterations += clp.Clp_numberIterations(model)
         if clp.Clp_status(model) != 0:
@@ -151,6 +161,19 @@ class ClpMaster:
         self.is_cut, self.new = False, 0
         return Solved(clp.Clp_getObjValue(model), self.copied(clp.Clp_getRowPrice, self.rows),
                       self.copied(clp.Clp_getColSolution, self.width))
+
+    def begin_at_vertex(self) -> None:
+        """Gives Clp the columns that are not 0 at the interior point method's vertex for its basis, which it completes by
+        rows; from there it has the last few steps to go."""
+        found = self.interior.solve()
+        self.iterations += self.interior.iterations
+        self.interior.iterations = 0
+        places = numpy.full(self.width + self.rows, self.AT_LOWER, numpy.uint8)
+        places[:self.width][found.values > VERTEX] = self.BASIC
+        covered = self.interior.columns @ found.values
+        is_slack = numpy.abs(covered - self.interior.limits) > VERTEX
+        places[self.width:] = numpy.where(is_slack, self.BASIC, self.FIXED)
+        self.library.Clp_copyinStatus(self.model, pointer(places))
 
     def copied(self, of: ctypes._CFuncPtr, count: int) -> numpy.ndarray:
         return numpy.ctypeslib.as_array(of(self.model), (count,)).copy()

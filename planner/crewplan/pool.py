@@ -91,14 +91,16 @@ class Pool:
         """The reduced cost of each pairing."""
         return self.pays - self.matrix @ duals
 
-    def improving(self, duals: numpy.ndarray, most: int, share: int, left_out: numpy.ndarray) -> numpy.ndarray:
+    def improving(self, duals: numpy.ndarray, most: int, share: int,
+                  left_out: numpy.ndarray) -> tuple[numpy.ndarray, float]:
         """Places of pairings that improve under these duals, the best first, up to so many, of which no more than
-        `share` fly a flight (any number for 0)."""
+        `share` fly a flight (any number for 0); and the reduced cost of the best, or 0."""
         reduced = numpy.where(left_out, 0.0, self.reduced(duals))
         places = numpy.flatnonzero(reduced < -EPSILON)
         places = places[numpy.argsort(reduced[places], kind='stable')]
+        least = float(reduced[places[0]]) if len(places) else 0.0
         if not share:
-            return places[:most]
+            return places[:most], least
         used = numpy.zeros(len(self.rows.flights), int)
         taken: list[int] = []
         for place in places:
@@ -108,7 +110,7 @@ class Pool:
                 taken.append(place)
                 if len(taken) == most:
                     break
-        return numpy.array(taken, int)
+        return numpy.array(taken, int), least
 
     def against(self, after: Mapping[int, int], before: Mapping[int, int]) -> numpy.ndarray:
         """Which pairings break a follow-on: one flight without the other, or another between them."""

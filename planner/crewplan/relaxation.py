@@ -29,13 +29,15 @@ INNER = 100  # most masters between two settles
 @dataclass(frozen=True)
 class Ways:
     """How a run goes. A settle lists up to `most` pairings, of which no more than `share` fly a flight (any number for
-    0). A master takes up to `take` columns at once, of which no more than `spread` fly a flight. A column that was
+    0). A master takes up to `take` columns at once, of which no more than `spread` fly a flight, and after the first one
+    of a round only where the best improves by more than `enough` of what the settle's best did. A column that was
     dearer than `dear` in `patience` masters in a row is dropped, once. The run ends where the objective is at most
     `gap` of the bound above it, or after so many `seconds`."""
     most: int = 400
     share: int = 8
     take: int = 400
     spread: int = 8
+    enough: float = 0.0
     dear: float = math.inf
     patience: int = 20
     gap: float = 0.0
@@ -157,7 +159,8 @@ class Problem:
         cost = Cost(solved.objective - self.penalty * missing, missing, self.penalty)
         return Relaxed(cost, solved.duals, values, uncovered)
 
-    def improving(self, relaxed: Relaxed, ways: Ways) -> numpy.ndarray:
+    def improving(self, relaxed: Relaxed, ways: Ways) -> tuple[numpy.ndarray, float]:
+        """Pairings of the pool for the next master, and the least reduced cost of them."""
         began = time.process_time()
         found = self.pool.improving(relaxed.duals, ways.take, ways.spread, self.is_column() | self.left_out)
         self.processor_seconds += time.process_time() - began
@@ -241,12 +244,13 @@ def relax(timetable: Timetable, engine: Engine, ways: Ways, *, penalty: float = 
 
 
 def feed(problem: Problem, relaxed: Relaxed, ways: Ways, dropping: Dropping | None = None) -> tuple[Relaxed, int]:
-    """Masters that take from the pool until none in it improves; the last optimum, and how many columns came."""
-    took = 0
+    """Masters that take from the pool until none in it improves enough; the last optimum, and how many columns came."""
+    took, enough = 0, 0.0
     for _ in range(INNER):
-        places = problem.improving(relaxed, ways)
-        if not len(places):
+        places, least = problem.improving(relaxed, ways)
+        if not len(places) or least > enough:
             break
+        enough = enough or ways.enough * least
         problem.add(places)
         took += len(places)
         relaxed = problem.relax()

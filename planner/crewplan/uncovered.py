@@ -100,8 +100,8 @@ class Ways:
             return f'the {wait} minutes {what} are less than --connect {settings.connect}'
         if rest > settings.max_rest:
             return f'the rest {what}, of {hours(rest)}, is longer than --max-rest {settings.max_rest}'
-        return (f'the {hours(wait)} {what} are more than --sit {settings.sit} and leave less than the '
-                f'{LEAST_REST} minutes of a rest')
+        return (f'the {hours(wait)} {what} are more than --sit {settings.sit} and less than a rest of {LEAST_REST} '
+                f'minutes wants')
 
 
 def hours(minutes: float) -> str:

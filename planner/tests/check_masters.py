@@ -16,6 +16,7 @@ import numpy
 TESTS = Path(__file__).resolve().parent
 sys.path[:0] = [str(TESTS), str(TESTS.parent)]
 
+from crewplan import master as masters_module
 from crewplan.master import ClpMaster, HighsMaster, Master, Solved, clp_library
 
 SEED, PROGRAMS, STEPS, CLOSE = 17, 40, 12, 1e-5
@@ -86,7 +87,9 @@ def main(_: str = '') -> int:
         print('masters: left out, since Clp is not installed')
         return 0
     draw, bad, optima = random.Random(SEED), 0, 0
-    for _ in range(PROGRAMS):
+    for place in range(PROGRAMS):
+        # On every second program an interior point method goes first wherever columns are new.
+        masters_module.FEW, masters_module.MANY = (500, 0.3) if place % 2 else (0, 0.0)
         twins = Twins(draw)
         for _ in range(STEPS):
             twins.change()
