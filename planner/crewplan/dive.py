@@ -3,13 +3,14 @@
 In an optimum of the relaxation much is whole already: most flights are followed by one other in all pairings that fly
 them. Those follow-ons are enforced, and then the greatest others, a few at a time. After each step the masters are
 solved again and the engine is asked for pairings that keep what is enforced. A step after which the objective has risen
-too far is undone, and tried again with the greater half of it.
+too far is undone, and tried again with the greater half of it. Where few columns are left that a plan can have which is
+near enough, an integer program over them ends the dive.
 """
 from __future__ import annotations
 
 import time
 from collections.abc import Callable
-from dataclasses import dataclass, replace
+from dataclasses import dataclass
 
 import numpy
 
@@ -17,8 +18,7 @@ from .enforce import FollowOns, Pair
 from .engine import Engine
 from .plan import Whole, whole_of
 from .relaxation import Cost, Problem, Relaxed, Ways, feed
-from .settings import Settings
-from .timetable import Timetable
+from .whole import least_cover
 
 WHOLE = 1e-6  # so near to 0 or 1 a value is that
 NEXT = 0.999  # pays are whole points, so a better plan costs a point less at least
@@ -29,7 +29,8 @@ class Steps:
     """How a dive goes. A step takes follow-ons of at least the `least` weight, up to a `part` of the flights; where
     there is none the few of `few` or more, and where there is none the greatest alone. It is undone where the objective
     rises by more than `rise` of the pay. Between two steps there are up to `settles` settles, and no further one where
-    the least cost is above `-close` points."""
+    the least cost is above `-close` points. Once no more than `last` columns keep what is enforced at a reduced cost of
+    `near` of the pay, an integer program is tried for so many `seconds`, and again at half as many columns."""
     part: float = 0.05
     least: float = 0.75
     few: float = 0.6
@@ -38,6 +39,9 @@ class Steps:
     close: float = 20.0
     most: int = 2_000
     share: int = 20
+    last: int = 1_500
+    near: float = 0.003
+    seconds: float = 5.0
 
 
 @dataclass(frozen=True)
@@ -71,10 +75,13 @@ class Dive:
         deadline, where no plan below a cost can come any more, or where no zone was left for a follow-on."""
         try:
             self.follow_ons.enforce(kept)
-            relaxed = self.settle()
+            relaxed, self.last = self.settle(), self.steps.last
             for number in range(1, 10 * self.problem.count):
                 if not self.split(relaxed):
                     return self.plan(relaxed)
+                found, is_end = self.finish(relaxed)
+                if is_end:
+                    return found
                 pairs = self.next_pairs(relaxed)
                 if not pairs or time.perf_counter() > self.deadline or relaxed.cost.all > self.below - NEXT:
                     return None
@@ -91,6 +98,24 @@ class Dive:
 
     def plan(self, relaxed: Relaxed) -> Whole:
         return whole_of(self.problem, numpy.flatnonzero(relaxed.values > 0.5).tolist())
+
+    def finish(self, relaxed: Relaxed) -> tuple[Whole | None, bool]:
+        """The plan of an integer program over the columns that a plan near enough can have, where they are few; and
+        whether the dive is at its end: with a plan, or where there is none below the cost that it has to be below."""
+        near = relaxed.cost.all + self.steps.near * abs(relaxed.cost.pay)
+        gap = min(self.below, near) - relaxed.cost.all
+        problem = self.problem
+        places = numpy.flatnonzero((problem.pool.reduced(relaxed.duals) <= gap) & ~problem.left_out)
+        if len(places) > self.last:
+            return None, False
+        self.last = len(places) // 2
+        rows = numpy.arange(problem.count)
+        may_miss = rows[(problem.penalty - relaxed.duals[:problem.count] <= gap) | (relaxed.uncovered > WHOLE)]
+        found, is_whole = least_cover(problem, places, rows, may_miss, [],
+                                      min(self.steps.seconds, self.deadline - time.perf_counter()))
+        if found is None:
+            return None, is_whole and self.below <= near
+        return whole_of(problem, found), True
 
     def next_pairs(self, relaxed: Relaxed) -> list[Pair]:
         """Those that are whole, and then some others, the greatest first."""

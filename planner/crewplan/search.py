@@ -19,7 +19,7 @@ from .whole import Better, improve
 
 KINDS = (Steps(), Steps(part=0.02, least=0.9), Steps(part=0.1, least=0.6))
 LEAST, MOST = 0.15, 0.6  # of a plan that is given up for a dive again
-PROGRAMS = 0.15  # of the time: for the integer programs between two dives at most
+PROGRAMS = 0.08  # of the time: for the integer programs between two dives at most
 
 
 @dataclass

@@ -110,28 +110,35 @@ class Better:
 
     def covered_anew(self, parts: numpy.ndarray, seconds: float) -> tuple[Whole | None, bool]:
         """A better plan that has all other parts, where one is found, and whether the search was whole."""
-        problem, pool = self.problem, self.problem.pool
-        places = self.columns[self.inside(parts)]
         rows = numpy.flatnonzero(parts[self.owners])
-        missing = rows[self.may_miss[rows]]
         kept = [place for part, place in enumerate(self.plan.places) if not parts[part]]
-        costs = numpy.concatenate((pool.pays[places], numpy.full(len(missing), problem.penalty)))
-        row_of = {row: at for at, row in enumerate(rows)}
-        slack = coo_array((numpy.ones(len(missing)), ([row_of[row] for row in missing], numpy.arange(len(missing)))),
-                          shape=(len(rows), len(missing)))
-        limits = [LinearConstraint(hstack((pool.matrix[places][:, rows].T, slack)).tocsc(), 1, 1)]
-        if pool.rows.bases:
-            used = pool.matrix[kept][:, problem.count:].sum(axis=0) if kept else numpy.zeros(len(pool.rows.bases))
-            counts = hstack((pool.matrix[places][:, problem.count:].T,
-                             coo_array((len(pool.rows.bases), len(missing))))).tocsc()
-            limits.append(LinearConstraint(counts, 0, numpy.array(pool.rows.limits[problem.count:]) - used))
-        found = milp(costs, constraints=limits, integrality=numpy.ones(len(costs)), bounds=Bounds(0, 1),
-                     options={'time_limit': max(seconds, 0.1), 'mip_rel_gap': 0.0})
-        is_whole = found.status == 0
-        if found.x is None:
-            return None, is_whole
-        plan = whole_of(problem, kept + places[found.x[:len(places)] > 0.5].tolist())
-        return (plan, is_whole) if plan.cost.all < self.plan.cost.all - 0.5 else (None, is_whole)
+        places, is_whole = least_cover(self.problem, self.columns[self.inside(parts)], rows, rows[self.may_miss[rows]],
+                                       kept, seconds)
+        plan = None if places is None else whole_of(self.problem, kept + places)
+        return (plan, is_whole) if plan and plan.cost.all < self.plan.cost.all - 0.5 else (None, is_whole)
+
+
+def least_cover(problem: Problem, columns: numpy.ndarray, rows: numpy.ndarray, may_miss: numpy.ndarray, kept: list[int],
+                seconds: float) -> tuple[list[int] | None, bool]:
+    """Of these columns those that cover each of the rows once at least cost, where some may be missed at the penalty, and
+    `kept` are the plan's other pairings, which fill places of bases; none where there is no such cover or none was found.
+    And whether the search was whole."""
+    pool = problem.pool
+    costs = numpy.concatenate((pool.pays[columns], numpy.full(len(may_miss), problem.penalty)))
+    slack = coo_array((numpy.ones(len(may_miss)), (numpy.searchsorted(rows, may_miss), numpy.arange(len(may_miss)))),
+                      shape=(len(rows), len(may_miss)))
+    limits = [LinearConstraint(hstack((pool.matrix[columns][:, rows].T, slack)).tocsc(), 1, 1)]
+    if pool.rows.bases:
+        bases = len(pool.rows.bases)
+        used = pool.matrix[kept][:, problem.count:].sum(axis=0) if kept else numpy.zeros(bases)
+        counts = hstack((pool.matrix[columns][:, problem.count:].T, coo_array((bases, len(may_miss))))).tocsc()
+        limits.append(LinearConstraint(counts, 0, numpy.array(pool.rows.limits[problem.count:]) - used))
+    found = milp(costs, constraints=limits, integrality=numpy.ones(len(costs)), bounds=Bounds(0, 1),
+                 options={'time_limit': max(seconds, 0.1), 'mip_rel_gap': 0.0})
+    is_whole = found.status in (0, 2)  # the best, or there is none
+    if found.x is None:
+        return None, is_whole
+    return columns[found.x[:len(columns)] > 0.5].tolist(), is_whole
 
 
 def improve(problem: Problem, duals: numpy.ndarray, objective: float, plan: Whole, seconds: float,
