@@ -15,10 +15,11 @@ from .dive import Step
 from .engine import Engine
 from .faults import Fault, ScheduleFault
 from .files import check_folder, write_whole
+from .master import clp_library
 from .plan import Whole
 from .progress import Progress
 from .relaxation import PENALTY, Cost, Result, Round, Ways, relax, ways_of
-from .report import Figures, Report, csv_of, hours, json_of, report_of, text_of
+from .report import Figures, Report, Run, csv_of, hours, json_of, report_of, text_of
 from .search import Search
 from .settings import Settings, settings_of
 from .timetable import Timetable, read
@@ -117,6 +118,9 @@ def plan(timetable: Timetable, given: argparse.Namespace, options: list[str], pr
     """The whole run: what can't be flown, the relaxation, dives, better plans."""
     settings = settings_of(options)
     with Engine(given.program or str(proving.SCRIPT), options, timetable) as engine:
+        if given.master == 'auto' and clp_library() is None:
+            progress.close('plan: Clp is not installed, so HiGHS solves the linear programs, several times slower: '
+                           'apt-get install coinor-libclp1')
         progress.tell('reach', 'which flights any legal pairing flies')
         numbers = unreachable(timetable, engine)
         if len(numbers) == len(timetable.flights):
@@ -126,14 +130,15 @@ def plan(timetable: Timetable, given: argparse.Namespace, options: list[str], pr
         ways = ways_from(given, len(reached.flights))
         relaxed = relax(reached, engine, ways, penalty=given.penalty, capacity=given.capacity,
                         tell=lambda turn: progress.tell('relaxation', round_line(turn)))
-        found = whole_plan(reached, settings, engine, relaxed, ways, given, progress)
-        tell_run(relaxed, engine, progress)
+        found, dives = whole_plan(reached, settings, engine, relaxed, ways, given, progress)
+        run = run_of(relaxed, engine, dives, progress)
+    progress.close(run_line(run))
     pool = relaxed.problem.pool
     bound = relaxed.bound - relaxed.problem.penalty * len(found.uncovered)
     figures = Figures(len(timetable.flights), found.cost.pay, bound, relaxed.relaxed.cost.pay,
-                      relaxed.relaxed.cost.uncovered, relaxed.is_optimal, progress.seconds)
+                      relaxed.relaxed.cost.uncovered, relaxed.is_optimal)
     return report_of(timetable, settings, [pool.pairings[place] for place in found.places],
-                     [pool.rows.numbers[row] for row in found.uncovered], causes(timetable, settings, numbers), figures)
+                     [pool.rows.numbers[row] for row in found.uncovered], causes(timetable, settings, numbers), figures, run)
 
 
 def ways_from(given: argparse.Namespace, flights: int) -> Ways:
@@ -143,14 +148,14 @@ def ways_from(given: argparse.Namespace, flights: int) -> Ways:
 
 
 def whole_plan(timetable: Timetable, settings: Settings, engine: Engine, relaxed: Result, ways: Ways,
-               given: argparse.Namespace, progress: Progress) -> Whole:
-    """The best plan that the search finds in its time."""
+               given: argparse.Namespace, progress: Progress) -> tuple[Whole, int]:
+    """The best plan that the search finds in its time, and how many dives that took."""
     base = relaxed.relaxed.cost
     search = Search(timetable, settings, engine, relaxed.problem, relaxed.relaxed, ways,
                     lambda name, step: progress.tell(name, step_line(step, base)),
                     lambda name, plan: progress.tell(name, plan_line(plan, base)))
     seconds = max(20.0, 45 * (relaxed.problem.count / 500) ** 2) if given.seconds is None else given.seconds
-    return search.run(given.dives, seconds)
+    return search.run(given.dives, seconds), search.dives
 
 
 def round_line(turn: Round) -> str:
@@ -172,13 +177,18 @@ def plan_line(plan: Whole, base: Cost) -> str:
     return f'a plan {above(plan.cost, base)}, {len(plan.uncovered)} uncovered'
 
 
-def tell_run(relaxed: Result, engine: Engine, progress: Progress) -> None:
+def run_of(relaxed: Result, engine: Engine, dives: int, progress: Progress) -> Run:
     problem = relaxed.problem
-    progress.close(f'{progress.seconds:8.1f} s  {len(relaxed.rounds)} rounds in {relaxed.seconds:.1f} s, '
-                   f'{engine.settles} settles, {len(problem.places)} columns of {len(problem.pool)} pairings; '
-                   f'{problem.master.name}: {problem.masters} masters, {problem.processor_seconds:.1f} s of a processor '
-                   f'with the pool; engine: {engine.seconds:.1f} s by the clock, {engine.processor_seconds():.1f} s of '
-                   'processors')
+    return Run(problem.master.name, len(relaxed.rounds), engine.settles, dives, len(problem.places), len(problem.pool),
+               problem.masters, problem.processor_seconds, engine.seconds, engine.processor_seconds(), relaxed.seconds,
+               progress.seconds)
+
+
+def run_line(run: Run) -> str:
+    return (f'{run.seconds:8.1f} s  {run.rounds} rounds in {run.relaxation_seconds:.1f} s, {run.dives} dives, {run.settles} '
+            f'settles, {run.columns} columns of {run.pool} pairings; {run.solver}: {run.masters} masters, '
+            f'{run.master_processor_seconds:.1f} s of a processor with the pool; engine: {run.engine_seconds:.1f} s by the '
+            f'clock, {run.engine_processor_seconds:.1f} s of processors')
 
 
 def summary(report: Report) -> str:
@@ -190,7 +200,7 @@ def summary(report: Report) -> str:
             f'by choice, {len(report.unreachable)} that no legal pairing flies\n'
             f'relaxation ({end}): pay {hours(it.relaxation)}, {it.relaxation_uncovered:.2f} left uncovered\n'
             f'least pay of any plan that leaves {uncovered} uncovered: {hours(it.bound)}; this plan is '
-            f'{100 * it.above:.3f} % above it\n{it.seconds:.1f} s')
+            f'{100 * it.above:.3f} % above it\n{report.run.seconds:.1f} s')
 
 
 def write_all(given: argparse.Namespace, report: Report) -> None:

@@ -1,7 +1,7 @@
 """The pricing engine: `crewprice run`, started once, with both pipes open.
 
 It is given prices and answers with pairings. Its standard error goes where this program's goes. Whatever it refuses, and
-its end before an answer, is an EngineFault of one line.
+its end before an answer, is a fault of one line.
 """
 from __future__ import annotations
 
@@ -11,7 +11,7 @@ import subprocess
 import time
 from collections.abc import Iterable
 
-from .faults import EngineFault
+from .faults import EngineFault, ScheduleFault
 from .pairing import Pairing, pairing_of
 from .prices import Prices
 from .timetable import Flight, Timetable, record_of
@@ -19,6 +19,11 @@ from .timetable import Flight, Timetable, record_of
 PATIENCE = 60.0  # seconds for the first answer, which wants no work
 UNREAD = 1500  # records without an answer between them: what is refused of so many fits into a pipe
 MOST_EDITS = 900_000  # of one session, which takes 1,000,000
+
+
+REFUSALS = {'4': 'the rule of a zone is a POSIX rule of local time', '29': 'a session holds 5,000 flights',
+            '30': 'a session holds 16 bases', '75': 'a session holds 2,000 zones',
+            '40': 'there are more than 200,000 legal duties: give the engine a lesser --sit, as -- --sit 180'}
 
 
 class Engine:
@@ -116,7 +121,8 @@ class Engine:
         if line.startswith('record '):
             _, number, _, refusal = line.split()
             record = self.unsettled.get(int(number), question)
-            raise EngineFault(f'the engine refused {record!r} by {refusal}; docs/sessions.md has the refusals')
+            why = REFUSALS.get(refusal, 'docs/sessions.md has the refusals')
+            raise ScheduleFault(f'the engine refused {record!r} by {refusal}: {why}')
         return line
 
     def set_prices(self, prices: Prices) -> None:

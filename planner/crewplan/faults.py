@@ -10,9 +10,9 @@ class Fault(Exception):
 
 
 class ScheduleFault(Fault):
-    """A schedule that can't be read, or has nothing to plan."""
+    """A schedule that can't be read, that the engine refuses, or that has nothing to plan."""
 
 
 class EngineFault(Fault):
-    """The engine refused a record, ended, or can't be started."""
+    """The engine ended, or can't be started."""
     status = NOT_READY

@@ -48,7 +48,15 @@ def see_to_it(may_prove: bool) -> None:
                           'writable, or name a proved engine by --program')
     print(f'plan: the engine is not proved on this copy yet; that takes {HOW_LONG}, and goes on now:', file=sys.stderr,
           flush=True)
-    ended = subprocess.run([SCRIPT, 'prove'], stdin=subprocess.DEVNULL, stdout=sys.stderr.fileno())
-    if ended.returncode:
-        raise EngineFault(f'the engine was not proved: `{prove} prove` ended with status {ended.returncode}, and what it '
-                          f'said is above')
+    if status := prove_it():
+        raise EngineFault(f'the engine was not proved: `{prove} prove` ended with status {status}; what it said is above')
+
+
+def prove_it() -> int:
+    """The status of the proof. Who stops this program ends the proof too, which then clears up after itself."""
+    with subprocess.Popen([SCRIPT, 'prove'], stdin=subprocess.DEVNULL, stdout=sys.stderr.fileno()) as child:
+        try:
+            return child.wait()
+        except BaseException:
+            child.terminate()
+            raise

@@ -85,12 +85,30 @@ class Figures:
     relaxation: float
     relaxation_uncovered: float
     is_optimal: bool
-    seconds: float
 
     @property
     def above(self) -> float:
         """How far the pay lies above the bound, as a part of it; 0 where both are none."""
         return self.pay / self.bound - 1 if self.bound > 0 else 0.0
+
+
+@dataclass(frozen=True)
+class Run:
+    """What a run took: rounds of the relaxation, settles of all phases, columns of the master problem and pairings of the
+    pool, solves of the master problem, and seconds. Those of masters and pool are of a processor; the engine's are by the
+    clock, and of all processors that it used."""
+    solver: str
+    rounds: int
+    settles: int
+    dives: int
+    columns: int
+    pool: int
+    masters: int
+    master_processor_seconds: float
+    engine_seconds: float
+    engine_processor_seconds: float
+    relaxation_seconds: float
+    seconds: float
 
 
 @dataclass(frozen=True)
@@ -101,17 +119,18 @@ class Report:
     by_choice: tuple[Flight, ...]
     unreachable: tuple[Unreachable, ...]
     figures: Figures
+    run: Run
 
 
 def report_of(timetable: Timetable, settings: Settings, pairings: Sequence[Pairing], by_choice: Sequence[int],
-              unreachable: Sequence[Unreachable], figures: Figures) -> Report:
+              unreachable: Sequence[Unreachable], figures: Figures, run: Run) -> Report:
     def begins(pairing: Pairing) -> tuple[str, int, str]:
         return pairing.base, timetable.flights[pairing.legs[0]].departure, pairing.walk
 
     lines = tuple(line_of(timetable, settings, number, pairing)
                   for number, pairing in enumerate(sorted(pairings, key=begins), 1))
     left = sorted((timetable.flights[number] for number in by_choice), key=lambda it: (it.departure, it.number))
-    return Report(timetable, lines, tuple(left), tuple(unreachable), figures)
+    return Report(timetable, lines, tuple(left), tuple(unreachable), figures, run)
 
 
 def line_of(timetable: Timetable, settings: Settings, number: int, pairing: Pairing) -> Line:
@@ -240,7 +259,7 @@ def json_of(report: Report) -> str:
     days = [{'base': base, 'day': f'{day}', **asdict(total)} for (base, day), total in by_day(report).items()]
     return json.dumps({
         'figures': asdict(report.figures) | {'above': report.figures.above, 'uncovered_by_choice': len(report.by_choice),
-                                             'unreachable': len(report.unreachable)},
+                                             'unreachable': len(report.unreachable)}, 'run': asdict(report.run),
         'pairings': [pairing_object(timetable, line) for line in report.lines],
         'by_base': {base: asdict(total) for base, total in by_base(report).items()}, 'by_day': days,
         'uncovered_by_choice': [flight_object(timetable, flight) for flight in report.by_choice],

@@ -18,7 +18,8 @@ from .timetable import Timetable
 from .whole import Better, improve
 
 KINDS = (Steps(), Steps(part=0.02, least=0.9), Steps(part=0.1, least=0.6))
-LEAST, MOST = 0.15, 0.6  # of a plan that is given up for a dive again
+LEAST, MOST = 0.1, 0.8  # of a plan that is given up for a dive again
+FIRST = 300  # flights, of which that is the first part
 PROGRAMS = 0.08  # of the time: for the integer programs between two dives at most
 
 
@@ -53,7 +54,7 @@ class Search:
             self.dive(KINDS[number % len(KINDS)], [], deadline)
         self.best = self.best or whole_of(self.problem, [])
         deadline = began + seconds
-        part, is_new = 0.3, True
+        part, is_new = min(0.6, FIRST / self.problem.count), True
         while not self.is_done() and time.perf_counter() < deadline:
             before = self.best
             if is_new:

@@ -14,7 +14,7 @@ sys.path[:0] = [str(TESTS), str(TESTS.parent)]
 
 from crewplan.page import page_of
 from crewplan.pairing import Pairing
-from crewplan.report import Figures, Report, by_base, by_day, csv_of, json_of, report_of, text_of
+from crewplan.report import Figures, Report, Run, by_base, by_day, csv_of, json_of, report_of, text_of
 from crewplan.rules import flight_duty_limit, flight_time_limit
 from crewplan.settings import Settings, settings_of
 from crewplan.timetable import read_text
@@ -37,8 +37,9 @@ def report() -> Report:
     """Of the flights of the session: the pairing that docs/sessions.md works out, and another of one duty."""
     text = '\n'.join(line for line in SESSION.read_text().split('settle')[0].splitlines() if ',LGA,' not in line)
     pairings = [Pairing('BOS', '11-13 21-22', 8400, 1875)]
-    figures = Figures(8, 8400.0, 8000.0, 8100.0, 3.0, True, 1.0)
-    return report_of(read_text(text), Settings(), pairings, [12, 14], [Unreachable(15, 'nothing <leaves>')], figures)
+    figures = Figures(8, 8400.0, 8000.0, 8100.0, 3.0, True)
+    run = Run('Clp', 1, 2, 3, 4, 5, 6, 7.0, 8.0, 9.0, 10.0, 11.0)
+    return report_of(read_text(text), Settings(), pairings, [12, 14], [Unreachable(15, 'nothing <leaves>')], figures, run)
 
 
 def check_rows() -> None:
