@@ -101,7 +101,8 @@ class Dive:
 
     def finish(self, relaxed: Relaxed) -> tuple[Whole | None, bool]:
         """The plan of an integer program over the columns that a plan near enough can have, where they are few; and
-        whether the dive is at its end: with a plan, or where there is none below the cost that it has to be below."""
+        whether the dive is at its end: with a plan that is near, or the best of these columns, or where there is none
+        below the cost that it has to be below."""
         near = relaxed.cost.all + self.steps.near * abs(relaxed.cost.pay)
         gap = min(self.below, near) - relaxed.cost.all
         problem = self.problem
@@ -115,7 +116,8 @@ class Dive:
                                       min(self.steps.seconds, self.deadline - time.perf_counter()))
         if found is None:
             return None, is_whole and self.below <= near
-        return whole_of(problem, found), True
+        plan = whole_of(problem, found)
+        return plan, is_whole or plan.cost.all <= near
 
     def next_pairs(self, relaxed: Relaxed) -> list[Pair]:
         """Those that are whole, and then some others, the greatest first."""
