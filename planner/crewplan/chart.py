@@ -49,17 +49,18 @@ def size_of(report: Report) -> tuple[int, int]:
 
 
 def span_of(lines: list[Line]) -> Span:
-    return Span(min(line.report for line in lines) // 60 * 60 - 60, max(line.release for line in lines) // 60 * 60 + 120)
+    first, last = min(line.report for line in lines), max(line.release for line in lines)
+    return Span(first // 60 * 60 - 60, last // 60 * 60 + 120)
 
 
 def base_chart(timetable: Timetable, base: str, lines: list[Line], colour: str) -> str:
     span = span_of(lines)
     height = HEAD + ROW * len(lines)
-    parts = [f'<svg width="{span.width:.0f}" height="{height}" style="display:block;margin:0 0 16px" '
-             f'role="img" aria-label="pairings of {base} over time">', *background(timetable, base, span, height)]
+    parts = [f'<div class="chart"><svg width="{span.width:.0f}" height="{height}" style="display:block" role="img" '
+             f'aria-label="pairings of {base} over time">', *background(timetable, base, span, height)]
     for place, line in enumerate(lines):
         parts += row(timetable, line, span, HEAD + ROW * place, colour)
-    return '\n'.join(parts) + '</svg>'
+    return '\n'.join(parts) + '</svg></div>'
 
 
 def background(timetable: Timetable, base: str, span: Span, height: int) -> Iterator[str]:
@@ -95,7 +96,8 @@ def row(timetable: Timetable, line: Line, span: Span, top: int, colour: str) -> 
         yield from bar(timetable, line, duty, span, top, colour)
         if place < len(line.duties):
             start, end = span.x(duty.release), span.x(line.duties[place].report)
-            yield f'<line x1="{start:.1f}" y1="{top + 10}" x2="{end:.1f}" y2="{top + 10}" stroke="{colour}" stroke-dasharray="2 3"/>'
+            yield (f'<line x1="{start:.1f}" y1="{top + 10}" x2="{end:.1f}" y2="{top + 10}" stroke="{colour}" '
+                   'stroke-dasharray="2 3"/>')
             yield text((start + end) / 2, top + 8, f'{duty.destination} {rest_after(line, place)}',
                        'text-anchor="middle" fill="#555"')
 
@@ -109,7 +111,8 @@ def bar(timetable: Timetable, line: Line, duty: Duty, span: Span, top: int, colo
         fill = '#ffffff' if leg.rides else colour
         yield box(start, top + 3, end - start, 14, fill, f'stroke="{colour}" stroke-width="0.7"')
         fitting = leg.name if 5.6 * len(leg.name) < end - start else leg.name.lstrip('ABCDEFGHIJKLMNOPQRSTUVWXYZ')
-        yield text((start + end) / 2, top + 13, fitting, f'text-anchor="middle" fill="{"#333" if leg.rides else "#fff"}"')
+        ink = '#333' if leg.rides else '#fff'
+        yield text((start + end) / 2, top + 13, fitting, f'text-anchor="middle" fill="{ink}"')
         yield text(start, top + 26, leg.flight.origin, 'text-anchor="middle" fill="#333"')
     yield text(span.x(duty.legs[-1].flight.arrival), top + 26, duty.destination, 'text-anchor="middle" fill="#333"')
     yield '</g>'

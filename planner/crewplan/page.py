@@ -31,6 +31,7 @@ th { background: #f3f4f6; font-weight: 600 }
 .tight { background: #fff0c8 } .left { color: #a00 }
 .figures td:first-child, .figures th:first-child { text-align: left }
 .side { display: flex; flex-wrap: wrap; gap: 0 36px; align-items: flex-start }
+.chart { overflow-x: auto; margin: 0 0 16px }
 details { margin: 2px 0 } summary { cursor: pointer; font-weight: 600 }
 svg text { font: 9px "DejaVu Sans", Arial, sans-serif }
 '''

@@ -197,7 +197,8 @@ def total_of(lines: Sequence[Line]) -> Total:
 
 
 def by_base(report: Report) -> dict[str, Total]:
-    return {base: total_of([line for line in report.lines if line.base == base]) for base in sorted(report.timetable.bases)}
+    return {base: total_of([line for line in report.lines if line.base == base])
+            for base in sorted(report.timetable.bases)}
 
 
 @dataclass(frozen=True)
@@ -232,7 +233,8 @@ def csv_of(report: Report) -> str:
     writer.writerow(names)
     for line in report.lines:
         for place, duty in enumerate(line.duties, 1):
-            writer.writerows(leg_row(report.timetable, line, place, duty, at, leg) for at, leg in enumerate(duty.legs, 1))
+            writer.writerows(leg_row(report.timetable, line, place, duty, at, leg)
+                             for at, leg in enumerate(duty.legs, 1))
     return file.getvalue()
 
 

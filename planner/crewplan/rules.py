@@ -1,4 +1,4 @@
-"""Tables A and B of 14 CFR part 117, for unaugmented crews, and what a duty and a pairing pay. Lengths are in minutes, pay
+"""Tables A and B of 14 CFR part 117, for unaugmented crews, and what duties and pairings pay. Lengths are in minutes, pay
 in points."""
 from __future__ import annotations
 
