@@ -29,9 +29,9 @@ ABOUT = '''Plans the crews of a schedule: which legal pairings fly its flights a
 
 SCHEDULE is a session's file: its records zone, base and flight, up to its first settle. planner/ssim makes one of an
 airline's schedule. Prices in it don't matter. Words after `--` are options of the engine, as -- --max-rest 1500.'''
-AFTER = '''Standard output has the figures, and with --text the pairings; standard error how far the run is. The status is 0,
-2 where the words of the command can't be read, 1 where the schedule can't be read or planned, and 70 where the engine
-can't be had: each with one line that says what to do. Reports are written at the end, each whole or not at all.'''
+AFTER = '''Standard output has the figures, and with --text the pairings; standard error how far the run is. The status
+is 0, 2 where the words of the command can't be read, 1 where the schedule can't be read or planned, and 70 where the
+engine can't be had: each with one line that says what to do. Reports are written at the end, each whole or not at all.'''
 
 
 def parser() -> argparse.ArgumentParser:
@@ -48,8 +48,8 @@ def parser() -> argparse.ArgumentParser:
     reports.add_argument('--title', help="the page's title (the schedule's name)")
     run = made.add_argument_group('the run')
     run.add_argument('--seconds', type=positive, metavar='N',
-                     help='how long plans are looked for after the relaxation, the first dive apart (20 and more: 45 at 500 '
-                          'flights, 180 at 1,000, 720 at 2,000)')
+                     help='how long plans are looked for after the relaxation; the first dive runs to its end (20 and '
+                          'more: 45 at 500 flights, 180 at 1,000, 720 at 2,000)')
     run.add_argument('--relax-seconds', type=positive, default=math.inf, metavar='N',
                      help='ends the relaxation after so long, with the bound that it has (to its optimum)')
     run.add_argument('--gap', type=positive, default=0.0, metavar='PERCENT',

@@ -69,7 +69,8 @@ def check(legs: Sequence[AirlineLeg], bases: Sequence[str], zones: dict[str, str
     if not bases or len(bases) > MOST_BASES:
         raise ScheduleFault(f'a session has 1 to {MOST_BASES} bases, and these are {len(bases)}: name them by --base')
     if len(legs) > MOST_FLIGHTS:
-        raise ScheduleFault(f'these are {len(legs)} legs, and a session holds {MOST_FLIGHTS}: take fewer days or one fleet')
+        raise ScheduleFault(f'these are {len(legs)} legs, and a session holds {MOST_FLIGHTS}: take fewer days or one '
+                            'fleet')
     used = {end for leg in legs for end in (leg.origin, leg.destination)}
     if idle := [base for base in bases if base not in used]:
         raise ScheduleFault(f'no leg comes to or leaves the base {idle[0]}')

@@ -102,4 +102,5 @@ def leg_of(values: dict[str, str], day: date, number: str, place: int, where: st
     contradiction = '' if is_so else (
         f'it arrives at {values["arrives"]}, and by its elapsed time and {zones[destination]} at {arrives:%H%M}; '
         '--trust-offsets takes the elapsed time')
-    return AirlineLeg(number, day, place, origin, destination, leaves, arrives, departure, arrival, '', where), contradiction
+    leg = AirlineLeg(number, day, place, origin, destination, leaves, arrives, departure, arrival, '', where)
+    return leg, contradiction

@@ -18,15 +18,16 @@ from .zones import TABLE_OF_STATES, zones_of
 ABOUT = '''Reads an airline's schedule: a file of SSIM, chapter 7 (records of 200 bytes), or the US Department of
 Transportation's on-time data (a CSV). Writes a session's zones, bases and flights, and beside it a table that says for
 each of its flights the airline's own number, date and leg.'''
-AFTER = '''The status is 0, or 1 where a line can't be read or taken: then each such line is named by its number, and nothing
-is written. planner/README.md has where each field stands, and how what the format leaves open is read.'''
+AFTER = '''The status is 0, or 1 where a line can't be read or taken: then each such line is named by its number, and
+nothing is written. planner/README.md has where each field stands, and how what the format leaves open is read.'''
 
 
 def parser() -> argparse.ArgumentParser:
     made = argparse.ArgumentParser(prog='ssim', description=ABOUT, epilog=AFTER,
                                    formatter_class=argparse.RawDescriptionHelpFormatter)
     made.add_argument('file', type=Path, metavar='FILE')
-    made.add_argument('--from', type=day, required=True, dest='first', metavar='DATE', help='the first day, as 2026-10-05')
+    made.add_argument('--from', type=day, required=True, dest='first', metavar='DATE',
+                      help='the first day, as 2026-10-05')
     made.add_argument('--to', type=day, required=True, dest='last', metavar='DATE', help='the last day')
     made.add_argument('--base', action='append', default=[], metavar='CODE', help='a crew base; once for each')
     made.add_argument('-o', '--output', type=Path, required=True, metavar='NAME.session',

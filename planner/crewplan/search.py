@@ -19,6 +19,7 @@ from .whole import Better, improve
 
 KINDS = (Steps(), Steps(part=0.02, least=0.9), Steps(part=0.1, least=0.6))
 LEAST, MOST = 0.1, 0.8  # of a plan that is given up for a dive again
+PATIENCE = 15  # dives in a row without a better plan
 FIRST = 300  # flights, of which that is the first part
 PROGRAMS = 0.08  # of the time: for the integer programs between two dives at most
 
@@ -44,8 +45,8 @@ class Search:
         self.dives = 0
 
     def run(self, dives: int, seconds: float) -> Whole:
-        """The best plan that dives find, and then so many seconds at most of integer programs and dives again. The
-        first dive is run to its end."""
+        """The best plan that dives find, integer programs and dives again, in so many seconds; the first dive is run to
+        its end. It ends before where no plan can cost less, or where many dives in a row found none that does."""
         began = time.perf_counter()
         for number in range(dives):
             deadline = numpy.inf if self.best is None else began + seconds
@@ -54,14 +55,14 @@ class Search:
             self.dive(KINDS[number % len(KINDS)], [], deadline)
         self.best = self.best or whole_of(self.problem, [])
         deadline = began + seconds
-        part, is_new = min(0.6, FIRST / self.problem.count), True
-        while not self.is_done() and time.perf_counter() < deadline:
+        part, in_vain = min(0.6, FIRST / self.problem.count), 0
+        while not self.is_done() and time.perf_counter() < deadline and in_vain < PATIENCE:
             before = self.best
-            if is_new:
+            if not in_vain:
                 self.better(min(deadline, time.perf_counter() + PROGRAMS * seconds))
             self.dive(KINDS[int(self.draw.integers(len(KINDS)))], self.kept(part), deadline)
-            is_new = self.best is not before
-            part = max(LEAST, 0.8 * part) if is_new else min(MOST, 1.1 * part)
+            in_vain = in_vain + 1 if self.best is before else 0
+            part = min(MOST, 1.1 * part) if in_vain else max(LEAST, 0.8 * part)
         return self.best
 
     def is_done(self) -> bool:

@@ -260,7 +260,8 @@ def contradictions(legs: Sequence[AirlineLeg], record: Record, zones: dict[str, 
 def contradiction(leg: AirlineLeg, record: Record, zones: dict[str, str]) -> str:
     """Where a UTC variation isn't what the airport's zone has at that instant; nothing where both are, or the zone isn't
     known."""
-    for end, minute, name in ((leg.origin, leg.departure, 'leaves_ahead'), (leg.destination, leg.arrival, 'arrives_ahead')):
+    ends = (leg.origin, leg.departure, 'leaves_ahead'), (leg.destination, leg.arrival, 'arrives_ahead')
+    for end, minute, name in ends:
         if end in zones and offset(ZoneInfo(zones[end]), instant(minute)) != ahead(record[name]):
             true = offset(ZoneInfo(zones[end]), instant(minute)) // timedelta(minutes=1)
             return (f'its UTC variation at {end} is {record[name]}, and {zones[end]} is '

@@ -26,9 +26,7 @@ from crewplan.cli import parser, plan
 from crewplan.progress import Progress
 from crewplan.report import Report, csv_of, json_of
 from crewplan.page import page_of
-from crewplan.settings import settings_of
-from crewplan.timetable import POINTS, read_text
-from crewplan.uncovered import causes
+from crewplan.timetable import read_text
 
 SEED, TIMETABLES = 77, ((48, (6, 14)), (24, (16, 28)))
 PENALTY = 100_000
