@@ -159,9 +159,11 @@ def whole_plan(timetable: Timetable, settings: Settings, engine: Engine, relaxed
 
 
 def round_line(turn: Round) -> str:
-    return (f'round {turn.number}: pay {hours(turn.cost.pay)}, {turn.cost.uncovered:.2f} flights uncovered, least '
-            f'reduced cost {turn.least}, {turn.columns} columns of {turn.pool}, {turn.masters} masters '
-            f'{turn.master_seconds:.2f} s, pricing {turn.pricing_seconds:.2f} s')
+    """The bound is of pay: what any cover pays at least that leaves as much uncovered as the objective."""
+    bound = turn.bound - turn.cost.penalty * turn.cost.uncovered
+    return (f'round {turn.number}: pay {hours(turn.cost.pay)}, bound {hours(bound) if bound > 0 else "none yet"}, '
+            f'{turn.cost.uncovered:.2f} uncovered, least reduced cost {turn.least}, {turn.columns} columns of {turn.pool}, '
+            f'{turn.masters} masters {turn.master_seconds:.2f} s, pricing {turn.pricing_seconds:.2f} s')
 
 
 def above(cost: Cost, base: Cost) -> str:
