@@ -135,8 +135,9 @@ def plan(timetable: Timetable, given: argparse.Namespace, options: list[str], pr
     progress.close(run_line(run))
     pool = relaxed.problem.pool
     bound = relaxed.bound - relaxed.problem.penalty * len(found.uncovered)
-    figures = Figures(len(timetable.flights), found.cost.pay, bound, relaxed.relaxed.cost.pay,
-                      relaxed.relaxed.cost.uncovered, relaxed.is_optimal)
+    base = relaxed.relaxed.cost
+    figures = Figures(len(timetable.flights), found.cost.pay, bound, base.pay, base.uncovered,
+                      (found.cost.all - base.all) / base.pay if base.pay else 0.0, relaxed.is_optimal)
     return report_of(timetable, settings, [pool.pairings[place] for place in found.places],
                      [pool.rows.numbers[row] for row in found.uncovered], causes(timetable, settings, numbers), figures, run)
 
@@ -202,7 +203,7 @@ def summary(report: Report) -> str:
             f'by choice, {len(report.unreachable)} that no legal pairing flies\n'
             f'relaxation ({end}): pay {hours(it.relaxation)}, {it.relaxation_uncovered:.2f} left uncovered\n'
             f'least pay of any plan that leaves {uncovered} uncovered: {hours(it.bound)}; this plan is '
-            f'{100 * it.above:.3f} % above it\n{report.run.seconds:.1f} s')
+            f'{100 * it.above:.3f} % above it, and {100 * it.above_relaxation:.3f} % above the relaxation\n{report.run.seconds:.1f} s')
 
 
 def write_all(given: argparse.Namespace, report: Report) -> None:

@@ -65,7 +65,8 @@ def figures(report: Report) -> Iterator[str]:
             ('block', clock(total.block)), ('pay', hours(total.pay)), ('pay to block', f'{total.credit:.3f}'),
             ('time away from base', clock(total.away)),
             ('least pay of any plan that leaves as many uncovered', hours(it.bound)),
-            ('this plan above that', f'{100 * it.above:.3f} %')]
+            ('this plan above that', f'{100 * it.above:.3f} %'),
+            ('this plan above the relaxation', f'{100 * it.above_relaxation:.3f} %')]
     yield '<table class="figures">' + ''.join(f'<tr><td>{name}<td>{value}' for name, value in rows) + '</table>'
 
 

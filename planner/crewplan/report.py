@@ -77,13 +77,15 @@ class Line:
 
 @dataclass(frozen=True)
 class Figures:
-    """What the plan comes to, and the run. Pays are in points. `bound` is the least pay that any plan can have that leaves
-    as many flights uncovered; `relaxation` the pay of the relaxation, with parts of flights that it leaves uncovered."""
+    """What the plan comes to. Pays are in points. `bound` is the least pay that any plan can have that leaves as many
+    flights uncovered; `relaxation` the pay of the relaxation, with parts of flights that it leaves uncovered, and
+    `above_relaxation` how far the plan lies above it, as a part of its pay, uncovered flights at their penalty."""
     flights: int
     pay: float
     bound: float
     relaxation: float
     relaxation_uncovered: float
+    above_relaxation: float
     is_optimal: bool
 
     @property

@@ -37,7 +37,7 @@ def report() -> Report:
     """Of the flights of the session: the pairing that docs/sessions.md works out, and another of one duty."""
     text = '\n'.join(line for line in SESSION.read_text().split('settle')[0].splitlines() if ',LGA,' not in line)
     pairings = [Pairing('BOS', '11-13 21-22', 8400, 1875)]
-    figures = Figures(8, 8400.0, 8000.0, 8100.0, 3.0, True)
+    figures = Figures(8, 8400.0, 8000.0, 8100.0, 3.0, 0.04, True)
     run = Run('Clp', 1, 2, 3, 4, 5, 6, 7.0, 8.0, 9.0, 10.0, 11.0)
     return report_of(read_text(text), Settings(), pairings, [12, 14], [Unreachable(15, 'nothing <leaves>')], figures, run)
 
