@@ -30,7 +30,8 @@ class Steps:
     there is none the few of `few` or more, and where there is none the greatest alone. It is undone where the objective
     rises by more than `rise` of the pay. Between two steps there are up to `settles` settles, and no further one where
     the least cost is above `-close` points. Once no more than `last` columns keep what is enforced at a reduced cost of
-    `near` of the pay, an integer program is tried for so many `seconds`, and again at half as many columns."""
+    `near` of the pay, an integer program is tried for so many `seconds`, and again at half as many columns. The dive's
+    own master problem begins with so many `columns` for each flight."""
     part: float = 0.05
     least: float = 0.75
     few: float = 0.6
@@ -39,9 +40,10 @@ class Steps:
     close: float = 20.0
     most: int = 2_000
     share: int = 20
-    last: int = 1_500
+    last: int = 3_000
     near: float = 0.003
     seconds: float = 5.0
+    columns: int = 5
 
 
 @dataclass(frozen=True)
@@ -58,24 +60,23 @@ class Step:
 Tell = Callable[[Step], None]
 
 
-@dataclass
 class Dive:
-    """One dive over a problem. Its follow-ons are released at its end."""
-    problem: Problem
-    engine: Engine
-    follow_ons: FollowOns
-    steps: Steps
-    ways: Ways
-    tell: Tell = lambda _: None
-    deadline: float = numpy.inf
-    below: float = numpy.inf
+    """One dive, from duals of the relaxation, over a master problem of its own. Its follow-ons are released at its end."""
+
+    def __init__(self, problem: Problem, duals: numpy.ndarray, engine: Engine, follow_ons: FollowOns, steps: Steps,
+                 ways: Ways, tell: Tell, deadline: float, below: float):
+        self.whole, self.duals = problem, duals
+        self.engine, self.follow_ons, self.steps, self.ways, self.tell = engine, follow_ons, steps, ways, tell
+        self.deadline, self.below = deadline, below
+        self.last = steps.last
 
     def run(self, kept: list[Pair]) -> Whole | None:
         """The plan that the dive ends at, from where these follow-ons are enforced; none where it stopped: at its
         deadline, where no plan below a cost can come any more, or where no zone was left for a follow-on."""
+        self.follow_ons.enforce(kept)
+        self.problem = self.whole.part(self.broken(), self.duals, self.steps.columns * self.whole.count)
         try:
-            self.follow_ons.enforce(kept)
-            relaxed, self.last = self.settle(), self.steps.last
+            relaxed = self.settle()
             for number in range(1, 10 * self.problem.count):
                 if not self.split(relaxed):
                     return self.plan(relaxed)
@@ -89,7 +90,12 @@ class Dive:
             return None
         finally:
             self.follow_ons.release(self.follow_ons.pairs)
-            self.leave_out()
+            self.whole.masters += self.problem.masters
+            self.whole.processor_seconds += self.problem.processor_seconds
+
+    def broken(self) -> numpy.ndarray:
+        """Which pairings of the pool break a follow-on that is enforced."""
+        return self.whole.pool.against(self.follow_ons.after, self.follow_ons.before)
 
     def split(self, relaxed: Relaxed) -> int:
         """How many columns, and flights, are neither taken nor left."""
@@ -143,13 +149,10 @@ class Dive:
             self.follow_ons.release(done)
             pairs = done[:len(done) // 2]
 
-    def leave_out(self) -> Relaxed:
-        self.problem.leave_out(self.problem.pool.against(self.follow_ons.after, self.follow_ons.before))
-        return self.problem.relax()
-
     def settle(self) -> Relaxed:
         """An optimum of the master with what is enforced, after a few settles."""
-        relaxed, _ = feed(self.problem, self.leave_out(), self.ways)
+        self.problem.leave_out(self.broken())
+        relaxed, _ = feed(self.problem, self.problem.relax(), self.ways)
         for _ in range(self.steps.settles):
             self.engine.set_prices(self.problem.prices(relaxed.duals, numpy.floor))
             listed = self.engine.cheapest(self.steps.most, self.steps.share)

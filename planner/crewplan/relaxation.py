@@ -102,6 +102,7 @@ class Problem:
     pool: Pool
     master: Master
     penalty: float
+    solver: str = 'auto'
     places: numpy.ndarray = field(default_factory=lambda: numpy.zeros(0, int))
     left_out: numpy.ndarray = field(default_factory=lambda: numpy.zeros(0, bool))
     processor_seconds: float = 0.0
@@ -113,7 +114,19 @@ class Problem:
         master = master_of(rows.limits, len(rows.flights), solver)
         count = len(rows.flights)
         master.add([penalty] * count, [[row] for row in range(count)])
-        return cls(timetable, Pool(rows), master, penalty)
+        return cls(timetable, Pool(rows), master, penalty, solver)
+
+    def part(self, left_out: numpy.ndarray, duals: numpy.ndarray, most: int) -> Problem:
+        """Another problem over the same pool, without these pairings; its first columns are those of the others whose
+        reduced cost under these duals is least, up to so many. `most` of them leave out what a dive hardly wants, and
+        what it does comes back from the pool."""
+        rows = self.pool.rows
+        other = Problem(self.timetable, self.pool, master_of(rows.limits, self.count, self.solver), self.penalty,
+                        self.solver, left_out=left_out)
+        other.master.add([self.penalty] * self.count, [[row] for row in range(self.count)])
+        left = numpy.flatnonzero(~left_out)
+        other.add(left[numpy.argsort(self.pool.reduced(duals)[left], kind='stable')[:most]])
+        return other
 
     @property
     def count(self) -> int:
@@ -128,7 +141,6 @@ class Problem:
         """Adds to the pool, and says how many were new."""
         began = time.process_time()
         new = self.pool.add(found)
-        self.left_out = numpy.concatenate((self.left_out, numpy.zeros(len(self.pool) - len(self.left_out), bool)))
         self.processor_seconds += time.process_time() - began
         return new
 
@@ -162,6 +174,7 @@ class Problem:
     def improving(self, relaxed: Relaxed, ways: Ways) -> tuple[numpy.ndarray, float]:
         """Pairings of the pool for the next master, and the least reduced cost of them."""
         began = time.process_time()
+        self.left_out = numpy.concatenate((self.left_out, numpy.zeros(len(self.pool) - len(self.left_out), bool)))
         found = self.pool.improving(relaxed.duals, ways.take, ways.spread, self.is_column() | self.left_out)
         self.processor_seconds += time.process_time() - began
         return found

@@ -21,7 +21,7 @@ KINDS = (Steps(), Steps(part=0.02, least=0.9), Steps(part=0.1, least=0.6))
 LEAST, MOST = 0.1, 0.8  # of a plan that is given up for a dive again
 PATIENCE = 15  # dives in a row without a better plan
 FIRST = 300  # flights, of which that is the first part
-PROGRAMS = 0.08  # of the time: for the integer programs between two dives at most
+PROGRAMS = 0.04  # of the time: for the integer programs between two dives at most
 
 
 @dataclass
@@ -74,8 +74,8 @@ class Search:
         self.dives += 1
         name = f'dive {self.dives}'
         below = numpy.inf if self.best is None else self.best.cost.all
-        found = Dive(self.problem, self.engine, self.follow_ons, steps, self.ways, lambda it: self.tell_step(name, it),
-                     deadline, below).run(kept)
+        found = Dive(self.problem, self.relaxed.duals, self.engine, self.follow_ons, steps, self.ways,
+                     lambda it: self.tell_step(name, it), deadline, below).run(kept)
         if found and found.cost.all < below:
             self.best = found
             self.tell_plan(name, found)
