@@ -40,9 +40,9 @@ class Steps:
     close: float = 20.0
     most: int = 2_000
     share: int = 20
-    last: int = 3_000
+    last: int = 2_000
     near: float = 0.003
-    seconds: float = 5.0
+    seconds: float = 4.0
     columns: int = 5
 
 

@@ -18,9 +18,10 @@ from .timetable import Timetable
 from .whole import Better, improve
 
 KINDS = (Steps(), Steps(part=0.02, least=0.9), Steps(part=0.1, least=0.6))
-LEAST, MOST = 0.1, 0.8  # of a plan that is given up for a dive again
-PATIENCE = 15  # dives in a row without a better plan
-FIRST = 300  # flights, of which that is the first part
+LEAST, MOST, SHRINK = 0.05, 0.8, 0.85  # of a plan that is given up for a dive again
+FIRST = 200  # flights, of which that is the first part
+DIVES = 75  # in the time, or more: where one takes more than twice as long as that leaves it, the part shrinks
+PATIENCE = 25  # dives in a row without a better plan
 PROGRAMS = 0.04  # of the time: for the integer programs between two dives at most
 
 
@@ -57,12 +58,13 @@ class Search:
         deadline = began + seconds
         part, in_vain = min(0.6, FIRST / self.problem.count), 0
         while not self.is_done() and time.perf_counter() < deadline and in_vain < PATIENCE:
-            before = self.best
             if not in_vain:
                 self.better(min(deadline, time.perf_counter() + PROGRAMS * seconds))
+            before, started = self.best, time.perf_counter()
             self.dive(KINDS[int(self.draw.integers(len(KINDS)))], self.kept(part), deadline)
             in_vain = in_vain + 1 if self.best is before else 0
-            part = min(MOST, 1.1 * part) if in_vain else max(LEAST, 0.8 * part)
+            took = (time.perf_counter() - started) * DIVES / seconds
+            part = max(LEAST, SHRINK * part) if took > 2 else min(MOST, part / SHRINK) if took < 1 and in_vain else part
         return self.best
 
     def is_done(self) -> bool:
