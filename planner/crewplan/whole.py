@@ -14,12 +14,13 @@ from dataclasses import dataclass
 
 import numpy
 from scipy.optimize import Bounds, LinearConstraint, milp
-from scipy.sparse import coo_array, csr_array, diags, hstack
+from scipy.sparse import coo_array, csc_array, csr_array, diags, hstack
 
 from .plan import Whole, whole_of
 from .relaxation import Problem
 
 SLACK = 1e-6
+WHOLE = 1e-5  # so near to 0 or 1 a value of an integer program is that
 SMALLEST = 400  # columns of the first integer programs; twice as many in each turn after one without a better plan
 BREADTH = 5  # columns for each flight that are at hand at first, those of least reduced cost
 MOST = 1600  # .. up to so many, and then with twice as many columns at hand
@@ -136,9 +137,15 @@ def least_cover(problem: Problem, columns: numpy.ndarray, rows: numpy.ndarray, m
     found = milp(costs, constraints=limits, integrality=numpy.ones(len(costs)), bounds=Bounds(0, 1),
                  options={'time_limit': max(seconds, 0.1), 'mip_rel_gap': 0.0})
     is_whole = found.status in (0, 2)  # the best, or there is none
-    if found.x is None:
-        return None, is_whole
+    if found.x is None or not covers(limits[0].A, found.x):
+        return None, is_whole and found.x is None
     return columns[found.x[:len(columns)] > 0.5].tolist(), is_whole
+
+
+def covers(matrix: csc_array, values: numpy.ndarray) -> bool:
+    """Whether values are whole and cover each row once: where its time is up HiGHS may give some that don't."""
+    whole = values > 0.5
+    return bool((numpy.abs(values - whole) < WHOLE).all() and (matrix @ whole.astype(float) == 1).all())
 
 
 def improve(problem: Problem, duals: numpy.ndarray, objective: float, plan: Whole, seconds: float,
