@@ -49,7 +49,7 @@ def parser() -> argparse.ArgumentParser:
     run = made.add_argument_group('the run')
     run.add_argument('--seconds', type=positive, metavar='N',
                      help='how long plans are looked for after the relaxation; the first dive runs to its end (20 and '
-                          'more: 45 at 500 flights, 180 at 1,000, 720 at 2,000)')
+                          'more: 45 at 500 flights, 240 at 1,000, 1,250 at 2,000)')
     run.add_argument('--relax-seconds', type=positive, default=math.inf, metavar='N',
                      help='ends the relaxation after so long, with the bound that it has (to its optimum)')
     run.add_argument('--gap', type=positive, default=0.0, metavar='PERCENT',
@@ -155,7 +155,7 @@ def whole_plan(timetable: Timetable, settings: Settings, engine: Engine, relaxed
     search = Search(timetable, settings, engine, relaxed.problem, relaxed.relaxed, ways,
                     lambda name, step: progress.tell(name, step_line(step, base)),
                     lambda name, plan: progress.tell(name, plan_line(plan, base)))
-    seconds = max(20.0, 45 * (relaxed.problem.count / 500) ** 2) if given.seconds is None else given.seconds
+    seconds = max(20.0, 45 * (relaxed.problem.count / 500) ** 2.4) if given.seconds is None else given.seconds
     return search.run(given.dives, seconds), search.dives
 
 
