@@ -20,8 +20,8 @@ from .whole import Better, improve
 KINDS = (Steps(), Steps(part=0.02, least=0.9), Steps(part=0.1, least=0.6))
 LEAST, MOST, SHRINK = 0.05, 0.8, 0.85  # of a plan that is given up for a dive again
 FIRST = 200  # flights, of which that is the first part
-DIVES = 75  # in the time, or more: where one takes more than twice as long as that leaves it, the part shrinks
-PATIENCE = 25  # dives in a row without a better plan
+DIVES = 40  # in the time: where one takes three times as long as that leaves it, the part shrinks
+PATIENCE = 40  # dives in a row without a better plan
 PROGRAMS = 0.04  # of the time: for the integer programs between two dives at most
 
 
@@ -64,7 +64,7 @@ class Search:
             self.dive(KINDS[int(self.draw.integers(len(KINDS)))], self.kept(part), deadline)
             in_vain = in_vain + 1 if self.best is before else 0
             took = (time.perf_counter() - started) * DIVES / seconds
-            part = max(LEAST, SHRINK * part) if took > 2 else min(MOST, part / SHRINK) if took < 1 and in_vain else part
+            part = max(LEAST, SHRINK * part) if took > 3 else min(MOST, part / SHRINK) if took < 1.5 and in_vain else part
         return self.best
 
     def is_done(self) -> bool:
