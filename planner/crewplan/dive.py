@@ -69,6 +69,7 @@ class Dive:
         self.engine, self.follow_ons, self.steps, self.ways, self.tell = engine, follow_ons, steps, ways, tell
         self.deadline, self.below = deadline, below
         self.last = steps.last
+        self.spurned: set[Pair] = set()  # those after which alone the objective rose too far
 
     def run(self, kept: list[Pair]) -> Whole | None:
         """The plan that the dive ends at, from where these follow-ons are enforced; none where it stopped: at its
@@ -84,9 +85,17 @@ class Dive:
                 if is_end:
                     return found
                 pairs = self.next_pairs(relaxed)
+                if not pairs and self.spurned:  # nothing else is left, so one of them has to be
+                    self.spurned.clear()
+                    pairs, limit = self.next_pairs(relaxed)[:1], numpy.inf
+                else:
+                    limit = relaxed.cost.all + self.steps.rise * abs(relaxed.cost.pay)
                 if not pairs or time.perf_counter() > self.deadline or relaxed.cost.all > self.below - NEXT:
                     return None
-                relaxed = self.step(number, relaxed, pairs)
+                before = self.follow_ons.pairs
+                relaxed = self.step(number, relaxed, pairs, limit)
+                if self.follow_ons.pairs == before and not self.spurned:
+                    return None
             return None
         finally:
             self.follow_ons.release(self.follow_ons.pairs)
@@ -128,7 +137,7 @@ class Dive:
     def next_pairs(self, relaxed: Relaxed) -> list[Pair]:
         """Those that are whole, and then some others, the greatest first."""
         weighed = [(weight, pair) for weight, pair in self.problem.pool.follow_ons(relaxed.values)
-                   if self.follow_ons.fits(pair)]
+                   if self.follow_ons.fits(pair) and pair not in self.spurned]
         sure = [pair for weight, pair in weighed if weight > 1 - WHOLE]
         others = [(weight, pair) for weight, pair in weighed if weight <= 1 - WHOLE]
         most = max(1, int(self.steps.part * self.problem.count))
@@ -136,17 +145,20 @@ class Dive:
         few = [pair for weight, pair in others if weight >= self.steps.few][:4]
         return sure + (great or few or [pair for _, pair in others[:1]])
 
-    def step(self, number: int, relaxed: Relaxed, pairs: list[Pair]) -> Relaxed:
-        """Enforces the pairs, or the greater half of them where the objective rises too far, and so on."""
-        limit = relaxed.cost.all + self.steps.rise * abs(relaxed.cost.pay)
+    def step(self, number: int, relaxed: Relaxed, pairs: list[Pair], limit: float) -> Relaxed:
+        """Enforces the pairs, or the greater half of them where the objective rises above the limit, and so on. One alone
+        after which it does is left for later."""
         while True:
             done = self.follow_ons.enforce(pairs)
             after = self.settle()
-            undone = after.cost.all > limit and len(done) > 1
+            undone = after.cost.all > limit
             self.tell(Step(number, len(self.follow_ons.pairs), after.cost, self.split(after), undone))
-            if not undone:
+            if not undone or not done:
                 return after
             self.follow_ons.release(done)
+            if len(done) == 1:
+                self.spurned.update(done)
+                return relaxed
             pairs = done[:len(done) // 2]
 
     def settle(self) -> Relaxed:

@@ -21,6 +21,7 @@ KINDS = (Steps(), Steps(part=0.02, least=0.9), Steps(part=0.1, least=0.6))
 LEAST, MOST, SHRINK = 0.05, 0.8, 0.85  # of a plan that is given up for a dive again
 FIRST = 200  # flights, of which that is the first part
 DIVES = 40  # in the time: where one takes three times as long as that leaves it, the part shrinks
+EARLY = 0.15  # of the time: another dive from the relaxation begins before that
 PATIENCE = 40  # dives in a row without a better plan
 PROGRAMS = 0.04  # of the time: for the integer programs between two dives at most
 
@@ -51,7 +52,7 @@ class Search:
         began = time.perf_counter()
         for number in range(dives):
             deadline = numpy.inf if self.best is None else began + seconds
-            if self.is_done() or time.perf_counter() > deadline:
+            if self.is_done() or (self.best and time.perf_counter() - began > EARLY * seconds):
                 break
             self.dive(KINDS[number % len(KINDS)], [], deadline)
         self.best = self.best or whole_of(self.problem, [])
