@@ -19,7 +19,7 @@ from .whole import Better, improve
 
 KINDS = (Steps(), Steps(part=0.02, least=0.9), Steps(part=0.1, least=0.6))
 LEAST, MOST, SHRINK = 0.05, 0.8, 0.85  # of a plan that is given up for a dive again
-FIRST = 200  # flights, of which that is the first part
+FIRST = 300  # flights, of which that is the first part
 DIVES = 40  # in the time: where one takes three times as long as that leaves it, the part shrinks
 EARLY = 0.15  # of the time: another dive from the relaxation begins before that
 PATIENCE = 40  # dives in a row without a better plan
