@@ -198,8 +198,7 @@ def timetables(draw: random.Random, kinds: tuple) -> Iterator[tuple[str, dict[st
             yield timetable(draw, settings, LONG_FLIGHTS), settings
 
 
-def main() -> int:
-    program = sys.argv[1] if len(sys.argv) > 1 else os.path.join(HERE, "..", "..", "crewprice")
+def main(program: str) -> int:
     agreed, listed, overnight, left_out, riding, long = 0, 0, 0, 0, 0, 0
     for place, (text, settings) in enumerate(timetables(random.Random(SEED), TIMETABLES), 1):
         found = difference(answers(program, text, settings), text, settings)
@@ -220,4 +219,4 @@ def main() -> int:
 
 
 if __name__ == "__main__":
-    sys.exit(main())
+    sys.exit(main(sys.argv[1] if len(sys.argv) > 1 else os.path.join(HERE, "..", "..", "crewprice")))

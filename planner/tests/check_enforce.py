@@ -1,0 +1,84 @@
+#!/usr/bin/python3
+"""Compares what follow-ons leave of a timetable's pairings with a plain list of all of them.
+
+On small random timetables, the same at each run, some of them with a leg that the crew may ride: follow-ons drawn by lot
+are enforced, some are undone, and others enforced in their place, so that private airports are shared and used again. The
+engine's audit then has to count the pairings that a plain list keeps, at the same least cost: those in which each pair of
+flights comes one directly after the other, or neither comes.
+"""
+from __future__ import annotations
+
+import random
+import sys
+from pathlib import Path
+
+TESTS = Path(__file__).resolve().parent
+sys.path[:0] = [str(TESTS), str(TESTS.parent)]
+
+import check_lister
+import lister
+from check_relaxation import options_of
+from crewplan.enforce import FollowOns, Pair
+from crewplan.engine import Engine
+from crewplan.prices import Prices
+from crewplan.settings import settings_of
+from crewplan.timetable import read_text
+
+SEED, TIMETABLES, AUDIT = 431, ((40, (6, 14)), (20, (16, 28))), 10_000_000
+
+
+def legs_of(pairing: lister.Pairing) -> list[int]:
+    return [number for duty in pairing.walk for number, _ in duty]
+
+
+def keeps(legs: list[int], pair: Pair) -> bool:
+    first, second = pair
+    if first not in legs and second not in legs:
+        return True
+    return first in legs and second in legs and legs.index(second) == legs.index(first) + 1
+
+
+def check(program: str, draw: random.Random, text: str, settings: dict[str, int]) -> tuple[str, int, int]:
+    """What is wrong, how many follow-ons were enforced and by how many airports."""
+    listed = [pairing for pairing in lister.pairings(text, settings)]
+    pairs = sorted({pair for pairing in listed for pair in zip(legs_of(pairing), legs_of(pairing)[1:])})
+    if not pairs:
+        return '', 0, 0
+    timetable, options = read_text(text), options_of(settings)
+    flights, bases = lister.read(text, settings)
+    with Engine(program, options, timetable) as engine:
+        engine.set_prices(Prices({number: flight.price for number, flight in flights.items()}, bases))
+        follow_ons = FollowOns(timetable, settings_of(options), engine)
+        first = follow_ons.enforce(draw.sample(pairs, min(len(pairs), draw.randint(1, 5))))
+        follow_ons.release(draw.sample(first, len(first) // 2))
+        follow_ons.enforce(draw.sample(pairs, min(len(pairs), draw.randint(1, 5))))
+        engine.ask('settle')
+        words = engine.ask(f'audit,{AUDIT}').split()
+        used = sum(bool(held) for held in follow_ons.airports.values())
+        kept = [pairing for pairing in listed if all(keeps(legs_of(pairing), pair) for pair in follow_ons.pairs)]
+        wanted = len(kept), min((lister.cost(pairing, (flights, bases)) for pairing in kept), default=None)
+        found = int(words[4]), None if words[6] == 'none' else int(words[6])
+        count = len(follow_ons.pairs)
+        follow_ons.release(follow_ons.pairs)
+        engine.ask('settle')
+        if int(engine.ask(f'audit,{AUDIT}').split()[4]) != len(listed):
+            return 'not all pairings are back after all is undone', count, used
+    return ('' if wanted == found else f'wanted {wanted}, found {found}'), count, used
+
+
+def main(program: str) -> int:
+    draw = random.Random(SEED)
+    bad, enforced, airports, riding, place = 0, 0, 0, 0, 0
+    for place, (text, settings) in enumerate(check_lister.timetables(draw, TIMETABLES), 1):
+        fault, count, used = check(program, draw, text, settings)
+        enforced, airports, riding = enforced + count, airports + used, riding + (count > 0 and 'deadheads' in settings)
+        if fault:
+            bad += 1
+            print(f'{fault}: settings {settings}, over\n{text}', file=sys.stderr)
+    print(f'{place - bad} of {place} timetables keep the pairings of a plain list under {enforced} follow-ons, which '
+          f'share {airports} private airports; {riding} of them with crews that ride')
+    return 0 if bad == 0 else 1
+
+
+if __name__ == '__main__':
+    sys.exit(main(sys.argv[1] if len(sys.argv) > 1 else str(TESTS.parent.parent / 'crewprice')))
