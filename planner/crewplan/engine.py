@@ -99,8 +99,9 @@ class Engine:
 
     def ended(self) -> EngineFault:
         status = self.child.wait()
-        return EngineFault(f'the engine {self.command[0]} ended with status {status} before its answer; what it said '
-                           f'is above, and `crewprice prove` makes it where it is not there')
+        hint = '; `./crewprice prove` makes it, where it is not proved yet' if status == EngineFault.status else ''
+        return EngineFault(f'the engine {self.command[0]} ended with status {status} before its answer, and what it said '
+                           f'is above{hint}')
 
     def send(self, records: Iterable[str]) -> None:
         """Zones and edits. Now and then a question between them reads what was refused."""
