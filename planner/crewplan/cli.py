@@ -30,8 +30,8 @@ ABOUT = '''Plans the crews of a schedule: which legal pairings fly its flights a
 SCHEDULE is a session's file: its records zone, base and flight, up to its first settle. planner/ssim makes one of an
 airline's schedule. Prices in it don't matter. Words after `--` are options of the engine, as -- --max-rest 1500.'''
 AFTER = '''Standard output has the figures, and with --text the pairings; standard error how far the run is. The status
-is 0, 2 where the words of the command can't be read, 1 where the schedule can't be read or planned, and 70 where the
-engine can't be had: each with one line that says what to do. Reports are written at the end, each whole or not at all.'''
+is 0, 2 where the words of the command can't be read, 1 where the schedule is wrong or can't be planned, and 70 where its file
+or the engine can't be had: each with one line that says what to do. Reports are written at the end, each whole or not at all.'''
 
 
 def parser() -> argparse.ArgumentParser:

@@ -13,7 +13,7 @@ TOP = Path(__file__).resolve().parents[2]
 SCRIPT = TOP / 'crewprice'
 PROGRAM = TOP / 'crates' / 'crewprice' / 'out' / 'crewprice'
 PASSED_OVER = {'out', 'must-fail', 'more-edits'}
-HOW_LONG = 'half an hour to an hour on four cores, once'
+HOW_LONG = 'some 35 minutes on four quiet cores, once'
 
 
 def is_proved() -> bool:

@@ -7,7 +7,7 @@ from collections.abc import Sequence
 from datetime import date
 from pathlib import Path
 
-from .faults import Fault, ScheduleFault
+from .faults import Fault, ScheduleFault, UnreadFault
 from .files import check_folder, write_whole
 from .legs import ScheduleFaults, session_of
 from .ontime import is_ontime, read_ontime
@@ -73,7 +73,7 @@ def run(given: argparse.Namespace) -> None:
     try:
         content = given.file.read_bytes()
     except OSError as fault:
-        raise ScheduleFault(f'{given.file}: {fault.strerror}') from None
+        raise UnreadFault(f'{given.file}: {fault.strerror}: name a file of SSIM or of on-time data') from None
     zones = zones_of([TABLE_OF_STATES, *given.zones])
     wanted = Wanted(given.first, given.last, frozenset(given.airline),
                     frozenset(kind for word in given.fleet for kind in word.split(',')), given.codeshares,

@@ -11,7 +11,7 @@ from functools import lru_cache
 from pathlib import Path
 from zoneinfo import ZoneInfo
 
-from .faults import ScheduleFault
+from .faults import ScheduleFault, UnreadFault
 
 Minutes = int  # after 1970-01-01T00:00 UTC, or a length of time
 POINTS = 14  # a paid minute
@@ -83,8 +83,10 @@ def read(path: Path) -> Timetable:
     ScheduleFault where the file can't be read, or has no base or no flight."""
     try:
         text = path.read_text(encoding='utf-8-sig')
-    except (OSError, UnicodeError) as fault:
-        raise ScheduleFault(f'{path}: {getattr(fault, "strerror", None) or "it is not text"}') from None
+    except OSError as fault:
+        raise UnreadFault(f'{path}: {fault.strerror}: name a schedule as planner/ssim writes it') from None
+    except UnicodeError:
+        raise ScheduleFault(f'{path}: it is not text') from None
     timetable = read_text(text, str(path))
     if not timetable.bases or not timetable.flights:
         wanting = 'base' if not timetable.bases else 'flight'

@@ -66,7 +66,7 @@ def check_engines(room: Path) -> None:
 
 
 def check_schedules(room: Path) -> None:
-    check_refusal('no schedule', 1, 'No such file', run(room / 'none.session'))
+    check_refusal('no schedule', 70, 'No such file', run(room / 'none.session'))
     for name, text, told in (('empty', '', 'no base'), ('flights', 'zone,BOS,"EST5"\nbase,BOS,0\n', 'no flight'),
                              ('words', 'nothing\n', 'record 1'), ('time', 'zone,BOS,"EST5"\nbase,BOS,0\nflight,1,BOS,ORD,10:00,11:00,0\n', 'record 3'),
                              ('zone', 'base,BOS,0\nflight,1,BOS,ORD,2026-06-09T12:00,2026-06-09T14:00,0\n', 'record 2'),
