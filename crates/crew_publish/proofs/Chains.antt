@@ -154,10 +154,8 @@ extends_beginning (v ∷ vs) whole last end p e of =
     subst (λ (w : Snapshot). Extends last w) ends (subst (λ (w : Snapshot). Extends w (last_or v (vs ++ p.0))) e (extends_from v vs p.0 chain))
 
 -- what a viewer was told of is extended by the end of each chain that begins with what it saw last
-pub extends_told : (viewer : Watching) (told : Snapshot) (list : List Snapshot) (end : Snapshot) → viewer.lost ≡ false → IsMet viewer told → IsPrefix viewer.seen list → IsViewOf list end → Extends told end
-extends_told viewer told list end found met p of =
-    let m = met found in
-    extends_trans told m.0 end m.2 (extends_beginning viewer.seen list m.0 end p m.1 of)
+pub extends_told : (viewer : Watching) (told : Snapshot) (list : List Snapshot) (end : Snapshot) → IsMet viewer told → IsPrefix viewer.seen list → IsViewOf list end → Extends told end
+extends_told viewer told list end m p of = extends_trans told m.0 end m.2 (extends_beginning viewer.seen list m.0 end p m.1 of)
 
 -- more lists before those before
 pub longer : (new old taken more rest : List (List Snapshot)) → new ≡ more ++ old → old ≡ rest ++ taken → new ≡ (more ++ rest) ++ taken

@@ -1,5 +1,5 @@
 -- What contracts see of a publisher, its notes, its viewers and their views.
-use Rattle.std.specs.Prelude.{◌≡◌, ℕ, Bool, false, List, length}
+use Rattle.std.specs.Prelude.{◌≡◌, ℕ, List, length}
 use Rattle.crew_version.specs.Versions.{Snapshot}
 use Rattle.crew_publish.specs.Chain.{Ends, Extends, Follows}
 use Rattle.crew_resource.specs.Chains.{IsChain}
@@ -21,10 +21,9 @@ pub record Viewed : Type 0 where
   pub version : Snapshot
   pub list : List Snapshot
 
--- a viewer: the published list that it saw last, and whether it is lost, and gives no view any more
+-- a viewer: the published list that it saw last
 pub record Watching : Type 0 where
   pub seen : List Snapshot
-  pub lost : Bool
 
 -- a version is the last of a chain
 abbrev pub IsViewOf : List Snapshot → Snapshot → Type 0
@@ -40,7 +39,6 @@ abbrev pub IsNoteOf : List Snapshot → ℕ → ℕ → Type 0
 IsNoteOf list number count =
     (v : Snapshot) × IsViewOf list v × (v.number ≡ number) × (length v.entries ≡ count)
 
--- what a viewer saw last extends the version that it was told of, unless the viewer is lost
+-- what a viewer saw last extends the version that it was told of
 abbrev pub IsMet : Watching → Snapshot → Type 0
-IsMet viewer told =
-    viewer.lost ≡ false → (last : Snapshot) × Ends viewer.seen last × Extends told last
+IsMet viewer told = (last : Snapshot) × Ends viewer.seen last × Extends told last

@@ -1,5 +1,5 @@
 //! The publisher, and the pair.
-ghost use Rattle.std.specs.Prelude.{◌≡◌, ◌∷◌, [], ◌++◌, All, IfErr, IfOk, OnErr, OnOk, IsTrue, ◌↔◌, drop, false, length};
+ghost use Rattle.std.specs.Prelude.{◌≡◌, ◌∷◌, [], ◌++◌, All, IfErr, IfOk, OnErr, OnOk, IsTrue, ◌↔◌, drop, length};
 ghost use Rattle.std.specs.Arc.{arc_value};
 ghost use Rattle.left_right.specs.Sides.{view};
 ghost use Rattle.crew_publish.specs.Chain.{Ends, Follows, IsNext};
@@ -128,7 +128,7 @@ impl<R: Wait + Drop> Publisher<R> {
     /// A fresh viewer, which has seen all that was published. `NoViewer` where there is no place
     /// for one more.
     pub fn viewer(&mut self) -> Result<Viewer, PairFault>
-        ensures told { IfOk result (λ w. (w.seen ≡ self.old.list) × (w.lost ≡ false)) }
+        ensures told { IfOk result (λ w. w.seen ≡ self.old.list) }
         ensures fault { IfErr result (λ fault. fault ≡ NoViewer) }
         ensures same { self.new ≡ self.old }
     {
@@ -159,8 +159,7 @@ fn open<R: Wait>(rt: &R, pen: Pen) -> (Pen, Result<(), AllocError>)
 
 // A viewer that was told all that the writer's seat knows.
 fn viewer(pen: &mut Pen) -> Result<Viewer, AllocError>
-    ensures told { IfOk result (λ w. (w.seen ≡ seen_by (view pen.old.desk.place ++ []))
-        × (w.lost ≡ false)) }
+    ensures told { IfOk result (λ w. w.seen ≡ seen_by (view pen.old.desk.place ++ [])) }
     ensures kept { (view pen.new.desk.place ≡ view pen.old.desk.place)
         × (pen.new.desk.shown ≡ pen.old.desk.shown) }
 {
@@ -214,7 +213,6 @@ pub fn pair<R: Wait + Drop>(
     ensures list { IfOk result (λ p. p.0.list ≡ arc_value first ∷ []) }
     ensures viewers { IfOk result (λ p. length p.1.items ≡ viewers) }
     ensures told { IfOk result (λ p. All (λ w. w.seen ≡ arc_value first ∷ []) p.1.items) }
-    ensures found { IfOk result (λ p. All (λ w. w.lost ≡ false) p.1.items) }
     ensures fault { IfErr result (IsPairFault viewers) }
 {
     if !is_viewer_count(viewers) {
@@ -236,7 +234,6 @@ fn pair_of<R: Wait + Drop>(
     ensures list { IfOk result (λ p. p.0.list ≡ arc_value first ∷ []) }
     ensures viewers { IfOk result (λ p. length p.1.items ≡ viewers) }
     ensures told { IfOk result (λ p. All (λ w. w.seen ≡ arc_value first ∷ []) p.1.items) }
-    ensures found { IfOk result (λ p. All (λ w. w.lost ≡ false) p.1.items) }
 {
     let mut made = Vec::with_capacity(alloc, viewers)?;
     let pen = writer(&rt, alloc, first)?;
@@ -255,7 +252,6 @@ fn fill<R: Wait + Drop>(
     ensures same { publisher.new ≡ publisher.old }
     ensures count { OnOk result (length made.new.items ≡ viewers) }
     ensures told { All (λ w. w.seen ≡ publisher.old.list) made.new.items }
-    ensures found { All (λ w. w.lost ≡ false) made.new.items }
 {
     for _ in 0..viewers {
         let Ok(viewer) = publisher.viewer() else {

@@ -1,5 +1,5 @@
 //! A viewer, which sees the chain go on and never back.
-ghost use Rattle.std.specs.Prelude.{◌≡◌, ◌∷◌, ◌++◌, false, IfOk, OnOk, OnErr};
+ghost use Rattle.std.specs.Prelude.{◌≡◌, ◌∷◌, ◌++◌, IfOk, OnOk, OnErr};
 ghost use mathlib.Core.List.{IsPrefix};
 ghost use Rattle.std.specs.Arc.{arc_value};
 ghost use Rattle.left_right.specs.Sides.{view};
@@ -98,23 +98,17 @@ impl View {
     }
 }
 
-/// One who sees what is published. A refused view leaves it as it was.
+/// One who sees what is published. A refused call leaves it as it was.
 ///
-/// A contract sees the published list that it saw last, and whether it is lost: then it was told
-/// of a version that what is shown doesn't extend, and gives no view any more.
+/// A contract sees the published list that it saw last.
 pub struct Viewer {
     seat: Seat,
     taken: Snapshot<Seat>,
-    lost: bool,
 }
 
 impl Drop for Viewer {
     fn drop(self) {
-        let Self {
-            seat: _,
-            taken: _,
-            lost: _,
-        } = self;
+        let Self { seat: _, taken: _ } = self;
     }
 }
 
@@ -126,7 +120,7 @@ impl Model for Viewer {
 
     ghost Value = { Watching };
 
-    ghost view = { λ w. record { seen = seen_by (seat_view w.taken.value.place); lost = w.lost } };
+    ghost view = { λ w. record { seen = seen_by (seat_view w.taken.value.place) } };
 
     ghost invariant = { λ w. (more : _)
         × (seat_view w.seat.place ≡ more ++ seat_view w.taken.value.place) };
@@ -135,14 +129,10 @@ impl Model for Viewer {
 impl Viewer {
     // A viewer that knows what a seat knows.
     pub(crate) fn over(seat: Seat) -> Viewer
-        ensures { (result.seen ≡ seen_by (view seat.place)) × (result.lost ≡ false) }
+        ensures { result.seen ≡ seen_by (view seat.place) }
     {
         let taken = Snapshot::of(&seat);
-        Viewer {
-            seat,
-            taken,
-            lost: false,
-        }
+        Viewer { seat, taken }
     }
 
     // Looks once, and knows no more for it.
@@ -158,7 +148,6 @@ impl Viewer {
     fn see(&mut self) -> Result<Arc<Version>, ViewFault>
         ensures ok { IfOk result (λ a. IsPrefix self.old.seen self.new.seen
             × IsViewOf self.new.seen (arc_value a)) }
-        ensures lost { self.new.lost ≡ self.old.lost }
         ensures err { OnErr result (self.new ≡ self.old) }
     {
         let version = look_at(&mut self.seat)?;
@@ -166,59 +155,60 @@ impl Viewer {
         Ok(version)
     }
 
+    // The same, where what is shown extends a version.
+    fn see_past(&mut self, told: &Version) -> Result<Arc<Version>, ViewFault>
+        ensures ok { IfOk result (λ a. IsPrefix self.old.seen self.new.seen
+            × IsViewOf self.new.seen (arc_value a) × Extends told.now (arc_value a)) }
+        ensures err { OnErr result (self.new ≡ self.old) }
+    {
+        let version = look_at(&mut self.seat)?;
+        if !extends(told, &version) {
+            return Err(ViewFault::NoView);
+        }
+        self.taken = Snapshot::of(&self.seat);
+        Ok(version)
+    }
+
     /// The version that is shown. It waits for nobody. `NoView` where the version can't be read, or
-    /// this viewer is lost, or `Memory`.
+    /// `Memory`.
     pub fn view(&mut self) -> Result<View, ViewFault>
         ensures chain { IfOk result (λ v. IsPrefix self.old.seen v.list
             × (self.new.seen ≡ v.list)) }
         ensures last { IfOk result (λ v. IsViewOf v.list v.version) }
         ensures told { IfOk result (λ v. (told : _) → IsMet self.old told
             → Extends told v.version) }
-        ensures found { OnOk result ((self.old.lost ≡ false) × (self.new.lost ≡ false)) }
         ensures err { OnErr result (self.new ≡ self.old) }
     {
-        if self.lost {
-            return Err(ViewFault::NoView);
-        }
         let version = self.see()?;
         Ok(View::of(self, version))
     }
 
     /// From now on each view extends the version that this note tells of: it is that version by
-    /// number and entries, or it follows it. Where what is shown doesn't extend it, as may be with a
-    /// note of another pair, or can't be read, the viewer is lost. It takes no memory, and waits for
-    /// nobody.
-    pub fn learn<R: Wait + Drop>(&mut self, note: &Note<R>)
-        ensures told { IsMet self.new note.now.version }
+    /// number and entries, or it follows it. `NoView` where what is shown doesn't extend it, as may be
+    /// with a note of another pair, or can't be read, or `Memory`: then this viewer is as it was, and
+    /// may learn of the note again. It waits for nobody.
+    pub fn learn<R: Wait + Drop>(&mut self, note: &Note<R>) -> Result<(), ViewFault>
+        ensures told { OnOk result (IsMet self.new note.now.version) }
         ensures kept { (told : _) → IsMet self.old told → IsMet self.new told }
         ensures seen { IsPrefix self.old.seen self.new.seen }
+        ensures err { OnErr result (self.new ≡ self.old) }
     {
-        let is_lost = match self.see() {
-            Ok(shown) => !extends(note.version(), &shown),
-            Err(_) => true,
-        };
-        self.lost |= is_lost;
+        self.see_past(note.version())?;
+        Ok(())
     }
 
     /// Goes on as a fresh viewer, from the list that this one knows, where what that one is shown
     /// extends what this one is shown. `NoView` where it doesn't, as may be with a viewer of another
-    /// pair, or where one of them is lost or what is shown can't be read, or `Memory`. Then this
-    /// one is as it was, and the fresh one is let go.
+    /// pair, or where what is shown can't be read, or `Memory`. Then this one is as it was, and the
+    /// fresh one is let go.
     pub fn go_on_as(&mut self, fresh: Viewer) -> Result<(), ViewFault>
         ensures seen { OnOk result (IsPrefix fresh.seen self.new.seen) }
         ensures kept { (told : _) → IsMet self.old told → IsMet self.new told }
-        ensures found { OnOk result ((self.old.lost ≡ false) × (self.new.lost ≡ false)) }
         ensures err { OnErr result (self.new ≡ self.old) }
     {
         let mut fresh = fresh;
-        if self.lost || fresh.lost {
-            return Err(ViewFault::NoView);
-        }
         let shown = self.peek()?;
-        let next = fresh.see()?;
-        if !extends(&shown, &next) {
-            return Err(ViewFault::NoView);
-        }
+        fresh.see_past(&shown)?;
         *self = fresh;
         Ok(())
     }

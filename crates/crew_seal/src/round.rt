@@ -1,8 +1,10 @@
 //! A planner's open round on a board, and its seal.
-ghost use Rattle.std.specs.Prelude.{◌≡◌, IfOk, IfSome, IsTrue, Some, slice_get};
+ghost use Rattle.std.specs.Prelude.{◌≡◌, ◌↔◌, IfOk, IfSome, IsTrue, None, Some, slice_get};
 ghost use Rattle.std.specs.Arc.{arc_value};
-ghost use Rattle.crew_seal.specs.Machinery.Rounds.{IsOwn, IsSealedOf};
-ghost use Rattle.crew_seal.specs.Next.{IsNextOver};
+ghost use Rattle.crew_board.specs.Boards.{IsBoardOf};
+ghost use Rattle.crew_machine.specs.Crew.{CrewBoard};
+ghost use Rattle.crew_seal.specs.Machinery.Rounds.{IsSealedOf};
+ghost use Rattle.crew_seal.specs.Next.{IsNextOver, IsOwn, IsUndone, IsUnsealed};
 
 use crew_board::{Board, SealFault};
 use crew_flights::Entry;
@@ -14,14 +16,14 @@ use std::sync::Arc;
 
 // Whether two settings are equal.
 fn are_same(one: &Settings, other: &Settings) -> bool
-    ensures { IsTrue result → one.now ≡ other.now }
+    ensures { IsTrue result ↔ (one.now ≡ other.now) }
 {
     one == other
 }
 
 // Whether the entry at a place of a ground is this one.
 fn is_at(ground: &Ground, place: usize, entry: &Entry) -> bool
-    ensures { IsTrue result → slice_get ground.now.entries place ≡ Some entry.now }
+    ensures { IsTrue result ↔ (slice_get ground.now.entries place ≡ Some entry.now) }
 {
     match ground.entry(place) {
         Some(found) => is_same_entry(&found, entry),
@@ -31,7 +33,7 @@ fn is_at(ground: &Ground, place: usize, entry: &Entry) -> bool
 
 // Whether the entries of a ground are these.
 fn is_over(ground: &Ground, entries: &[Entry]) -> bool
-    ensures { IsTrue result → ground.now.entries ≡ entries.now }
+    ensures { IsTrue result ↔ (ground.now.entries ≡ entries.now) }
 {
     if ground.count() != entries.len() {
         return false;
@@ -46,7 +48,7 @@ fn is_over(ground: &Ground, entries: &[Entry]) -> bool
 
 // Whether the open round of a board is one over these entries after this version.
 fn is_own(board: &Board, version: &Version, entries: &[Entry]) -> bool
-    ensures { IsTrue result → IsOwn board.now version.now entries.now }
+    ensures { IsTrue result ↔ IsOwn board.now version.now entries.now }
 {
     let sealed = board.sealed();
     if sealed.number() != version.number() || !are_same(sealed.settings(), version.settings()) {
@@ -59,17 +61,19 @@ fn is_own(board: &Board, version: &Version, entries: &[Entry]) -> bool
 }
 
 /// Seals the open round of a board, where it is one over these entries after this version, and all
-/// of its nodes are done. `None` where it isn't, or where nothing is open; when that is so no clause
-/// says. `Err` is want of memory. Whoever else has worked on the board needn't be trusted: what is
-/// sealed is right by the type of the board.
+/// of its nodes are done. `None` only where it isn't, or a node of it isn't done. `Err` is want of
+/// memory. Whoever else has worked on the board needn't be trusted: what is sealed is right by the
+/// type of the board.
 pub fn seal_round(
     alloc: Global,
     board: &mut Board,
     version: &Version,
     entries: &[Entry],
 ) -> Result<Option<Arc<Version, Global>>, AllocError>
-    ensures { IfOk result (λ sealed. IfSome sealed
+    ensures next { IfOk result (λ sealed. IfSome sealed
         (λ next. IsNextOver version.now entries.now (arc_value next))) }
+    ensures none { IfOk result (λ sealed. sealed ≡ None
+        → IsUnsealed board.old version.now entries.now) }
 {
     if !is_own(board, version, entries) {
         return Ok(None);
@@ -79,8 +83,10 @@ pub fn seal_round(
 
 // Seals the open round of a board, where all of its nodes are done.
 fn seal_own(alloc: Global, board: &mut Board) -> Result<Option<Arc<Version, Global>>, AllocError>
-    ensures { IfOk result (λ sealed. IfSome sealed
+    ensures sealed { IfOk result (λ sealed. IfSome sealed
         (λ next. IsSealedOf board.old (arc_value next))) }
+    ensures none { IfOk result (λ sealed. sealed ≡ None
+        → (b : CrewBoard) → IsBoardOf board.old b → IsUndone board.old b) }
 {
     let _stands = board.sealed();
     match board.seal(alloc) {

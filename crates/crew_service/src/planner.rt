@@ -4,10 +4,10 @@
 //! it has read, and makes the list of entries anew for each round: some 40 bytes an entry. What the
 //! log showed is read before the round is begun, so as the round is sealed no growth is left to be
 //! made but one further owner of its version.
-ghost use Rattle.std.specs.Prelude.{◌≡◌, ◌<◌, ◌↔◌, ◌++◌, ◌∷◌, [], IfErr, IfOk, IsTrue, OnErr, OnOk, Some, false, length, slice_get};
+ghost use Rattle.std.specs.Prelude.{◌≡◌, ◌<◌, ◌↔◌, ◌++◌, ◌∷◌, [], IfErr, IfOk, IsTrue, OnErr, OnOk, Some, length, slice_get};
 ghost use Rattle.std.specs.Arc.{arc_value};
 ghost use mathlib.Core.List.{IsPrefix};
-ghost use Rattle.crew_log.specs.Logs.{AreOf, HaveNone, IsOf};
+ghost use Rattle.crew_log.specs.Logs.{AreOf, HaveNone, IsOf, IsRun};
 ghost use Rattle.crew_publish.specs.Chain.{IsNext};
 ghost use Rattle.crew_publish.specs.declared.fault.PairFault.TheVariants.{NoViewer};
 ghost use Rattle.crew_seal.specs.Next.{IsNextOver};
@@ -118,11 +118,10 @@ impl<'a, R: Wait, G: Gate> Planner<'a, R, G> {
         &self.version
     }
 
-    /// A fresh viewer, which has seen all that was published, and isn't lost. `NoViewer` where there is no place
-    /// for one more.
+    /// A fresh viewer, which has seen all that was published. `NoViewer` where there is no place for one
+    /// more.
     pub fn viewer(&mut self) -> Result<Viewer, PairFault>
         ensures told { IfOk result (λ w. w.seen ≡ self.old.published) }
-        ensures found { IfOk result (λ w. w.lost ≡ false) }
         ensures fault { IfErr result (λ fault. fault ≡ NoViewer) }
         ensures same { self.new ≡ self.old }
     {
@@ -142,15 +141,16 @@ impl<'a, R: Wait, G: Gate> Planner<'a, R, G> {
     }
 
     /// Makes the next version, over all entries of the log that it has read then, and publishes it.
-    /// The version has an entry at the place of each of these receipts. It takes part in the work,
-    /// and waits for what is out.
+    /// The version has an entry at the place of each of these receipts. What it has read then are
+    /// receipts of its log, for the places from 0 on with no gap. It takes part in the work, and waits
+    /// for what is out.
     ///
     /// `Gap` with the first place that isn't shown, where no receipt has that place and one has a
     /// greater one: what a receipt shows counts as shown. Else
-    /// `LastVersion` exactly where its version has the greatest number. Else `TooManyDuties`
-    /// exactly where what it has read comes to more than 200,000 legal duties. Else `Memory`.
-    /// Nothing is published then, and its version is as it was, with its number: the next settle goes
-    /// on from that.
+    /// `LastVersion` only where its version has the greatest number. Else `TooManyDuties` only where
+    /// what it has read comes to more than 200,000 legal duties. Or `Memory`, which may stand in the
+    /// place of each of these. Nothing is published then, and its version is as it was, with its
+    /// number: the next settle goes on from that.
     ///
     /// The work is done by the threads of `rt`, and by the workers; the planner waits by its own
     /// handle.
@@ -164,7 +164,10 @@ impl<'a, R: Wait, G: Gate> Planner<'a, R, G> {
         requires own { self.old.log ≡ shared.now }
         requires of { AreOf shared.now receipts.now }
         ensures ok { OnOk result (HasSettled self.old receipts.now self.new) }
-        ensures note { IfOk result (λ note. (note.number ≡ self.new.version.number)
+        ensures own { OnOk result (AreOf self.new.log self.new.receipts
+            × IsRun 0 self.new.receipts) }
+        ensures note { IfOk result (λ note. (note.version ≡ self.new.version)
+            × (note.number ≡ self.new.version.number)
             × (note.count ≡ length self.new.version.entries) × (note.list ≡ self.new.published)) }
         ensures fault { IfErr result (IsSettleFault self.old receipts.now self.new) }
         ensures err { OnErr result (HasPublishedNothing self.old self.new) }
@@ -246,7 +249,10 @@ impl<'a, R: Wait, G: Gate> Planner<'a, R, G> {
     fn publish(&mut self, version: Arc<Version, Global>) -> Result<Note<&'a R>, SettleFault>
         requires { IsNextOver self.old.version (entries_of self.old.receipts) (arc_value version) }
         ensures ok { OnOk result (HasShown self.old (arc_value version) self.new) }
-        ensures note { IfOk result (λ note. (note.number ≡ self.new.version.number)
+        ensures own { OnOk result (AreOf self.new.log self.new.receipts
+            × IsRun 0 self.new.receipts) }
+        ensures note { IfOk result (λ note. (note.version ≡ self.new.version)
+            × (note.number ≡ self.new.version.number)
             × (note.count ≡ length self.new.version.entries) × (note.list ≡ self.new.published)) }
         ensures fault { IfErr result (λ fault. fault ≡ Memory) }
         ensures err { OnErr result (self.new ≡ self.old) }
@@ -267,7 +273,8 @@ fn add<R: Wait + Drop>(
 ) -> Result<Note<R>, AllocError>
     requires { IsNext publisher.old.list (arc_value version) }
     ensures ok { OnOk result (publisher.new.list ≡ publisher.old.list ++ arc_value version ∷ []) }
-    ensures note { IfOk result (λ note. (note.number ≡ (arc_value version).number)
+    ensures note { IfOk result (λ note. (note.version ≡ arc_value version)
+        × (note.number ≡ (arc_value version).number)
         × (note.count ≡ length (arc_value version).entries) × (note.list ≡ publisher.new.list)) }
     ensures err { OnErr result (publisher.new ≡ publisher.old) }
 {

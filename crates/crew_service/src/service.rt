@@ -1,5 +1,5 @@
 //! A service as it is made.
-ghost use Rattle.std.specs.Prelude.{◌≡◌, ◌↔◌, ◌∷◌, ◌≤◌, [], All, IfErr, IfOk, IsTrue, OnOk, false, length};
+ghost use Rattle.std.specs.Prelude.{◌≡◌, ◌↔◌, ◌∷◌, ◌≤◌, [], All, IfErr, IfOk, IsTrue, OnOk, length};
 ghost use Rattle.std.specs.Arc.{arc_value};
 ghost use Rattle.crew_publish.specs.Faults.{IsViewerCount};
 ghost use Rattle.crew_rules.specs.Settings.{IsChecked};
@@ -93,7 +93,6 @@ fn published<'a, R: Wait>(
     ensures count { IfOk result (λ made. length made.1.items ≡ viewers) }
     ensures seen { IfOk result
         (λ made. All (λ viewer. viewer.seen ≡ arc_value version.now ∷ []) made.1.items) }
-    ensures found { IfOk result (λ made. All (λ viewer. viewer.lost ≡ false) made.1.items) }
 {
     let first = Arc::try_clone(version)?;
     match pair(rt, alloc, first, viewers) {
@@ -106,7 +105,7 @@ fn published<'a, R: Wait>(
 impl<'a, R: Wait, G: Gate + Drop> Service<'a, R, G> {
     /// A service under some settings, with so many seats, from 0 to 64, and so many viewers, from 1
     /// to 64, before any entry. The gate is the planner's. `TooManySeats`, else `NoViewer`, where
-    /// there are more or none, else `Memory`. No viewer is lost. It may wait.
+    /// there are more or none, else `Memory`. It may wait.
     pub fn new(
         rt: &'a R,
         alloc: Global,
@@ -123,8 +122,6 @@ impl<'a, R: Wait, G: Gate + Drop> Service<'a, R, G> {
         ensures viewers { IfOk result (λ service. length service.viewers.items ≡ counts.1) }
         ensures seen { IfOk result
             (λ service. All (λ viewer. viewer.seen ≡ opening_of settings.now ∷ []) service.viewers.items) }
-        ensures found { IfOk result
-            (λ service. All (λ viewer. viewer.lost ≡ false) service.viewers.items) }
         ensures fault { IfErr result (IsServiceFault counts.0 counts.1) }
     {
         let (seats, viewers) = counts;
@@ -155,8 +152,6 @@ impl<'a, R: Wait, G: Gate + Drop> Service<'a, R, G> {
         ensures viewers { IfOk result (λ service. length service.viewers.items ≡ counts.1) }
         ensures seen { IfOk result
             (λ service. All (λ viewer. viewer.seen ≡ opening_of settings.now ∷ []) service.viewers.items) }
-        ensures found { IfOk result
-            (λ service. All (λ viewer. viewer.lost ≡ false) service.viewers.items) }
     {
         let (log, seats) = log_with(alloc, counts.0)?;
         let version = opening(alloc, settings)?;

@@ -58,7 +58,7 @@ BeginsWith earlier later = (more : List Entry) × (later ≡ earlier ++ more)
 -- none; `OtherLog` where it found a version that isn't the next whole one, and shows the one before
 abbrev pub IsFound : Snapshot → List Entry → Snapshot → Found → Result (Unit {0}) EngineFault
     → Type 0
-IsFound before taken shown found (Ok done) = found ≡ Ok shown
+IsFound before taken shown found (Ok done) = found.what ≡ Ok shown
 IsFound before taken shown found (Err OtherLog) =
-    (after : Snapshot) × (found ≡ Ok after) × ¬ (IsWhole before taken after)
-IsFound before taken shown found (Err fault) = found ≡ Err fault
+    (after : Snapshot) × (found.what ≡ Ok after) × ¬ (IsWhole before taken after)
+IsFound before taken shown found (Err fault) = found.what ≡ Err fault

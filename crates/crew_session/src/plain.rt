@@ -2,6 +2,7 @@
 
 ghost use Rattle.std.specs.Prelude.{◌≡◌, ◌+◌, ◌≤◌, [], false, length, vec_len};
 ghost use Rattle.crew_rules.specs.Settings.{IsChecked};
+ghost use Rattle.crew_session.specs.Oddities.{nothing_made};
 ghost use Rattle.crew_version.specs.Versions.{opening};
 
 use crate::engine::Engine;
@@ -33,13 +34,14 @@ impl Drop for Plain {
 }
 
 impl Plain {
-    ghost use Rattle.crew_session.specs.Machinery.Plains.{shown_by, taken_by};
+    ghost use Rattle.crew_session.specs.Machinery.Plains.{made_by, shown_by, taken_by};
 
     /// An engine that has taken no edit, with version 0 under these settings.
     pub fn new(alloc: Global, settings: &Settings) -> Self
         requires { IsChecked settings.now }
         ensures entries { taken_by result ≡ [] }
         ensures shown { shown_by result ≡ opening settings.now }
+        ensures made { made_by result ≡ nothing_made (opening settings.now) }
     {
         Plain {
             version: Version::opening(alloc, settings),
@@ -52,8 +54,7 @@ impl Plain {
 const EDITS: usize = 1_000_000;
 
 impl Engine for Plain {
-    ghost use Rattle.std.specs.Prelude.{Ok};
-    ghost use Rattle.crew_session.specs.Machinery.Plains.{shown_by, taken_by};
+    ghost use Rattle.crew_session.specs.Machinery.Plains.{found_by, made_by, shown_by, taken_by};
 
     ghost entries = { taken_by };
 
@@ -61,7 +62,9 @@ impl Engine for Plain {
 
     ghost MAY_BE_STRANGE = { false };
 
-    ghost found = { λ e. Ok (shown_by e) };
+    ghost made = { made_by };
+
+    ghost found = { found_by };
 
     fn may_be_strange(&self) -> bool {
         false

@@ -13,7 +13,7 @@ ghost use Rattle.crew_records.specs.declared.command.Command.TheVariants.{Settle
 ghost use Rattle.crew_session.specs.Faults.{IsLineFault, IsPlayFault, IsRecordFault, cause_of};
 ghost use Rattle.crew_session.specs.Machinery.Journals.{Came, HasEnded, IsInStep, IsRefusal, state_of, zones_of};
 ghost use Rattle.crew_session.specs.Lines.{refused_line, refused_lines, version_line};
-ghost use Rattle.crew_session.specs.Oddities.{IsCalledFor, IsSettledAt, MeetsOdd};
+ghost use Rattle.crew_session.specs.Oddities.{IsCalledFor, IsSettledAt, IsTold, Made, MeetsOdd, nothing_made};
 ghost use Rattle.crew_session.specs.Rows.{IsOpen, records_of, rows_left};
 ghost use Rattle.crew_session.specs.Session.{Begins, IsSessionText, Obeys, State, Writes};
 ghost use Rattle.crew_session.specs.Session as Spec;
@@ -153,7 +153,9 @@ fn decline<R: Threads + Sync, W: Write, E: Engine>(
         (E.shown engine.now) (E.entries engine.now) }
     requires many { AreTooMany (E.shown engine.now) (E.entries engine.now)
         ⊎ IsTrue E.MAY_BE_STRANGE }
-    requires found { IsTrue E.MAY_BE_STRANGE → E.found engine.now ≡ Err TooManyDuties }
+    requires found { IsTrue E.MAY_BE_STRANGE → (E.found engine.now).what ≡ Err TooManyDuties }
+    requires told { IsTrue E.MAY_BE_STRANGE → (before : Made)
+        × IsTold before (E.entries engine.now) (E.made engine.now) (E.found engine.now) }
     ensures written { OnOk result
         (Appends (W.contents writer.old) (W.contents writer.new) (refused_line number 40)) }
     ensures many { OnOk result (AreTooMany (E.shown engine.now) (E.entries engine.now)) }
@@ -460,8 +462,8 @@ fn play<T: Threads + Sync, R: Read, W: Write, E: Engine>(
 /// Plays a session: reads records to the end of the input, and writes a line for each refusal,
 /// version and answer.
 ///
-/// The engine is new: it has taken no edit, and its version is number 0 under these settings. Where
-/// the answer is `Ok`, what is written is the text of a session of the bytes that were read, there
+/// The engine is new: it has taken no edit, and the version that it shows, and has made last, is
+/// number 0 under these settings. Where the answer is `Ok`, what is written is the text of a session of the bytes that were read, there
 /// were at most 2,000,000 records, and the input is at its end.
 ///
 /// Each line goes out before the next record is read, by one `write` where the writer takes all of
@@ -472,7 +474,8 @@ fn play<T: Threads + Sync, R: Read, W: Write, E: Engine>(
 /// where neither did, and `Strange` only of an engine that may be strange, and only where a settle
 /// of the session found what no session brings about: 57, 62 or 65 where the engine answered that,
 /// and 63 where it found a version that isn't the next one of all edits so far, or answered 40 and
-/// these come to at most 200,000 duties. What was written is then a beginning of the text of the
+/// these come to at most 200,000 duties. What it found is told by what the engine had made and read
+/// before that settle and after it. What was written is then a beginning of the text of the
 /// first so many records, 2,000,000 at most, and the engine is not used again.
 pub fn run<T: Threads + Sync, R: Read + Drop, W: Write + Drop, E: Engine>(
     rt: &T,
@@ -485,6 +488,7 @@ pub fn run<T: Threads + Sync, R: Read + Drop, W: Write + Drop, E: Engine>(
     requires checked { IsChecked settings.now }
     requires entries { E.entries engine.old ≡ [] }
     requires version { E.shown engine.old ≡ opening settings.now }
+    requires made { E.made engine.old ≡ nothing_made (opening settings.now) }
     ensures output { OnOk result (IfSome (bytes_left R.remaining reader.old) (λ bytes.
         (text : List ℕ)
         × Appends (bytes_held W.contents writer.old) (bytes_held W.contents writer.new) text

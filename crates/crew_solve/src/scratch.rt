@@ -40,7 +40,7 @@ pub fn solve_listed<R: Threads + Sync>(
 
 /// All Pareto fronts and the best pairing of a timetable, from scratch, under settings under which the
 /// sums over a pairing's duties tell whether it is legal; `crew_plan` answers for any others too.
-/// `TooManyDuties` exactly where it has more than 200,000 legal duties, or `Memory`.
+/// `TooManyDuties` only where it has more than 200,000 legal duties, or `Memory`.
 pub fn solve<R: Threads + Sync>(
     rt: &R,
     alloc: Global,

@@ -185,7 +185,7 @@ impl Draft {
     }
 
     /// What is to be made for its timetable, warm from an earlier version under the same settings.
-    /// `TooManyDuties` exactly where there are more than 200,000 legal duties, or `Memory`.
+    /// `TooManyDuties` only where there are more than 200,000 legal duties, or `Memory`.
     pub fn plan<R: Threads + Sync>(
         &self,
         rt: &R,

@@ -1,7 +1,7 @@
 //! Versions: what the entries of a log come to under some settings. The crate promises that a
 //! version's verdicts and timetable are the fold of its entries, that they come to at most 200,000
 //! legal duties, that its Pareto fronts and its pairing of least reduced cost are those from scratch,
-//! and that the next version is refused exactly where there are more duties, where no greater number is
+//! and that the next version is refused only where there are more duties, where no greater number is
 //! left, or out of memory. A version never changes, and shares with the next what both hold: entries,
 //! verdicts, and all fronts where the timetable is as it was. A `Draft` is a version whose fronts are
 //! still to be made, by whoever likes; closed by its solution it is that version.

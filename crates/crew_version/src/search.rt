@@ -73,7 +73,7 @@ fn few_duties<R: Threads + Sync>(
 }
 
 /// What is to be made for a timetable, beside an earlier one with its own fronts, if there is one.
-/// `TooManyDuties` exactly where there are more than 200,000 legal duties, or `Memory`.
+/// `TooManyDuties` only where there are more than 200,000 legal duties, or `Memory`.
 pub(crate) fn plan_of<R: Threads + Sync>(
     rt: &R,
     alloc: Global,
@@ -143,7 +143,7 @@ fn shared(
 }
 
 /// All fronts and the best of all pairings of a timetable, beside an earlier one with its own, if
-/// there is one; where the timetable is the same they are shared. `TooManyDuties` exactly where
+/// there is one; where the timetable is the same they are shared. `TooManyDuties` only where
 /// there are more than 200,000 legal duties, or `Memory`.
 pub(crate) fn find_solution<R: Threads + Sync>(
     rt: &R,

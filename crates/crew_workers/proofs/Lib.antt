@@ -1,2 +1,3 @@
 pub mod Played
+pub mod Told
 pub mod Views

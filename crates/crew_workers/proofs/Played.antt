@@ -1,5 +1,5 @@
 -- How a session over a service ends.
-use Rattle.std.proofs.Common.{◌≡◌, ◌≤◌, ◌⊎◌, ℕ, Bool, true, List, [], Option, Some, None, Result, Ok, Err, inl, inr, length, lit≤, refl}
+use Rattle.std.proofs.Common.{◌≡◌, ◌≤◌, ◌⊎◌, ℕ, Bool, true, List, [], Option, Some, None, Result, Ok, Err, inl, length, lit≤, refl}
 use Rattle.std.specs.Prelude.{IfErr, IfSome, OnErr, OnOk}
 use Rattle.std.specs.Io.KnownBytes.{Appends, IsAtEnd, Keeps}
 use Rattle.crew_rules.specs.declared.settings.Settings.{Settings}
@@ -10,8 +10,8 @@ use Rattle.crew_session.specs.Session.{Begins, IsSessionText, start}
 use Rattle.crew_session.specs.Stops.{IsSessionFault}
 use Rattle.crew_session.specs.declared.fault.SessionFault.{SessionFault}
 use Rattle.crew_session.specs.declared.fault.SessionFault.TheVariants.{Read, Write, Memory, Strange}
-use Rattle.crew_workers.specs.Machinery.Played.{IsEnded, IsPlayed, Streams, played}
-use Rattle.crew_workers.specs.Workers.{EndsStrange, IsUnbegun}
+use Rattle.crew_workers.specs.Machinery.Played.{IsPlayed, Streams}
+use Rattle.crew_workers.specs.Workers.{EndsStrange}
 
 -- what any engine is called strange for, one that may be strange is
 ends-strange : (strange : Bool) (s : Settings) (input : Option (List ℕ)) (found : Found) (reader writer : Bool) (fault : SessionFault)
@@ -31,20 +31,16 @@ is-played (Ok done) s io strange found output limit end begun fault = record { o
 is-played (Err why) s io strange found output limit end begun fault =
     record { output = tt; limit = tt; end = tt; begun = begun; fault = ends-strange strange s io.input found io.reader io.writer why fault }
 
-keeps-self : (w : Option (List ℕ)) → Keeps w w
+pub keeps-self : (w : Option (List ℕ)) → Keeps w w
 keeps-self None = tt
 keeps-self (Some bytes) = refl
 
 -- nothing begins each text
-none-begun : (s : Settings) (input w : Option (List ℕ)) → IfSome input (λ bytes. Begins s (start s) (records_of bytes) w w)
+pub none-begun : (s : Settings) (input w : Option (List ℕ)) → IfSome input (λ bytes. Begins s (start s) (records_of bytes) w w)
 none-begun s None w = tt
 none-begun s (Some bytes) w = record { count = 0; few = lit≤ tt; text = []; first = refl; begun = begins-nothing w [] }
 
-pub not-begun : (s : Settings) (input left w : Option (List ℕ)) (reader writer : Bool) (fault : SessionFault) → (fault ≡ Memory) ⊎ (fault ≡ Strange 65)
-    → IsEnded s (played input left w w reader writer) (Err fault)
-not-begun s input left w reader writer fault why =
-    record { output = tt; limit = tt; end = tt; begun = none-begun s input w; fault = inr (record { kept = keeps-self w; why = why }) }
-
-pub is-ended : (r : Result (Unit {0}) SessionFault) (s : Settings) (io : Streams) → IsPlayed s io r → IsEnded s io r
-is-ended (Ok done) s io h = record { output = h.output; limit = h.limit; end = h.end; begun = tt; fault = tt }
-is-ended (Err why) s io h = record { output = tt; limit = tt; end = tt; begun = h.begun; fault = inl h.fault }
+-- it ended for one of two reasons
+pub ended-first : (r : Result (Unit {0}) SessionFault) (P Q : SessionFault → Type 0) → IfErr r P → IfErr r (λ fault. P fault ⊎ Q fault)
+ended-first (Ok done) P Q h = tt
+ended-first (Err why) P Q h = inl h

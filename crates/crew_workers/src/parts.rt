@@ -1,9 +1,7 @@
 //! The one seat and the one viewer of a service.
-ghost use Rattle.std.specs.Prelude.{◌≡◌, ◌∷◌, [], All, length};
+ghost use Rattle.std.specs.Prelude.{◌≡◌, length};
 ghost use Rattle.crew_log.specs.Logs.{unused_seat};
-ghost use Rattle.crew_rules.specs.declared.settings.Settings.{Settings as SettingsOf};
 ghost use Rattle.crew_service.specs.Plans.{AreSeatsFrom};
-ghost use Rattle.crew_version.specs.Versions.{opening};
 
 use crew_log::Seat;
 use crew_publish::Viewer;
@@ -20,11 +18,9 @@ pub(crate) fn only_seat(mut seats: Vec<Seat>) -> Seat
     }
 }
 
-/// The one viewer, who has seen what all have.
+/// The one viewer.
 pub(crate) fn only_viewer(mut viewers: Vec<Viewer>) -> Viewer
-    requires one { length viewers.items ≡ 1 }
-    ensures { (s : SettingsOf) → All (λ viewer. viewer.seen ≡ opening s ∷ []) viewers.items
-        → result.seen ≡ opening s ∷ [] }
+    requires { length viewers.items ≡ 1 }
 {
     match viewers.pop() {
         Some(viewer) => viewer,

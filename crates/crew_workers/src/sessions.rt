@@ -3,17 +3,17 @@
 //! The session stays with the caller, whose streams needn't cross threads; the workers' threads are
 //! started by one thread beside it and joined at its end, so no session fails for want of threads.
 //! What was written is known after the join, since the session is lent by `&mut` and not moved.
-ghost use Rattle.std.specs.Prelude.{◌≡◌, ◌⊎◌, ◌≤◌, ◌∷◌, [], ℕ, All, List, IfErr, IfSome, OnErr, OnOk, length};
+ghost use Rattle.std.specs.Prelude.{◌≡◌, ◌⊎◌, ◌≤◌, [], ℕ, List, IfErr, IfSome, OnErr, OnOk, length};
 ghost use Rattle.std.specs.Io.KnownBytes.{Appends, IsAtEnd};
 ghost use Rattle.crew_rules.specs.Settings.{IsChecked};
 ghost use Rattle.crew_session.specs.Rows.{records_of};
 ghost use Rattle.crew_session.specs.Session.{Begins, IsSessionText, start};
-ghost use Rattle.crew_session.specs.declared.engine_fault.EngineFault.TheVariants.{NoView, Memory as NoMemory};
 ghost use Rattle.crew_session.specs.Streams.{bytes_held, bytes_left, read_failed, write_failed};
 ghost use Rattle.crew_version.specs.Versions.{opening};
 ghost use Rattle.crew_log.specs.Logs.{unused_seat};
-ghost use Rattle.crew_service.specs.Plans.{AreSeatsFrom};
-ghost use Rattle.crew_workers.specs.Machinery.Played.{IsEnded, IsPlayed, played};
+ghost use Rattle.crew_service.specs.Plans.{AreSeatsFrom, new_planner};
+ghost use Rattle.crew_session.specs.Oddities.{nothing_made};
+ghost use Rattle.crew_workers.specs.Machinery.Played.{IsPlayed, played};
 ghost use Rattle.crew_workers.specs.Workers.{EndsStrange, IsUnbegun};
 
 use crate::parts::{only_seat, only_viewer};
@@ -23,7 +23,7 @@ use crew_log::Seat;
 use crew_publish::Viewer;
 use crew_rules::Settings;
 use crew_service::{Open, Planner, Service, Shared, Worker};
-use crew_session::{Engine, EngineFault, NotedReader, NotedWriter, SessionFault, run};
+use crew_session::{Engine, NotedReader, NotedWriter, SessionFault, run};
 use std::alloc::Global;
 use std::io::{Eprint, Read, Write};
 use std::sync::Wait;
@@ -75,6 +75,7 @@ fn play_over<T: Threads + Wait + Sync + Clock + Eprint, R: Read + Drop, W: Write
     requires checked { IsChecked settings.now }
     requires entries { E.entries engine.old ≡ [] }
     requires version { E.shown engine.old ≡ opening settings.now }
+    requires made { E.made engine.old ≡ nothing_made (opening settings.now) }
     ensures { IsPlayed settings.now (played
         (bytes_left R.remaining reader.old) (bytes_left R.remaining reader.new)
         (bytes_held W.contents writer.old) (bytes_held W.contents writer.new)
@@ -105,6 +106,7 @@ fn play_beside<
     requires checked { IsChecked settings.now }
     requires entries { E.entries engine.old ≡ [] }
     requires version { E.shown engine.old ≡ opening settings.now }
+    requires made { E.made engine.old ≡ nothing_made (opening settings.now) }
     ensures { IsPlayed settings.now (played
         (bytes_left R.remaining reader.old) (bytes_left R.remaining reader.new)
         (bytes_held W.contents writer.old) (bytes_held W.contents writer.new)
@@ -115,20 +117,10 @@ fn play_beside<
         requires checked { IsChecked settings.now }
         requires entries { E.entries engine.now ≡ [] }
         requires version { E.shown engine.now ≡ opening settings.now }
+        requires made { E.made engine.now ≡ nothing_made (opening settings.now) }
     { play_over(rt, alloc, shared, engine, reader, writer, settings) };
     let (_, done) = thread::join_mut(rt, &mut works, &mut plays);
     done
-}
-
-// Why a session doesn't begin, where its engine isn't made.
-fn unbegun(fault: EngineFault) -> SessionFault
-    requires { (fault ≡ NoView) ⊎ (fault ≡ NoMemory) }
-    ensures { (result ≡ SessionFault.Memory) ⊎ (result ≡ SessionFault.Strange 65) }
-{
-    match fault {
-        EngineFault::NoView => SessionFault::Strange(65),
-        _ => SessionFault::Memory,
-    }
 }
 
 // Plays a session over a service, of which these are the planner, the seat and the viewer.
@@ -143,27 +135,24 @@ fn play_parts<'a, T: Threads + Wait + Sync + Clock + Eprint, R: Read + Drop, W: 
     crew: Crew,
 ) -> Result<(), SessionFault>
     requires checked { IsChecked settings.now }
-    requires planner { parts.0.log ≡ shared.now }
+    requires planner { parts.0 ≡ new_planner settings.now shared.now }
     requires seat { parts.1 ≡ unused_seat 0 }
-    requires viewer { parts.2.seen ≡ opening settings.now ∷ [] }
-    ensures { IsEnded settings.now (played
+    ensures { IsPlayed settings.now (played
         (bytes_left R.remaining reader.old) (bytes_left R.remaining reader.new)
         (bytes_held W.contents writer.old) (bytes_held W.contents writer.new)
         (read_failed reader.new) (write_failed writer.new)) result }
 {
-    match Threaded::new(rt, alloc, shared, parts) {
-        Ok(mut engine) => play_beside(
-            rt,
-            alloc,
-            shared,
-            &mut engine,
-            reader,
-            writer,
-            settings,
-            crew,
-        ),
-        Err(fault) => Err(unbegun(fault)),
-    }
+    let mut engine = Threaded::new(rt, alloc, shared, parts, settings);
+    play_beside(
+        rt,
+        alloc,
+        shared,
+        &mut engine,
+        reader,
+        writer,
+        settings,
+        crew,
+    )
 }
 
 // Plays a session over a new service with one seat and one viewer.
@@ -177,12 +166,11 @@ fn play_service<'a, T: Threads + Wait + Sync + Clock + Eprint, R: Read + Drop, W
     crew: Crew,
 ) -> Result<(), SessionFault>
     requires checked { IsChecked settings.now }
-    requires planner { service.planner.log ≡ service.shared }
+    requires planner { service.planner ≡ new_planner settings.now service.shared }
     requires seats { AreSeatsFrom 0 service.seats.items }
     requires one_seat { length service.seats.items ≡ 1 }
-    requires viewers { All (λ viewer. viewer.seen ≡ opening settings.now ∷ []) service.viewers.items }
     requires one_viewer { length service.viewers.items ≡ 1 }
-    ensures { IsEnded settings.now (played
+    ensures { IsPlayed settings.now (played
         (bytes_left R.remaining reader.old) (bytes_left R.remaining reader.new)
         (bytes_held W.contents writer.old) (bytes_held W.contents writer.new)
         (read_failed reader.new) (write_failed writer.new)) result }
@@ -204,9 +192,9 @@ fn play_service<'a, T: Threads + Wait + Sync + Clock + Eprint, R: Read + Drop, W
 /// Where the answer is `Ok`, what is written is the text of a session of the bytes that were read,
 /// there were at most 2,000,000 records, and the input is at its end. `Read` where the reader failed
 /// or gives more records, `Write` where the writer failed, `Memory` where neither did, and `Strange`
-/// only where a settle of the session found what no session brings about: what was written is then
-/// a beginning of the text of the first so many records. Before anything is read or written it may
-/// be `Memory`, or `Strange` 65, where the version before any entry can't be seen.
+/// only where a settle of the session found what no session brings about, and that is told by what the
+/// service's planner had made and read before it and after it: what was written is then a beginning
+/// of the text of the first so many records. Before anything is read or written it may be `Memory`.
 pub fn run_with_workers<T: Threads + Wait + Sync + Clock + Eprint, R: Read + Drop, W: Write + Drop>(
     rt: &T,
     alloc: Global,

@@ -1,25 +1,27 @@
 //! The engine over a running service.
 
-ghost use Rattle.std.specs.Prelude.{◌≡◌, ◌⊎◌, ◌↔◌, ◌+◌, ◌∷◌, [], Err, IfErr, IfOk, IsTrue, Ok, OnErr, OnOk, Some, slice_get};
+ghost use Rattle.std.specs.Prelude.{◌≡◌, ◌⊎◌, ◌↔◌, ◌+◌, [], Err, IfErr, IfOk, IsTrue, Ok, OnErr, OnOk, Some, slice_get};
 ghost use mathlib.Core.List.{IsPrefix};
 ghost use Rattle.crew_log.specs.Logs.{AreOf, unused_seat};
-ghost use Rattle.crew_publish.specs.Views.{IsViewOf};
-ghost use Rattle.crew_service.specs.Plans.{entries_of};
-ghost use Rattle.crew_workers.specs.Machinery.Threads.{IsNewView, IsThreadedFault};
-ghost use Rattle.crew_session.specs.Oddities.{IsWhole};
+ghost use Rattle.crew_publish.specs.Chain.{Extends};
+ghost use Rattle.crew_rules.specs.Settings.{IsChecked};
+ghost use Rattle.crew_service.specs.Plans.{entries_of, new_planner};
+ghost use Rattle.crew_workers.specs.Machinery.Threads.{seen_by};
+ghost use Rattle.crew_session.specs.Oddities.{IsToldBy, IsWhole, nothing_made};
 ghost use Rattle.crew_session.specs.declared.engine_fault.EngineFault.TheVariants.{NoView, Memory, OtherLog};
-ghost use Rattle.crew_version.specs.Versions.{IsRight};
+ghost use Rattle.crew_version.specs.Versions.{IsRight, opening};
 
 use crate::faults::{of_settle, of_view};
 use crew_flights::{Edit, Entry};
 use crew_log::{Log, Receipt, Seat};
-use crew_publish::{View, Viewer};
+use crew_publish::{Note, View, ViewFault, Viewer};
 use crew_rules::Settings;
 use crew_service::{Gate, Planner, Shared};
 use crew_session::{Engine, EngineFault};
 use crew_version::{Version, is_same_entry};
 use std::alloc::Global;
 use std::marker::Model;
+use std::snapshot::Snapshot;
 use std::sync::Wait;
 use std::thread::Threads;
 
@@ -37,19 +39,44 @@ pub(crate) enum Last {
     Other(View),
 }
 
+// The version that is shown.
+#[derive(Drop)]
+pub(crate) enum Sight {
+    // The one before any entry.
+    Opening(Version),
+    // One that was published.
+    Published(View),
+}
+
+impl Sight {
+    fn version(&self) -> &Version
+        ensures { result.now ≡ seen_by self.now }
+    {
+        match self {
+            Sight::Opening(version) => version,
+            Sight::Published(view) => view.version(),
+        }
+    }
+}
+
 /// The engine over a running service: an edit goes to the log by a seat, a settle is the planner's,
 /// in which workers take part, and what is shown is a viewer's view of what was published. The log
 /// may have entries of others: a settle believes only a version that is the next one of all edits
-/// that the engine took. It keeps a view, taken when it is made and at each settle, and waits by a
-/// handle of its own.
+/// that the engine took. It keeps a view, taken at each settle, and waits by a handle of its own.
+///
+/// A contract sees the log, the entries that it took, the version that it shows, what its planner has
+/// made and read, and what its last settle found: the planner's own refusal, `NoView` where that has
+/// published the next version and the viewer can't see it, or the version that is seen.
 pub struct Threaded<'s, 'a, R: Wait, G: Gate> {
     rt: &'a R,
     shared: &'s Shared,
     planner: Planner<'a, R, G>,
     seat: Seat,
     viewer: Viewer,
-    view: View,
+    sight: Sight,
     receipts: Vec<Receipt>,
+    // The planner before the last settle.
+    asked: Snapshot<Planner<'a, R, G>>,
     last: Last,
 }
 
@@ -61,8 +88,9 @@ impl<'s, 'a, R: Wait, G: Gate + Drop> Drop for Threaded<'s, 'a, R, G> {
             planner: _,
             seat: _,
             viewer: _,
-            view: _,
+            sight: _,
             receipts: _,
+            asked: _,
             last: _,
         } = self;
     }
@@ -70,15 +98,21 @@ impl<'s, 'a, R: Wait, G: Gate + Drop> Drop for Threaded<'s, 'a, R, G> {
 
 impl<'s, 'a, R: Wait, G: Gate> Model for Threaded<'s, 'a, R, G> {
     ghost use Rattle.crew_service.specs.Plans.{entries_of};
-    ghost use Rattle.crew_workers.specs.Machinery.Threads.{IsThreaded, Threading, found_by};
+    ghost use Rattle.crew_workers.specs.Machinery.Threads.{IsThreaded, Threading, made_by, places_of, seen_by, what_by};
 
     ghost Value = { Threading };
 
     ghost view = { λ e. record {
       log = e.shared.now;
       entries = entries_of e.receipts.items;
-      shown = e.view.version;
-      found = found_by e.last e.view.version;
+      shown = seen_by e.sight;
+      made = made_by e.planner;
+      found = record {
+        before = made_by e.asked.value;
+        after = made_by e.planner;
+        places = places_of e.receipts.items;
+        what = what_by e.last (seen_by e.sight);
+      };
     } };
 
     ghost invariant = { λ e. IsThreaded e.shared.now e.planner e.seat e.receipts.items };
@@ -136,93 +170,97 @@ fn is_whole(before: &Version, after: &Version, log: &Log, receipts: &[Receipt]) 
     is_after(before, after) && has_entries(after, log, receipts)
 }
 
-// What a viewer sees.
-fn look(viewer: &mut Viewer) -> Result<View, EngineFault>
-    ensures seen { IfOk result (λ view. IsPrefix viewer.old.seen view.list) }
-    ensures chain { IfOk result (λ view. IsViewOf view.list view.version) }
+// What a viewer sees that learns of a note first.
+fn see<R: Wait + Drop>(viewer: &mut Viewer, note: &Note<R>) -> Result<View, ViewFault>
+    ensures { IfOk result (λ view. Extends note.now.version view.version) }
+{
+    viewer.learn(note)?;
+    viewer.view()
+}
+
+// The same, and why there is no view, as an engine says it.
+fn look<R: Wait + Drop>(viewer: &mut Viewer, note: &Note<R>) -> Result<View, EngineFault>
+    ensures told { IfOk result (λ view. Extends note.now.version view.version) }
     ensures fault { IfErr result (λ fault. (fault ≡ NoView) ⊎ (fault ≡ Memory)) }
 {
-    match viewer.view() {
+    match see(viewer, note) {
         Ok(view) => Ok(view),
         Err(fault) => Err(of_view(fault)),
     }
 }
 
-// A viewer's first view, where it is of the version before any entry.
-fn first_view(viewer: &mut Viewer) -> Result<View, EngineFault>
-    requires { IsNewView viewer.old }
-    ensures ok { IfOk result (λ view. viewer.old.seen ≡ view.version ∷ []) }
-    ensures fault { IfErr result (λ fault. (fault ≡ NoView) ⊎ (fault ≡ Memory)) }
-{
-    let view = look(viewer)?;
-    if view.version().number() != 0 {
-        return Err(EngineFault::NoView);
-    }
-    Ok(view)
-}
-
 impl<'s, 'a, R: Wait, G: Gate + Drop> Threaded<'s, 'a, R, G> {
-    /// An engine over a new service, of which these are the planner, the first seat and a viewer.
-    /// `NoView` where the version before any entry can't be seen, or `Memory`.
+    /// An engine over a new service under these settings, of which these are the planner, the first
+    /// seat and a viewer. It shows the version before any entry.
     pub fn new(
         rt: &'a R,
         alloc: Global,
         shared: &'s Shared,
         parts: (Planner<'a, R, G>, Seat, Viewer),
-    ) -> Result<Self, EngineFault>
-        requires planner { parts.0.log ≡ shared.now }
+        settings: &Settings,
+    ) -> Self
+        requires checked { IsChecked settings.now }
+        requires planner { parts.0 ≡ new_planner settings.now shared.now }
         requires seat { parts.1 ≡ unused_seat 0 }
-        requires viewer { IsNewView parts.2 }
-        ensures entries { IfOk result (λ engine. engine.entries ≡ []) }
-        ensures shown { IfOk result (λ engine. parts.entry.2.seen ≡ engine.shown ∷ []) }
-        ensures fault { IfErr result (λ fault. (fault ≡ NoView) ⊎ (fault ≡ Memory)) }
+        ensures entries { result.entries ≡ [] }
+        ensures shown { result.shown ≡ opening settings.now }
+        ensures made { result.made ≡ nothing_made (opening settings.now) }
     {
-        let (planner, seat, mut viewer) = parts;
-        let view = first_view(&mut viewer)?;
-        Ok(Threaded {
+        let (planner, seat, viewer) = parts;
+        let asked = Snapshot::of(&planner);
+        Threaded {
             rt,
             shared,
             planner,
             seat,
             viewer,
-            view,
+            sight: Sight::Opening(Version::opening(alloc, settings)),
             receipts: Vec::new(alloc),
+            asked,
             last: Last::Shown,
-        })
+        }
     }
 
     // What the viewer sees of the planner's next version.
     fn next_view<S: Threads + Sync>(&mut self, rt: &S) -> Result<View, EngineFault>
-        ensures same { self.new ≡ self.old }
-        ensures fault { IfErr result IsThreadedFault }
+        ensures keeps { (self.new.entries ≡ self.old.entries) × (self.new.shown ≡ self.old.shown) }
+        ensures found { self.new.found ≡ record {
+          before = self.old.made;
+          after = self.new.made;
+          places = self.old.found.places;
+          what = self.old.found.what;
+        } }
+        ensures reads { IsPrefix self.old.made.read self.new.made.read }
+        ensures told { IfOk result (λ view. IsToldBy self.old.made self.new.made
+            self.old.found.places (Ok view.version)) }
+        ensures fault { IfErr result (λ fault. IsToldBy self.old.made self.new.made
+            self.old.found.places (Err fault)) }
     {
         let alloc = *self.receipts.allocator();
+        self.asked = Snapshot::of(&self.planner);
         match self.planner.settle(rt, alloc, self.shared, &self.receipts) {
-            Ok(note) => {
-                self.viewer.learn(&note);
-                look(&mut self.viewer)
-            }
+            Ok(note) => look(&mut self.viewer, &note),
             Err(fault) => Err(of_settle(fault)),
         }
     }
 
     // Shows a view, where it is of the next version of all edits.
     fn show(&mut self, view: View) -> Result<(), EngineFault>
-        ensures entries { self.new.entries ≡ self.old.entries }
+        ensures keeps { (self.new.entries ≡ self.old.entries) × (self.new.made ≡ self.old.made) }
+        ensures found { self.new.found ≡ record self.old.found { what = Ok view.version } }
         ensures whole { OnOk result (IsWhole self.old.shown self.old.entries self.new.shown) }
         ensures right { OnOk result (IsRight self.new.shown) }
-        ensures found { OnOk result (self.new.found ≡ Ok self.new.shown) }
+        ensures shown { OnOk result (self.new.shown ≡ view.version) }
         ensures err { OnErr result (self.new.shown ≡ self.old.shown) }
         ensures other { IfErr result (λ fault. (fault ≡ OtherLog)
-            × (self.new.found ≡ Ok view.version)
             × ¬ (IsWhole self.old.shown self.old.entries view.version)) }
     {
-        let (before, after) = (self.view.version(), view.version());
+        let (before, after) = (self.sight.version(), view.version());
         if !is_whole(before, after, self.shared.log(), &self.receipts) {
             self.last = Last::Other(view);
             return Err(EngineFault::OtherLog);
         }
-        self.view = view;
+        self.sight = Sight::Published(view);
         self.last = Last::Shown;
         Ok(())
     }
@@ -230,7 +268,7 @@ impl<'s, 'a, R: Wait, G: Gate + Drop> Threaded<'s, 'a, R, G> {
     // Refuses a settle.
     fn refuse(&mut self, fault: EngineFault) -> Result<(), EngineFault>
         ensures answer { result ≡ Err fault }
-        ensures noted { self.new ≡ record self.old { found = Err fault } }
+        ensures noted { self.new ≡ record self.old { found = record self.old.found { what = Err fault } } }
     {
         self.last = Last::Refused(fault);
         Err(fault)
@@ -245,6 +283,8 @@ impl<'s, 'a, R: Wait, G: Gate + Drop> Engine for Threaded<'s, 'a, R, G> {
     ghost shown = { λ e. e.shown };
 
     ghost MAY_BE_STRANGE = { true };
+
+    ghost made = { λ e. e.made };
 
     ghost found = { λ e. e.found };
 
@@ -276,6 +316,6 @@ impl<'s, 'a, R: Wait, G: Gate + Drop> Engine for Threaded<'s, 'a, R, G> {
     }
 
     fn version(&self) -> &Version {
-        self.view.version()
+        self.sight.version()
     }
 }

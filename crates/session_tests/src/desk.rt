@@ -114,10 +114,10 @@ impl<'a, R: Wait, G: Gate> Desk<'a, R, G> {
     // A viewer learns of the last note.
     fn learn(&mut self, viewer: usize) -> Answer {
         match (self.viewers.get_mut(viewer), &self.note) {
-            (Some(viewer), Some(note)) => {
-                viewer.learn(note);
-                Ok(note.count() as u64)
-            }
+            (Some(viewer), Some(note)) => match viewer.learn(note) {
+                Ok(()) => Ok(note.count() as u64),
+                Err(fault) => Err(fault.number()),
+            },
             _ => Err(None),
         }
     }

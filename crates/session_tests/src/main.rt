@@ -15,7 +15,7 @@
 //!
 //! `service SEATS VIEWERS WORKERS` is a service with so many of each: threads that work, clients that
 //! submit, a planner that settles, and viewers. `meet WORKERS` is a service whose gates hold whoever
-//! comes first until another comes. `strange` is sessions that engines end which answer a settle wrongly.
+//! comes first until another comes.
 #![tactic(auto)]
 
 mod beside;
@@ -30,7 +30,6 @@ mod runs;
 mod serving;
 mod sights;
 mod slots;
-mod strange;
 mod streams;
 mod versions;
 mod ways;
@@ -76,7 +75,6 @@ fn play_words<R: Print + Eprint + Threads + Wait + Sync + Clock>(
         "pair" => pairs::play_pair(rt, alloc, rest, input),
         "service" => serving::play(rt, alloc, rest, input),
         "meet" => meeting::play(rt, alloc, count_at(rest, 0)),
-        "strange" => strange::play_strange(rt, alloc),
         _ => runs::play_run(rt, alloc, words, case),
     }
 }

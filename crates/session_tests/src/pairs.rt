@@ -228,7 +228,9 @@ impl<R: Wait + Drop + Send> Desk<R> {
     fn teach(&mut self, versions: &[Arc<Version>], place: usize, count: usize) -> Answer {
         let note = publish_at(&mut self.publisher, versions, place)?;
         for viewer in self.viewers.iter_mut().take(count) {
-            viewer.learn(&note);
+            if let Err(fault) = viewer.learn(&note) {
+                return Err(fault.number());
+            }
         }
         noted(&note)
     }
@@ -237,10 +239,10 @@ impl<R: Wait + Drop + Send> Desk<R> {
     fn mislead(&mut self, versions: &[Arc<Version>], place: usize, viewer: usize) -> Answer {
         let note = publish_at(&mut self.other, versions, place)?;
         match self.viewers.get_mut(viewer) {
-            Some(viewer) => {
-                viewer.learn(&note);
-                noted(&note)
-            }
+            Some(viewer) => match viewer.learn(&note) {
+                Ok(()) => noted(&note),
+                Err(fault) => Err(fault.number()),
+            },
             None => Err(None),
         }
     }

@@ -1,16 +1,7 @@
 -- The open round of a board, as its planner sees it.
-use Rattle.std.specs.Prelude.{◌≡◌, ◌+◌, List, Some}
+use Rattle.std.specs.Prelude.{◌≡◌, ◌+◌, Some}
 use Rattle.crew_board.specs.Boards.{ShownBoard, ShownRound}
-use Rattle.crew_flights.specs.declared.entries.Entry.{Entry}
 use Rattle.crew_version.specs.Versions.{IsRight, Snapshot}
-
--- the open round is one over these entries, after a version with this one's number and settings
-pub record IsOwn (board : ShownBoard) (version : Snapshot) (entries : List Entry) : Type 0 where
-  pub number : board.sealed.number ≡ version.number
-  pub settings : board.sealed.settings ≡ version.settings
-  pub round : ShownRound
-  pub is_open : board.round ≡ Some round
-  pub over : round.entries ≡ entries
 
 -- a version is what the open round of a board is sealed as
 pub record IsSealedOf (board : ShownBoard) (v : Snapshot) : Type 0 where

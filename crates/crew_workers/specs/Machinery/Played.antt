@@ -1,11 +1,11 @@
 -- How a session over a service ends.
-use Rattle.std.specs.Prelude.{◌⊎◌, ◌≤◌, ℕ, Bool, List, Option, Result, IfErr, IfSome, OnErr, OnOk, length}
+use Rattle.std.specs.Prelude.{◌≤◌, ℕ, Bool, List, Option, Result, IfErr, IfSome, OnErr, OnOk, length}
 use Rattle.std.specs.Io.KnownBytes.{Appends, IsAtEnd}
 use Rattle.crew_rules.specs.declared.settings.Settings.{Settings}
 use Rattle.crew_session.specs.Rows.{records_of}
 use Rattle.crew_session.specs.Session.{Begins, IsSessionText, start}
 use Rattle.crew_session.specs.declared.fault.SessionFault.{SessionFault}
-use Rattle.crew_workers.specs.Workers.{EndsStrange, IsUnbegun}
+use Rattle.crew_workers.specs.Workers.{EndsStrange}
 
 -- the bytes that were to read and that are left, those that the writer held and holds, and whether
 -- the reader and the writer have failed
@@ -37,14 +37,3 @@ pub record IsPlayed (s : Settings) (io : Streams) (r : Result (Unit {0}) Session
   pub begun : OnErr r
       (IfSome io.input (λ bytes. Begins s (start s) (records_of bytes) io.before io.after))
   pub fault : IfErr r (EndsStrange s io.input io.reader io.writer)
-
--- the same, or it didn't begin
-pub record IsEnded (s : Settings) (io : Streams) (r : Result (Unit {0}) SessionFault) : Type 0 where
-  pub output : OnOk r (IfSome io.input (λ bytes. (text : List ℕ) × Appends io.before io.after text
-      × IsSessionText s bytes text))
-  pub limit : OnOk r (IfSome io.input (λ bytes. length (records_of bytes) ≤ 2_000_000))
-  pub end : OnOk r (IsAtEnd io.left)
-  pub begun : OnErr r
-      (IfSome io.input (λ bytes. Begins s (start s) (records_of bytes) io.before io.after))
-  pub fault : IfErr r (λ fault. EndsStrange s io.input io.reader io.writer fault
-      ⊎ IsUnbegun io.before io.after fault)

@@ -1,10 +1,10 @@
-use Rattle.std.proofs.Common.{◌∙◌, sym, arith}
+use Rattle.std.proofs.Common.{◌∙◌, refl, sym, arith}
 use Rattle.crew_seal.proofs.Seals.{same-list}
 use Rattle.crew_seal.proofs.round.is_over.Goals as goal
 
 pub returns : goal.returns
-returns c told =
+returns c =
     let count = c.count.ensures in
     let same = c.if-count-entries.false in
     let end = c.loop-place-test.false in
-    same-list c.args.ground.now.entries c.args.entries.now (sym count ∙ same) (λ k l. c.loop-place.invariant k (omega (arith, l, end, same, count)))
+    (λ _. same-list c.args.ground.now.entries c.args.entries.now (sym count ∙ same) (λ k l. c.loop-place.invariant k (omega (arith, l, end, same, count))), λ _. refl)

@@ -1,8 +1,10 @@
 use Rattle.crew_session.proofs.SessionFacts.{begun-declining, begun-publishing, published}
 use Rattle.crew_session.proofs.BeginFacts.{on-err}
 use Rattle.crew_session.proofs.OddFacts.{refused-odd, shown-odd}
+use Rattle.crew_flights.specs.declared.entries.Entry.{Entry}
 use Rattle.crew_session.specs.Machinery.Journals.{since, state_of}
-use Rattle.std.proofs.Common.{◌≡◌, ◌∙◌, ◌+◌, ap, arith, length, length-append, refl, sym, true≢false}
+use Rattle.crew_session.specs.Oddities.{IsTold}
+use Rattle.std.proofs.Common.{◌≡◌, ◌∙◌, ◌+◌, List, ap, arith, length, length-append, refl, subst, sym, true≢false}
 use Rattle.crew_version.specs.Versions.{Snapshot}
 use Rattle.crew_session.proofs.session.settle.Goals as goal
 
@@ -42,7 +44,7 @@ returns-in_default-clause-fault g c =
     let here = state_of c.args.journal.now (g.E.Engine.shown c.args.engine.now) (g.E.Engine.entries c.args.engine.now) in
     rw c.stop.ensures
     (refused-odd g.E.Engine.MAY_BE_STRANGE here (g.E.Engine.entries c.args.engine.now) (g.E.Engine.shown c.settle.new.self) _ c.in-Err.fault (sym c.requires.in_step.goes_on) c.in_default.not-TooManyDuties
-    (omega (arith, c.requires.early, c.ranges.number.fits)) c.in-Err.ensures.fault c.in-Err.ensures.found)
+    (omega (arith, c.requires.early, c.ranges.number.fits)) c.in-Err.ensures.fault c.in-Err.ensures.found (λ s. (_, _, c.settle.ensures.told s)))
 
 pub returns-then-not-is_next-clause-fault : goal.returns-then-not-is_next-clause-fault
 returns-then-not-is_next-clause-fault g c =
@@ -59,4 +61,7 @@ returns-then-not-is_next-clause-fault g c =
       ap (λ (v : Snapshot). v.number) is ∙ next.0 ∙ ap (λ n. n + 1) (sym before),
       omega (arith, ap (λ (v : Snapshot). length v.entries) is, next.1, total, first, c.requires.in_step.records, c.len.ensures),
     )) ∙ c.if-not-is_next.true))
-    c.in-Ok.ensures.whole c.in-Ok.ensures.found)
+    c.in-Ok.ensures.whole c.in-Ok.ensures.found (λ s. (_, _, c.settle.ensures.told s)))
+
+pub decline-requires-clause-told : goal.decline-requires-clause-told
+decline-requires-clause-told g c s = (_, subst (λ (es : List Entry). IsTold _ es _ _) (sym c.settle.ensures.entries) (c.settle.ensures.told s))

@@ -9,9 +9,6 @@ play_parts-requires-clause-planner g c κs within = c.requires.planner
 pub play_parts-requires-clause-seat : goal.play_parts-requires-clause-seat
 play_parts-requires-clause-seat g c κs within = c.only_seat.ensures
 
-pub play_parts-requires-clause-viewer : goal.play_parts-requires-clause-viewer
-play_parts-requires-clause-viewer g c κs within = c.only_viewer.ensures c.args.settings.now c.requires.viewers
-
 pub returns : goal.returns
 returns g c =
     let h = c.play_parts.ensures in

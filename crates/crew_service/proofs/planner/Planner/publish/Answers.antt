@@ -40,3 +40,6 @@ returns-clause-ok g c =
       receipts = ap (λ (p : Planning). p.receipts) is;
       shown = shown g c ∙ ap (λ (p : Planning). p.published ++ arc_value c.args.version ∷ []) is;
     }
+
+pub returns-clause-own : goal.returns-clause-own
+returns-clause-own g c = (c.self.invariant.of, c.self.invariant.run)
