@@ -1,15 +1,13 @@
 -- What a seal tells a planner.
-use Rattle.std.proofs.Common.{◌≡◌, ◌+◌, ◌<◌, ◌∙◌, ◌++◌, ℕ, List, [], ◌∷◌, length, length-append, append-nil, Some, inl, inr, refl, sym, ap, arith}
+use Rattle.std.proofs.Common.{◌≡◌, ◌+◌, ◌<◌, ◌∙◌, ◌++◌, ℕ, List, [], ◌∷◌, length, length-append, append-nil, Some, refl, sym, ap, arith}
 use Rattle.std.specs.Prelude.{slice_get}
 use Rattle.std.specs.Option.{option_map}
 use Rattle.crew_board.specs.Boards.{IsBoardOf, ShownBoard, ShownRound, shown_round}
-use Rattle.crew_board.specs.Calls.{HasSealed, IsSealFault}
-use Rattle.crew_board.specs.declared.fault.SealFault.{SealFault}
-use Rattle.crew_board.specs.declared.fault.SealFault.TheVariants as Seal
+use Rattle.crew_board.specs.Calls.{HasSealed}
 use Rattle.crew_flights.specs.declared.entries.Entry.{Entry}
 use Rattle.crew_machine.specs.Crew.{CrewBoard}
 use Rattle.crew_seal.specs.Machinery.Rounds.{IsSealedOf}
-use Rattle.crew_seal.specs.Next.{IsNextOver, IsOwn, IsUndone}
+use Rattle.crew_seal.specs.Next.{IsNextOver, IsOwn}
 use Rattle.crew_version.proofs.Places.{prefix-from}
 use Rattle.crew_version.specs.Versions.{IsRight, Snapshot}
 
@@ -50,9 +48,3 @@ next-over board version v entries own h =
       over = h.over ∙ (ap (λ (r : ShownRound). r.entries) one ∙ own.over);
       right = h.right;
     }
-
--- a board that refuses, and not for memory
-pub undone : (board : ShownBoard) (b : CrewBoard) (fault : SealFault) → ¬ (fault ≡ Seal.Memory) → IsSealFault board b fault → IsUndone board b
-undone board b Seal.NoRound other h = inl h
-undone board b (Seal.NotDone node) other h = inr (h.0, h.1)
-undone board b Seal.Memory other h = absurd (other refl)

@@ -4,8 +4,8 @@ use Rattle.crew_seal.proofs.Seals.{sealed-of}
 use Rattle.crew_version.specs.Versions.{IsRight}
 use Rattle.crew_seal.proofs.round.seal_own.Goals as goal
 
-pub returns-in-Ok : goal.returns-in-Ok
-returns-in-Ok c =
+pub returns-in-Ok-clause-sealed : goal.returns-in-Ok-clause-sealed
+returns-in-Ok-clause-sealed c =
     let stands = c.sealed-stands.ensures.stands in
     let right : IsRight (arc_value c.in-Ok.sealed) = subst IsRight c.deref.ensures c.number-right.ensures.right in
     sealed-of c.args.board.now c.seal.new.self stands.0 (arc_value c.in-Ok.sealed) stands.1 (c.in-Ok.ensures.ok stands.0 stands.1) right

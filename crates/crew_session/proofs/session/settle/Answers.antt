@@ -64,4 +64,8 @@ returns-then-not-is_next-clause-fault g c =
     c.in-Ok.ensures.whole c.in-Ok.ensures.found (λ s. (_, _, c.settle.ensures.told s)))
 
 pub decline-requires-clause-told : goal.decline-requires-clause-told
-decline-requires-clause-told g c s = (_, subst (λ (es : List Entry). IsTold _ es _ _) (sym c.settle.ensures.entries) (c.settle.ensures.told s))
+decline-requires-clause-told g c κs within s =
+    let old = g.E.Engine.made c.args.engine.now in
+    let made = g.E.Engine.made c.settle.new.self in
+    let found = g.E.Engine.found c.settle.new.self in
+    (old, subst (λ (es : List Entry). IsTold old es made found) (sym c.settle.ensures.entries) (c.settle.ensures.told s))
