@@ -1,5 +1,5 @@
 -- How a session over a service ends.
-use Rattle.std.proofs.Common.{◌≡◌, ◌≤◌, ◌⊎◌, ℕ, Bool, true, List, [], Option, Some, None, Result, Ok, Err, inl, length, lit≤, refl}
+use Rattle.std.proofs.Common.{◌≤◌, ◌⊎◌, ℕ, Bool, List, [], Option, Some, None, Result, Ok, Err, inl, length, lit≤, refl}
 use Rattle.std.specs.Prelude.{IfErr, IfSome, OnErr, OnOk}
 use Rattle.std.specs.Io.KnownBytes.{Appends, IsAtEnd, Keeps}
 use Rattle.crew_rules.specs.declared.settings.Settings.{Settings}

@@ -1,21 +1,20 @@
 -- What a settle over a service is told by.
-use Rattle.std.proofs.Common.{◌≡◌, ◌∙◌, ℕ, suc, List, [], ◌∷◌, Ok, Err, Unit, append-nil, ap, arith, inl, inr, refl, subst, sym, length}
-use Rattle.std.specs.Prelude.{All, map}
+use Rattle.std.proofs.Common.{◌≡◌, ◌∙◌, ℕ, suc, List, [], ◌∷◌, Result, Err, ap, arith, inl, inr, refl, subst, sym, length}
 use Rattle.std.proofs.lemmas.List.{map-append}
 use mathlib.Core.List.{IsPrefix}
 use Rattle.boxcar.specs.Table.{Where}
 use Rattle.crew_flights.specs.declared.entries.Entry.{Entry}
 use Rattle.crew_log.specs.Logs.{HaveNone}
-use Rattle.crew_publish.specs.Chain.{Extends}
 use Rattle.crew_resource.specs.Members.{Member}
 use Rattle.crew_service.proofs.Plans.{length-entries}
-use Rattle.crew_service.specs.Faults.{IsMissing, IsSettleFault}
-use Rattle.crew_service.specs.Plans.{HasSettled, Planning, entries_of}
+use Rattle.crew_service.specs.Faults.{IsSettleFault}
+use Rattle.crew_service.specs.Plans.{Planning, entries_of}
 use Rattle.crew_service.specs.declared.fault.SettleFault.{SettleFault}
 use Rattle.crew_service.specs.declared.fault.SettleFault.TheVariants as Settle
-use Rattle.crew_session.specs.Oddities.{GoesOn, HasMadeNext, IsHole, IsToldBy, Made}
+use Rattle.crew_session.specs.Oddities.{Found, IsTold, IsToldBy, Made}
+use Rattle.crew_session.specs.declared.engine_fault.EngineFault.{EngineFault}
 use Rattle.crew_version.specs.Versions.{Snapshot}
-use Rattle.crew_workers.specs.Machinery.Threads.{made_by, places_of, settled_fault_of}
+use Rattle.crew_workers.specs.Machinery.Threads.{Threading, made_by, places_of, settled_fault_of}
 
 -- entries of the first receipts are the first of all
 pub prefix-entries : (xs ys : List (Where Entry)) → IsPrefix xs ys → IsPrefix (entries_of xs) (entries_of ys)
@@ -26,19 +25,10 @@ pub length-places : (rs : List (Where Entry)) → length (places_of rs) ≡ leng
 length-places [] = refl
 length-places (r ∷ rs) = ap suc (length-places rs)
 
--- what extends a version goes on from it
-pub goes-on : (v w : Snapshot) → Extends v w → GoesOn v w
-goes-on v w (inl same) = record { number = omega (arith, same.0); entries = ([], append-nil v.entries ∙ same.1) }
-goes-on v w (inr follows) = record { number = omega (arith, follows.rises); entries = follows.begins }
-
--- a planner that has settled has made the next version
-pub made-next : (old new : Planning) (wanted : List (Where Entry)) → HasSettled old wanted new → HasMadeNext (made_by old) (made_by new)
-made-next old new wanted h = record { number = h.next.number; settings = h.next.settings; entries = h.next.over; right = h.next.right }
-
 no-place : (rs : List (Where Entry)) (place : ℕ) → HaveNone rs place → Member (places_of rs) place → ⊥
 no-place [] place none m = m
-no-place (r ∷ rs) place none (inl is) = none.0 is
-no-place (r ∷ rs) place none (inr m) = no-place rs place none.1 m
+no-place (r ∷ rs) place none (inl is) = none 0 r (omega arith) is
+no-place (r ∷ rs) place none (inr m) = no-place rs place (λ k d l. none (suc k) d (omega (arith, l))) m
 
 has-place : (rs : List (Where Entry)) (r : Where Entry) → Member rs r → Member (places_of rs) r.index
 has-place [] r m = m
@@ -61,3 +51,15 @@ refused old new wanted (Settle.Gap place) h = (
 refused old new wanted Settle.LastVersion h = (h.0.version, h.1)
 refused old new wanted Settle.TooManyDuties h = (h.0.version, h.2)
 refused old new wanted Settle.Memory h = tt
+
+-- what a settle found is told, where it asked its planner, and then noted what came of it
+pub settled-told : (old mid new : Threading) (what : Result Snapshot EngineFault) → length old.found.places ≡ length old.entries
+    → mid.found ≡ record { before = old.made; after = mid.made; places = old.found.places; what = old.found.what }
+    → new.found ≡ record { before = mid.found.before; after = mid.found.after; places = mid.found.places; what = what } → new.made ≡ mid.made
+    → IsPrefix old.made.read mid.made.read → IsToldBy old.made mid.made old.found.places what → IsTold old.made old.entries new.made new.found
+settled-told old mid new what many asked found made reads why =
+    let is : new.found ≡ record { before = old.made; after = mid.made; places = old.found.places; what = what } =
+    found ∙ ap (λ (f : Found). record { before = f.before; after = f.after; places = f.places; what = what }) asked in
+    let told : IsTold old.made old.entries mid.made (record { before = old.made; after = mid.made; places = old.found.places; what = what }) =
+    record { from = refl; upto = refl; many = many; reads = reads; why = why } in
+    subst (λ (m : Made). IsTold old.made old.entries m new.found) (sym made) (subst (λ (f : Found). IsTold old.made old.entries mid.made f) (sym is) told)

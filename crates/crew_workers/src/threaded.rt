@@ -1,6 +1,6 @@
 //! The engine over a running service.
 
-ghost use Rattle.std.specs.Prelude.{◌≡◌, ◌⊎◌, ◌↔◌, ◌+◌, [], Err, IfErr, IfOk, IsTrue, Ok, OnErr, OnOk, Some, slice_get};
+ghost use Rattle.std.specs.Prelude.{◌≡◌, ◌⊎◌, ◌↔◌, ◌+◌, [], Err, IfErr, IfOk, IsTrue, Ok, OnErr, OnOk, Some, length, slice_get};
 ghost use mathlib.Core.List.{IsPrefix};
 ghost use Rattle.crew_log.specs.Logs.{AreOf, unused_seat};
 ghost use Rattle.crew_publish.specs.Chain.{Extends};
@@ -230,6 +230,7 @@ impl<'s, 'a, R: Wait, G: Gate + Drop> Threaded<'s, 'a, R, G> {
           places = self.old.found.places;
           what = self.old.found.what;
         } }
+        ensures many { length self.old.found.places ≡ length self.old.entries }
         ensures reads { IsPrefix self.old.made.read self.new.made.read }
         ensures told { IfOk result (λ view. IsToldBy self.old.made self.new.made
             self.old.found.places (Ok view.version)) }

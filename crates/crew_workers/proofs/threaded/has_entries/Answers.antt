@@ -1,4 +1,4 @@
-use Rattle.std.proofs.Common.{◌≡◌, ◌∙◌, arith, length, refl, sym}
+use Rattle.std.proofs.Common.{◌≡◌, arith, length, refl}
 use Rattle.crew_service.specs.Plans.{entries_of}
 use Rattle.crew_service.proofs.Plans.{length-entries}
 use Rattle.crew_workers.proofs.Views.{one-list}
