@@ -1,0 +1,10 @@
+pub mod PoolOf
+pub mod Alone
+pub mod Labels
+pub mod Stays
+pub mod Waiting
+pub mod Resting
+pub mod Sound
+pub mod Stages
+pub mod After
+pub mod Upto

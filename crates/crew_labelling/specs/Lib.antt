@@ -1,0 +1,5 @@
+pub mod Terms
+pub mod Held
+pub mod Candidates
+pub mod Offered
+pub mod Labellings
