@@ -8,3 +8,5 @@ pub mod Sound
 pub mod Stages
 pub mod After
 pub mod Upto
+pub mod Right
+pub mod One

@@ -44,7 +44,7 @@ lt-in : (a b : ℕ) → a < b → nat_lt a b ≡ true
 lt-in a b h = grind (arith, nat_tests)
 
 -- something stands there, or it is past the end
-at-or-past : {A : Type 0} (xs : List A) (i : ℕ) → ((a : A) × (slice_get xs i ≡ Some a)) ⊎ (length xs ≤ i)
+pub at-or-past : {A : Type 0} (xs : List A) (i : ℕ) → ((a : A) × (slice_get xs i ≡ Some a)) ⊎ (length xs ≤ i)
 at-or-past [] i = inr (omega arith)
 at-or-past (x ∷ xs) zero = inl (x, refl)
 at-or-past {A} (x ∷ xs) (suc i) = ⊎_elim {C = ((a : A) × (slice_get xs i ≡ Some a)) ⊎ (suc (length xs) ≤ suc i)} inl (λ h. inr (omega (arith, h))) (at-or-past xs i)
@@ -98,7 +98,7 @@ module _ {V : Type 0} (w : Terms V) (terms : AreTerms w) (lawful : AreLawful w) 
   pub among-is : (ls : List (Label V)) → ArePoolOf w.below w.same trail (map (shown trail) ls) (pool_among w pools ls)
   among-is ls = pool_is w.below w.same w.cmp trail lawful.order lawful.total lawful.forgets.same_itself lawful.forgets.same_between ls
 
-  among-from : (ls : List (Label V)) (l : Label V) → Member (pool_among w pools ls) l → Member ls l
+  pub among-from : (ls : List (Label V)) (l : Label V) → Member (pool_among w pools ls) l → Member ls l
   among-from ls l m = pool_from w.below w.same w.cmp trail ls l m
 
   values : ((a : V) → is_same w.below a a ≡ true)

@@ -1,3 +1,5 @@
+use Rattle.crew_labelling.proofs.One.{front-one}
+use Rattle.crew_labelling.proofs.Right.{departures-link}
 use Rattle.crew_labelling.proofs.Upto.{upto-at}
 use Rattle.crew_labelling.proofs.PoolOf.{pool_is}
 use Rattle.crew_labelling.proofs.Alone.{one-place}
