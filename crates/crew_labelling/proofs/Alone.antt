@@ -1,5 +1,5 @@
 -- Labels that rise: each value stands in one place, and the same labels make the same list.
-use Rattle.std.proofs.Common.{◌≡◌, ◌∙◌, ◌<◌, ℕ, zero, suc, List, [], ◌∷◌, Some, inl, inr, refl, sym, ap, subst, Ordering, arith}
+use Rattle.std.proofs.Common.{◌≡◌, ◌∙◌, ℕ, zero, suc, List, [], ◌∷◌, Some, refl, sym, ap, Ordering}
 use Rattle.std.specs.Prelude.{slice_get}
 use Rattle.std.specs.Cmp.{IsTotalOrder}
 use Rattle.std.specs.declared.cmp.Ordering.TheVariants.{Less, Equal}
@@ -8,7 +8,7 @@ use Rattle.crew_label.specs.Pools.{AreRising}
 use Rattle.crew_label.specs.declared.label.Label.{Label}
 use Rattle.crew_label.proofs.RisingLists.{each-member}
 use Rattle.crew_net.proofs.Slices.{member-got}
-use Rattle.crew_resource.specs.Members.{Each, Member}
+use Rattle.crew_resource.specs.Members.{Member}
 use Rattle.crew_resource.proofs.Rising.{Rising, same-rising}
 
 module _ {V : Type 0} (cmp : V → V → Ordering) (total : IsTotalOrder cmp) where

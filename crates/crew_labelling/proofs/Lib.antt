@@ -10,3 +10,5 @@ pub mod After
 pub mod Upto
 pub mod Right
 pub mod One
+pub mod Keyed
+pub mod Covering

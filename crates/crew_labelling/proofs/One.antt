@@ -1,5 +1,5 @@
 -- The labelling is the only one: labels that rise, link into it and are the pool of the same candidates are its labels.
-use Rattle.std.proofs.Common.{◌≡◌, ◌∙◌, ◌<◌, ◌≤◌, ◌+◌, ◌++◌, ◌⊎◌, ℕ, zero, suc, true, List, [], ◌∷◌, Option, Some, None, length, map, get_or, inl, inr, refl, sym, ap, ap₂, subst, ⊎_elim, arith, length-append}
+use Rattle.std.proofs.Common.{◌≡◌, ◌∙◌, ◌<◌, ◌+◌, ◌++◌, ◌⊎◌, ℕ, zero, suc, List, [], ◌∷◌, Option, Some, None, length, map, get_or, inl, inr, refl, sym, ap, ap₂, subst, ⊎_elim, arith, length-append}
 use Rattle.std.specs.Prelude.{slice_get}
 use Rattle.crew_forgetful.specs.Forgetful.{IsPool}
 use Rattle.crew_forgetful.proofs.Covered.{pool_unique}

@@ -1,12 +1,11 @@
 -- The pool of a list of labels, made label by label: it rises, it is their pool, and its labels are of the list.
-use Rattle.std.proofs.Common.{◌≡◌, ◌∙◌, ◌⊎◌, ◌++◌, ℕ, Bool, true, false, cond, not, List, [], ◌∷◌, map, inl, inr, refl, sym, ap, subst, ⊎_elim, Ordering}
+use Rattle.std.proofs.Common.{◌≡◌, ◌∙◌, ◌⊎◌, ℕ, Bool, true, false, cond, not, List, [], ◌∷◌, map, inl, inr, refl, sym, ap, subst, ⊎_elim, Ordering}
 use Rattle.std.specs.Cmp.{IsTotalOrder}
 use Rattle.std.specs.List.{filter, list_any}
 use Rattle.std.specs.Ordering.{is_lt}
 use Rattle.std.specs.declared.cmp.Ordering.TheVariants.{Less, Equal, Greater}
 use Rattle.std.proofs.lemmas.Bool.{cases_Bool, false≢true, not-true, not_from_false}
 use Rattle.crew_forgetful.specs.Forgetful.{IsPool, StandsFor}
-use Rattle.crew_forgetful.proofs.Covered.{stands_refl}
 use Rattle.crew_forgetful.proofs.Offers.{More, pool_beaten, pool_kept, same_pool}
 use Rattle.crew_label.specs.Pools.{ArePoolOf, AreRising, stands_label}
 use Rattle.crew_label.specs.Walks.{ranks_at_most, shown, walk_of}

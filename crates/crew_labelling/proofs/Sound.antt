@@ -1,5 +1,5 @@
 -- Pools of departures from which the labelling goes on.
-use Rattle.std.proofs.Common.{◌≡◌, ◌++◌, true, List, [], ◌∷◌, inl, inr, refl, subst, ⊎_elim}
+use Rattle.std.proofs.Common.{◌≡◌, ◌++◌, true, List, [], ◌∷◌, subst, ⊎_elim}
 use Rattle.crew_label.specs.Pools.{AreRising}
 use Rattle.crew_label.specs.Tables.{AreLinked, Tabled}
 use Rattle.crew_label.specs.declared.label.Label.{Label}

@@ -1,5 +1,5 @@
 -- What the pools of departures make: the fronts of duties, the pools of arrivals, and the pool of a departure more.
-use Rattle.std.proofs.Common.{◌≡◌, ◌∙◌, ◌<◌, ◌≤◌, ◌+◌, ◌++◌, ◌⊎◌, ℕ, zero, suc, Bool, true, List, [], ◌∷◌, Option, Some, length, map, get_or, inl, inr, refl, sym, ap, subst, ⊎_elim, arith}
+use Rattle.std.proofs.Common.{◌≡◌, ◌∙◌, ◌<◌, ◌≤◌, ◌+◌, ◌⊎◌, ℕ, zero, suc, Bool, true, List, [], ◌∷◌, Option, Some, length, map, get_or, inl, inr, refl, sym, ap, subst, ⊎_elim, arith}
 use Rattle.std.specs.Prelude.{slice_get, nat_lt}
 use Rattle.std.specs.List.{filter, flat_map}
 use Rattle.std.specs.Ordering.{eq_by_cmp}
@@ -10,7 +10,7 @@ use Rattle.crew_forgetful.specs.Machinery.Sums.{is_same}
 use Rattle.crew_label.specs.Boarding.{LeadInto, boarded_from, waited_label}
 use Rattle.crew_label.specs.Pools.{ArePoolOf, AreRising}
 use Rattle.crew_label.specs.Tables.{Tabled}
-use Rattle.crew_label.specs.Walks.{ranks_at_most, shown, walk_of}
+use Rattle.crew_label.specs.Walks.{ranks_at_most, shown}
 use Rattle.crew_label.specs.declared.label.Label.{Label}
 use Rattle.crew_label.specs.declared.label.Link.{Link}
 use Rattle.crew_label.proofs.Boarded.{boarded_counted, boarded_entries}
@@ -30,7 +30,7 @@ use Rattle.crew_resource.specs.Members.{Member}
 use Rattle.crew_resource.specs.Stages.{CountingLaws}
 use Rattle.crew_resource.proofs.Members.{Member-append, Member-append_left, Member-append_right, Member-filter_in, Member-filter_out, Member-flat_map_in, Member-flat_map_out, Member-map_in, Member-map_out}
 use Rattle.crew_labelling.specs.Candidates.{AreFront, AreGathered, Arrives, IsRested, Waits, boarding, idle_labels}
-use Rattle.crew_labelling.specs.Held.{AreHeld, AreReady, HaveArrived, IsHeld, leads_of, trail_of}
+use Rattle.crew_labelling.specs.Held.{AreReady, HaveArrived, IsHeld, leads_of, trail_of}
 use Rattle.crew_labelling.specs.Labellings.{arrival_pool, arriving_labels, departure_pool, front_of, fronts_from, fronts_of, pool_among, rested_pool, waited_labels, waiting_labels}
 use Rattle.crew_labelling.specs.Terms.{AreLawful, AreTerms, Terms}
 use Rattle.crew_labelling.proofs.Labels.{boarded-held, counted, shown-waited, waited-held}
@@ -287,10 +287,18 @@ module _ {V : Type 0} (w : Terms V) (terms : AreTerms w) (lawful : AreLawful w) 
         let e : shown trail (waited_label (λ v. w.wait v r.0 g) s.0) ≡ (v, k) = ap (shown trail) s.2 ∙ l.2 in
         let place = member-place w.net.arrivals r.0 o.0 in
         let here = made-at (arrival_pool w pools) w.net.arrivals place.0 r.0 place.1 in
-        inr (place.0, (r.0, s.0.value, place.1, o.1,
-        subst (λ (ls : List (Label V)). Member (map (shown trail) ls) (s.0.value, k)) (sym here)
-        (subst (λ (z : List ℕ). Member (map (shown trail) (arrival_pool w pools r.0)) (s.0.value, z)) (ap (λ (p : V × List ℕ). p.1) e) (Member-map_in (shown trail) (arrival_pool w pools r.0) s.0 s.1)),
-        sym (ap (λ (p : V × List ℕ). p.0) e))))
+        inr (
+          place.0,
+          (
+            r.0,
+            s.0.value,
+            place.1,
+            o.1,
+            subst (λ (ls : List (Label V)). Member (map (shown trail) ls) (s.0.value, k)) (sym here)
+                (subst (λ (z : List ℕ). Member (map (shown trail) (arrival_pool w pools r.0)) (s.0.value, z)) (ap (λ (p : V × List ℕ). p.1) e) (Member-map_in (shown trail) (arrival_pool w pools r.0) s.0 s.1)),
+            sym (ap (λ (p : V × List ℕ). p.0) e),
+          ),
+        ))
         (Member-append idles waited l.0 l.1)
 
     every-waits : (v : V) (k : List ℕ) → Candidate v k → Member (map (shown trail) waiting) (v, k)

@@ -1,11 +1,10 @@
 -- The pools of departures, one after another: each is made of those before it, and so of all of them.
-use Rattle.std.proofs.Common.{◌≡◌, ◌∙◌, ◌<◌, ◌≤◌, ◌+◌, ◌++◌, ℕ, zero, suc, true, List, [], ◌∷◌, Some, ℤ, pos, length, get_or, refl, sym, ap, ⊎_elim, arith, length-append}
+use Rattle.std.proofs.Common.{◌≡◌, ◌∙◌, ◌<◌, ◌++◌, ℕ, zero, suc, true, [], ◌∷◌, Some, ℤ, pos, length, get_or, refl, sym, ap, ⊎_elim, arith, length-append}
 use Rattle.std.specs.Prelude.{slice_get, ◌≤ℤ◌, ◌-ℤ◌}
 use Rattle.std.proofs.lemmas.Bool.Decides.{eqb_tells}
 use Rattle.std.proofs.lemmas.Int.{ints}
 use Rattle.std.proofs.lemmas.List.{get_or_append_left}
 use Rattle.std.proofs.Math.Seq.{get_or-append_seam}
-use Rattle.crew_label.specs.declared.label.Label.{Label}
 use Rattle.crew_net.specs.Positions.{departure_at, in_order}
 use Rattle.crew_net.proofs.Orders.{in-order-at, later}
 use Rattle.crew_net.proofs.Slices.{get-at, member-got}

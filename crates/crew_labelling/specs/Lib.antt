@@ -3,3 +3,4 @@ pub mod Held
 pub mod Candidates
 pub mod Offered
 pub mod Labellings
+pub mod Passes
