@@ -1,4 +1,4 @@
--- A departure more leaves what was made of those before it as it was.
+-- More departures leave what was made of those before them as it was.
 use Rattle.std.proofs.Common.{◌≡◌, ◌∙◌, ◌<◌, ◌++◌, ℕ, true, List, [], ◌∷◌, Some, length, map, get_or, inl, inr, refl, sym, ap}
 use Rattle.std.specs.Prelude.{slice_get}
 use Rattle.std.specs.List.{filter, flat_map}
@@ -34,19 +34,19 @@ flat-alike : {X Y : Type 0} (f g : X → List Y) (xs : List X) → ((x : X) → 
 flat-alike f g [] h = refl
 flat-alike f g (x ∷ xs) h = ap (λ ys. ys ++ flat_map f xs) (h x (inl refl)) ∙ ap (λ ys. g x ++ ys) (flat-alike f g xs (λ y m. h y (inr m)))
 
-module _ {V : Type 0} (w : Terms V) (terms : AreTerms w) (lawful : AreLawful w) (pools : List (List (Label V))) (pool : List (Label V)) (sound : AreSound w pools) where
+module _ {V : Type 0} (w : Terms V) (terms : AreTerms w) (lawful : AreLawful w) (pools rest : List (List (Label V))) (sound : AreSound w pools) where
   abbrev more : List (List (Label V))
-  more = pools ++ pool ∷ []
+  more = pools ++ rest
 
   walk-same : (Bound : ℕ → V → Type 0) (l : Label V) → IsHeld w Bound (tabled w pools) l → walk_of (trail_in w.positions more) l.before ≡ walk_of (trail_in w.positions pools) l.before
-  walk-same Bound l h = walk-stays (tabled w pools) (tabled w more) (all-lead w pools pool) l.before h.leading
+  walk-same Bound l h = walk-stays (tabled w pools) (tabled w more) (all-lead w pools rest) l.before h.leading
 
   -- the front of a duty whose departure was there
   pub front-stays : (rank : ℕ) (d : Duty) → slice_get w.net.duties rank ≡ Some d → get_or w.positions rank 0 < length pools → front_of w more rank d ≡ front_of w pools rank d
   front-stays rank d known h =
       let position = get_or w.positions rank 0 in
       let view = boarded_from (λ v. w.board v d) rank 0 (get_or pools position []) in
-      ap (λ (ls : List (Label V)). pool_of w.below (is_same w.below) w.cmp (trail_in w.positions more) (boarded_from (λ v. w.board v d) rank 0 ls)) (get_or_append_left pools (pool ∷ []) [] position h)
+      ap (λ (ls : List (Label V)). pool_of w.below (is_same w.below) w.cmp (trail_in w.positions more) (boarded_from (λ v. w.board v d) rank 0 ls)) (get_or_append_left pools rest [] position h)
       ∙ pool_alike w.below (is_same w.below) w.cmp (trail_in w.positions pools) (trail_in w.positions more) view (λ l m. walk-same w.arrived l (view-held w terms lawful pools sound rank d known l m))
 
   -- the departures of all duties that arrive there were

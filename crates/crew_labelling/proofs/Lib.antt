@@ -9,6 +9,8 @@ pub mod Stages
 pub mod After
 pub mod Upto
 pub mod Right
+pub mod Only
 pub mod One
 pub mod Keyed
 pub mod Covering
+pub mod Whole

@@ -38,7 +38,7 @@ module _ {V : Type 0} (w : Terms V) (terms : AreTerms w) where
       (p.sound d (member-got w.net.duties rank d known)).elapsed
       (ap (λ (z : Arrival). z.release) is))
 
-  next-is : (n : ℕ) (g : Departure) → slice_get (in_order w.net) n ≡ Some g → departure_at w.net.departures (get_or w.net.by_report n 0) ≡ g
+  pub next-is : (n : ℕ) (g : Departure) → slice_get (in_order w.net) n ≡ Some g → departure_at w.net.departures (get_or w.net.by_report n 0) ≡ g
   next-is n g at =
       let a = in-order-at w.net terms.passable.departs terms.passable.ordered n g at in
       ap (departure_at w.net.departures) (get-at w.net.by_report n a.0 0 a.1) ∙ get-at w.net.departures a.0 g (record { airport = []; report = pos 0 }) a.2
@@ -68,7 +68,7 @@ module _ {V : Type 0} (w : Terms V) (terms : AreTerms w) where
         let long = upto-long n in
         let next = departure_at w.net.departures (get_or w.net.by_report n 0) in
         let pool = departure_pool w pools next in
-        let stays = departure-stays w terms lawful pools pool (upto-sound n) g (λ x waits rank d known is. let before = leaves-before i g at x waits rank d known is in omega (arith, before, h, long)) in
+        let stays = departure-stays w terms lawful pools (pool ∷ []) (upto-sound n) g (λ x waits rank d known is. let before = leaves-before i g at x waits rank d known is in omega (arith, before, h, long)) in
         ⊎_elim {C = get_or (pools ++ pool ∷ []) i [] ≡ departure_pool w (pools ++ pool ∷ []) g}
         (λ s.
         let last : i ≡ n = s.1 in

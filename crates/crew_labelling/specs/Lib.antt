@@ -4,3 +4,4 @@ pub mod Candidates
 pub mod Offered
 pub mod Labellings
 pub mod Passes
+pub mod Right
