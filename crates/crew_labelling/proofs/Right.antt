@@ -6,7 +6,7 @@ use Rattle.std.specs.Ordering.{eq_by_cmp}
 use Rattle.std.proofs.lemmas.List.{length-map}
 use Rattle.crew_flights.specs.Codes.{code_cmp}
 use Rattle.crew_forgetful.specs.Machinery.Sums.{is_same}
-use Rattle.crew_label.specs.Boarding.{boarded_from, linked, waited_label}
+use Rattle.crew_label.specs.Boarding.{LeadInto, boarded_from, linked, waited_label}
 use Rattle.crew_label.specs.Pools.{ArePoolOf, AreRising}
 use Rattle.crew_label.specs.Tables.{AreLinked, Tabled}
 use Rattle.crew_label.specs.Walks.{shown}
@@ -26,12 +26,12 @@ use Rattle.crew_pairing.specs.declared.events.Departure.{Departure}
 use Rattle.crew_resource.specs.Members.{Member}
 use Rattle.crew_resource.proofs.Members.{Member-append, Member-filter_out, Member-flat_map_out, Member-map_out}
 use Rattle.crew_labelling.specs.Candidates.{AreFront, AreGathered, Arrives, IsRested, Waits, idle_labels}
-use Rattle.crew_labelling.specs.Held.{AreReady, HaveArrived, trail_of}
+use Rattle.crew_labelling.specs.Held.{AreReady, HaveArrived, leads_of, trail_of}
 use Rattle.crew_labelling.specs.Labellings.{Labelling, arrival_pool, arriving_labels, departure_pool, front_of, fronts_of, labelling_of, pools_upto, rested_pool, table_of, waited_labels, waiting_labels}
 use Rattle.crew_labelling.specs.Terms.{AreLawful, AreTerms, Terms}
 use Rattle.crew_labelling.proofs.PoolOf.{pool_from}
 use Rattle.crew_labelling.proofs.Sound.{AreSound}
-use Rattle.crew_labelling.proofs.Stages.{among-from, arrival-gathered, arrival-held, arrival-rises, at-or-past, departure-gathered, front-at, front-held, front-is, front-itself, front-rises, made-at, rested-is, rested-rises}
+use Rattle.crew_labelling.proofs.Stages.{among-from, arrival-gathered, arrival-held, arrival-rises, at-or-past, departure-gathered, front-at, front-held, front-is, front-itself, front-rises, into, made-at, rested-is, rested-rises}
 use Rattle.crew_labelling.proofs.Stages as stages
 use Rattle.crew_labelling.proofs.Stays.{at-held}
 use Rattle.crew_labelling.proofs.Upto.{leaves-before, upto-at, upto-long, upto-sound}
@@ -106,7 +106,7 @@ module _ {V : Type 0} (w : Terms V) (terms : AreTerms w) where
   front-of rank d known = front-at w pools rank d known
 
   module _ (lawful : AreLawful w) where
-    sound : AreSound w pools
+    pub sound : AreSound w (labelling_of w).departures
     sound = upto-sound w terms lawful (length w.net.by_report)
 
     -- and so is each departure's pool
@@ -123,6 +123,11 @@ module _ {V : Type 0} (w : Terms V) (terms : AreTerms w) where
     pub departures-gathered : (i : ℕ) (g : Departure) → slice_get (in_order w.net) i ≡ Some g
         → AreGathered w (trail_of (table_of w (labelling_of w))) (Waits w (trail_of (table_of w (labelling_of w))) (labelling_of w).arrivals g) (get_or (labelling_of w).departures i [])
     departures-gathered i g at = subst (λ (ls : List (Label V)). AreGathered w trail (Waits w trail y.arrivals g) ls) (sym (departure-is i g at)) (departure-gathered w terms lawful pools sound g)
+
+    -- links of a duty lead to the labels of its departure's pool
+    pub departures-into : (rank : ℕ) (d : Duty) → slice_get w.net.duties rank ≡ Some d
+        → LeadInto (leads_of (table_of w (labelling_of w))) (trail_of (table_of w (labelling_of w))) rank (get_or (labelling_of w).departures (get_or w.positions rank 0) [])
+    departures-into rank d known = into w terms lawful pools sound rank d known
 
     -- arrivals
     at-arrival : (P : List (Label V) → Type 0) → P [] → (make : Arrival → List (Label V)) → ((x : Arrival) → P (make x)) → (place : ℕ) → P (get_or (map make w.net.arrivals) place [])
