@@ -134,4 +134,5 @@ module _ {V : Type 0} (w : Terms V) (terms : AreTerms w) (lawful : AreLawful w) 
 
   -- a labelling that is right is the labelling
   pub the-labelling : y ≡ labelling_of w
+  unfolding labelling_of
   the-labelling = same-by ∙ ap (labelling_by w) same-pools

@@ -100,7 +100,7 @@ labelling_by w pools = record {
 }
 
 -- the labelling of the terms' network
-abbrev pub labelling_of : {V : Type 0} → Terms V → Labelling V
+unfoldable pub labelling_of : {V : Type 0} → Terms V → Labelling V
 labelling_of w = labelling_by w (pools_upto w (length w.net.by_report))
 
 -- the table of its departures, into which all links of its labels lead
