@@ -85,9 +85,6 @@ module _ {V : Type 0} (w : Terms V) (terms : AreTerms w) (lawful : AreLawful w) 
   abbrev trail : Link → List ℕ
   trail = trail_of t
 
-  limit : ℕ
-  limit = terms.counts.limit
-
   counting : CountingLaws w.count terms.counts.limit w.idle w.wait w.board
   counting = lawful.counting terms.counts.limit terms.counts.has_most
 

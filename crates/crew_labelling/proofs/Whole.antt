@@ -34,9 +34,6 @@ module _ {V : Type 0} (w : Terms V) (terms : AreTerms w) (lawful : AreLawful w) 
   abbrev pools : List (List (Label V))
   pools = y.departures
 
-  n : ℕ
-  n = length w.net.by_report
-
   -- a departure stands at each position
   there : (i : ℕ) → i < length pools → (g : Departure) × (slice_get (in_order w.net) i ≡ Some g)
   there i h =
