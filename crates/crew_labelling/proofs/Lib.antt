@@ -1,0 +1,16 @@
+pub mod PoolOf
+pub mod Alone
+pub mod Labels
+pub mod Stays
+pub mod Waiting
+pub mod Resting
+pub mod Sound
+pub mod Stages
+pub mod After
+pub mod Upto
+pub mod Right
+pub mod Only
+pub mod One
+pub mod Keyed
+pub mod Covering
+pub mod Whole
