@@ -3,11 +3,10 @@
 -- It is made departure by departure in order of report. The pools of departures so far give the
 -- front of each duty that leaves by them, the fronts give the pools of arrivals, and these give the
 -- pool of the next departure.
-use Rattle.std.specs.Prelude.{ℕ, zero, suc, List, [], ◌∷◌, ◌++◌, get_or, length, map}
+use Rattle.std.specs.Prelude.{ℕ, zero, suc, Bool, ◌&&◌, List, [], ◌∷◌, ◌++◌, get_or, length, map}
 use Rattle.std.specs.List.{filter, flat_map}
 use Rattle.std.specs.Ordering.{eq_by_cmp}
 use Rattle.crew_flights.specs.Codes.{code_cmp}
-use Rattle.crew_forgetful.specs.Machinery.Sums.{is_same}
 use Rattle.crew_label.specs.Boarding.{boarded_from, waited_label}
 use Rattle.crew_label.specs.Tables.{Tabled, trail_in}
 use Rattle.crew_label.specs.declared.label.Label.{Label}
@@ -27,10 +26,14 @@ abbrev pub pool_among : {V : Type 0} → Terms V → List (List (Label V)) → L
     → List (Label V)
 pool_among w pools labels = pool_of w.below w.same w.cmp (trail_in w.positions pools) labels
 
+-- two values are one where each is at most the other
+abbrev pub are_one : {V : Type 0} → (V → V → Bool) → V → V → Bool
+are_one below a b = below a b && below b a
+
 -- the front of a duty: what dominance by values leaves of the labels that board it from the pool of
 -- its departure
 abbrev pub front_of : {V : Type 0} → Terms V → List (List (Label V)) → ℕ → Duty → List (Label V)
-front_of w pools rank d = pool_of w.below (is_same w.below) w.cmp (trail_in w.positions pools)
+front_of w pools rank d = pool_of w.below (are_one w.below) w.cmp (trail_in w.positions pools)
     (boarded_from (λ v. w.board v d) rank 0 (get_or pools (get_or w.positions rank 0) []))
 
 -- the fronts of duties, whose ranks begin with one
