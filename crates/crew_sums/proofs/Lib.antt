@@ -1,0 +1,2 @@
+mod Paths
+mod Counting

@@ -1,0 +1,3 @@
+-- What code and laws need, and no definition rests on.
+pub mod Marks
+pub mod Shifting

@@ -1,0 +1,74 @@
+//! The fronts of pairings of which seven sums tell all.
+ghost use Rattle.std.specs.Prelude.{◌≡◌, IfOk};
+ghost use Rattle.crew_answers.specs.Schedules.{IsDated};
+ghost use Rattle.crew_flights.specs.Timetable as TimetableSpec;
+ghost use Rattle.crew_pairing.specs.Duties.{AreDuties};
+ghost use Rattle.crew_pairing.specs.Events.{IsSound};
+ghost use Rattle.crew_pairing.specs.declared.duty.Duty.{Duty};
+ghost use Rattle.crew_resource.specs.Members.{Member};
+ghost use Rattle.crew_rules.specs.Settings.{IsChecked, SumsTellAll};
+ghost use Rattle.crew_sums.specs.Passes.{ShowsFronts};
+
+use crate::SumsResource;
+use crate::laws::sums_passes_show_the_fronts;
+use crew_flights::Code;
+use crew_pass::{BaseFronts, Course, pass, pass_by_threads};
+use crew_rules::Settings;
+use std::alloc::{AllocError, Global};
+use std::thread::Threads;
+
+/// The fronts of a base's duties, under settings under which the sums over a pairing's duties tell
+/// whether it is legal: at each legal duty of the course's timetable they show the duty's front.
+///
+/// The course's network may be of settings with another cap on the minutes away, since no legal duty
+/// and no rest between two depends on it.
+pub fn sums_fronts(
+    alloc: Global,
+    course: &Course,
+    settings: &Settings,
+    base: Code,
+    price: i64,
+) -> Result<BaseFronts<SumsResource>, AllocError>
+    requires sound { (d : Duty) → Member course.now.duties d → IsSound d }
+    requires checked { IsChecked settings.now }
+    requires sums { SumsTellAll settings.now }
+    requires price { TimetableSpec.IsBasePrice price }
+    requires settings { course.now.settings
+        ≡ record settings.now { away_cap = course.now.settings.away_cap } }
+    ensures net { IfOk result (λ fronts. fronts.net ≡ course.now) }
+    ensures right { IfOk result (λ fronts. (t : TimetableSpec.Timetable) → TimetableSpec.IsSound t
+        → IsDated t → AreDuties settings.now t course.now.duties
+        → ShowsFronts settings.now t base price fronts) }
+{
+    sums_passes_show_the_fronts();
+    let resource = SumsResource::new(settings, price);
+    let fronts = pass(alloc, course, &resource, base)?;
+    Ok(fronts)
+}
+
+/// The same fronts, by a pass in at most so many threads, this one among them.
+pub fn sums_fronts_by_threads<T: Threads + Sync>(
+    rt: &T,
+    alloc: Global,
+    threads: usize,
+    course: &Course,
+    settings: &Settings,
+    base: Code,
+    price: i64,
+) -> Result<BaseFronts<SumsResource>, AllocError>
+    requires sound { (d : Duty) → Member course.now.duties d → IsSound d }
+    requires checked { IsChecked settings.now }
+    requires sums { SumsTellAll settings.now }
+    requires price { TimetableSpec.IsBasePrice price }
+    requires settings { course.now.settings
+        ≡ record settings.now { away_cap = course.now.settings.away_cap } }
+    ensures net { IfOk result (λ fronts. fronts.net ≡ course.now) }
+    ensures right { IfOk result (λ fronts. (t : TimetableSpec.Timetable) → TimetableSpec.IsSound t
+        → IsDated t → AreDuties settings.now t course.now.duties
+        → ShowsFronts settings.now t base price fronts) }
+{
+    sums_passes_show_the_fronts();
+    let resource = SumsResource::new(settings, price);
+    let fronts = pass_by_threads(rt, alloc, threads, course, &resource, base)?;
+    Ok(fronts)
+}
