@@ -1,2 +1,3 @@
+mod Values
 mod Paths
 mod Counting

@@ -1,19 +1,16 @@
 -- A legal list has an anchored value exactly where it has a vector, which the value shows: so a front of values shows the front.
-use Rattle.std.proofs.Common.{◌≡◌, ◌≤◌, ℕ, Bool, List, [], ◌∷◌, ◌++◌, inl, inr, Option, Some, None, ℤ, pos, ◌-ℤ◌, refl, sym, ◌∙◌, ap, subst, ⊎_elim, arith}
-use Rattle.std.specs.Prelude.{◌≤ℤ◌}
+use Rattle.std.proofs.Common.{◌≡◌, ℕ, Bool, List, [], ◌∷◌, ◌++◌, inl, inr, Option, Some, None, ℤ, refl, sym, ◌∙◌, ap, subst, ⊎_elim}
 use Rattle.std.specs.Option.{option_map}
 use Rattle.std.specs.Ordering.{eq_by_cmp}
-use Rattle.std.proofs.lemmas.Int.{ints}
 use Rattle.crew_anchor.specs.Anchors.{anchored, shown}
 use Rattle.crew_anchor.specs.Machinery.Values.{anchored_value}
 use Rattle.crew_anchor.specs.Stages.{anchored_resource}
 use Rattle.crew_anchor.specs.Sweeps.{shown_labels}
 use Rattle.crew_anchor.proofs.Labels.{Member-shown, shown-Member}
-use Rattle.crew_anchor.proofs.Lists.{value-is}
 use Rattle.crew_anchor.proofs.Shifting.{anchored-order, anchored-shown, shown-anchored}
-use Rattle.crew_answers.specs.Schedules.{IsDated}
 use Rattle.crew_flights.specs.Codes.{code_cmp}
 use Rattle.crew_flights.specs.Timetable.{IsSound, Timetable}
+use Rattle.crew_net.specs.Machinery.Moments.{IsReal}
 use Rattle.crew_pairing.specs.Duties.{AreDuties}
 use Rattle.crew_pairing.specs.Keys.{walk_at_most}
 use Rattle.crew_pairing.specs.Legs.{Leg}
@@ -22,7 +19,6 @@ use Rattle.crew_pairing.specs.declared.duty.Duty.{Duty}
 use Rattle.crew_pairing.specs.declared.vector.PairingVector.{PairingVector}
 use Rattle.crew_resource.specs.Labels.{IsFront, Undominated}
 use Rattle.crew_resource.specs.Machinery.Paths.{CleanPathTo, PathTo}
-use Rattle.crew_resource.specs.Machinery.Sum.{LiesWithin}
 use Rattle.crew_resource.specs.Members.{Member}
 use Rattle.crew_resource.proofs.Members.{Member-append, Member-append_left}
 use Rattle.crew_rules.specs.Settings.{IsChecked}
@@ -30,22 +26,19 @@ use Rattle.crew_rules.specs.declared.settings.Settings.{Settings}
 use Rattle.crew_vector.specs.Dominance.{is_at_most}
 use Rattle.crew_vector.specs.Fronts.{IsFrontAt}
 use Rattle.crew_vector.specs.Values.{value_of}
-use Rattle.crew_vector.proofs.Cuts.{by-first}
 use Rattle.crew_vector.proofs.Paths as Plain
+use Rattle.crew_sums.proofs.Values.{value-at}
 
 -- what has an anchored value has the vector that it shows
 unmapped : (rate : ℕ) (minute : ℤ) (o : Option PairingVector) (v : PairingVector) → option_map (anchored rate minute) o ≡ Some v → o ≡ Some (shown rate minute v)
 unmapped rate minute None v e = absurd (let q : ⊥ = (cc) in q)
 unmapped rate minute (Some u) v e = let q : anchored rate minute u ≡ v = (cc) in ap Some (sym (shown-anchored rate minute u) ∙ ap (shown rate minute) q)
 
-near-report : (dep : ℤ) (lead : ℕ) → pos 15_776_640 ≤ℤ dep → dep ≤ℤ pos 68_375_519 → lead ≤ 240 → LiesWithin 2_147_483_647 (dep -ℤ pos lead)
-near-report dep lead h k l = record { least = omega (arith, ints); most = omega (arith, ints) }
-
 last-in : (before : List Duty) (e : Duty) (rest : List Duty) → Member (before ++ e ∷ rest) e
 last-in [] e rest = inl refl
 last-in (b ∷ before) e rest = inr (last-in before e rest)
 
-module _ (s : Settings) (t : Timetable) (base : List ℕ) (price : ℤ) (duties : List Duty) (checked : IsChecked s) (sound : IsSound t) (dated : IsDated t) (are : AreDuties s t duties) where
+module _ (s : Settings) (t : Timetable) (base : List ℕ) (price : ℤ) (duties : List Duty) (checked : IsChecked s) (sound : IsSound t) (are : AreDuties s t duties) (real : (d : Duty) → Member duties d → IsReal d.report) where
   abbrev key_of : Duty → List Leg
   key_of d = d.key
 
@@ -82,24 +75,12 @@ module _ (s : Settings) (t : Timetable) (base : List ℕ) (price : ℤ) (duties 
       let legal = Plain.known-legal s t base price checked sound d m in
       subst (Member duties) (sym legal.3) (are.every legal.0 legal.1 legal.2)
 
-  in-range : (d : Duty) → Member duties d → LiesWithin 2_147_483_647 d.report
-  in-range d m =
-      let legal = are.sound d m in
-      let at = dated legal.0.flight legal.2.known.0 in
-      subst (λ (e : Duty). LiesWithin 2_147_483_647 e.report) (sym legal.3) (near-report legal.0.flight.dep s.lead at.from at.to checked.lead)
-
   all-known : (before : List Duty) (d : Duty) → ((x : Duty) → Member before x → Member duties x) → Member duties d → (x : Duty) → Member (before ++ d ∷ []) x → Member duties x
   all-known before d known k x m = ⊎_elim {C = Member duties x} (known x) (⊎_elim (λ e. subst (Member duties) e k) (λ b. absurd b)) (Member-append before (d ∷ []) x m)
 
   -- the value of a list that ends with d
-  value-at : (before : List Duty) (d : Duty) → ((x : Duty) → Member (before ++ d ∷ []) x → Member duties x) → kept_of (before ++ d ∷ []) ≡ option_map (keeps d) (value_of s price (before ++ d ∷ []))
-  value-at before d known =
-      let f = by-first before d in
-      let here = known f.first (subst (λ z. Member z f.first) (sym f.whole) (inl refl)) in
-      ap kept_of f.whole
-      ∙ (value-is s price f.first f.others (in-range f.first here)
-      ∙ (ap (λ (e : Duty). option_map (keeps e) (value_of s price (f.first ∷ f.others))) f.ends
-      ∙ ap (λ z. option_map (keeps d) (value_of s price z)) (sym f.whole)))
+  shown-at : (before : List Duty) (d : Duty) → ((x : Duty) → Member (before ++ d ∷ []) x → Member duties x) → kept_of (before ++ d ∷ []) ≡ option_map (keeps d) (value_of s price (before ++ d ∷ []))
+  shown-at before d known = value-at s price before d (λ x m. real x (known x m))
 
   to-shown : (d : Duty) → Member duties d → (v : PairingVector) (w : List (List Leg)) → Kept d v w → Shown d (shows d v) w
   to-shown d k v w p = record {
@@ -108,7 +89,7 @@ module _ (s : Settings) (t : Timetable) (base : List ℕ) (price : ℤ) (duties 
     begins = p.begins;
     linked = p.linked;
     are_known = λ x m. to-known x (p.are_known x m);
-    value = unmapped s.trip_rig d.release (value_of s price (p.before ++ d ∷ [])) v (sym (value-at p.before d (all-known p.before d p.are_known k)) ∙ p.value);
+    value = unmapped s.trip_rig d.release (value_of s price (p.before ++ d ∷ [])) v (sym (shown-at p.before d (all-known p.before d p.are_known k)) ∙ p.value);
   }
 
   from-shown : (d : Duty) → Member duties d → (x : PairingVector) (w : List (List Leg)) → Shown d x w → Kept d (keeps d x) w
@@ -120,7 +101,7 @@ module _ (s : Settings) (t : Timetable) (base : List ℕ) (price : ℤ) (duties 
         begins = p.begins;
         linked = p.linked;
         are_known = known;
-        value = value-at p.before d (all-known p.before d known k) ∙ ap (option_map (keeps d)) p.value;
+        value = shown-at p.before d (all-known p.before d known k) ∙ ap (option_map (keeps d)) p.value;
       }
 
   undominated-to : (d : Duty) → Member duties d → (v : PairingVector) → Undominated is_at_most (Kept d) v → Undominated is_at_most (Shown d) (shows d v)
@@ -156,7 +137,7 @@ module _ (s : Settings) (t : Timetable) (base : List ℕ) (price : ℤ) (duties 
     path = to-shown d k v w c.path;
     clean = λ bs e rest u q value.
         let known = beginning-known bs e rest c.path.before d q (all-known c.path.before d c.path.are_known k) in
-        let there = c.clean bs e rest (keeps e u) q (value-at bs e (begun-known bs e rest known) ∙ ap (option_map (keeps e)) value) in
+        let there = c.clean bs e rest (keeps e u) q (shown-at bs e (begun-known bs e rest known) ∙ ap (option_map (keeps e)) value) in
         subst (Undominated is_at_most (Shown e)) (shown-anchored s.trip_rig e.release u) (undominated-to e (known e (last-in bs e rest)) (keeps e u) there);
   }
 
@@ -166,7 +147,7 @@ module _ (s : Settings) (t : Timetable) (base : List ℕ) (price : ℤ) (duties 
     path = from-shown d k x w c.path;
     clean = λ bs e rest u q value.
         let known = beginning-known bs e rest c.path.before d q (all-known c.path.before d (λ y m. from-known y (c.path.are_known y m)) k) in
-        let has = unmapped s.trip_rig e.release (value_of s price (bs ++ e ∷ [])) u (sym (value-at bs e (begun-known bs e rest known)) ∙ value) in
+        let has = unmapped s.trip_rig e.release (value_of s price (bs ++ e ∷ [])) u (sym (shown-at bs e (begun-known bs e rest known)) ∙ value) in
         let there = c.clean bs e rest (shows e u) q has in
         subst (Undominated is_at_most (Kept e)) (anchored-shown s.trip_rig e.release u) (undominated-from e (known e (last-in bs e rest)) (shows e u) there);
   }

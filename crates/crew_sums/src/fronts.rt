@@ -1,7 +1,7 @@
 //! The fronts of pairings of which seven sums tell all.
 ghost use Rattle.std.specs.Prelude.{◌≡◌, IfOk};
-ghost use Rattle.crew_answers.specs.Schedules.{IsDated};
 ghost use Rattle.crew_flights.specs.Timetable as TimetableSpec;
+ghost use Rattle.crew_net.specs.Machinery.Moments.{IsReal};
 ghost use Rattle.crew_pairing.specs.Duties.{AreDuties};
 ghost use Rattle.crew_pairing.specs.Events.{IsSound};
 ghost use Rattle.crew_pairing.specs.declared.duty.Duty.{Duty};
@@ -16,6 +16,13 @@ use crew_pass::{BaseFronts, Course, pass, pass_by_threads};
 use crew_rules::Settings;
 use std::alloc::{AllocError, Global};
 use std::thread::Threads;
+
+// Each duty of a course's network reports at a minute of 32 bits.
+fn see_reports(course: &Course)
+    ensures { (d : Duty) → Member course.now.duties d → IsReal d.report }
+{
+    let _ = course.net().departures();
+}
 
 /// The fronts of a base's duties, under settings under which the sums over a pairing's duties tell
 /// whether it is legal: at each legal duty of the course's timetable they show the duty's front.
@@ -37,10 +44,11 @@ pub fn sums_fronts(
         ≡ record settings.now { away_cap = course.now.settings.away_cap } }
     ensures net { IfOk result (λ fronts. fronts.net ≡ course.now) }
     ensures right { IfOk result (λ fronts. (t : TimetableSpec.Timetable) → TimetableSpec.IsSound t
-        → IsDated t → AreDuties settings.now t course.now.duties
+        → AreDuties settings.now t course.now.duties
         → ShowsFronts settings.now t base price fronts) }
 {
     sums_passes_show_the_fronts();
+    see_reports(course);
     let resource = SumsResource::new(settings, price);
     let fronts = pass(alloc, course, &resource, base)?;
     Ok(fronts)
@@ -64,10 +72,11 @@ pub fn sums_fronts_by_threads<T: Threads + Sync>(
         ≡ record settings.now { away_cap = course.now.settings.away_cap } }
     ensures net { IfOk result (λ fronts. fronts.net ≡ course.now) }
     ensures right { IfOk result (λ fronts. (t : TimetableSpec.Timetable) → TimetableSpec.IsSound t
-        → IsDated t → AreDuties settings.now t course.now.duties
+        → AreDuties settings.now t course.now.duties
         → ShowsFronts settings.now t base price fronts) }
 {
     sums_passes_show_the_fronts();
+    see_reports(course);
     let resource = SumsResource::new(settings, price);
     let fronts = pass_by_threads(rt, alloc, threads, course, &resource, base)?;
     Ok(fronts)

@@ -10,8 +10,8 @@ pass_by_threads-requires-clause-counts g c κs out =
     c.sums_passes_show_the_fronts.ensures.counts c.args.settings.now c.args.price c.new-resource.result is c.requires.checked c.requires.price
 
 pub returns-clause-right : goal.returns-clause-right
-returns-clause-right g c t sound dated are =
+returns-clause-right g c t sound are =
     let price : to_z w64 (of_z w64 c.args.price) ≡ c.args.price = to_z-of_z w64 c.args.price (search rules) in
     let is = c.new-resource.ensures ∙ ap (λ (z : ℤ). sums_resource c.args.settings.now z) price in
-    c.sums_passes_show_the_fronts.ensures.fronts c.args.settings.now t c.args.base c.args.price c.new-resource.result c.args.course.now c.in_ok-fronts.fronts is c.in_ok-fronts.ensures.net c.requires.checked sound dated are c.requires.settings
+    c.sums_passes_show_the_fronts.ensures.fronts c.args.settings.now t c.args.base c.args.price c.new-resource.result c.args.course.now c.in_ok-fronts.fronts is c.in_ok-fronts.ensures.net c.requires.checked sound are c.see_reports.ensures c.requires.settings
     c.in_ok-fronts.ensures.covered

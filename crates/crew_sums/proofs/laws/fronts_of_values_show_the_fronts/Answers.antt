@@ -4,5 +4,5 @@ use Rattle.crew_sums.proofs.Paths.{shown-front}
 use Rattle.crew_sums.proofs.laws.fronts_of_values_show_the_fronts.Goals as goal
 
 pub returns : goal.returns
-returns c = λ s t base price duties d entries checked sound dated are legal.
-    shown-front s t base price duties checked sound dated are d (subst (Member duties) (sym legal.3) (are.every legal.0 legal.1 legal.2)) entries
+returns c = λ s t base price duties d entries checked sound are real legal.
+    shown-front s t base price duties checked sound are real d (subst (Member duties) (sym legal.3) (are.every legal.0 legal.1 legal.2)) entries

@@ -24,7 +24,7 @@ returns-clause-counts c = λ s price r is checked base.
     })
 
 pub returns-clause-fronts : goal.returns-clause-fronts
-returns-clause-fronts c = λ s t base price r net p is same checked sound dated are alike covered d legal.
+returns-clause-fronts c = λ s t base price r net p is same checked sound are real alike covered d legal.
     let known = subst (Member net.duties) (sym legal.3) (are.every legal.0 legal.1 legal.2) in
     let k = member-place net.duties d known in
     let at = subst (λ (z : Net). slice_get z.duties k.0 ≡ Some d) (sym same) k.1 in
@@ -32,5 +32,5 @@ returns-clause-fronts c = λ s t base price r net p is same checked sound dated 
     let pass = covered-alike s net.settings base net.duties _ _ _ _ _ own.pools own.arrivals own.fronts alike own.covered in
     let kept = c.covered_passes_show_the_fronts.ensures (sums_resource s price) s.max_duties (schedule_of s base net.duties) own.pools own.arrivals own.fronts d refl same-count
     (c.legal_duties_are_a_schedule.ensures.schedule s t base net.duties sound are) pass known in
-    let front = c.fronts_of_values_show_the_fronts.ensures s t base price net.duties d (own.fronts d) checked sound dated are legal kept in
+    let front = c.fronts_of_values_show_the_fronts.ensures s t base price net.duties d (own.fronts d) checked sound are real legal kept in
     (k.0, at, subst (λ (es : List (PairingVector × List (List Leg))). IsFrontAt s t base price d (shown_labels s.trip_rig d.release es)) (own.told k.0 d at) front)
