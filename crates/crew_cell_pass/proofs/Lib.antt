@@ -1,0 +1,10 @@
+mod Alike
+mod Shelved
+mod Known
+mod Collected
+mod Arriving
+mod More
+mod Before
+mod Based
+mod Steps
+mod Linked
