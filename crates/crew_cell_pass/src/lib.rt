@@ -12,7 +12,8 @@
 //! (`crew_forgetful`), whatever the resource is, so that the fronts are those of all legal lists of
 //! duties; and that with the resource of pairings of up to 240 hours (`crew_answers`) they show the
 //! front of each legal duty (`long_fronts`, `laws`). What the passes of several bases share is a
-//! `Course`. Want of memory is all that ends a pass early.
+//! `Course`. Want of memory is all that ends a pass early. It is to take the place of `crew_pass`,
+//! whose promises it keeps word for word.
 #![tactic(auto)]
 
 mod arrivals;

@@ -23,7 +23,7 @@ use Rattle.crew_resource.proofs.Members.{Member-filter_out}
 use Rattle.crew_labelling.specs.Candidates.{idle_labels}
 use Rattle.crew_labelling.specs.Held.{IsHeld}
 use Rattle.crew_labelling.specs.Labellings.{arrival_pool, arriving_labels, departure_pool, front_of, fronts_of, pool_among, waited_labels, waiting_labels}
-use Rattle.crew_labelling.specs.Offered.{pool_of}
+use Rattle.crew_labelling.specs.Labellings.{pool_of}
 use Rattle.crew_labelling.specs.Terms.{AreLawful, AreTerms, Terms}
 use Rattle.crew_labelling.proofs.PoolOf.{pool_alike}
 use Rattle.crew_labelling.proofs.Sound.{AreSound, all-lead, tabled}

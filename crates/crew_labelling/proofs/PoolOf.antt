@@ -19,7 +19,7 @@ use Rattle.crew_resource.specs.Members.{Each, Member}
 use Rattle.crew_resource.specs.Resource.{OrderLaws}
 use Rattle.crew_resource.proofs.Members.{Member-filter_in, Member-filter_out, Member-map_in, Member-map_out, list_any_false, list_any_true}
 use Rattle.crew_resource.proofs.Values.{below_order}
-use Rattle.crew_labelling.specs.Offered.{offered, pool_of}
+use Rattle.crew_labelling.specs.Labellings.{offered, pool_of}
 
 is_less : (o : Ordering) → is_lt o ≡ true → o ≡ Less
 is_less Less e = refl

@@ -3,9 +3,9 @@
 -- It is made departure by departure in order of report. The pools of departures so far give the
 -- front of each duty that leaves by them, the fronts give the pools of arrivals, and these give the
 -- pool of the next departure.
-use Rattle.std.specs.Prelude.{ℕ, zero, suc, Bool, ◌&&◌, List, [], ◌∷◌, ◌++◌, get_or, length, map}
-use Rattle.std.specs.List.{filter, flat_map}
-use Rattle.std.specs.Ordering.{eq_by_cmp}
+use Rattle.std.specs.Prelude.{ℕ, zero, suc, Bool, ◌&&◌, List, [], ◌∷◌, ◌++◌, get_or, length, map, not, cond}
+use Rattle.std.specs.List.{filter, flat_map, list_any}
+use Rattle.std.specs.Ordering.{eq_by_cmp, is_lt}
 use Rattle.crew_flights.specs.Codes.{code_cmp}
 use Rattle.crew_label.specs.Boarding.{boarded_from, waited_label}
 use Rattle.crew_label.specs.Tables.{Tabled, trail_in}
@@ -18,8 +18,27 @@ use Rattle.crew_pairing.specs.declared.duty.Duty.{Duty}
 use Rattle.crew_pairing.specs.declared.events.Arrival.{Arrival}
 use Rattle.crew_pairing.specs.declared.events.Departure.{Departure}
 use Rattle.crew_labelling.specs.Candidates.{idle_labels}
-use Rattle.crew_labelling.specs.Offered.{pool_of}
 use Rattle.crew_labelling.specs.Terms.{Terms}
+use Rattle.std.specs.declared.cmp.Ordering.{Ordering}
+use Rattle.crew_label.specs.Pools.{stands_label}
+use Rattle.crew_label.specs.declared.label.Link.{Link}
+use Rattle.crew_resource.specs.Entries.{placed}
+
+-- a pool, and one more label: it stays out where one of the pool may stand for it; else those for
+-- which it may stand leave, and it comes in by its place in the listing
+abbrev pub offered : {V : Type 0} → (V → V → Bool) → (V → V → Bool) → (V → V → Ordering)
+    → (Link → List ℕ) → Label V → List (Label V) → List (Label V)
+offered below same cmp trail l pool =
+    cond (list_any (λ m. stands_label below same trail m l) pool) pool
+    (placed (λ m. is_lt (cmp l.value m.value)) l
+    (filter (λ m. not (stands_label below same trail l m)) pool))
+
+-- the pool of all labels of a list
+abbrev pub pool_of : {V : Type 0} → (V → V → Bool) → (V → V → Bool) → (V → V → Ordering)
+    → (Link → List ℕ) → List (Label V) → List (Label V)
+pool_of below same cmp trail [] = []
+pool_of below same cmp trail (l ∷ ls) =
+    offered below same cmp trail l (pool_of below same cmp trail ls)
 
 -- the pool of labels whose links lead into the pools of departures
 abbrev pub pool_among : {V : Type 0} → Terms V → List (List (Label V)) → List (Label V)
