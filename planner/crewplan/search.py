@@ -29,7 +29,7 @@ LEAP = Steps(spread=0.05)
 PART = 0.4  # of a plan's follow-ons that a descent gives up at first
 LEAPS = 0.5, 0.8  # .. and a leap
 SPREADS = 0.1, 0.4  # of the lots that change weights
-LAST = 3_000  # columns of an integer program of a descent
+LAST = 3_000  # columns of an integer program of a first dive or a descent
 SHORT, LONG, LEAST = 0.008, 0.02, 1.5  # of the time, and least seconds: where a dive in vain took less more is given up
 VAIN = 8  # dives of a descent in a row without a better plan
 PATIENCE = 12  # leaps in a row without a better plan
@@ -73,7 +73,8 @@ class Search:
         began = time.perf_counter()
         deadline = began + seconds
         self.short, self.long = SHORT * seconds, max(LONG * seconds, LEAST)
-        self.dive(FIRST[self.number % len(FIRST)], [], math.inf, math.inf)
+        first = replace(FIRST[self.number % len(FIRST)], last=LAST, seconds=2 * self.long)
+        self.dive(first, [], math.inf, math.inf)
         self.descend(deadline)
         in_vain = 0
         while not self.is_done() and time.perf_counter() < deadline and in_vain < PATIENCE:
