@@ -16,12 +16,12 @@ from .engine import Engine
 from .faults import Fault, ScheduleFault
 from .files import check_folder, write_whole
 from .master import clp_library
-from .plan import Whole
+from .plan import Whole, whole_of
 from .progress import Progress
 from .relaxation import PENALTY, Cost, Result, Round, Ways, relax, ways_of
 from .report import Figures, Report, Run, csv_of, hours, json_of, report_of, text_of
-from .search import Search
-from .settings import Settings, settings_of
+from .searches import Start, Took, how_many, run_all
+from .settings import settings_of
 from .timetable import Timetable, read
 from .uncovered import causes, unreachable
 
@@ -54,7 +54,9 @@ def parser() -> argparse.ArgumentParser:
                      help='ends the relaxation after so long, with the bound that it has (to its optimum)')
     run.add_argument('--gap', type=positive, default=0.0, metavar='PERCENT',
                      help='ends the relaxation where it is so near to its bound (0: at its optimum)')
-    run.add_argument('--dives', type=int, default=2, metavar='N', help='dives for whole pairings (%(default)s)')
+    run.add_argument('--searches', type=int, metavar='N',
+                     help='how many searches for plans go side by side, each with an engine of its own (one below 300 '
+                          'flights, else as many as there are processors, up to 4)')
     run.add_argument('--capacity', type=int, metavar='N', help='the most pairings of one base (any number)')
     run.add_argument('--penalty', type=positive, default=PENALTY, metavar='POINTS',
                      help='what an uncovered flight costs while pairings are chosen, and no figure shows (100,000)')
@@ -115,9 +117,10 @@ def run(given: argparse.Namespace, options: list[str], progress: Progress) -> No
 
 
 def plan(timetable: Timetable, given: argparse.Namespace, options: list[str], progress: Progress) -> Report:
-    """The whole run: what can't be flown, the relaxation, dives, better plans."""
+    """The whole run: what can't be flown, the relaxation, plans."""
     settings = settings_of(options)
-    with Engine(given.program or str(proving.SCRIPT), options, timetable) as engine:
+    program = given.program or str(proving.SCRIPT)
+    with Engine(program, options, timetable) as engine:
         if given.master == 'auto' and clp_library() is None:
             progress.close('plan: Clp is not installed, so HiGHS solves the linear programs, several times slower: '
                            'apt-get install coinor-libclp1')
@@ -130,8 +133,12 @@ def plan(timetable: Timetable, given: argparse.Namespace, options: list[str], pr
         ways = ways_from(given, len(reached.flights))
         relaxed = relax(reached, engine, ways, penalty=given.penalty, capacity=given.capacity,
                         tell=lambda turn: progress.tell('relaxation', round_line(turn)))
-        found, dives = whole_plan(reached, settings, engine, relaxed, ways, given, progress)
-        run = run_of(relaxed, engine, dives, progress)
+        spent = Took(0, engine.settles, relaxed.problem.masters, len(relaxed.problem.pool),
+                     relaxed.problem.processor_seconds, engine.seconds, engine.processor_seconds())
+    found, took = whole_plan(Start(reached, program, options, relaxed.problem.pool.pairings, relaxed.relaxed, ways,
+                                   given.penalty, given.capacity, seconds_for(given, len(reached.flights))), relaxed,
+                             given, progress)
+    run = run_of(relaxed, [spent, *took], progress)
     progress.close(run_line(run))
     pool = relaxed.problem.pool
     bound = relaxed.bound - relaxed.problem.penalty * len(found.uncovered)
@@ -148,15 +155,19 @@ def ways_from(given: argparse.Namespace, flights: int) -> Ways:
                    dear=given.drop, gap=given.gap / 100, seconds=given.relax_seconds, master=given.master)
 
 
-def whole_plan(timetable: Timetable, settings: Settings, engine: Engine, relaxed: Result, ways: Ways,
-               given: argparse.Namespace, progress: Progress) -> tuple[Whole, int]:
-    """The best plan that the search finds in its time, and how many dives that took."""
-    base = relaxed.relaxed.cost
-    search = Search(timetable, settings, engine, relaxed.problem, relaxed.relaxed, ways,
-                    lambda name, step: progress.tell(name, step_line(step, base)),
-                    lambda name, plan: progress.tell(name, plan_line(plan, base)))
-    seconds = max(20.0, 45 * (relaxed.problem.count / 500) ** 2.4) if given.seconds is None else given.seconds
-    return search.run(given.dives, seconds), search.dives
+def seconds_for(given: argparse.Namespace, flights: int) -> float:
+    """How long plans are looked for."""
+    return max(20.0, 45 * (flights / 500) ** 2.4) if given.seconds is None else given.seconds
+
+
+def whole_plan(start: Start, relaxed: Result, given: argparse.Namespace, progress: Progress) -> tuple[Whole, list[Took]]:
+    """The best plan of all searches, and what they took."""
+    base, problem = start.relaxed.cost, relaxed.problem
+    pairings, took = run_all(start, given.searches or how_many(problem.count),
+                             lambda name, step: progress.tell(name, step_line(step, base)),
+                             lambda name, cost: progress.tell(name, plan_line(cost, base)))
+    problem.take_in(pairings)
+    return whole_of(problem, problem.pool.places(pairings)), took
 
 
 def round_line(turn: Round) -> str:
@@ -173,24 +184,27 @@ def above(cost: Cost, base: Cost) -> str:
 
 def step_line(step: Step, base: Cost) -> str:
     return (f'step {step.number}: {step.enforced} follow-ons, {above(step.cost, base)}, {step.cost.uncovered:.2f} '
-            f'uncovered, {step.split} split' + (', undone' if step.undone else ''))
+            f'uncovered, {step.split} split')
 
 
-def plan_line(plan: Whole, base: Cost) -> str:
-    return f'a plan {above(plan.cost, base)}, {len(plan.uncovered)} uncovered'
+def plan_line(cost: Cost, base: Cost) -> str:
+    return f'a plan {above(cost, base)}, {cost.uncovered} uncovered'
 
 
-def run_of(relaxed: Result, engine: Engine, dives: int, progress: Progress) -> Run:
+def run_of(relaxed: Result, took: Sequence[Took], progress: Progress) -> Run:
+    def total(name: str) -> int | float:
+        return sum(getattr(it, name) for it in took)
+
     problem = relaxed.problem
-    return Run(problem.master.name, len(relaxed.rounds), engine.settles, dives, len(problem.places), len(problem.pool),
-               problem.masters, problem.processor_seconds, engine.seconds, engine.processor_seconds(), relaxed.seconds,
-               progress.seconds)
+    return Run(problem.master.name, len(relaxed.rounds), total('settles'), total('dives'), len(problem.places),
+               total('listed'), total('masters'), total('processor_seconds'), total('engine_seconds'),
+               total('engine_processor_seconds'), relaxed.seconds, progress.seconds)
 
 
 def run_line(run: Run) -> str:
     return (f'{run.seconds:8.1f} s  {run.rounds} rounds in {run.relaxation_seconds:.1f} s, {run.dives} dives, {run.settles} '
             f'settles, {run.columns} columns of {run.pool} pairings; {run.solver}: {run.masters} masters, '
-            f'{run.master_processor_seconds:.1f} s of a processor with the pool; engine: {run.engine_seconds:.1f} s by the '
+            f'{run.master_processor_seconds:.1f} s of a processor with pools and integer programs; engine: {run.engine_seconds:.1f} s by the '
             f'clock, {run.engine_processor_seconds:.1f} s of processors')
 
 

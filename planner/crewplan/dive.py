@@ -1,10 +1,9 @@
 """A dive: from the relaxation to whole pairings by follow-ons.
 
-In an optimum of the relaxation much is whole already: most flights are followed by one other in all pairings that fly
-them. Those follow-ons are enforced, and then the greatest others, a few at a time. After each step the masters are
-solved again and the engine is asked for pairings that keep what is enforced. A step after which the objective has risen
-too far is undone, and tried again with the greater half of it. Where few columns are left that a plan can have which is
-near enough, an integer program over them ends the dive.
+In an optimum of the relaxation much is whole already: many flights are followed by one other in all pairings that fly
+them. Those follow-ons are enforced, and then the greatest others, a few at a time. After each step the masters are solved
+again and the engine is asked for pairings that keep what is enforced. Where few columns are left that a plan can have
+which is near enough, an integer program over them ends the dive.
 """
 from __future__ import annotations
 
@@ -17,8 +16,8 @@ import numpy
 from .enforce import FollowOns, Pair
 from .engine import Engine
 from .plan import Whole, whole_of
+from .programs import least_cover
 from .relaxation import Cost, Problem, Relaxed, Ways, feed
-from .whole import least_cover
 
 WHOLE = 1e-6  # so near to 0 or 1 a value is that
 NEXT = 0.999  # pays are whole points, so a better plan costs a point less at least
@@ -27,17 +26,17 @@ NEXT = 0.999  # pays are whole points, so a better plan costs a point less at le
 @dataclass(frozen=True)
 class Steps:
     """How a dive goes. A step takes follow-ons of at least the `least` weight, up to a `part` of the flights; where
-    there is none the few of `few` or more, and where there is none the greatest alone. It is undone where the objective
-    rises by more than `rise` of the pay. Between two steps there are up to `settles` settles, and no further one where
-    the least cost is above `-close` points. Once no more than `last` columns keep what is enforced at a reduced cost of
-    `near` of the pay, an integer program is tried for so many `seconds`, and again at half as many columns. The dive's
-    own master problem begins with so many `columns` for each flight."""
+    there is none the few of `few` or more, and where there is none the greatest alone. Weights differ by a lot of this
+    `spread`. Between two steps there are up to `settles` settles, and no further one where the least cost is above
+    `-close` points. Once no more than `last` columns keep what is enforced at a reduced cost of `near` of the pay, an
+    integer program is tried for so many `seconds`, and again at half as many columns. The dive's own master problem
+    begins with so many `columns` for each flight."""
     part: float = 0.05
     least: float = 0.75
     few: float = 0.6
-    rise: float = 0.0005
-    settles: int = 15
-    close: float = 20.0
+    spread: float = 0.0
+    settles: int = 3
+    close: float = 200.0
     most: int = 2_000
     share: int = 20
     last: int = 2_000
@@ -48,13 +47,11 @@ class Steps:
 
 @dataclass(frozen=True)
 class Step:
-    """What a step came to: how many follow-ons are enforced, the objective, how many columns lie between 0 and 1, and
-    whether it was undone."""
+    """What a step came to: how many follow-ons are enforced, the objective, and how many columns lie between 0 and 1."""
     number: int
     enforced: int
     cost: Cost
     split: int
-    undone: bool
 
 
 Tell = Callable[[Step], None]
@@ -64,39 +61,31 @@ class Dive:
     """One dive, from duals of the relaxation, over a master problem of its own. Its follow-ons are released at its end."""
 
     def __init__(self, problem: Problem, duals: numpy.ndarray, engine: Engine, follow_ons: FollowOns, steps: Steps,
-                 ways: Ways, tell: Tell, deadline: float, below: float):
+                 ways: Ways, tell: Tell, deadline: float, below: float, draw: numpy.random.Generator):
         self.whole, self.duals = problem, duals
         self.engine, self.follow_ons, self.steps, self.ways, self.tell = engine, follow_ons, steps, ways, tell
-        self.deadline, self.below = deadline, below
+        self.deadline, self.below, self.draw = deadline, below, draw
         self.last = steps.last
-        self.spurned: set[Pair] = set()  # those after which alone the objective rose too far
+        self.is_proved = False  # whether no plan of the pool's pairings costs less than what it ended at, or had to be below
 
     def run(self, kept: list[Pair]) -> Whole | None:
         """The plan that the dive ends at, from where these follow-ons are enforced; none where it stopped: at its
-        deadline, where no plan below a cost can come any more, or where no zone was left for a follow-on."""
+        deadline, where no plan below a cost can come any more, or where nothing was left to enforce."""
         self.follow_ons.enforce(kept)
         self.problem = self.whole.part(self.broken(), self.duals, self.steps.columns * self.whole.count)
         try:
-            relaxed = self.settle()
-            for number in range(1, 10 * self.problem.count):
-                if not self.split(relaxed):
-                    return self.plan(relaxed)
+            relaxed, number = self.settle(), 0
+            while self.split(relaxed):
                 found, is_end = self.finish(relaxed)
                 if is_end:
                     return found
-                pairs = self.next_pairs(relaxed)
-                if not pairs and self.spurned:  # nothing else is left, so one of them has to be
-                    self.spurned.clear()
-                    pairs, limit = self.next_pairs(relaxed)[:1], numpy.inf
-                else:
-                    limit = relaxed.cost.all + self.steps.rise * abs(relaxed.cost.pay)
-                if not pairs or time.perf_counter() > self.deadline or relaxed.cost.all > self.below - NEXT:
+                if time.perf_counter() > self.deadline or relaxed.cost.all > self.below - NEXT:
                     return None
-                before = self.follow_ons.pairs
-                relaxed = self.step(number, relaxed, pairs, limit)
-                if self.follow_ons.pairs == before and not self.spurned:
+                if not self.follow_ons.enforce(self.next_pairs(relaxed)):
                     return None
-            return None
+                relaxed, number = self.settle(), number + 1
+                self.tell(Step(number, len(self.follow_ons.pairs), relaxed.cost, self.split(relaxed)))
+            return whole_of(self.problem, numpy.flatnonzero(relaxed.values > 0.5).tolist())
         finally:
             self.follow_ons.release(self.follow_ons.pairs)
             self.whole.masters += self.problem.masters
@@ -111,24 +100,24 @@ class Dive:
         values = numpy.concatenate((relaxed.values, relaxed.uncovered))
         return int(numpy.count_nonzero((values > WHOLE) & (values < 1 - WHOLE)))
 
-    def plan(self, relaxed: Relaxed) -> Whole:
-        return whole_of(self.problem, numpy.flatnonzero(relaxed.values > 0.5).tolist())
-
     def finish(self, relaxed: Relaxed) -> tuple[Whole | None, bool]:
         """The plan of an integer program over the columns that a plan near enough can have, where they are few; and
         whether the dive is at its end: with a plan that is near, or the best of these columns, or where there is none
         below the cost that it has to be below."""
         near = relaxed.cost.all + self.steps.near * abs(relaxed.cost.pay)
-        gap = min(self.below, near) - relaxed.cost.all
+        gap = min(self.below - NEXT, near) - relaxed.cost.all
         problem = self.problem
         places = numpy.flatnonzero((problem.pool.reduced(relaxed.duals) <= gap) & ~problem.left_out)
-        if len(places) > self.last:
+        if gap < 0 or len(places) > self.last:
             return None, False
         self.last = len(places) // 2
-        rows = numpy.arange(problem.count)
-        may_miss = rows[(problem.penalty - relaxed.duals[:problem.count] <= gap) | (relaxed.uncovered > WHOLE)]
-        found, is_whole = least_cover(problem, places, rows, may_miss, [],
-                                      min(self.steps.seconds, self.deadline - time.perf_counter()))
+        dear = problem.penalty - relaxed.duals[:problem.count]
+        may_miss = numpy.flatnonzero((dear <= gap) | (relaxed.uncovered > WHOLE))
+        began = time.process_time()
+        seconds = min(self.steps.seconds, self.deadline - time.perf_counter())
+        found, is_whole = least_cover(problem, places, may_miss, seconds)
+        problem.processor_seconds += time.process_time() - began
+        self.is_proved = is_whole and self.below <= near and not self.follow_ons.pairs
         if found is None:
             return None, is_whole and self.below <= near
         plan = whole_of(problem, found)
@@ -137,29 +126,14 @@ class Dive:
     def next_pairs(self, relaxed: Relaxed) -> list[Pair]:
         """Those that are whole, and then some others, the greatest first."""
         weighed = [(weight, pair) for weight, pair in self.problem.pool.follow_ons(relaxed.values)
-                   if self.follow_ons.fits(pair) and pair not in self.spurned]
+                   if self.follow_ons.fits(pair)]
         sure = [pair for weight, pair in weighed if weight > 1 - WHOLE]
-        others = [(weight, pair) for weight, pair in weighed if weight <= 1 - WHOLE]
+        others = [(weight + self.steps.spread * self.draw.normal(), pair) for weight, pair in weighed if weight <= 1 - WHOLE]
+        others.sort(key=lambda it: -it[0])
         most = max(1, int(self.steps.part * self.problem.count))
         great = [pair for weight, pair in others if weight >= self.steps.least][:most]
         few = [pair for weight, pair in others if weight >= self.steps.few][:4]
         return sure + (great or few or [pair for _, pair in others[:1]])
-
-    def step(self, number: int, relaxed: Relaxed, pairs: list[Pair], limit: float) -> Relaxed:
-        """Enforces the pairs, or the greater half of them where the objective rises above the limit, and so on. One alone
-        after which it does is left for later."""
-        while True:
-            done = self.follow_ons.enforce(pairs)
-            after = self.settle()
-            undone = after.cost.all > limit
-            self.tell(Step(number, len(self.follow_ons.pairs), after.cost, self.split(after), undone))
-            if not undone or not done:
-                return after
-            self.follow_ons.release(done)
-            if len(done) == 1:
-                self.spurned.update(done)
-                return relaxed
-            pairs = done[:len(done) // 2]
 
     def settle(self) -> Relaxed:
         """An optimum of the master with what is enforced, after a few settles."""

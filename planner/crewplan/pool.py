@@ -1,7 +1,7 @@
 """The pool: every pairing that the engine has listed, beside the engine, priced by a sparse product."""
 from __future__ import annotations
 
-from collections.abc import Iterable, Mapping, Sequence
+from collections.abc import Iterable, Mapping
 
 import numpy
 from scipy.sparse import csr_array
@@ -38,7 +38,7 @@ class Pool:
         self.rows = rows
         self.pairings: list[Pairing] = []
         self.rows_of: list[list[int]] = []
-        self.known: set[tuple[str, str]] = set()
+        self.known: dict[tuple[str, str], int] = {}
         self.pays = numpy.zeros(0)
         self.matrix = csr_array((0, len(rows.limits)))
         self.legs = numpy.zeros((0, 5), numpy.int32)
@@ -52,7 +52,7 @@ class Pool:
         if not new:
             return 0
         first = len(self.pairings)
-        self.known.update((pairing.base, pairing.walk) for pairing in new)
+        self.known.update(((pairing.base, pairing.walk), place) for place, pairing in enumerate(new, first))
         self.pairings += new
         rows = [self.rows.of(pairing) for pairing in new]
         self.rows_of += rows
@@ -66,6 +66,10 @@ class Pool:
         self.legs = numpy.concatenate((self.legs, numpy.array([leg for place, pairing in enumerate(new, first)
                                                                for leg in self.legs_of(place, pairing)], numpy.int32)))
         return len(new)
+
+    def places(self, pairings: Iterable[Pairing]) -> list[int]:
+        """Where these are, which are all there."""
+        return [self.known[pairing.base, pairing.walk] for pairing in pairings]
 
     def legs_of(self, place: int, pairing: Pairing) -> list[tuple[int, int, int, int, int]]:
         rows = [self.rows.flights.get(number, NONE) for number in pairing.legs]
@@ -129,9 +133,3 @@ class Pool:
         for one, other in flights.items():
             found[self.rows.flights[one]] = self.rows.flights[other]
         return found
-
-
-def mask(places: Sequence[int], count: int) -> numpy.ndarray:
-    found = numpy.zeros(count, bool)
-    found[places] = True
-    return found

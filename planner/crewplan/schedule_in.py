@@ -18,8 +18,9 @@ from .zones import TABLE_OF_STATES, zones_of
 ABOUT = '''Reads an airline's schedule: a file of SSIM, chapter 7 (records of 200 bytes), or the US Department of
 Transportation's on-time data (a CSV). Writes a session's zones, bases and flights, and beside it a table that says for
 each of its flights the airline's own number, date and leg.'''
-AFTER = '''The status is 0, or 1 where a line can't be read or taken: then each such line is named by its number, and
-nothing is written. planner/README.md has where each field stands, and how what the format leaves open is read.'''
+AFTER = '''The status is 0, 1 where a line can't be read or taken (each such line is named by its number), and 70 where the
+file can't be opened; then nothing is written. planner/README.md has where each field stands, and how what the format
+leaves open is read.'''
 
 
 def parser() -> argparse.ArgumentParser:

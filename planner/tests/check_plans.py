@@ -85,7 +85,7 @@ def main(program: str) -> int:
         if not listed:
             continue
         capacity = draw.choice((None, None, 2))
-        words = ['-', '--program', program, '--quiet', '--seconds', '5', '--dives', '2']
+        words = ['-', '--program', program, '--quiet', '--seconds', '5']
         given = parser().parse_args(words + ([] if capacity is None else ['--capacity', str(capacity)]))
         report = plan(read_text(text), given, options_of(settings), Progress(is_quiet=True))
         faults = faults_of(report, text, settings, listed, capacity)

@@ -185,7 +185,7 @@ def check_command() -> None:
         source.write_text('\n'.join((ONE, TWO, leg((55, 'QQQ')), FIVE)))
         check('an airport without a zone', (run(*words)[0], 'QQQ' in run(*words)[1]), (1, True))
         check('nothing written', sorted(path.name for path in Path(room).iterdir()), ['x.ssim'])
-        check('no file', run('/nowhere', *words[1:])[0], 1)
+        check('no file', run('/nowhere', *words[1:])[0], 70)
 
 
 ONTIME = '''FL_DATE,OP_UNIQUE_CARRIER,TAIL_NUM,OP_CARRIER_FL_NUM,ORIGIN,DEST,CRS_DEP_TIME,CRS_ARR_TIME,CRS_ELAPSED_TIME,CANCELLED
