@@ -1,0 +1,2 @@
+pub mod Rooms
+pub mod Machinery

@@ -1,0 +1,2 @@
+-- What code needs, and no definition rests on.
+pub mod Joins
