@@ -23,6 +23,12 @@ from_joined stands one two x m = ⊎_elim
     (λ k. inr (Member-filter_out (λ z. not (list_any (λ l. stands l z) one)) two x k).0)
     (Member-append (free_of stands (free_of stands one two) one) (free_of stands one two) x m)
 
+-- what has joined, of lists that are the same
+pub joined_is : {X : Type 0} (stands : X → X → Bool) (of : List X → List X) (held was labels pool new : List X) → new ≡ joined stands held (of labels) → held ≡ was → labels ≡ pool
+    → new ≡ joined stands was (of pool)
+joined_is {X} stands of held was labels pool new e h k =
+    e ∙ (ap (λ (ls : List X). joined stands ls (of labels)) h ∙ ap (λ (ls : List X). joined stands was (of ls)) k)
+
 -- the free ones of some more elements
 pub free_both : {X : Type 0} (stands : X → X → Bool) (others list more all old new : List X) → list ++ more ≡ all
     → old ≡ free_of stands others list → new ≡ old ++ free_of stands others more → new ≡ free_of stands others all
@@ -63,7 +69,7 @@ module _ {V : Type 0} where
   each-both P [] (m ∷ ms) h f = (f m (inl refl), each-both P [] ms tt (λ n k. f n (inr k)))
   each-both P (l ∷ ls) ms h f = (h.0, each-both P ls ms h.1 f)
 
-  apart-both : (ls ms : List (Label V)) → AreApart ls → AreApart ms → ((l m : Label V) → Member ls l → Member ms m → l.value ≡ m.value → ⊥) → AreApart (ls ++ ms)
+  pub apart-both : (ls ms : List (Label V)) → AreApart ls → AreApart ms → ((l m : Label V) → Member ls l → Member ms m → l.value ≡ m.value → ⊥) → AreApart (ls ++ ms)
   apart-both [] ms p q f = q
   apart-both (l ∷ ls) ms p q f = (each-both (λ m. l.value ≡ m.value → ⊥) ls ms p.0 (λ m k. f l m (inl refl) k), apart-both ls ms p.1 q (λ a b m n. f a b (inr m) n))
 

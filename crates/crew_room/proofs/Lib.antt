@@ -1,2 +1,4 @@
 pub mod Standing
 pub mod Joined
+pub mod Boarded
+pub mod Sorted

@@ -10,6 +10,7 @@
 #![tactic(auto)]
 
 mod columns;
+mod copy;
 mod glance;
 mod held;
 mod join;
