@@ -1,5 +1,5 @@
 -- Labels that board an item, where nothing of them lapses as they do: none may stand for another.
-use Rattle.std.proofs.Common.{◌≡◌, ℕ, ◌+◌, Bool, true, List, [], ◌∷◌, ◌++◌, Option, Some, None, ℤ, pos, ◌+ℤ◌, length, map, inl, inr, refl, sym, ◌∙◌, ap, subst, ⊎_elim, Ordering}
+use Rattle.std.proofs.Common.{◌≡◌, ℕ, ◌+◌, Bool, true, List, [], ◌∷◌, ◌++◌, Option, Some, None, ℤ, pos, ◌+ℤ◌, length, map, inl, inr, refl, sym, ◌∙◌, ap, subst, Ordering}
 use Rattle.std.specs.Prelude.{slice_get}
 use Rattle.std.specs.Cmp.Lexicographic.{slice_cmp}
 use Rattle.std.specs.List.{flat_map}
@@ -23,7 +23,7 @@ use Rattle.crew_label.proofs.MergedPools.{ranks_order}
 use Rattle.crew_label.proofs.Parted.{boarded-out}
 use Rattle.crew_label.proofs.RisingLists.{each-member}
 use Rattle.crew_label.proofs.RuleLaws.{as_long}
-use Rattle.crew_label.proofs.WalkOrder.{alike, cmp_longer}
+use Rattle.crew_label.proofs.WalkOrder.{cmp_longer}
 use Rattle.crew_room.specs.Rooms.{AreApart}
 use Rattle.crew_room.proofs.Joined.{apart-both}
 

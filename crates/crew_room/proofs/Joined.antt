@@ -1,5 +1,5 @@
 -- Labels that join others: what they leave together.
-use Rattle.std.proofs.Common.{◌≡◌, ℕ, ◌+◌, ◌<◌, Bool, true, false, cond, not, List, [], ◌∷◌, ◌++◌, ◌⊎◌, get_or, length, take, inl, inr, refl, sym, ◌∙◌, ap, subst, ⊎_elim, arith, append-nil, append_assoc, Ordering}
+use Rattle.std.proofs.Common.{◌≡◌, ℕ, ◌+◌, ◌<◌, Bool, true, false, cond, not, List, [], ◌∷◌, ◌++◌, ◌⊎◌, get_or, length, take, inl, inr, refl, sym, ◌∙◌, ap, ⊎_elim, append-nil, Ordering}
 use Rattle.std.specs.Cmp.{IsTotalOrder}
 use Rattle.std.specs.List.{filter, list_any}
 use Rattle.std.specs.Ordering.{ordering_reverse}

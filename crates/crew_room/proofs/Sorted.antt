@@ -1,5 +1,5 @@
 -- Labels in another order.
-use Rattle.std.proofs.Common.{◌≡◌, suc, ◌+◌, Bool, true, false, not, ◌&&◌, ℕ, List, [], ◌∷◌, map, sym, ◌∙◌, ap, subst, ⊎_elim, arith, Ordering, refl}
+use Rattle.std.proofs.Common.{◌≡◌, suc, ◌+◌, Bool, true, false, ◌&&◌, ℕ, List, [], ◌∷◌, map, sym, ◌∙◌, ap, subst, ⊎_elim, arith, Ordering, refl}
 use Rattle.std.specs.Prelude.{slice_index_or}
 use Rattle.std.specs.Cmp.{IsTotalOrder}
 use Rattle.std.specs.List.Sorted.{IsPermutation, IsSortedBy}
@@ -7,7 +7,7 @@ use Rattle.std.specs.Ordering.{is_lt, ordering_reverse}
 use Rattle.std.specs.declared.cmp.Ordering.TheVariants.{Less, Equal, Greater}
 use Rattle.std.proofs.lemmas.Bool.{and_from, and_parts, cases_Bool, false≢true}
 use Rattle.std.proofs.lemmas.List.Sorted.{IsPermutation-map, IsPermutation-sym}
-use Rattle.crew_resource.specs.Members.{Each, Member}
+use Rattle.crew_resource.specs.Members.{Each}
 use Rattle.crew_resource.specs.Resource.{OrderLaws}
 use Rattle.crew_label.specs.Pools.{ArePoolOf, AreRising}
 use Rattle.crew_label.specs.Walks.{shown}

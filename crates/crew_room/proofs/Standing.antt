@@ -1,5 +1,5 @@
 -- Labels that may stand for others, and where they are.
-use Rattle.std.proofs.Common.{◌≡◌, ℕ, ◌+◌, ◌<◌, Bool, true, not, ◌||◌, List, ◌∷◌, ◌++◌, length, get_or, map, take, drop, ℤ, inl, sym, ◌∙◌, ap, subst, arith}
+use Rattle.std.proofs.Common.{◌≡◌, ℕ, ◌+◌, ◌<◌, Bool, true, not, ◌||◌, List, ◌∷◌, length, get_or, map, take, drop, ℤ, inl, sym, ◌∙◌, ap, subst, arith}
 use Rattle.std.proofs.lemmas.Bool.{and_parts}
 use Rattle.std.proofs.lemmas.List.{drop_more, length-map, take-append-drop}
 use Rattle.std.proofs.lemmas.List.Filters.{FiltersInPlace}

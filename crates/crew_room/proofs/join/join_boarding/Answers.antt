@@ -3,7 +3,7 @@ use Rattle.std.specs.List.{list_any}
 use Rattle.std.proofs.lemmas.List.{take_all}
 use Rattle.std.proofs.lemmas.Option.{slice_get-get_or}
 use Rattle.crew_label.specs.Boarding.{boarded_from, linked}
-use Rattle.crew_label.specs.Pools.{AreCounted, stands_label}
+use Rattle.crew_label.specs.Pools.{stands_label}
 use Rattle.crew_label.specs.declared.label.Label.{Label}
 use Rattle.crew_label.proofs.Boarded.{boarded-more, boarded_counted}
 use Rattle.crew_resource.specs.Members.{Member}

@@ -1,4 +1,4 @@
-use Rattle.std.proofs.Common.{◌≡◌, ◌∙◌, ◌++◌, List, ap, map, sym, subst, ⊎_elim}
+use Rattle.std.proofs.Common.{◌++◌, List, map, sym, subst, ⊎_elim}
 use Rattle.crew_resource.specs.Members.{Member}
 use Rattle.crew_resource.proofs.Values.{below_order}
 use Rattle.crew_label.specs.Boarding.{boarded_from}
@@ -7,7 +7,6 @@ use Rattle.crew_label.specs.Walks.{shown}
 use Rattle.crew_label.specs.declared.label.Label.{Label}
 use Rattle.crew_label.proofs.Boarded.{boarded_counted}
 use Rattle.crew_room.specs.Rooms.{AreApart}
-use Rattle.crew_room.specs.Machinery.Joins.{joined}
 use Rattle.crew_room.proofs.Boarded.{boarded-apart, boarded-pool}
 use Rattle.crew_room.proofs.Joined.{from_joined, joined_apart, joined_is, joined_pool, rising-apart}
 use Rattle.crew_room.proofs.room.Room.board.Goals as goal

@@ -1,4 +1,4 @@
-use Rattle.std.proofs.Common.{◌≡◌, ◌∙◌, ◌++◌, List, ap, sym, subst, ⊎_elim}
+use Rattle.std.proofs.Common.{◌∙◌, ◌++◌, List, ap, sym, subst, ⊎_elim}
 use Rattle.crew_resource.specs.Members.{Member}
 use Rattle.crew_resource.proofs.Values.{below_order}
 use Rattle.crew_label.specs.Pools.{ArePoolOf, stands_label}
