@@ -24,7 +24,7 @@ use Rattle.crew_label.proofs.Parted.{boarded-out}
 use Rattle.crew_label.proofs.RisingLists.{each-member}
 use Rattle.crew_label.proofs.RuleLaws.{as_long}
 use Rattle.crew_label.proofs.WalkOrder.{cmp_longer}
-use Rattle.crew_room.specs.Rooms.{AreApart}
+use Rattle.crew_room.specs.Rooms.{HaveOwnValues}
 use Rattle.crew_room.proofs.Joined.{apart-both}
 
 labelled_out : {V W : Type 0} (o : Option V) (w : W) (v : V) (y : W) → Member (labelled o w) (v, y) → (o ≡ Some v) × (w ≡ y)
@@ -76,11 +76,11 @@ module _ {V : Type 0} (cmp : V → V → Ordering) (below same : V → V → Boo
   linked-out (Some v) link a (inl e) = ap (λ z. Some z.value) e
   linked-out (Some v) link a (inr m) = absurd m
 
-  linked-apart : (o : Option V) (link : Link) → AreApart (linked o link)
+  linked-apart : (o : Option V) (link : Link) → HaveOwnValues (linked o link)
   linked-apart None link = tt
   linked-apart (Some v) link = (tt, tt)
 
-  boarded-apart-from : (n : ℕ) (pool : List (Label V)) → Reflects pool → AreApart pool → AreApart (boarded_from board duty n pool)
+  boarded-apart-from : (n : ℕ) (pool : List (Label V)) → Reflects pool → HaveOwnValues pool → HaveOwnValues (boarded_from board duty n pool)
   boarded-apart-from n [] r h = tt
   boarded-apart-from n (l ∷ ls) r h =
       apart-both (linked (board l.value) (record { duty = duty; place = n })) (boarded_from board duty (n + 1) ls)
@@ -94,7 +94,7 @@ module _ {V : Type 0} (cmp : V → V → Ordering) (below same : V → V → Boo
       each-member (λ x. l.value ≡ x.value → ⊥) ls q.0 h.0 q.1 (order.antisymmetric l.value q.0.value forth back))
 
   -- no value stands twice aboard
-  pub boarded-apart : (pool : List (Label V)) → Reflects pool → AreApart pool → AreApart (boarded_from board duty 0 pool)
+  pub boarded-apart : (pool : List (Label V)) → Reflects pool → HaveOwnValues pool → HaveOwnValues (boarded_from board duty 0 pool)
   boarded-apart pool r h = boarded-apart-from 0 pool r h
 
   module _ (itself : (a : V) → same a a ≡ true) (between : (a b c : V) → below a b ≡ true → below b c ≡ true → same a c ≡ true → (same a b ≡ true) × (same b c ≡ true))

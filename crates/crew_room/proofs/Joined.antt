@@ -13,7 +13,7 @@ use Rattle.crew_label.specs.Pools.{ArePoolOf, AreRising, stands_label}
 use Rattle.crew_label.specs.declared.label.Label.{Label}
 use Rattle.crew_label.specs.declared.label.Link.{Link}
 use Rattle.crew_label.proofs.MergedPools.{kept_apart, merged_pool}
-use Rattle.crew_room.specs.Rooms.{AreApart}
+use Rattle.crew_room.specs.Rooms.{HaveOwnValues}
 use Rattle.crew_room.specs.Machinery.Joins.{free_of, joined}
 
 -- what joins was on one side or the other
@@ -57,19 +57,19 @@ module _ {V : Type 0} where
       let rest = each-filter P p ls h.1 in
       elim (p l) as (λ b. Each P (cond b (l ∷ filter p ls) (filter p ls))) [ true ↦ (h.0, rest) | false ↦ rest ]
 
-  apart-filter : (p : Label V → Bool) (ls : List (Label V)) → AreApart ls → AreApart (filter p ls)
+  apart-filter : (p : Label V → Bool) (ls : List (Label V)) → HaveOwnValues ls → HaveOwnValues (filter p ls)
   apart-filter p [] h = tt
   apart-filter p (l ∷ ls) h =
       let first = each-filter (λ m. l.value ≡ m.value → ⊥) p ls h.0 in
       let rest = apart-filter p ls h.1 in
-      elim (p l) as (λ b. AreApart (cond b (l ∷ filter p ls) (filter p ls))) [ true ↦ (first, rest) | false ↦ rest ]
+      elim (p l) as (λ b. HaveOwnValues (cond b (l ∷ filter p ls) (filter p ls))) [ true ↦ (first, rest) | false ↦ rest ]
 
   each-both : (P : Label V → Type 0) (ls ms : List (Label V)) → Each P ls → ((m : Label V) → Member ms m → P m) → Each P (ls ++ ms)
   each-both P [] [] h f = tt
   each-both P [] (m ∷ ms) h f = (f m (inl refl), each-both P [] ms tt (λ n k. f n (inr k)))
   each-both P (l ∷ ls) ms h f = (h.0, each-both P ls ms h.1 f)
 
-  pub apart-both : (ls ms : List (Label V)) → AreApart ls → AreApart ms → ((l m : Label V) → Member ls l → Member ms m → l.value ≡ m.value → ⊥) → AreApart (ls ++ ms)
+  pub apart-both : (ls ms : List (Label V)) → HaveOwnValues ls → HaveOwnValues ms → ((l m : Label V) → Member ls l → Member ms m → l.value ≡ m.value → ⊥) → HaveOwnValues (ls ++ ms)
   apart-both [] ms p q f = q
   apart-both (l ∷ ls) ms p q f = (each-both (λ m. l.value ≡ m.value → ⊥) ls ms p.0 (λ m k. f l m (inl refl) k), apart-both ls ms p.1 q (λ a b m n. f a b (inr m) n))
 
@@ -85,7 +85,7 @@ module _ {V : Type 0} (cmp : V → V → Ordering) (total : IsTotalOrder cmp) wh
       (λ e. less_itself (cmp v v) (total.antisymm v v) (ap (cmp v) e ∙ h.0), each-less v ls h.1)
 
   -- values that rise stand once each
-  pub rising-apart : (ls : List (Label V)) → AreRising cmp ls → AreApart ls
+  pub rising-apart : (ls : List (Label V)) → AreRising cmp ls → HaveOwnValues ls
   rising-apart [] h = tt
   rising-apart (l ∷ ls) h = (each-less l.value ls h.0, rising-apart ls h.1)
 
@@ -100,7 +100,7 @@ module _ {V : Type 0} (le same : V → V → Bool) (trail : Link → List ℕ) (
   abbrev kept : List (Label V)
   kept = free_of stands free one
 
-  pub joined_apart : AreApart one → AreApart two → AreApart (joined stands one two)
+  pub joined_apart : HaveOwnValues one → HaveOwnValues two → HaveOwnValues (joined stands one two)
   joined_apart p q = apart-both kept free (apart-filter (λ m. not (list_any (λ l. stands l m) free)) one p) (apart-filter (λ m. not (list_any (λ l. stands l m) one)) two q)
       (λ a b m n e. kept_apart le same trail order same_itself same_between one two a b m n e)
 

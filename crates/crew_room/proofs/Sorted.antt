@@ -15,7 +15,7 @@ use Rattle.crew_label.specs.declared.label.Label.{Label}
 use Rattle.crew_label.specs.declared.label.Link.{Link}
 use Rattle.crew_pool.specs.Apart as ByTest
 use Rattle.crew_pool.proofs.Permuted.{AreApart-permuted, Member-permuted}
-use Rattle.crew_room.specs.Rooms.{AreApart}
+use Rattle.crew_room.specs.Rooms.{HaveOwnValues}
 
 sorted_tail : {X : Type 0} (lt : X → X → Bool) (x : X) (xs : List X) → IsSortedBy lt (x ∷ xs) → IsSortedBy lt xs
 sorted_tail lt x xs h k d z l =
@@ -37,7 +37,7 @@ module _ {V : Type 0} (cmp : V → V → Ordering) (below : V → V → Bool) (t
   each-before x y (m ∷ ls) l h = (total.trans x y m.value l h.0, each-before x y ls l h.1)
 
   -- sorted labels of which no value stands twice rise
-  pub sorted-rises : (ls : List (Label V)) → IsSortedBy (λ a b. is_lt (cmp a.value b.value)) ls → AreApart ls → AreRising cmp ls
+  pub sorted-rises : (ls : List (Label V)) → IsSortedBy (λ a b. is_lt (cmp a.value b.value)) ls → HaveOwnValues ls → AreRising cmp ls
   sorted-rises [] s h = tt
   sorted-rises (x ∷ []) s h = (tt, tt)
   sorted-rises (x ∷ y ∷ ls) s h =
@@ -61,7 +61,7 @@ module _ {V : Type 0} (cmp : V → V → Ordering) (below : V → V → Bool) (t
   each-told x [] h = tt
   each-told x (m ∷ ls) h = ((differ x m.value h.0, differ m.value x (λ e. h.0 (sym e))), each-told x ls h.1)
 
-  told : (ls : List (Label V)) → AreApart ls → ByTest.AreApart alike (map (λ l. l.value) ls)
+  told : (ls : List (Label V)) → HaveOwnValues ls → ByTest.AreApart alike (map (λ l. l.value) ls)
   told [] h = tt
   told (l ∷ ls) h = (each-told l.value ls h.0, told ls h.1)
 
@@ -70,12 +70,12 @@ module _ {V : Type 0} (cmp : V → V → Ordering) (below : V → V → Bool) (t
   each-apart x (m ∷ ls) h =
       (λ e. false≢true (sym h.0.0 ∙ subst (λ z. alike x z ≡ true) e (and_from (below x x) (below x x) (laws.reflexive x) (laws.reflexive x))), each-apart x ls h.1)
 
-  apart : (ls : List (Label V)) → ByTest.AreApart alike (map (λ l. l.value) ls) → AreApart ls
+  apart : (ls : List (Label V)) → ByTest.AreApart alike (map (λ l. l.value) ls) → HaveOwnValues ls
   apart [] h = tt
   apart (l ∷ ls) h = (each-apart l.value ls h.0, apart ls h.1)
 
   -- in another order no value stands twice either
-  pub apart-permuted : (ls ms : List (Label V)) → IsPermutation ls ms → AreApart ls → AreApart ms
+  pub apart-permuted : (ls ms : List (Label V)) → IsPermutation ls ms → HaveOwnValues ls → HaveOwnValues ms
   apart-permuted ls ms p h =
       apart ms (AreApart-permuted alike (λ a. and_from (below a a) (below a a) (laws.reflexive a) (laws.reflexive a)) (map (λ l. l.value) ls) (map (λ l. l.value) ms)
       (IsPermutation-map (λ (l : Label V). l.value) ls ms p) (told ls h))

@@ -2,7 +2,7 @@
 ghost use Rattle.std.specs.Prelude.{◌≡◌, IfOk};
 ghost use Rattle.std.specs.List.Sorted.{IsPermutation};
 ghost use Rattle.crew_label.specs.Pools.{AreRising};
-ghost use Rattle.crew_room.specs.Rooms.{AreApart};
+ghost use Rattle.crew_room.specs.Rooms.{HaveOwnValues};
 
 use crew_label::Label;
 use crew_resource::Resource;
@@ -27,7 +27,7 @@ pub(crate) fn copy_labels<R: Resource>(
 
 // Puts labels of which no value stands twice into the listing order.
 pub(crate) fn sort_labels<R: Resource>(labels: &mut Vec<Label<R::Value>>)
-    requires { AreApart labels.old.items }
+    requires { HaveOwnValues labels.old.items }
     ensures same { IsPermutation labels.old.items labels.new.items }
     ensures rises { AreRising R.Value.cmp labels.new.items }
 {

@@ -8,7 +8,7 @@ ghost use Rattle.crew_label.specs.Walks.{shown};
 ghost use Rattle.crew_label.specs.declared.label.Label.{Label};
 ghost use Rattle.crew_label.specs.declared.label.Link.{Link};
 ghost use Rattle.crew_resource.specs.Members.{Member};
-ghost use Rattle.crew_room.specs.Rooms.{AreApart};
+ghost use Rattle.crew_room.specs.Rooms.{HaveOwnValues};
 
 use crate::copy::{copy_labels, sort_labels};
 use crate::glance::Glanced;
@@ -40,7 +40,7 @@ impl<R: Glanced> Model for Room<R> {
 
     ghost view = { λ r. r.held };
 
-    ghost invariant = { λ r. AreApart r.held };
+    ghost invariant = { λ r. HaveOwnValues r.held };
 }
 
 impl<R: Glanced> Room<R> {
@@ -71,7 +71,7 @@ impl<R: Glanced> Room<R> {
     /// The labels.
     pub fn as_slice(&self) -> &[Label<R::Value>]
         ensures all { result.now ≡ self.now }
-        ensures apart { AreApart self.now }
+        ensures apart { HaveOwnValues self.now }
     {
         self.held.as_slice()
     }

@@ -6,7 +6,7 @@ use Rattle.crew_label.specs.Pools.{ArePoolOf, stands_label}
 use Rattle.crew_label.specs.Walks.{shown}
 use Rattle.crew_label.specs.declared.label.Label.{Label}
 use Rattle.crew_label.proofs.Boarded.{boarded_counted}
-use Rattle.crew_room.specs.Rooms.{AreApart}
+use Rattle.crew_room.specs.Rooms.{HaveOwnValues}
 use Rattle.crew_room.proofs.Boarded.{boarded-apart, boarded-pool}
 use Rattle.crew_room.proofs.Joined.{from_joined, joined_apart, joined_is, joined_pool, rising-apart}
 use Rattle.crew_room.proofs.room.Room.board.Goals as goal
@@ -20,10 +20,10 @@ invariant_of-self-2 g c =
     let stands = λ (a b : Label g.row.R-Value.Denot). stands_label g.R.Resource.below g.R.Forgets.same_sums trail a b in
     let board = λ (v : g.row.R-Value.Denot). g.R.Staged.boards r v d in
     let two = boarded_from board c.args.duty 0 c.args.pool.now in
-    subst (λ (ls : List (Label g.row.R-Value.Denot)). AreApart ls)
+    subst (λ (ls : List (Label g.row.R-Value.Denot)). HaveOwnValues ls)
     (sym (joined_is stands (boarded_from board c.args.duty 0) c.self.inside.held c.args.self.now c.as_slice-labels.result.now c.args.pool.now c.join_boarding.new.held c.in_ok-join_boarding.ensures.ok c.self.view_is c.as_slice-labels.ensures.all))
     (joined_apart g.R.Resource.below g.R.Forgets.same_sums trail (below_order g.met.R.Resource.order) f.same_itself f.same_between c.args.self.now two
-    (subst (λ (ls : List (Label g.row.R-Value.Denot)). AreApart ls) c.self.view_is c.self.invariant)
+    (subst (λ (ls : List (Label g.row.R-Value.Denot)). HaveOwnValues ls) c.self.view_is c.self.invariant)
     (boarded-apart g.R.Value.Ord.cmp g.R.Resource.below g.R.Forgets.same_sums g.met.R.Resource.order board c.args.duty c.args.pool.now
     (λ l m y z ml bl bm h. (g.met.R.Lapses.aboard r).board_reflects l.value m.value y z d (c.requires.stays l ml) bl bm h)
     (rising-apart g.R.Value.Ord.cmp g.met.R.Value.Ord.total c.args.pool.now c.as_slice-labels.ensures.rises)))

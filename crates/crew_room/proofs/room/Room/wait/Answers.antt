@@ -3,7 +3,7 @@ use Rattle.crew_resource.specs.Members.{Member}
 use Rattle.crew_resource.proofs.Values.{below_order}
 use Rattle.crew_label.specs.Pools.{ArePoolOf, stands_label}
 use Rattle.crew_label.specs.declared.label.Label.{Label}
-use Rattle.crew_room.specs.Rooms.{AreApart}
+use Rattle.crew_room.specs.Rooms.{HaveOwnValues}
 use Rattle.crew_room.specs.Machinery.Joins.{joined}
 use Rattle.crew_room.proofs.Joined.{from_joined, joined_apart, joined_pool, rising-apart}
 use Rattle.crew_room.proofs.room.Room.wait.Goals as goal
@@ -14,9 +14,9 @@ invariant_of-self-2 g c =
     let trail = g.T.Trails.trail c.args.trails.now in
     let stands = λ (a b : Label g.row.R-Value.Denot). stands_label g.R.Resource.below g.R.Forgets.same_sums trail a b in
     let labels = c.args.labels.now in
-    subst (λ (ls : List (Label g.row.R-Value.Denot)). AreApart ls) (sym (c.in_ok-join_labels.ensures.ok ∙ ap (λ (ls : List (Label g.row.R-Value.Denot)). joined stands ls labels) c.self.view_is))
+    subst (λ (ls : List (Label g.row.R-Value.Denot)). HaveOwnValues ls) (sym (c.in_ok-join_labels.ensures.ok ∙ ap (λ (ls : List (Label g.row.R-Value.Denot)). joined stands ls labels) c.self.view_is))
     (joined_apart g.R.Resource.below g.R.Forgets.same_sums trail (below_order g.met.R.Resource.order) f.same_itself f.same_between c.args.self.now labels
-    (subst (λ (ls : List (Label g.row.R-Value.Denot)). AreApart ls) c.self.view_is c.self.invariant)
+    (subst (λ (ls : List (Label g.row.R-Value.Denot)). HaveOwnValues ls) c.self.view_is c.self.invariant)
     (rising-apart g.R.Value.Ord.cmp g.met.R.Value.Ord.total labels c.requires.rises))
 
 pub returns-clause-pool : goal.returns-clause-pool
