@@ -2,10 +2,12 @@
 use Rattle.std.proofs.Common.{◌≡◌, ℕ, ◌+◌, ◌<◌, Bool, true, false, cond, not, List, [], ◌∷◌, ◌++◌, ◌⊎◌, get_or, length, take, inl, inr, refl, sym, ◌∙◌, ap, ⊎_elim, append-nil, Ordering}
 use Rattle.std.specs.Cmp.{IsTotalOrder}
 use Rattle.std.specs.List.{filter, list_any}
+use Rattle.std.specs.List.Sorted.{IsPermutation}
 use Rattle.std.specs.Ordering.{ordering_reverse}
 use Rattle.std.specs.declared.cmp.Ordering.TheVariants.{Less, Equal, Greater}
 use Rattle.std.proofs.lemmas.List.{take_more}
 use Rattle.std.proofs.lemmas.List.Elements.{filter-append}
+use Rattle.std.proofs.lemmas.List.Sorted.{list_any-IsPermutation}
 use Rattle.crew_resource.specs.Members.{Each, Member}
 use Rattle.crew_resource.proofs.Members.{Member-append, Member-append_left, Member-append_right, Member-filter_out}
 use Rattle.crew_resource.proofs.Order.{IsOrder}
@@ -23,11 +25,16 @@ from_joined stands one two x m = ⊎_elim
     (λ k. inr (Member-filter_out (λ z. not (list_any (λ l. stands l z) one)) two x k).0)
     (Member-append (free_of stands (free_of stands one two) one) (free_of stands one two) x m)
 
--- what has joined, of lists that are the same
-pub joined_is : {X : Type 0} (stands : X → X → Bool) (of : List X → List X) (held was labels pool new : List X) → new ≡ joined stands held (of labels) → held ≡ was → labels ≡ pool
-    → new ≡ joined stands was (of pool)
-joined_is {X} stands of held was labels pool new e h k =
-    e ∙ (ap (λ (ls : List X). joined stands ls (of labels)) h ∙ ap (λ (ls : List X). joined stands was (of ls)) k)
+-- a test that is the same leaves the same
+filter-alike : {X : Type 0} (p q : X → Bool) (xs : List X) → ((x : X) → p x ≡ q x) → filter p xs ≡ filter q xs
+filter-alike p q [] h = refl
+filter-alike p q (x ∷ xs) h = ap (λ b. cond b (x ∷ filter p xs) (filter p xs)) (h x) ∙ ap (λ ys. cond (q x) (x ∷ ys) ys) (filter-alike p q xs h)
+
+-- in another order the others leave the same free
+pub free_permuted : {X : Type 0} (stands : X → X → Bool) (others moved list : List X) → IsPermutation others moved → free_of stands others list ≡ free_of stands moved list
+free_permuted {X} stands others moved list p =
+    filter-alike (λ (z : X). not (list_any (λ (l : X). stands l z) others)) (λ (z : X). not (list_any (λ (l : X). stands l z) moved)) list
+    (λ z. ap not (list_any-IsPermutation (λ (l : X). stands l z) others moved p))
 
 -- the free ones of some more elements
 pub free_both : {X : Type 0} (stands : X → X → Bool) (others list more all old new : List X) → list ++ more ≡ all

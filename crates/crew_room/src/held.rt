@@ -1,6 +1,7 @@
 //! Labels with their marks.
 ghost use Rattle.std.specs.Prelude.{◌≡◌, ◌<◌, ◌≤◌, ◌++◌, ◌∷◌, ◌↔◌, List, [], length, map, not, vec_capacity, vec_len, OnErr, OnOk, IsTrue};
-ghost use Rattle.std.specs.List.{SwappedAt, filter, list_any, position};
+ghost use Rattle.std.specs.List.{SwappedAt, filter, list_any, position, swap};
+ghost use Rattle.std.specs.List.Sorted.{IsPermutation};
 ghost use Rattle.crew_forgetful.specs.Sweeps.{TellCount};
 ghost use Rattle.crew_label.specs.Pools.{AreCounted, IsCounted, stands_label};
 ghost use Rattle.crew_label.specs.declared.label.Label.{Label};
@@ -14,6 +15,9 @@ use crew_label::{Label, Trails};
 use crew_resource::Placed;
 use std::alloc::{AllocError, Global};
 use std::marker::Model;
+
+// The first places, from which no label moves forward.
+const SETTLED: usize = 4;
 
 /// Labels, and beside each the marks of its value: a label whose marks aren't at most those of
 /// another is passed over, and its value isn't looked at.
@@ -112,6 +116,27 @@ impl<R: Glanced> Held<R> {
             from = place + 1;
         }
         None
+    }
+
+    /// Moves the label of a place halfway to the front, so that those that stand for many are found
+    /// soon.
+    pub(crate) fn advance(&mut self, place: usize)
+        requires { place < length self.old }
+        ensures { IsPermutation self.old self.new }
+    {
+        if place >= SETTLED {
+            self.swap(place, place / 2);
+        }
+    }
+
+    // The labels of two places, each in the other's.
+    fn swap(&mut self, a: usize, b: usize)
+        requires first { a < length self.old }
+        requires second { b < length self.old }
+        ensures { self.new ≡ swap self.old a b }
+    {
+        self.labels.swap(a, b);
+        self.marks.swap(a, b);
     }
 
     /// Takes in other labels, and lets go of those for which one of them may stand. On want of

@@ -1,8 +1,10 @@
 //! Labels that join others.
 //!
 //! Each newcomer meets the labels that are there; those for which none of them may stand wait until
-//! all have met them. Then they join, and the labels go for which one of them may stand.
-ghost use Rattle.std.specs.Prelude.{◌≡◌, ◌++◌, ◌∷◌, ℕ, [], OnErr, OnOk, Some};
+//! all have met them. Then they join, and the labels go for which one of them may stand. A label that
+//! stands for a newcomer moves forward, so contracts speak of the labels in some order.
+ghost use Rattle.std.specs.Prelude.{◌≡◌, ◌++◌, ◌∷◌, ℕ, List, [], OnErr, OnOk, Some};
+ghost use Rattle.std.specs.List.Sorted.{IsPermutation};
 ghost use Rattle.crew_forgetful.specs.Sweeps.{TellCount};
 ghost use Rattle.crew_label.specs.Boarding.{LeadInto, boarded_from, linked};
 ghost use Rattle.crew_label.specs.Pools.{AreCounted, IsCounted, stands_label};
@@ -33,9 +35,10 @@ pub(crate) fn join_labels<P: Placed, R: Forgets<P> + Glanced, T: Trails>(
         (T.trail trails.now) held.old }
     requires labels { AreCounted (R.count_of resource.now) (T.leads trails.now)
         (T.trail trails.now) labels.now }
-    ensures ok { OnOk result (held.new
-        ≡ joined (stands_label R.below R.same_sums (T.trail trails.now)) held.old labels.now) }
-    ensures err { OnErr result (held.new ≡ held.old) }
+    ensures ok { OnOk result ((order : List (Label R.Value)) × IsPermutation held.old order
+        × (held.new ≡ joined (stands_label R.below R.same_sums (T.trail trails.now)) order
+        labels.now)) }
+    ensures err { OnErr result (IsPermutation held.old held.new) }
 {
     free.clear();
     for label in labels {
@@ -49,29 +52,28 @@ pub(crate) fn join_labels<P: Placed, R: Forgets<P> + Glanced, T: Trails>(
 fn meet<P: Placed, R: Forgets<P> + Glanced, T: Trails>(
     resource: &R,
     trails: &T,
-    held: &Held<R>,
+    held: &mut Held<R>,
     free: &mut Held<R>,
     label: &Label<R::Value>,
 ) -> Result<(), AllocError>
     requires tell { TellCount R.same_sums (R.count_of resource.now) }
     requires held { AreCounted (R.count_of resource.now) (T.leads trails.now)
-        (T.trail trails.now) held.now }
+        (T.trail trails.now) held.old }
     requires label { IsCounted (R.count_of resource.now) (T.leads trails.now)
         (T.trail trails.now) label.now }
-    ensures { OnOk result (free.new ≡ free.old
-        ++ free_of (stands_label R.below R.same_sums (T.trail trails.now)) held.now
+    ensures order { IsPermutation held.old held.new }
+    ensures free { OnOk result (free.new ≡ free.old
+        ++ free_of (stands_label R.below R.same_sums (T.trail trails.now)) held.old
         (label.now ∷ [])) }
 {
     let marks = resource.glance(&label.value);
-    if held
-        .first_standing::<P, T>(resource, trails, label, &marks)
-        .is_some()
-    {
+    let Some(place) = held.first_standing::<P, T>(resource, trails, label, &marks) else {
+        let value = resource.copy(&label.value)?;
+        let before = label.before;
+        free.push(Label { value, before }, marks)?;
         return Ok(());
-    }
-    let value = resource.copy(&label.value)?;
-    let before = label.before;
-    free.push(Label { value, before }, marks)?;
+    };
+    held.advance(place);
     Ok(())
 }
 
@@ -94,10 +96,10 @@ pub(crate) fn join_boarding<P: Placed, R: Forgets<P> + Glanced, T: Trails>(
         (T.trail trails.now) held.old }
     requires labels { AreCounted (R.count_of resource.now) (T.leads trails.now)
         (T.trail trails.now) labels.now }
-    ensures ok { OnOk result (held.new
-        ≡ joined (stands_label R.below R.same_sums (T.trail trails.now)) held.old
-        (boarded_from (λ v. R.boards resource.now v item.now) duty 0 labels.now)) }
-    ensures err { OnErr result (held.new ≡ held.old) }
+    ensures ok { OnOk result ((order : List (Label R.Value)) × IsPermutation held.old order
+        × (held.new ≡ joined (stands_label R.below R.same_sums (T.trail trails.now)) order
+        (boarded_from (λ v. R.boards resource.now v item.now) duty 0 labels.now))) }
+    ensures err { OnErr result (IsPermutation held.old held.new) }
 {
     if labels.len() > MOST {
         return Err(AllocError);
@@ -116,7 +118,7 @@ pub(crate) fn join_boarding<P: Placed, R: Forgets<P> + Glanced, T: Trails>(
 fn meet_boarding<P: Placed, R: Forgets<P> + Glanced, T: Trails>(
     resource: &R,
     trails: &T,
-    held: &Held<R>,
+    held: &mut Held<R>,
     free: &mut Held<R>,
     value: &R::Value,
     item: &P,
@@ -125,11 +127,12 @@ fn meet_boarding<P: Placed, R: Forgets<P> + Glanced, T: Trails>(
     requires boards { R.can_board resource.now value.now item.now }
     requires tell { TellCount R.same_sums (R.count_of resource.now) }
     requires held { AreCounted (R.count_of resource.now) (T.leads trails.now)
-        (T.trail trails.now) held.now }
+        (T.trail trails.now) held.old }
     requires counts { AreCounted (R.count_of resource.now) (T.leads trails.now)
         (T.trail trails.now) (linked (R.boards resource.now value.now item.now) link) }
-    ensures { OnOk result (free.new ≡ free.old
-        ++ free_of (stands_label R.below R.same_sums (T.trail trails.now)) held.now
+    ensures order { IsPermutation held.old held.new }
+    ensures free { OnOk result (free.new ≡ free.old
+        ++ free_of (stands_label R.below R.same_sums (T.trail trails.now)) held.old
         (linked (R.boards resource.now value.now item.now) link)) }
 {
     let Some(value) = resource.board(value, item) else {
@@ -144,26 +147,25 @@ fn meet_boarding<P: Placed, R: Forgets<P> + Glanced, T: Trails>(
 fn meet_own<P: Placed, R: Forgets<P> + Glanced, T: Trails>(
     resource: &R,
     trails: &T,
-    held: &Held<R>,
+    held: &mut Held<R>,
     free: &mut Held<R>,
     label: Label<R::Value>,
 ) -> Result<(), AllocError>
     requires tell { TellCount R.same_sums (R.count_of resource.now) }
     requires held { AreCounted (R.count_of resource.now) (T.leads trails.now)
-        (T.trail trails.now) held.now }
+        (T.trail trails.now) held.old }
     requires label { IsCounted (R.count_of resource.now) (T.leads trails.now)
         (T.trail trails.now) label }
-    ensures { OnOk result (free.new ≡ free.old
-        ++ free_of (stands_label R.below R.same_sums (T.trail trails.now)) held.now
+    ensures order { IsPermutation held.old held.new }
+    ensures free { OnOk result (free.new ≡ free.old
+        ++ free_of (stands_label R.below R.same_sums (T.trail trails.now)) held.old
         (label ∷ [])) }
 {
     let marks = resource.glance(&label.value);
-    if held
-        .first_standing::<P, T>(resource, trails, &label, &marks)
-        .is_some()
-    {
+    let Some(place) = held.first_standing::<P, T>(resource, trails, &label, &marks) else {
+        free.push(label, marks)?;
         return Ok(());
-    }
-    free.push(label, marks)?;
+    };
+    held.advance(place);
     Ok(())
 }

@@ -88,7 +88,8 @@ impl<R: Glanced> Room<R> {
     ///
     /// If what the room had was the pool of some candidates and the labels are the pool of others,
     /// it then has the pool of both. Values count the duties of their walks, so walks are as long
-    /// where sums are the same: only then are they compared. On want of memory nothing changes.
+    /// where sums are the same: only then are they compared. On want of memory the labels stay, in some
+    /// order.
     pub fn wait<P: Placed, T: Trails>(
         &mut self,
         resource: &R,
@@ -111,7 +112,7 @@ impl<R: Glanced> Room<R> {
             → Member self.old l ⊎ Member labels.now l }
         ensures counts { AreCounted (R.count_of resource.now) (T.leads trails.now)
             (T.trail trails.now) self.new }
-        ensures err { OnErr result (self.new ≡ self.old) }
+        ensures err { OnErr result (IsPermutation self.old self.new) }
     {
         join_labels::<P, R, T>(resource, trails, &mut self.held, &mut self.free, labels)?;
         Ok(())
@@ -122,7 +123,7 @@ impl<R: Glanced> Room<R> {
     ///
     /// If what the room had was the pool of some candidates, it then has the pool of these and of
     /// the labels that boarded. A pool of 2^32 labels is refused as want of memory is. On want of
-    /// memory nothing changes.
+    /// memory the labels stay, in some order.
     pub fn board<P: Placed, T: Trails>(
         &mut self,
         resource: &R,
@@ -155,7 +156,7 @@ impl<R: Glanced> Room<R> {
             ⊎ Member (boarded_from (λ v. R.boards resource.now v item.now) duty 0 pool.now) l }
         ensures counts { AreCounted (R.count_of resource.now) (T.leads trails.now)
             (T.trail trails.now) self.new }
-        ensures err { OnErr result (self.new ≡ self.old) }
+        ensures err { OnErr result (IsPermutation self.old self.new) }
     {
         let labels = pool.as_slice();
         join_boarding::<P, R, T>(

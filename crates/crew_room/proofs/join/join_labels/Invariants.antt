@@ -1,4 +1,5 @@
 use Rattle.std.proofs.Common.{◌≡◌, take}
+use Rattle.std.specs.List.Sorted.{IsPermutation}
 use Rattle.crew_label.specs.Pools.{stands_label}
 use Rattle.crew_label.specs.declared.label.Label.{Label}
 use Rattle.crew_room.specs.Machinery.Joins.{free_of}
@@ -6,5 +7,7 @@ use Rattle.crew_room.proofs.join.join_labels.Given as goal
 
 -- of the labels so far the free ones wait
 abbrev pub invariant-loop-label : goal.invariant-loop-label
-invariant-loop-label g l =
-    l.free ≡ free_of (λ (a b : Label g.row.R-Value.Denot). stands_label g.R.Resource.below g.R.Forgets.same_sums (g.T.Trails.trail l.trails) a b) l.held (take l.label-index l.labels)
+invariant-loop-label g l = record {
+  order : IsPermutation l.fn.held l.held;
+  free : l.free ≡ free_of (λ (a b : Label g.row.R-Value.Denot). stands_label g.R.Resource.below g.R.Forgets.same_sums (g.T.Trails.trail l.trails) a b) l.held (take l.label-index l.labels);
+}
