@@ -15,8 +15,9 @@ use Rattle.crew_pairing.specs.declared.events.Arrival.{Arrival}
 use Rattle.crew_pairing.specs.declared.events.Departure.{Departure}
 use Rattle.crew_resource.specs.Members.{Member}
 use Rattle.crew_resource.proofs.Members.{Member-append, Member-append_left, Member-append_right, Member-map_in, Member-map_out}
-use Rattle.crew_pass.specs.Machinery.Passing.{AreCollected, AreGathered, Idles, Waits, WaitsUpTo, waited_entries}
-use Rattle.crew_pass.specs.Machinery.Terms.{Terms}
+use Rattle.crew_labelling.specs.Candidates.{AreGathered, Idles, Waits, waited_entries}
+use Rattle.crew_labelling.specs.Terms.{Terms}
+use Rattle.crew_pass.specs.Machinery.Passing.{AreCollected, WaitsUpTo}
 
 module _ {V : Type 0} (below same : V → V → Bool) (trail : Link → List ℕ) where
   -- the pools of some candidates, and one more

@@ -1,4 +1,6 @@
 -- What code needs, and no definition rests on.
 pub mod Terms
-pub mod Held
 pub mod Passing
+pub mod Shelves
+pub mod Seen
+pub mod Cells

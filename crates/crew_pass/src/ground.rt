@@ -1,13 +1,13 @@
-//! What a pass of one base goes by, and what it has found so far.
+//! What a pass of one base goes by.
 //!
-//! Clauses name the first as one value: `terms` of the resource's members and the ground
+//! Clauses name it as one value: `terms` of the resource's members and the ground
 //! (`specs/Machinery/Terms`).
+ghost use Rattle.std.specs.Prelude.{◌≡◌};
+ghost use Rattle.crew_pass.specs.Machinery.Terms.{IsBasisOf};
+
 use crew_flights::Code;
-use crew_label::Pool;
 use crew_net::Net;
-use crew_resource::Resource;
-use std::alloc::Global;
-use std::sync::Arc;
+use std::snapshot::Snapshot;
 
 /// What a pass of one base goes by: a network, by rank the position of each duty's departure, the
 /// resource of the base's lists, and the base.
@@ -19,13 +19,26 @@ pub(crate) struct Ground<'a, 'r, R> {
     pub(crate) base: Code,
 }
 
-/// What a pass has found so far beside the pools of departures: the fronts of duties by rank, none
-/// yet where the duty is still to come, and the pools of arrivals by place, with those of what a rest
-/// there goes by, made for all that are released before a minute.
+/// The same for clauses alone: it takes no bytes, and stands wherever a pass is.
 #[derive(Drop)]
-pub(crate) struct Found<R: Resource> {
-    pub(crate) fronts: Vec<Arc<Pool<R>, Global>>,
-    pub(crate) arrivals: Vec<Pool<R>>,
-    pub(crate) rested: Vec<Pool<R>>,
-    pub(crate) upto: i64,
+pub(crate) struct Basis<R> {
+    net: Snapshot<Net>,
+    positions: Snapshot<Vec<u32>>,
+    resource: Snapshot<R>,
+    base: Code,
+}
+
+impl<R> Basis<R> {
+    /// What a pass goes by, and the list that its positions are of.
+    pub(crate) fn of(ground: &Ground<R>, positions: &Vec<u32>) -> Basis<R>
+        requires { positions.now.items ≡ ground.now.positions.now }
+        ensures { IsBasisOf ground.now result }
+    {
+        Basis {
+            net: Snapshot::of(ground.net),
+            positions: Snapshot::of(positions),
+            resource: Snapshot::of(ground.resource),
+            base: ground.base,
+        }
+    }
 }

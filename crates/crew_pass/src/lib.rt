@@ -1,13 +1,14 @@
 //! One pass over the events of a crew base, in order of time, for resources that may forget a part
 //! of their values: labels with links, pool by pool.
 //!
-//! `pass` goes through the departures of a network in order of report. A departure's pool is that of
-//! the empty label, where the base is, and of the labels of all arrivals in its window, as they
-//! stand there. What dominance leaves of the labels that board a duty is the duty's front; it is
-//! kept, and the pool of an arrival is made of the fronts of its duties, once, before the first
-//! departure that may wait on it. Departures that report less than the least rest after one another
-//! don't wait on each other's duties, so `pass_by_threads` goes through these at once, in several
-//! threads, on whose number no result depends. The crate promises that this is a covered pass
+//! A departure's pool is that of the empty label, where the base is, and of the labels of all
+//! arrivals in its window, as they stand there. What dominance leaves of the labels that board a duty
+//! is the duty's front, and the pool of an arrival is made of the fronts of its duties. `pass` makes
+//! each pool once, in a cell of its own (`crew_cells`), of the cells before it: who needs a cell that
+//! is empty makes it, back in time, and offers it, and who was slower uses what is there. So
+//! `pass_by_threads` may have any number of threads, none of which waits for another; only one pool
+//! is right in each cell, the one that the labelling of the network has there (`crew_labelling`), so
+//! no result depends on who made it. The crate promises that this is a covered pass
 //! (`crew_forgetful`), whatever the resource is, so that the fronts are those of all legal lists of
 //! duties; and that with the resource of pairings of up to 240 hours (`crew_answers`) they show the
 //! front of each legal duty (`long_fronts`, `laws`). What the passes of several bases share is a
@@ -16,15 +17,21 @@
 
 mod arrivals;
 mod base_fronts;
-mod batch;
-mod batches;
 mod boards;
+mod cells;
 mod course;
+mod gathering;
 mod ground;
 pub mod laws;
 mod long;
 mod passing;
+mod seeing;
+mod seen;
+mod shelf;
+mod sight;
+mod taking;
 mod waits;
+mod workers;
 
 pub use base_fronts::BaseFronts;
 pub use course::Course;

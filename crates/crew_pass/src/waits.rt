@@ -1,26 +1,33 @@
 //! The pool of a departure.
-ghost use Rattle.std.specs.Prelude.{◌≡◌, ◌⊎◌, ◌<◌, ◌≤◌, ◌++◌, ℕ, List, Some, IfOk, length, map, slice_get};
-ghost use Rattle.std.specs.Arc.{arc_value};
+ghost use Rattle.std.specs.Prelude.{◌≡◌, ◌⊎◌, ◌<◌, ◌≤◌, true, ℕ, List, [], Some, IfOk, get_or, length, map, slice_get};
 ghost use Rattle.std.specs.Ordering.{eq_by_cmp};
 ghost use Rattle.crew_flights.specs.Codes.{code_cmp};
-ghost use Rattle.crew_label.specs.Pools.{ArePoolOf, ArePoolsOf};
+ghost use Rattle.crew_label.specs.Pools.{ArePoolOf, ArePoolsOf, AreRising};
 ghost use Rattle.crew_label.specs.Walks.{shown};
 ghost use Rattle.crew_label.specs.declared.label.Label.{Label};
+ghost use Rattle.crew_labelling.specs.Candidates.{IsRested, Waits, idle_labels, waited_entries};
+ghost use Rattle.crew_labelling.specs.Held.{AreReady, HaveArrived, trail_of};
+ghost use Rattle.crew_labelling.specs.Labellings.{labelling_of};
 ghost use Rattle.crew_net.specs.Events.{IsWindow};
+ghost use Rattle.crew_net.specs.Positions.{in_order};
 ghost use Rattle.crew_pairing.specs.Events.{MayFollow, may_wait};
+ghost use Rattle.crew_pairing.specs.declared.events.Arrival.{Arrival};
 ghost use Rattle.crew_pairing.specs.declared.events.Departure.{Departure};
 ghost use Rattle.crew_resource.specs.Members.{Member};
-ghost use Rattle.crew_pass.specs.Machinery.Held.{AreReady, HaveArrived, trail_of};
-ghost use Rattle.crew_pass.specs.Machinery.Passing.{AreCollected, AreCovering, AreSources, AreTerms, IsClean, IsPoolAt, IsRested, Waits, idle_labels, waited_entries};
-ghost use Rattle.crew_pass.specs.Machinery.Terms.{terms};
+ghost use Rattle.crew_pass.specs.Machinery.Passing.{AreCollected, IsClean, MayWaitAt};
+ghost use Rattle.crew_pass.specs.Machinery.Seen.{AreSeen};
+ghost use Rattle.crew_pass.specs.Machinery.Shelves.{AreKnown, IsThere};
+ghost use Rattle.crew_pass.specs.Machinery.Terms.{MayPass, labels_table, terms};
 
 use crate::ground::Ground;
+use crate::seen::Seen;
+use crate::sight::Sight;
 use crew_forgetful::Lapses;
-use crew_label::{Label, Pool, Table};
+use crew_label::{Label, Pool};
 use crew_net::Window;
 use crew_pairing::{Arrival, Departure, Duty};
+use crew_resource::Resource;
 use std::alloc::{AllocError, Global};
-use std::sync::Arc;
 
 // The empty label of a departure, where the base is.
 fn idle_pool<R: Lapses<Duty>>(
@@ -50,29 +57,23 @@ fn idle_pool<R: Lapses<Duty>>(
 fn waited_at<R: Lapses<Duty>>(
     alloc: Global,
     ground: &Ground<R>,
-    table: &Table<R>,
     departure: &Departure,
     arrival: &Arrival,
     held: &Pool<R>,
     rested: &Pool<R>,
 ) -> Result<Pool<R>, AllocError>
-    requires terms { AreTerms
-        (terms R.Lapses.own R.Staged.own R.Forgets.own R.Resource.own ground.now) }
+    requires may { MayPass (terms R.Value.cmp R.Lapses.own R.Staged.own R.Forgets.own R.Resource.own ground.now) }
     requires follows { MayFollow arrival.now departure.now }
-    requires held { HaveArrived
-        (terms R.Lapses.own R.Staged.own R.Forgets.own R.Resource.own ground.now) table.now
-        held.now }
-    requires clean { IsClean
-        (terms R.Lapses.own R.Staged.own R.Forgets.own R.Resource.own ground.now)
-        (trail_of table.now) held.now }
-    requires rested { IsRested
-        (terms R.Lapses.own R.Staged.own R.Forgets.own R.Resource.own ground.now) table.now held.now
-        rested.now }
-    ensures pool { IfOk result (λ waited. ArePoolOf R.below R.same_sums (trail_of table.now)
+    requires held { HaveArrived (terms R.Value.cmp R.Lapses.own R.Staged.own R.Forgets.own R.Resource.own ground.now) (labels_table (terms R.Value.cmp R.Lapses.own R.Staged.own R.Forgets.own R.Resource.own ground.now)) held.now }
+    requires clean { IsClean (terms R.Value.cmp R.Lapses.own R.Staged.own R.Forgets.own R.Resource.own ground.now) (trail_of (labels_table (terms R.Value.cmp R.Lapses.own R.Staged.own R.Forgets.own R.Resource.own ground.now))) held.now }
+    requires rested { IsRested (terms R.Value.cmp R.Lapses.own R.Staged.own R.Forgets.own R.Resource.own ground.now) (labels_table (terms R.Value.cmp R.Lapses.own R.Staged.own R.Forgets.own R.Resource.own ground.now)) held.now rested.now }
+    ensures pool { IfOk result (λ waited. ArePoolOf R.below R.same_sums (trail_of (labels_table (terms R.Value.cmp R.Lapses.own R.Staged.own R.Forgets.own R.Resource.own ground.now)))
         (waited_entries (λ v. R.waited ground.now.resource.now v arrival.now departure.now)
-        (map (shown (trail_of table.now)) held.now)) waited) }
-    ensures held { IfOk result (AreReady
-        (terms R.Lapses.own R.Staged.own R.Forgets.own R.Resource.own ground.now) table.now) }
+        (map (shown (trail_of (labels_table (terms R.Value.cmp R.Lapses.own R.Staged.own R.Forgets.own R.Resource.own ground.now)))) held.now)) waited) }
+    ensures held { IfOk result (AreReady (terms R.Value.cmp R.Lapses.own R.Staged.own R.Forgets.own R.Resource.own ground.now) (labels_table (terms R.Value.cmp R.Lapses.own R.Staged.own R.Forgets.own R.Resource.own ground.now))) }
+    ensures from { IfOk result (λ waited. (l : Label R.Value) → Member waited l
+        → (m : Label R.Value) × (Member held.now m ⊎ Member rested.now m)
+        × (l.before ≡ m.before)) }
 {
     let resource = ground.resource;
     if resource.is_rest(arrival, departure) {
@@ -82,145 +83,139 @@ fn waited_at<R: Lapses<Duty>>(
     }
 }
 
+// The labels of the arrival at a place, which have been seen, as they stand at a departure.
+fn waited_from<R: Lapses<Duty>>(
+    alloc: Global,
+    ground: &Ground<R>,
+    seen: &Seen<R>,
+    departure: &Departure,
+    place: usize,
+) -> Result<Pool<R>, AllocError>
+    requires may { MayPass (terms R.Value.cmp R.Lapses.own R.Staged.own R.Forgets.own R.Resource.own ground.now) }
+    requires seen { AreSeen (terms R.Value.cmp R.Lapses.own R.Staged.own R.Forgets.own R.Resource.own ground.now) seen.now }
+    requires place { place < length ground.now.net.now.arrivals }
+    requires waits { (x : Arrival) → slice_get ground.now.net.now.arrivals place ≡ Some x
+        → may_wait ground.now.net.now.settings x departure.now ≡ true }
+    requires there { IsThere seen.now.arrivals place }
+    requires rested { IsThere seen.now.rested place }
+    ensures pool { IfOk result (λ waited. (x : Arrival)
+        → slice_get ground.now.net.now.arrivals place ≡ Some x → ArePoolOf R.below R.same_sums
+        (trail_of (labels_table (terms R.Value.cmp R.Lapses.own R.Staged.own R.Forgets.own R.Resource.own ground.now)))
+        (waited_entries (λ v. R.waited ground.now.resource.now v x departure.now)
+        (map (shown (trail_of (labels_table (terms R.Value.cmp R.Lapses.own R.Staged.own R.Forgets.own R.Resource.own ground.now)))) (get_or (labelling_of (terms R.Value.cmp R.Lapses.own R.Staged.own R.Forgets.own R.Resource.own ground.now)).arrivals place [])))
+        waited) }
+    ensures held { IfOk result (AreReady (terms R.Value.cmp R.Lapses.own R.Staged.own R.Forgets.own R.Resource.own ground.now) (labels_table (terms R.Value.cmp R.Lapses.own R.Staged.own R.Forgets.own R.Resource.own ground.now))) }
+    ensures known { IfOk result (AreKnown ground.now.positions.now seen.now.departures) }
+{
+    let arrival = &ground.net.arrivals()[place];
+    let held = seen.arrivals.at(place);
+    let rested = seen.rested.at(place);
+    waited_at(alloc, ground, departure, arrival, held, rested)
+}
+
 // The empty label of a departure, where the base is, and the labels of each arrival of its window as
 // they stand there.
 fn window_pools<R: Lapses<Duty>>(
     alloc: Global,
     ground: &Ground<R>,
-    table: &Table<R>,
+    seen: &Seen<R>,
     departure: &Departure,
     window: Window,
-    arrivals: &[Pool<R>],
-    rested: &[Pool<R>],
 ) -> Result<Vec<Pool<R>>, AllocError>
-    requires terms { AreTerms
-        (terms R.Lapses.own R.Staged.own R.Forgets.own R.Resource.own ground.now) }
+    requires may { MayPass (terms R.Value.cmp R.Lapses.own R.Staged.own R.Forgets.own R.Resource.own ground.now) }
+    requires seen { AreSeen (terms R.Value.cmp R.Lapses.own R.Staged.own R.Forgets.own R.Resource.own ground.now) seen.now }
     requires window { IsWindow (λ x. may_wait ground.now.net.now.settings x departure.now)
         ground.now.net.now.arrivals window }
     requires can_idle { R.can_idle ground.now.resource.now departure.now }
-    requires sources { AreSources
-        (terms R.Lapses.own R.Staged.own R.Forgets.own R.Resource.own ground.now) table.now
-        arrivals.now rested.now }
-    ensures collected { IfOk result (λ pools. AreCollected
-        (terms R.Lapses.own R.Staged.own R.Forgets.own R.Resource.own ground.now)
-        (trail_of table.now) (Waits
-        (terms R.Lapses.own R.Staged.own R.Forgets.own R.Resource.own ground.now)
-        (trail_of table.now) arrivals.now departure.now) pools.items) }
-    ensures held { IfOk result (λ pools. (labels : List (Label R.Value)) → Member pools.items labels
-        → AreReady (terms R.Lapses.own R.Staged.own R.Forgets.own R.Resource.own ground.now)
-        table.now labels) }
+    requires there { (place : ℕ) → window.from ≤ place → place < window.end
+        → IsThere seen.now.arrivals place }
+    requires rested { (place : ℕ) → window.from ≤ place → place < window.end
+        → IsThere seen.now.rested place }
+    ensures collected { IfOk result (λ pools. AreCollected (terms R.Value.cmp R.Lapses.own R.Staged.own R.Forgets.own R.Resource.own ground.now) (trail_of (labels_table (terms R.Value.cmp R.Lapses.own R.Staged.own R.Forgets.own R.Resource.own ground.now)))
+        (Waits (terms R.Value.cmp R.Lapses.own R.Staged.own R.Forgets.own R.Resource.own ground.now) (trail_of (labels_table (terms R.Value.cmp R.Lapses.own R.Staged.own R.Forgets.own R.Resource.own ground.now))) (labelling_of (terms R.Value.cmp R.Lapses.own R.Staged.own R.Forgets.own R.Resource.own ground.now)).arrivals departure.now)
+        pools.items) }
+    ensures held { IfOk result (λ pools. (labels : List (Label R.Value))
+        → Member pools.items labels → AreReady (terms R.Value.cmp R.Lapses.own R.Staged.own R.Forgets.own R.Resource.own ground.now) (labels_table (terms R.Value.cmp R.Lapses.own R.Staged.own R.Forgets.own R.Resource.own ground.now)) labels) }
+    ensures known { IfOk result (λ pools. (labels : List (Label R.Value))
+        → Member pools.items labels
+        → AreKnown ground.now.positions.now seen.now.departures labels) }
 {
     let mut pools = Vec::new(alloc);
     pools.push(idle_pool(alloc, ground, departure)?)?;
-    for at in window.from..window.end {
-        let arrival = &ground.net.arrivals()[at];
-        let held = &arrivals[at];
-        let rest = &rested[at];
-        let waited = waited_at(alloc, ground, table, departure, arrival, held, rest)?;
+    for place in window.from..window.end {
+        let waited = waited_from(alloc, ground, seen, departure, place)?;
         pools.push(waited)?;
     }
     Ok(pools)
 }
 
 // The pool of several pools of labels at one event.
-pub(crate) fn joined<R: Lapses<Duty>>(
+fn joined<R: Lapses<Duty>>(
     alloc: Global,
     ground: &Ground<R>,
-    table: &Table<R>,
+    seen: &Seen<R>,
     pools: &[Pool<R>],
 ) -> Result<Pool<R>, AllocError>
-    requires terms { AreTerms
-        (terms R.Lapses.own R.Staged.own R.Forgets.own R.Resource.own ground.now) }
-    requires held { (labels : List (Label R.Value)) → Member pools.now labels → AreReady
-        (terms R.Lapses.own R.Staged.own R.Forgets.own R.Resource.own ground.now) table.now labels }
+    requires may { MayPass (terms R.Value.cmp R.Lapses.own R.Staged.own R.Forgets.own R.Resource.own ground.now) }
+    requires seen { AreSeen (terms R.Value.cmp R.Lapses.own R.Staged.own R.Forgets.own R.Resource.own ground.now) seen.now }
+    requires held { (labels : List (Label R.Value)) → Member pools.now labels
+        → AreReady (terms R.Value.cmp R.Lapses.own R.Staged.own R.Forgets.own R.Resource.own ground.now) (labels_table (terms R.Value.cmp R.Lapses.own R.Staged.own R.Forgets.own R.Resource.own ground.now)) labels }
+    requires known { (labels : List (Label R.Value)) → Member pools.now labels
+        → AreKnown ground.now.positions.now seen.now.departures labels }
     ensures pool { IfOk result (λ whole. (candidates : List (R.Value × List ℕ))
-        → ArePoolsOf R.below R.same_sums (trail_of table.now) candidates pools.now
-        → ArePoolOf R.below R.same_sums (trail_of table.now) candidates whole) }
-    ensures held { IfOk result (AreReady
-        (terms R.Lapses.own R.Staged.own R.Forgets.own R.Resource.own ground.now) table.now) }
+        → ArePoolsOf R.below R.same_sums (trail_of (labels_table (terms R.Value.cmp R.Lapses.own R.Staged.own R.Forgets.own R.Resource.own ground.now))) candidates pools.now
+        → ArePoolOf R.below R.same_sums (trail_of (labels_table (terms R.Value.cmp R.Lapses.own R.Staged.own R.Forgets.own R.Resource.own ground.now))) candidates whole) }
+    ensures held { IfOk result (AreReady (terms R.Value.cmp R.Lapses.own R.Staged.own R.Forgets.own R.Resource.own ground.now) (labels_table (terms R.Value.cmp R.Lapses.own R.Staged.own R.Forgets.own R.Resource.own ground.now))) }
 {
     let mut each = Vec::with_capacity(alloc, pools.len())?;
     for pool in pools {
         each.push(pool)?;
     }
-    Pool::of_pools::<Duty, Table<R>>(alloc, ground.resource, table, &each)
+    let sight = Sight::over(ground, seen);
+    Pool::of_pools::<Duty, Sight<R>>(alloc, ground.resource, &sight, &each)
 }
 
-// The pool of the departure at a place: of the empty label, where the base is, and of the labels of
-// all arrivals in its window, as they stand at the departure.
-fn departure_pool<R: Lapses<Duty>>(
-    alloc: Global,
-    ground: &Ground<R>,
-    table: &Table<R>,
-    arrivals: &[Pool<R>],
-    rested: &[Pool<R>],
-    place: usize,
-) -> Result<Pool<R>, AllocError>
-    requires terms { AreTerms
-        (terms R.Lapses.own R.Staged.own R.Forgets.own R.Resource.own ground.now) }
-    requires place { place < length ground.now.net.now.departures }
-    requires sources { AreSources
-        (terms R.Lapses.own R.Staged.own R.Forgets.own R.Resource.own ground.now) table.now
-        arrivals.now rested.now }
-    ensures covers { IfOk result (λ pool. (g : Departure) → slice_get ground.now.net.now.departures
-        place ≡ Some g → AreCovering
-        (terms R.Lapses.own R.Staged.own R.Forgets.own R.Resource.own ground.now)
-        (trail_of table.now) (Waits
-        (terms R.Lapses.own R.Staged.own R.Forgets.own R.Resource.own ground.now)
-        (trail_of table.now) arrivals.now g) pool) }
-    ensures held { IfOk result (AreReady
-        (terms R.Lapses.own R.Staged.own R.Forgets.own R.Resource.own ground.now) table.now) }
-    ensures clean { IfOk result (λ pool. IsClean
-        (terms R.Lapses.own R.Staged.own R.Forgets.own R.Resource.own ground.now)
-        (trail_of table.now) pool) }
+/// The labels of a pool rise.
+pub(crate) fn rises<R: Resource>(pool: &Pool<R>)
+    ensures { AreRising R.Value.cmp pool.now }
 {
-    let departure = &ground.net.departures()[place];
-    let window = ground.net.window(place);
-    let pools = window_pools(alloc, ground, table, departure, window, arrivals, rested)?;
-    joined(alloc, ground, table, &pools)
+    let _ = pool.as_slice();
 }
 
-/// What a rest of an arrival's labels goes by.
-pub(crate) fn rested_pool<R: Lapses<Duty>>(
-    alloc: Global,
-    ground: &Ground<R>,
-    table: &Table<R>,
-    held: &Pool<R>,
-) -> Result<Pool<R>, AllocError>
-    requires terms { AreTerms
-        (terms R.Lapses.own R.Staged.own R.Forgets.own R.Resource.own ground.now) }
-    requires held { HaveArrived
-        (terms R.Lapses.own R.Staged.own R.Forgets.own R.Resource.own ground.now) table.now
-        held.now }
-    ensures { IfOk result (IsRested
-        (terms R.Lapses.own R.Staged.own R.Forgets.own R.Resource.own ground.now) table.now
-        held.now) }
-{
-    let rested = held.rested::<Duty, Table<R>>(alloc, ground.resource, table)?;
-    Ok(rested)
-}
-
-/// A pool of the departure at a position, shared.
-pub(crate) fn pool_at<R: Lapses<Duty>>(
-    alloc: Global,
-    ground: &Ground<R>,
-    table: &Table<R>,
-    arrivals: &[Pool<R>],
-    rested: &[Pool<R>],
-    position: usize,
-) -> Result<Arc<Pool<R>, Global>, AllocError>
-    requires terms { AreTerms
-        (terms R.Lapses.own R.Staged.own R.Forgets.own R.Resource.own ground.now) }
+/// The window of the departure at a position.
+pub(crate) fn window_at<R: Lapses<Duty>>(ground: &Ground<R>, position: usize) -> Window
+    requires may { MayPass (terms R.Value.cmp R.Lapses.own R.Staged.own R.Forgets.own R.Resource.own ground.now) }
     requires position { position < length ground.now.net.now.by_report }
-    requires sources { AreSources
-        (terms R.Lapses.own R.Staged.own R.Forgets.own R.Resource.own ground.now) table.now
-        arrivals.now rested.now }
-    ensures { IfOk result (λ pool. IsPoolAt
-        (terms R.Lapses.own R.Staged.own R.Forgets.own R.Resource.own ground.now) table.now
-        arrivals.now position (arc_value pool)) }
+    ensures { (g : Departure) → slice_get (in_order ground.now.net.now) position ≡ Some g
+        → IsWindow (λ x. may_wait ground.now.net.now.settings x g) ground.now.net.now.arrivals
+        result }
 {
     let place = ground.net.by_report()[position] as usize;
-    let pool = departure_pool(alloc, ground, table, arrivals, rested, place)?;
-    let pool = Arc::new(alloc, pool)?;
+    ground.net.window(place)
+}
+
+/// The pool of the departure at a position, whose arrivals have been seen: of the empty label, where
+/// the base is, and of the labels of all arrivals in its window, as they stand at the departure.
+pub(crate) fn departure_pool<R: Lapses<Duty>>(
+    alloc: Global,
+    ground: &Ground<R>,
+    seen: &Seen<R>,
+    position: usize,
+) -> Result<Pool<R>, AllocError>
+    requires may { MayPass (terms R.Value.cmp R.Lapses.own R.Staged.own R.Forgets.own R.Resource.own ground.now) }
+    requires seen { AreSeen (terms R.Value.cmp R.Lapses.own R.Staged.own R.Forgets.own R.Resource.own ground.now) seen.now }
+    requires position { position < length ground.now.net.now.by_report }
+    requires there { (place : ℕ) → MayWaitAt ground.now.net.now position place
+        → IsThere seen.now.arrivals place }
+    requires rested { (place : ℕ) → MayWaitAt ground.now.net.now position place
+        → IsThere seen.now.rested place }
+    ensures { IfOk result (λ pool. pool ≡ get_or (labelling_of (terms R.Value.cmp R.Lapses.own R.Staged.own R.Forgets.own R.Resource.own ground.now)).departures position []) }
+{
+    let place = ground.net.by_report()[position] as usize;
+    let departure = &ground.net.departures()[place];
+    let window = window_at(ground, position);
+    let pools = window_pools(alloc, ground, seen, departure, window)?;
+    let pool = joined(alloc, ground, seen, &pools)?;
+    rises(&pool);
     Ok(pool)
 }

@@ -8,7 +8,7 @@ ghost use Rattle.crew_seal.specs.Next.{IsNextOver, IsOwn, IsUndone, IsUnsealed};
 
 use crew_board::{Board, SealFault};
 use crew_flights::Entry;
-use crew_job::Ground;
+use crew_board::crew_job::Ground;
 use crew_rules::Settings;
 use crew_version::{Version, is_same_entry};
 use std::alloc::{AllocError, Global};

@@ -463,8 +463,8 @@ fn play<T: Threads + Sync, R: Read, W: Write, E: Engine>(
 /// version and answer.
 ///
 /// The engine is new: it has taken no edit, and the version that it shows, and has made last, is
-/// number 0 under these settings. Where the answer is `Ok`, what is written is the text of a session of the bytes that were read, there
-/// were at most 2,000,000 records, and the input is at its end.
+/// number 0 under these settings. Where the answer is `Ok`, what is written is the text of a session
+/// of the bytes that were read, there were at most 2,000,000 records, and the input is at its end.
 ///
 /// Each line goes out before the next record is read, by one `write` where the writer takes all of
 /// it, and one `flush` comes before `Ok`: a writer that is to show lines while the input is open

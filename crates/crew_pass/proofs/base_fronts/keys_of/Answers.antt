@@ -2,7 +2,7 @@ use Rattle.std.proofs.Common.{◌≡◌, ◌++◌, ◌∷◌, ◌∙◌, [], Lis
 use Rattle.std.proofs.lemmas.List.{map-append, take_more}
 use Rattle.crew_pairing.specs.Legs.{Leg}
 use Rattle.crew_pool.specs.Ranks.{key_at}
-use Rattle.crew_pass.proofs.Keyed.{key-of}
+use Rattle.crew_labelling.proofs.Keyed.{key-of}
 use Rattle.crew_pass.proofs.base_fronts.keys_of.Goals as goal
 
 pub loop-rank-preserved : goal.loop-rank-preserved

@@ -1,37 +1,88 @@
-use Rattle.std.proofs.Common.{List, subst, sym}
-use Rattle.std.specs.Prelude.{slice_get}
-use Rattle.std.proofs.lemmas.Result.{IfOk-weaker}
+use Rattle.std.proofs.Common.{◌∙◌, ℕ, List, Some, get_or, length, sym, ap, subst, arith}
 use Rattle.crew_label.specs.Pools.{ArePoolsOf}
 use Rattle.crew_label.specs.declared.label.Label.{Label}
-use Rattle.crew_net.proofs.Slices.{item-in, some-same}
-use Rattle.crew_pairing.specs.declared.events.Departure.{Departure}
-use Rattle.crew_pass.specs.Machinery.Held.{trail_of}
-use Rattle.crew_pass.specs.Machinery.Passing.{AreCovering, Waits}
-use Rattle.crew_pass.specs.Machinery.Terms.{terms}
+use Rattle.crew_labelling.specs.Candidates.{Waits}
+use Rattle.crew_labelling.specs.Held.{trail_of}
+use Rattle.crew_labelling.specs.Labellings.{labelling_of}
+use Rattle.crew_labelling.proofs.One.{departure-one}
+use Rattle.crew_net.proofs.Orders.{in-order-of, place-within}
+use Rattle.crew_net.proofs.Slices.{at-within, item-in, stands}
+use Rattle.crew_pass.specs.Machinery.Passing.{MayWaitAt}
+use Rattle.crew_pass.specs.Machinery.Terms.{labels_table, terms}
 use Rattle.crew_pass.proofs.Collected.{all-gathered}
-use Rattle.crew_pass.proofs.Waiting.{covering}
 use Rattle.crew_pass.proofs.waits.departure_pool.Goals as goal
 
-pub returns-clause-covers : goal.returns-clause-covers
-returns-clause-covers g c =
+pub bounds-departures-place : goal.bounds-departures-place
+bounds-departures-place g c =
     let net = c.args.ground.now.net.now in
-    let w = terms g.R.Lapses g.R.Staged g.R.Forgets g.R.Resource c.args.ground.now in
-    let trail = trail_of c.args.table.now in
-    let departure = c.index-departures-place.result in
-    let here = item-in net.departures c.departures.result.now c.args.place departure c.requires.place c.departures.ensures.events c.index-departures-place.is in
-    let Stands = Waits w trail c.args.arrivals.now departure in
-    IfOk-weaker c.joined.result _ _
-    (λ pool h g' at.
-    let gathered = all-gathered w trail Stands c.in_ok-pools.pools.items pool c.in_ok-pools.ensures.collected
-    (λ candidates are. h candidates (subst (λ (lss : List (List (Label g.row.R-Value.Denot))). ArePoolsOf g.R.Resource.below g.R.Forgets.same_sums trail candidates lss) (sym c.deref.ensures.value) are)) in
-    subst (λ (z : Departure). AreCovering w trail (Waits w trail c.args.arrivals.now z) pool) (some-same (slice_get net.departures c.args.place) departure g' here at)
-    (covering w trail Stands pool gathered))
-    c.joined.ensures.pool
+    let p = c.requires.may.terms.passable in
+    let place = get_or c.by_report.result.now c.args.position 0 in
+    let at = at-within net.by_report c.args.position 0 c.requires.position ∙ ap (λ (ns : List ℕ). Some (get_or ns c.args.position 0)) (sym c.by_report.ensures.places) in
+    let same = ap length c.departures.ensures.events in
+    let within = place-within net p.departs p.ordered c.args.position place at in
+    omega (arith, within, same)
 
-pub returns-clause-clean : goal.returns-clause-clean
-returns-clause-clean g c =
-    let trail = trail_of c.args.table.now in
-    let all = c.in_ok-pools.ensures.collected in
-    IfOk-weaker c.joined.result _ _
-    (λ pool h. (all.listed, h all.listed (subst (λ (lss : List (List (Label g.row.R-Value.Denot))). ArePoolsOf g.R.Resource.below g.R.Forgets.same_sums trail all.listed lss) (sym c.deref.ensures.value) all.pools_of)))
-    c.joined.ensures.pool
+pub window_pools-requires-clause-window : goal.window_pools-requires-clause-window
+window_pools-requires-clause-window g c =
+    let net = c.args.ground.now.net.now in
+    let p = c.requires.may.terms.passable in
+    let position = c.args.position in
+    let place = get_or c.by_report.result.now position 0 in
+    let at = at-within net.by_report position 0 c.requires.position ∙ ap (λ (ns : List ℕ). Some (get_or ns position 0)) (sym c.by_report.ensures.places) in
+    let within = place-within net p.departs p.ordered position place at in
+    let departure = c.index-departures-place.result in
+    let here = item-in net.departures c.departures.result.now place departure within c.departures.ensures.events c.index-departures-place.is in
+    let reports = in-order-of net p.departs p.ordered position place departure at here in
+    c.window_at-window.ensures departure reports
+
+pub window_pools-requires-clause-there : goal.window_pools-requires-clause-there
+window_pools-requires-clause-there g c k from end =
+    let net = c.args.ground.now.net.now in
+    let p = c.requires.may.terms.passable in
+    let position = c.args.position in
+    let place = get_or c.by_report.result.now position 0 in
+    let at = at-within net.by_report position 0 c.requires.position ∙ ap (λ (ns : List ℕ). Some (get_or ns position 0)) (sym c.by_report.ensures.places) in
+    let within = place-within net p.departs p.ordered position place at in
+    let departure = c.index-departures-place.result in
+    let here = item-in net.departures c.departures.result.now place departure within c.departures.ensures.events c.index-departures-place.is in
+    let reports = in-order-of net p.departs p.ordered position place departure at here in
+    let window = c.window_at-window.ensures departure reports in
+    let most = window.within in
+    let x = stands net.arrivals k (omega (arith, end, most)) in
+    let waits : MayWaitAt net position k = record { departure = departure; arrival = x.0; reports = reports; releases = x.1; may = (window.exact k x.0 x.1).1 (from, end) } in
+    c.requires.there k waits
+
+pub window_pools-requires-clause-rested : goal.window_pools-requires-clause-rested
+window_pools-requires-clause-rested g c k from end =
+    let net = c.args.ground.now.net.now in
+    let p = c.requires.may.terms.passable in
+    let position = c.args.position in
+    let place = get_or c.by_report.result.now position 0 in
+    let at = at-within net.by_report position 0 c.requires.position ∙ ap (λ (ns : List ℕ). Some (get_or ns position 0)) (sym c.by_report.ensures.places) in
+    let within = place-within net p.departs p.ordered position place at in
+    let departure = c.index-departures-place.result in
+    let here = item-in net.departures c.departures.result.now place departure within c.departures.ensures.events c.index-departures-place.is in
+    let reports = in-order-of net p.departs p.ordered position place departure at here in
+    let window = c.window_at-window.ensures departure reports in
+    let most = window.within in
+    let x = stands net.arrivals k (omega (arith, end, most)) in
+    let waits : MayWaitAt net position k = record { departure = departure; arrival = x.0; reports = reports; releases = x.1; may = (window.exact k x.0 x.1).1 (from, end) } in
+    c.requires.rested k waits
+
+pub returns : goal.returns
+returns g c =
+    let net = c.args.ground.now.net.now in
+    let p = c.requires.may.terms.passable in
+    let position = c.args.position in
+    let place = get_or c.by_report.result.now position 0 in
+    let at = at-within net.by_report position 0 c.requires.position ∙ ap (λ (ns : List ℕ). Some (get_or ns position 0)) (sym c.by_report.ensures.places) in
+    let within = place-within net p.departs p.ordered position place at in
+    let departure = c.index-departures-place.result in
+    let here = item-in net.departures c.departures.result.now place departure within c.departures.ensures.events c.index-departures-place.is in
+    let reports = in-order-of net p.departs p.ordered position place departure at here in
+    let w = (terms g.R.Value.Ord.cmp g.R.Lapses g.R.Staged g.R.Forgets g.R.Resource c.args.ground.now) in
+    let trail = trail_of (labels_table w) in
+    let pool = c.in_ok-pool.pool in
+    let gathered = all-gathered w trail (Waits w trail (labelling_of w).arrivals departure) c.in_ok-pools.pools.items pool c.in_ok-pools.ensures.collected
+    (λ candidates are. c.in_ok-pool.ensures.pool candidates (subst (λ (lss : List (List (Label g.row.R-Value.Denot))). ArePoolsOf w.below w.same trail candidates lss) (sym c.deref.ensures.value) are)) in
+    departure-one w c.requires.may.terms c.requires.may.lawful position departure reports pool c.rises.ensures c.in_ok-pool.ensures.held gathered
