@@ -3,9 +3,10 @@
 //! product's choices: `claim` hands out the least ready node, `bring` takes a result in by what its
 //! job holds, whoever made it and when, and then marks equal jobs done until none is left. So what
 //! is done is right whatever the order of calls, and a worker needn't be trusted. It stands under a
-//! lock: jobs are claimed and brought in lots too, which compare their ground with the round's once for
-//! each hold of the lock, and are lists of the single steps; no call works out fronts but `claim`, where those before its job can't be read otherwise, and
-//! `seal`, of a base that has no sweep.
+//! lock: jobs are claimed and brought in lots too, which compare their ground with the round's once
+//! for each hold of the lock, and are lists of the single steps; no call works out fronts but
+//! `claim`, where those before its job can't be read otherwise, and `seal`, of a base that has no
+//! sweep.
 #![tactic(auto)]
 
 mod alike;

@@ -1,3 +1,4 @@
 pub mod Boards
 pub mod Plans
 pub mod Settles
+mod Seals

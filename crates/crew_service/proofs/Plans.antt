@@ -13,7 +13,7 @@ use Rattle.crew_publish.specs.Chain.{IsNext}
 use Rattle.crew_resource.proofs.Lists.{Member-All}
 use Rattle.crew_resource.specs.Members.{Member}
 use Rattle.crew_rules.specs.Settings.{IsChecked}
-use Rattle.crew_seal.specs.Next.{IsNextOver}
+use Rattle.crew_service.specs.Next.{IsNextOver}
 use Rattle.crew_service.specs.Faults.{IsMissing}
 use Rattle.crew_service.specs.Machinery.Kept.{HasRead, IsPlanning}
 use Rattle.crew_service.specs.Plans.{AreBelow, AreSeatsFrom, Planning, entries_of}

@@ -5,7 +5,7 @@ use Rattle.boxcar.specs.Table.{Where}
 use Rattle.crew_flights.specs.declared.entries.Entry.{Entry}
 use Rattle.crew_machine.specs.Rounds.{last_number}
 use Rattle.crew_pairing.specs.Duties.{HasTooMany}
-use Rattle.crew_seal.specs.Next.{IsNextOver}
+use Rattle.crew_service.specs.Next.{IsNextOver}
 use Rattle.crew_service.proofs.Plans.{length-entries}
 use Rattle.crew_service.specs.Faults.{IsSettleFault}
 use Rattle.crew_service.specs.Machinery.Kept.{HasRead, HasShown}

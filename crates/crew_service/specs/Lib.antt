@@ -1,3 +1,4 @@
 pub mod Plans
 pub mod Faults
+pub mod Next
 pub mod Machinery

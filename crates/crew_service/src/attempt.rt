@@ -2,7 +2,7 @@
 ghost use Rattle.std.specs.Prelude.{◌≡◌, IfErr, IfOk, IfSome};
 ghost use Rattle.std.specs.Arc.{arc_value};
 ghost use mathlib.Core.List.{IsPrefix};
-ghost use Rattle.crew_seal.specs.Next.{IsNextOver};
+ghost use Rattle.crew_service.specs.Next.{IsNextOver};
 ghost use Rattle.crew_service.specs.Machinery.Rounds.{IsRoundFault};
 
 use crate::fault::SettleFault;

@@ -15,6 +15,7 @@ mod gate;
 mod jobs;
 mod planner;
 mod round;
+mod seal;
 mod service;
 mod shared;
 mod worker;

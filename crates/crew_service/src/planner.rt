@@ -10,7 +10,7 @@ ghost use mathlib.Core.List.{IsPrefix};
 ghost use Rattle.crew_log.specs.Logs.{AreOf, HaveNone, IsOf, IsRun};
 ghost use Rattle.crew_publish.specs.Chain.{IsNext};
 ghost use Rattle.crew_publish.specs.declared.fault.PairFault.TheVariants.{NoViewer};
-ghost use Rattle.crew_seal.specs.Next.{IsNextOver};
+ghost use Rattle.crew_service.specs.Next.{IsNextOver};
 ghost use Rattle.crew_service.specs.Faults.{IsSettleFault};
 ghost use Rattle.crew_service.specs.Machinery.Kept.{HasRead, HasShown};
 ghost use Rattle.crew_service.specs.Machinery.Rounds.{IsRoundFault};

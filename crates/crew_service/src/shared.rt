@@ -2,18 +2,18 @@
 ghost use Rattle.std.specs.Prelude.{◌≡◌, IfErr, IfOk, IfSome};
 ghost use Rattle.std.specs.Arc.{arc_value};
 ghost use mathlib.Core.List.{IsPrefix};
-ghost use Rattle.crew_seal.specs.Next.{IsNextOver};
+ghost use Rattle.crew_service.specs.Next.{IsNextOver};
 ghost use Rattle.crew_service.specs.Machinery.Rounds.{IsRoundFault};
 
 use crate::fault::SettleFault;
 use crate::jobs::{Held, claim, is_over};
 use crate::round::open_round;
+use crate::seal::seal_round;
 use crew_board::Board;
 use crew_flights::Entry;
 use crew_job::{DoneLot, Lot};
 use crew_log::Log;
 use crew_round::Progress;
-use crew_seal::seal_round;
 use crew_version::Version;
 use std::alloc::{AllocError, Global};
 use std::marker::Model;

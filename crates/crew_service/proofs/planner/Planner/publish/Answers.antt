@@ -1,6 +1,6 @@
 use Rattle.std.proofs.Common.{◌≡◌, ◌++◌, ◌∷◌, [], ◌∙◌, List, refl, sym, ap, subst}
 use Rattle.std.specs.Arc.{arc_value}
-use Rattle.crew_seal.specs.Next.{IsNextOver}
+use Rattle.crew_service.specs.Next.{IsNextOver}
 use Rattle.crew_service.proofs.Plans.{with-next, with-shown}
 use Rattle.crew_service.specs.Machinery.Kept.{IsPlanning}
 use Rattle.crew_service.specs.Plans.{Planning, entries_of}

@@ -1,7 +1,7 @@
 use Rattle.std.proofs.Common.{◌∙◌, subst, sym}
 use Rattle.std.specs.Arc.{arc_value}
 use Rattle.crew_board.proofs.Answered.{refused-as}
-use Rattle.crew_seal.specs.Next.{IsNextOver}
+use Rattle.crew_service.specs.Next.{IsNextOver}
 use Rattle.crew_service.proofs.Settles.{on-err, on-ok, refused, settled, unpublished}
 use Rattle.crew_service.specs.Faults.{IsSettleFault}
 use Rattle.crew_service.specs.Machinery.Kept.{HasShown}

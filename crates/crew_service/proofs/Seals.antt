@@ -6,8 +6,8 @@ use Rattle.crew_board.specs.Boards.{IsBoardOf, ShownBoard, ShownRound, shown_rou
 use Rattle.crew_board.specs.Calls.{HasSealed}
 use Rattle.crew_flights.specs.declared.entries.Entry.{Entry}
 use Rattle.crew_machine.specs.Crew.{CrewBoard}
-use Rattle.crew_seal.specs.Machinery.Rounds.{IsSealedOf}
-use Rattle.crew_seal.specs.Next.{IsNextOver, IsOwn}
+use Rattle.crew_service.specs.Machinery.Sealed.{IsSealedOf}
+use Rattle.crew_service.specs.Next.{IsNextOver, IsOwn}
 use Rattle.crew_version.proofs.Places.{prefix-from}
 use Rattle.crew_version.specs.Versions.{IsRight, Snapshot}
 

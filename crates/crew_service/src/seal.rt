@@ -1,14 +1,16 @@
-//! A planner's open round on a board, and its seal.
+//! The seal of a planner's own round. A board may be shared with workers, and with whoever else has
+//! the lock round it; so a planner seals the open round only where that comes after its own version
+//! and is over its own entries.
 ghost use Rattle.std.specs.Prelude.{◌≡◌, ◌↔◌, IfOk, IfSome, IsTrue, None, Some, slice_get};
 ghost use Rattle.std.specs.Arc.{arc_value};
 ghost use Rattle.crew_board.specs.Boards.{IsBoardOf};
 ghost use Rattle.crew_machine.specs.Crew.{CrewBoard};
-ghost use Rattle.crew_seal.specs.Machinery.Rounds.{IsSealedOf};
-ghost use Rattle.crew_seal.specs.Next.{IsNextOver, IsOwn, IsUndone, IsUnsealed};
+ghost use Rattle.crew_service.specs.Machinery.Sealed.{IsSealedOf};
+ghost use Rattle.crew_service.specs.Next.{IsNextOver, IsOwn, IsUndone, IsUnsealed};
 
 use crew_board::{Board, SealFault};
 use crew_flights::Entry;
-use crew_board::crew_job::Ground;
+use crew_job::Ground;
 use crew_rules::Settings;
 use crew_version::{Version, is_same_entry};
 use std::alloc::{AllocError, Global};
@@ -64,7 +66,7 @@ fn is_own(board: &Board, version: &Version, entries: &[Entry]) -> bool
 /// of its nodes are done. `None` only where it isn't, or a node of it isn't done. `Err` is want of
 /// memory. Whoever else has worked on the board needn't be trusted: what is sealed is right by the
 /// type of the board.
-pub fn seal_round(
+pub(crate) fn seal_round(
     alloc: Global,
     board: &mut Board,
     version: &Version,

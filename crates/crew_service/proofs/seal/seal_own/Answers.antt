@@ -1,8 +1,8 @@
 use Rattle.std.proofs.Common.{subst}
 use Rattle.std.specs.Arc.{arc_value}
-use Rattle.crew_seal.proofs.Seals.{sealed-of}
+use Rattle.crew_service.proofs.Seals.{sealed-of}
 use Rattle.crew_version.specs.Versions.{IsRight}
-use Rattle.crew_seal.proofs.round.seal_own.Goals as goal
+use Rattle.crew_service.proofs.seal.seal_own.Goals as goal
 
 pub returns-in-Ok-clause-sealed : goal.returns-in-Ok-clause-sealed
 returns-in-Ok-clause-sealed c =

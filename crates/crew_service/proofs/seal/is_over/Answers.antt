@@ -1,6 +1,6 @@
 use Rattle.std.proofs.Common.{◌∙◌, refl, sym, arith}
-use Rattle.crew_seal.proofs.Seals.{same-list}
-use Rattle.crew_seal.proofs.round.is_over.Goals as goal
+use Rattle.crew_service.proofs.Seals.{same-list}
+use Rattle.crew_service.proofs.seal.is_over.Goals as goal
 
 pub returns : goal.returns
 returns c =

@@ -1,2 +1,0 @@
--- What only the code and its proofs speak of.
-pub mod Rounds
