@@ -1,5 +1,5 @@
 -- The fronts of a base among those of all, and lists that are gone through from their first item on.
-use Rattle.std.proofs.Common.{◌≡◌, ◌∙◌, ◌<◌, ◌≤◌, ◌+◌, ◌++◌, append-nil, ℕ, zero, suc, true, false, cond, List, [], ◌∷◌, Some, inl, inr, refl, sym, ap, subst, map, length, take, get_or, arith}
+use Rattle.std.proofs.Common.{◌≡◌, ◌∙◌, ◌<◌, ◌≤◌, ◌+◌, ◌++◌, append-nil, ℕ, zero, suc, Bool, true, false, cond, List, [], ◌∷◌, Some, inl, inr, refl, sym, ap, subst, map, length, take, get_or, arith}
 use Rattle.std.specs.Prelude.{slice_get}
 use Rattle.std.specs.List.{flat_map}
 use Rattle.std.proofs.lemmas.List.{map-append}
@@ -8,13 +8,15 @@ use Rattle.crew_flights.specs.Codes.{code_cmp}
 use Rattle.crew_fronts.specs.Fronts.{BaseFronts, IsOfSweep, front_at, is_plain}
 use Rattle.crew_pairing.specs.declared.duty.Duty.{Duty}
 use Rattle.crew_net.specs.Nets.{Net}
+use Rattle.crew_pairing.proofs.Tree.{Each-member}
+use Rattle.crew_plan.specs.Machinery.Homes.{alone}
 use Rattle.crew_plan.specs.Machinery.Kept.{AreOfSweeps, IsSolved}
 use Rattle.crew_plan.specs.Solutions.{front_among}
 use Rattle.crew_resource.specs.Members.{Each, Member}
 use Rattle.crew_fronts.proofs.crew_solve_lemmas.Listed.{flat-append, take-more}
 use Rattle.crew_fronts.specs.crew_solve.Machinery.Solved as Plain
 use Rattle.crew_fronts.specs.crew_sweep.Sweeps.{BaseSweep}
-use Rattle.crew_vector.proofs.Orders.{code-itself}
+use Rattle.crew_vector.proofs.Orders.{code-itself, same-code}
 
 -- the fronts of a base, among those that stand for others
 module _ {A : Type 0} (f : A → BaseFronts) where
@@ -32,6 +34,42 @@ module _ {A : Type 0} (f : A → BaseFronts) where
   none-at (x ∷ xs) zero base h e b m own = absurd (omega (arith, h))
   none-at (x ∷ xs) (suc i) base h e b (inl q) own = let t = code-itself (f x).base base (ap (λ (y : BaseFronts). y.base) q ∙ own) in let both = sym t ∙ e.0 in let z : ⊥ = (cc) in z
   none-at (x ∷ xs) (suc i) base h e b (inr m) own = none-at xs i base (omega (arith, h)) e.1 b m own
+
+  pub alone-at : (xs : List A) (i : ℕ) (a : A) (base : List ℕ) → slice_get xs i ≡ Some a → Each (λ x. eq_by_cmp code_cmp (f x).base base ≡ false) (take i xs)
+      → eq_by_cmp code_cmp (f a).base base ≡ true → alone base (map f xs) ≡ f a ∷ []
+  alone-at [] i a base e h t = absurd (let q : ⊥ = (cc) in q)
+  alone-at (x ∷ xs) zero a base e h t =
+      let q : x ≡ a = (cc) in
+      ap (λ k. cond k (f x ∷ []) (alone base (map f xs))) (ap (λ y. eq_by_cmp code_cmp (f y).base base) q ∙ t) ∙ ap (λ y. f y ∷ []) q
+  alone-at (x ∷ xs) (suc i) a base e h t = ap (λ k. cond k (f x ∷ []) (alone base (map f xs))) h.0 ∙ alone-at xs i a base e h.1 t
+
+-- where no fronts are of a base there are none of it
+none-by : (b : BaseFronts) (bs : List BaseFronts) (base : List ℕ) (k : Bool) → eq_by_cmp code_cmp b.base base ≡ k → ((c : BaseFronts) → Member (b ∷ bs) c → c.base ≡ base → ⊥) → alone base bs ≡ [] → cond k (b ∷ []) (alone base bs) ≡ []
+none-by b bs base true e none rest = absurd (none b (inl refl) (same-code b.base base e))
+none-by b bs base false e none rest = rest
+
+pub none-alone : (bs : List BaseFronts) (base : List ℕ) → ((c : BaseFronts) → Member bs c → c.base ≡ base → ⊥) → alone base bs ≡ []
+none-alone [] base none = refl
+none-alone (b ∷ bs) base none = none-by b bs base (eq_by_cmp code_cmp b.base base) refl none (none-alone bs base (λ c m. none c (inr m)))
+
+-- they are among all, and they are of the base
+alone-by : (b : BaseFronts) (bs : List BaseFronts) (base : List ℕ) (k : Bool) → eq_by_cmp code_cmp b.base base ≡ k → ((c : BaseFronts) → Member (alone base bs) c → Member bs c × (c.base ≡ base))
+    → (c : BaseFronts) → Member (cond k (b ∷ []) (alone base bs)) c → Member (b ∷ bs) c × (c.base ≡ base)
+alone-by b bs base true e rest c (inl q) = (inl q, ap (λ (x : BaseFronts). x.base) (sym q) ∙ same-code b.base base e)
+alone-by b bs base true e rest c (inr m) = absurd m
+alone-by b bs base false e rest c m = let k = rest c m in (inr k.0, k.1)
+
+pub alone-out : (bs : List BaseFronts) (base : List ℕ) (c : BaseFronts) → Member (alone base bs) c → Member bs c × (c.base ≡ base)
+alone-out [] base c m = absurd m
+alone-out (b ∷ bs) base c m = alone-by b bs base (eq_by_cmp code_cmp b.base base) refl (alone-out bs base) c m
+
+-- what holds of each holds of them
+pub each-alone : (P : BaseFronts → Type 0) (bs : List BaseFronts) (base : List ℕ) → Each P bs → Each P (alone base bs)
+each-alone P bs base h = each-of (alone base bs) (λ c m. Each-member P bs c h (alone-out bs base c m).0)
+  where
+    each-of : (cs : List BaseFronts) → ((c : BaseFronts) → Member cs c → P c) → Each P cs
+    each-of [] g = tt
+    each-of (c ∷ cs) g = (g c (inl refl), each-of cs (λ x m. g x (inr m)))
 
 -- ---- an item more
 

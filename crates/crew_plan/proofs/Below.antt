@@ -23,10 +23,9 @@ use Rattle.crew_pairing.specs.declared.duty.Duty.{Duty}
 use Rattle.crew_resource.specs.Members.{Member}
 use Rattle.crew_rules.specs.Settings.{IsChecked}
 use Rattle.crew_rules.specs.declared.settings.Settings.{Settings}
-use Rattle.crew_plan.proofs.Homing.{last-of-each}
-use Rattle.crew_plan.proofs.Placed.{range-of}
+use Rattle.crew_plan.proofs.Placed.{last-of-each, range-of}
 use Rattle.crew_plan.proofs.Tied.{same-paired}
-use Rattle.crew_plan.specs.Cheapest.{AreCheapest, IsShown, pairing_cmp}
+use Rattle.crew_plan.specs.Cheapest.{AreCheapest, AreFirst, IsShown, pairing_cmp}
 use Rattle.crew_vector.proofs.Cuts.{append-nothing}
 use Rattle.crew_vector.proofs.Fitting.{cost-is}
 use Rattle.crew_vector.proofs.Orders.{walk-order}
@@ -61,6 +60,15 @@ by-order Greater a b w x e h = absurd (let z : ⊥ = (cc) in z)
 
 no-dearer : (p q : PricedPairing) → pairing_cmp p q ≡ Less → NoDearer p.cost p.walk q.cost q.walk
 no-dearer p q h = by-order (int_cmp p.cost q.cost) p.cost q.cost p.walk q.walk refl h
+
+-- the first of the cheapest comes first of all that are shown
+pub first-of : (Shown : PricedPairing → Type 0) (limit : ℕ) (p : PricedPairing) (ps : List PricedPairing) → AreFirst Shown limit (p ∷ ps) → (q : PricedPairing) → Shown q → NoDearer p.cost p.walk q.cost q.walk
+first-of Shown limit p ps h q shown =
+    let itself : (x : PricedPairing) → p ≡ x → NoDearer p.cost p.walk x.cost x.walk = λ x e. inr (ap (λ (z : PricedPairing). z.cost) e, subst (λ (z : PricedPairing). walk_at_most p.walk z.walk ≡ true) e (walk-order.reflexive p.walk)) in
+    ⊎_elim {C = NoDearer p.cost p.walk q.cost q.walk}
+    (λ m. ⊎_elim {C = NoDearer p.cost p.walk q.cost q.walk} (itself q) (λ k. no-dearer p q (Each-member (λ x. pairing_cmp p x ≡ Less) ps q h.rise.0 k)) m)
+    (λ k. no-dearer p q k.1.0)
+    (h.least q shown)
 
 module _ (s : Settings) (t : Timetable) (checked : IsChecked s) (sound : IsSound t) where
   of-entry : (base : List ℕ) (price : ℤ) (d : Duty) (front : List (LongVector × List (List Leg))) → fin.get t.bases base ≡ Some price → eq_by_cmp code_cmp d.to base ≡ true → IsFrontAt s s.fdp_total t base price d front
@@ -107,7 +115,7 @@ module _ (s : Settings) (t : Timetable) (checked : IsChecked s) (sound : IsSound
       )
 
   -- a clean pairing's cost is that of one that a front shows, whose walk is at most its own
-  with-least-walk : (p : PricedPairing) → IsCleanPairing s s.fdp_total t p → (q : PricedPairing) × IsShown s t q × (q.cost ≡ p.cost) × (walk_at_most q.walk p.walk ≡ true)
+  pub with-least-walk : (p : PricedPairing) → IsCleanPairing s s.fdp_total t p → (q : PricedPairing) × IsShown s t q × (q.cost ≡ p.cost) × (walk_at_most q.walk p.walk ≡ true)
   with-least-walk p c =
       let is = c.pairing in
       let last = last_duty is.first is.others in
@@ -120,7 +128,7 @@ module _ (s : Settings) (t : Timetable) (checked : IsChecked s) (sound : IsSound
       (q.0, q.1.shown, q.1.cost ∙ (cost-is s is.price (is.first ∷ is.others) ∙ sym is.cost), subst (λ w. walk_at_most w p.walk ≡ true) (sym q.1.walk) at-most)
 
   -- what a front shows is clean
-  shown-clean : (p : PricedPairing) → IsShown s t p → IsCleanPairing s s.fdp_total t p
+  pub shown-clean : (p : PricedPairing) → IsShown s t p → IsCleanPairing s s.fdp_total t p
   shown-clean p h =
       let is = h.pairing in
       let duties = is.first ∷ is.others in
@@ -128,20 +136,11 @@ module _ (s : Settings) (t : Timetable) (checked : IsChecked s) (sound : IsSound
       let same = same-paired s t sound q.0 p q.1.shown.pairing is q.1.walk (q.1.cost ∙ (cost-is s is.price duties ∙ sym is.cost)) in
       subst (IsCleanPairing s s.fdp_total t) same q.1.clean
 
-  -- the first of the cheapest comes first of all that fronts show
-  first-of : (limit : ℕ) (p : PricedPairing) (ps : List PricedPairing) → AreCheapest s t limit (p ∷ ps) → (q : PricedPairing) → IsShown s t q → NoDearer p.cost p.walk q.cost q.walk
-  first-of limit p ps h q shown =
-      let itself : (x : PricedPairing) → p ≡ x → NoDearer p.cost p.walk x.cost x.walk = λ x e. inr (ap (λ (z : PricedPairing). z.cost) e, subst (λ (z : PricedPairing). walk_at_most p.walk z.walk ≡ true) e (walk-order.reflexive p.walk)) in
-      ⊎_elim {C = NoDearer p.cost p.walk q.cost q.walk}
-      (λ m. ⊎_elim {C = NoDearer p.cost p.walk q.cost q.walk} (itself q) (λ k. no-dearer p q (Each-member (λ x. pairing_cmp p x ≡ Less) ps q h.rise.0 k)) m)
-      (λ k. no-dearer p q k.1.0)
-      (h.least q shown)
-
   first-best : (limit : ℕ) (p : PricedPairing) (ps : List PricedPairing) → AreCheapest s t limit (p ∷ ps) → IsBest s s.fdp_total t (Some p)
   first-best limit p ps h =
       let each : (r : PricedPairing) → IsCleanPairing s s.fdp_total t r → NoDearer p.cost p.walk r.cost r.walk = λ r c.
       let q = with-least-walk r c in
-      let n : NoDearer p.cost p.walk r.cost q.0.walk = subst (λ z. NoDearer p.cost p.walk z q.0.walk) q.2 (first-of limit p ps h q.0 q.1) in
+      let n : NoDearer p.cost p.walk r.cost q.0.walk = subst (λ z. NoDearer p.cost p.walk z q.0.walk) q.2 (first-of (IsShown s t) limit p ps h q.0 q.1) in
       ⊎_elim {C = NoDearer p.cost p.walk r.cost r.walk} inl (λ e. inr (e.0, walk-order.transitive p.walk q.0.walk r.walk e.1 q.3)) n in
       (shown-clean p (h.shown p (inl refl)), each)
 

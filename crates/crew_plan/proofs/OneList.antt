@@ -2,14 +2,12 @@
 use Rattle.std.proofs.Common.{◌≡◌, ◌∙◌, ℕ, List, [], ◌∷◌, ◌++◌, sym, ap, subst, ⊎_elim, arith, length-append}
 use Rattle.std.specs.declared.cmp.Ordering.TheVariants.{Less}
 use Rattle.std.specs.Ordering.{ordering_reverse}
-use Rattle.crew_flights.specs.Timetable.{Timetable}
 use Rattle.crew_pairing.proofs.Tree.{Each-member}
 use Rattle.crew_resource.proofs.Members.{Member-append}
 use Rattle.crew_resource.proofs.Rising.{Rising, same-rising}
 use Rattle.crew_resource.specs.Members.{Each, Member}
-use Rattle.crew_rules.specs.declared.settings.Settings.{Settings}
 use Rattle.crew_fronts.proofs.crew_solve_lemmas.Within.{no-longer}
-use Rattle.crew_plan.specs.Cheapest.{AreCheapest, RiseByCost, pairing_cmp, pairing_total}
+use Rattle.crew_plan.specs.Cheapest.{AreFirst, RiseByCost, pairing_cmp, pairing_total}
 use Rattle.crew_vector.specs.declared.priced.PricedPairing.{PricedPairing}
 
 abbrev Ps : Type 0
@@ -30,8 +28,8 @@ rise-both : (xs : Ps) (q : PricedPairing) → RiseByCost xs → Each (λ p. pair
 rise-both [] q h k = (tt, tt)
 rise-both (x ∷ xs) q h k = (each-both (λ l. pairing_cmp x l ≡ Less) xs q h.0 k.0, rise-both xs q h.1 k.1)
 
-module _ (s : Settings) (t : Timetable) (limit : ℕ) where
-  in-both : (a b : Ps) → AreCheapest s t limit a → AreCheapest s t limit b → (q : PricedPairing) → Member a q → Member b q
+module _ (Shown : PricedPairing → Type 0) (limit : ℕ) where
+  in-both : (a b : Ps) → AreFirst Shown limit a → AreFirst Shown limit b → (q : PricedPairing) → Member a q → Member b q
   in-both a b h k q m =
       ⊎_elim {C = Member b q}
       (λ n. n)
@@ -47,5 +45,5 @@ module _ (s : Settings) (t : Timetable) (limit : ℕ) where
       absurd (omega (arith, long, few, more, full)))
       (k.least q (h.shown q m))
 
-  pub one-list : (a b : Ps) → AreCheapest s t limit a → AreCheapest s t limit b → a ≡ b
+  pub one-list : (a b : Ps) → AreFirst Shown limit a → AreFirst Shown limit b → a ≡ b
   one-list a b h k = same-rising pairing_cmp pairing_total a b (rising a h.rise) (rising b k.rise) (in-both a b h k) (in-both b a k h)

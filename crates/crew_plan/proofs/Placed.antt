@@ -15,9 +15,9 @@ use Rattle.crew_fronts.specs.Fronts.{BaseFronts, ShowsFronts, front_at}
 use Rattle.crew_net.specs.Nets.{Net}
 use Rattle.crew_pairing.proofs.Tree.{Each-member}
 use Rattle.crew_pairing.specs.Duties.{AreDuties, flights_of}
-use Rattle.crew_pairing.specs.Pairings.{IsDuty}
+use Rattle.crew_pairing.specs.Pairings.{IsDuty, last_duty}
 use Rattle.crew_pairing.specs.declared.duty.Duty.{Duty}
-use Rattle.crew_plan.specs.Machinery.Homes.{IsPayable}
+use Rattle.crew_plan.specs.Machinery.Homes.{IsPayable, alone}
 use Rattle.crew_plan.specs.Machinery.Kept.{IsLaid, IsSolved}
 use Rattle.crew_plan.specs.Plans.{AreAllIn, AreFrontsIn, AreMade, Plan}
 use Rattle.crew_plan.specs.Solutions.{front_among}
@@ -69,6 +69,11 @@ range-of s c = record {
   total = c.fdp_total;
   total_most = c.fdp_total_most;
 }
+
+-- the last of legal duties is one
+pub last-of-each : (s : Settings) (t : Timetable) (first : Duty) (others : List Duty) → Each (IsDuty s (flights_of t)) (first ∷ others) → IsDuty s (flights_of t) (last_duty first others)
+last-of-each s t first [] h = h.0
+last-of-each s t first (next ∷ others) h = last-of-each s t next others h.1
 
 -- ---- each at its place
 
@@ -125,6 +130,7 @@ pub record IsFound (bases : List BaseFronts) (base : List ℕ) : Type 0 where
   pub among : Member bases fronts
   pub own : fronts.base ≡ base
   pub shows : (d : Duty) → front_among bases base d ≡ front_at fronts d
+  pub only : alone base bases ≡ fronts ∷ []
 
 found-by : (b : BaseFronts) (bs : List BaseFronts) (base : List ℕ) (k : Bool) → eq_by_cmp code_cmp b.base base ≡ k → ((c : BaseFronts) → Member bs c → c.base ≡ base → IsFound bs base)
     → (c : BaseFronts) → Member (b ∷ bs) c → c.base ≡ base → IsFound (b ∷ bs) base
@@ -133,6 +139,7 @@ found-by b bs base true e later c m h = record {
   among = inl refl;
   own = same-code b.base base e;
   shows = λ d. ap (λ k. cond k (front_at b d) (front_among bs base d)) e;
+  only = ap (λ k. cond k (b ∷ []) (alone base bs)) e;
 }
 found-by b bs base false e later c (inl i) h = absurd (let t = code-itself b.base base (ap (λ (x : BaseFronts). x.base) i ∙ h) in let both = sym t ∙ e in let z : ⊥ = (cc) in z)
 found-by b bs base false e later c (inr m) h =
@@ -142,6 +149,7 @@ found-by b bs base false e later c (inr m) h =
       among = inr k.among;
       own = k.own;
       shows = λ d. ap (λ x. cond x (front_at b d) (front_among bs base d)) e ∙ k.shows d;
+      only = ap (λ x. cond x (b ∷ []) (alone base bs)) e ∙ k.only;
     }
 
 pub found : (bases : List BaseFronts) (base : List ℕ) (c : BaseFronts) → Member bases c → c.base ≡ base → IsFound bases base

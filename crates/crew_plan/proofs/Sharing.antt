@@ -6,15 +6,13 @@ use Rattle.std.specs.List.{list_all, list_any}
 use Rattle.std.proofs.lemmas.Bool.Decides.{nat_tests}
 use Rattle.std.proofs.lemmas.List.{append-nil}
 use Rattle.std.proofs.lemmas.List.Sums.{count_by-le-length, sum_by-append}
-use Rattle.crew_flights.specs.Timetable.{Timetable}
 use Rattle.crew_resource.proofs.Rising.{same-rising}
-use Rattle.crew_rules.specs.declared.settings.Settings.{Settings}
 use Rattle.crew_fronts.proofs.crew_solve_lemmas.Keeping.{rise-take, take-few, take-or, take-out}
 use Rattle.crew_fronts.proofs.crew_solve_lemmas.Taking.{take-drop}
 use Rattle.crew_plan.proofs.Shorter.{rise-back, rise-too}
 use Rattle.crew_plan.proofs.OneList.{one-list, rising}
-use Rattle.crew_plan.specs.Apart.{AreAll, AreApart, flies, flown, is_apart, taken_from}
-use Rattle.crew_plan.specs.Cheapest.{AreCheapest, pairing_cmp, pairing_total}
+use Rattle.crew_plan.specs.Apart.{AreAll, AreTaken, flies, flown, is_apart, taken_from}
+use Rattle.crew_plan.specs.Cheapest.{AreFirst, pairing_cmp, pairing_total}
 use Rattle.crew_vector.specs.declared.priced.PricedPairing.{PricedPairing}
 
 abbrev Ps : Type 0
@@ -108,28 +106,28 @@ first-most p n xs =
     let whole : count_by p xs ≡ count_by p (take n xs ++ drop n xs) = ap (count_by p) (take-drop n xs) in
     omega (arith, parts, whole)
 
-module _ (s : Settings) (t : Timetable) where
-  pub flown-most : (limit share flight : ℕ) (ps : Ps) → AreApart s t limit share ps → count_by (flies flight) ps ≤ share
+module _ (Shown : PricedPairing → Type 0) where
+  pub flown-most : (limit share flight : ℕ) (ps : Ps) → AreTaken Shown limit share ps → count_by (flies flight) ps ≤ share
   flown-most limit share flight ps h =
       let all = most-of share flight [] h.all (none-most share) in
       let few = first-most (flies flight) limit (taken_from share [] h.all) in
       subst (λ (l : Ps). count_by (flies flight) l ≤ share) (sym h.first) (omega (arith, all, few))
 
   -- all pairings are one list
-  pub one-all : (a b : Ps) → AreAll s t a → AreAll s t b → a ≡ b
+  pub one-all : (a b : Ps) → AreAll Shown a → AreAll Shown b → a ≡ b
   one-all a b h k = same-rising pairing_cmp pairing_total a b (rising a h.rise) (rising b k.rise) (λ p m. k.each p (h.shown p m)) (λ p m. h.each p (k.shown p m))
 
-  pub one-apart : (limit share : ℕ) (a b : Ps) → AreApart s t limit share a → AreApart s t limit share b → a ≡ b
+  pub one-apart : (limit share : ℕ) (a b : Ps) → AreTaken Shown limit share a → AreTaken Shown limit share b → a ≡ b
   one-apart limit share a b h k = h.first ∙ (ap (λ (l : Ps). take limit (taken_from share [] l)) (one-all h.all k.all h.are k.are) ∙ sym k.first)
 
-  pub begins-more : (limit more share : ℕ) (a b : Ps) → limit ≤ more → AreApart s t limit share a → AreApart s t more share b → a ≡ take limit b
+  pub begins-more : (limit more share : ℕ) (a b : Ps) → limit ≤ more → AreTaken Shown limit share a → AreTaken Shown more share b → a ≡ take limit b
   begins-more limit more share a b le h k =
       h.first
       ∙ (ap (λ (l : Ps). take limit (taken_from share [] l)) (one-all h.all k.all h.are k.are)
       ∙ (take-of-take limit more (taken_from share [] k.all) le ∙ ap (take limit) (sym k.first)))
 
   -- the first of all are the cheapest
-  first-cheapest : (limit : ℕ) (all : Ps) → AreAll s t all → AreCheapest s t limit (take limit all)
+  first-cheapest : (limit : ℕ) (all : Ps) → AreAll Shown all → AreFirst Shown limit (take limit all)
   first-cheapest limit all h = record {
     rise = rise-too (take limit all) (rise-take limit all (rise-back all h.rise));
     few = take-few limit all;
@@ -137,8 +135,8 @@ module _ (s : Settings) (t : Timetable) where
     least = λ q is. take-or limit all q (rise-back all h.rise) (h.each q is);
   }
 
-  pub with-room : (limit share : ℕ) (a b : Ps) → length b ≤ share → AreApart s t limit share a → AreCheapest s t limit b → a ≡ b
+  pub with-room : (limit share : ℕ) (a b : Ps) → length b ≤ share → AreTaken Shown limit share a → AreFirst Shown limit b → a ≡ b
   with-room limit share a b few h k =
-      let same : take limit h.all ≡ b = one-list s t limit (take limit h.all) b (first-cheapest limit h.all h.are) k in
+      let same : take limit h.all ≡ b = one-list Shown limit (take limit h.all) b (first-cheapest limit h.all h.are) k in
       let room : length (take limit h.all) ≤ share = subst (λ (l : Ps). length l ≤ share) (sym same) few in
       h.first ∙ (each-taken limit share [] h.all (omega (arith, room)) ∙ same)

@@ -1,11 +1,12 @@
--- Pairings that share few flights, taken one after another from all that fronts show.
+-- Pairings that share few flights, taken one after another from all that fronts show: of all bases,
+-- or of one.
 use Rattle.std.specs.Prelude.{◌≡◌, ℕ, Bool, cond, nat_eq, nat_lt, List, [], ◌∷◌, ◌++◌, count_by, take}
 use Rattle.std.specs.List.{flat_map, list_all, list_any}
 use Rattle.crew_flights.specs.Timetable.{Timetable}
 use Rattle.crew_pairing.specs.Legs.{Leg}
 use Rattle.crew_resource.specs.Members.{Member}
 use Rattle.crew_rules.specs.declared.settings.Settings.{Settings}
-use Rattle.crew_plan.specs.Cheapest.{IsShown, RiseByCost}
+use Rattle.crew_plan.specs.Cheapest.{IsShown, IsShownOf, RiseByCost}
 use Rattle.crew_vector.specs.declared.priced.PricedPairing.{PricedPairing}
 
 -- the flight that the crew flies on a leg; none where it rides
@@ -30,15 +31,23 @@ taken_from share taken [] = []
 taken_from share taken (p ∷ ps) = cond (is_apart share taken p)
     (p ∷ taken_from share (taken ++ p ∷ []) ps) (taken_from share taken ps)
 
--- all pairings of all bases that fronts show, by cost and walk
-pub record AreAll (s : Settings) (t : Timetable) (ps : List PricedPairing) : Type 0 where
+-- all pairings that are shown, by cost and walk
+pub record AreAll (Shown : PricedPairing → Type 0) (ps : List PricedPairing) : Type 0 where
   pub rise : RiseByCost ps
-  pub shown : (p : PricedPairing) → Member ps p → IsShown s t p
-  pub each : (p : PricedPairing) → IsShown s t p → Member ps p
+  pub shown : (p : PricedPairing) → Member ps p → Shown p
+  pub each : (p : PricedPairing) → Shown p → Member ps p
 
 -- the first that are taken of them all, up to a limit, where no flight is flown by more than so many
-pub record AreApart (s : Settings) (t : Timetable) (limit share : ℕ) (ps : List PricedPairing)
+pub record AreTaken (Shown : PricedPairing → Type 0) (limit share : ℕ) (ps : List PricedPairing)
     : Type 0 where
   pub all : List PricedPairing
-  pub are : AreAll s t all
+  pub are : AreAll Shown all
   pub first : ps ≡ take limit (taken_from share [] all)
+
+-- of the pairings of all bases that fronts show
+abbrev pub AreApart : Settings → Timetable → ℕ → ℕ → List PricedPairing → Type 0
+AreApart s t limit share ps = AreTaken (IsShown s t) limit share ps
+
+-- of those of one base
+abbrev pub AreApartOf : Settings → Timetable → List ℕ → ℕ → ℕ → List PricedPairing → Type 0
+AreApartOf s t base limit share ps = AreTaken (IsShownOf s t base) limit share ps

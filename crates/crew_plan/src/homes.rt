@@ -82,7 +82,8 @@ fn keep_of_entry(
     kept.keep(alloc, priced(trip_rig, base, sums, walk))
 }
 
-// Keeps the least of the pairings of the front of the duty of a rank.
+// Keeps the least of the pairings of the front of the duty of a rank. Its entries rise by duty pay, and
+// no pairing costs less than that.
 fn keep_of_front(
     alloc: Global,
     base: &BaseFronts,
@@ -98,6 +99,9 @@ fn keep_of_front(
     let code = base.base();
     let front = base.front(rank);
     for (vector, walk) in front.iter() {
+        if !kept.wants(vector.sums().duty_pay) {
+            return Ok(());
+        }
         keep_of_entry(alloc, code, trip_rig, &vector, &walk, kept)?;
     }
     Ok(())

@@ -1,12 +1,12 @@
 //! Laws over the definitions alone.
-ghost use Rattle.std.specs.Prelude.{◌≡◌, ◌<◌, ◌≤◌, ◌≤ℤ◌, ℕ, List, Option, count_by, length, slice_get, take};
+ghost use Rattle.std.specs.Prelude.{◌≡◌, ◌<◌, ◌≤◌, ◌≤ℤ◌, ℕ, List, Option, Some, count_by, length, slice_get, take};
 ghost use Rattle.crew_fronts.specs.crew_answers.Bests.{IsBest, IsPairing};
 ghost use Rattle.crew_flights.specs.Timetable.{IsSound, Timetable};
 ghost use Rattle.crew_pairing.specs.Pairings.{last_duty};
 ghost use Rattle.crew_rules.specs.Settings.{IsChecked};
 ghost use Rattle.crew_rules.specs.declared.settings.Settings.{Settings};
-ghost use Rattle.crew_plan.specs.Apart.{AreApart, flies};
-ghost use Rattle.crew_plan.specs.Cheapest.{AreCheapest, IsShown};
+ghost use Rattle.crew_plan.specs.Apart.{AreApart, AreApartOf, flies};
+ghost use Rattle.crew_plan.specs.Cheapest.{AreCheapest, AreCheapestOf, IsBestOf, IsShown};
 ghost use Rattle.crew_vector.specs.declared.priced.PricedPairing.{PricedPairing};
 
 /// There is one list of the columns of least reduced cost, whatever the limit.
@@ -53,4 +53,45 @@ pub fn apart_with_room_are_the_cheapest()
 pub fn apart_fly_no_flight_more_often()
     ensures { (s : Settings) (t : Timetable) (limit share flight : ℕ) (pairings : List PricedPairing)
         → AreApart s t limit share pairings → count_by (flies flight) pairings ≤ share }
+{}
+
+/// There is one list of the columns of least reduced cost of a base, whatever the limit.
+pub fn cheapest_of_a_base_are_unique()
+    ensures { (s : Settings) (t : Timetable) (base : List ℕ) (limit : ℕ) (a b : List PricedPairing)
+        → AreCheapestOf s t base limit a → AreCheapestOf s t base limit b → a ≡ b }
+{}
+
+/// A base has one best pairing, or none.
+pub fn best_of_a_base_is_unique()
+    ensures { (s : Settings) (t : Timetable) (base : List ℕ) (a b : Option PricedPairing) → IsSound t
+        → IsBestOf s t base a → IsBestOf s t base b → a ≡ b }
+{}
+
+/// The first of the columns of least cost of a base is its best, and there is none exactly where it
+/// has no best.
+pub fn first_of_the_cheapest_of_a_base_is_its_best()
+    ensures { (s : Settings) (t : Timetable) (base : List ℕ) (limit : ℕ)
+        (pairings : List PricedPairing) (best : Option PricedPairing) → IsSound t → 0 < limit
+        → AreCheapestOf s t base limit pairings → IsBestOf s t base best
+        → best ≡ slice_get pairings 0 }
+{}
+
+/// The best of all bases is the best of its own.
+pub fn best_is_that_of_its_base()
+    ensures { (s : Settings) (t : Timetable) (best : PricedPairing) → IsChecked s → IsSound t
+        → IsBest s s.fdp_total t (Some best) → IsBestOf s t best.base (Some best) }
+{}
+
+/// There is one list of diverse columns of a base, whatever the limit and the share.
+pub fn apart_of_a_base_are_unique()
+    ensures { (s : Settings) (t : Timetable) (base : List ℕ) (limit share : ℕ)
+        (a b : List PricedPairing) → AreApartOf s t base limit share a
+        → AreApartOf s t base limit share b → a ≡ b }
+{}
+
+/// Of diverse columns of a base no more than the share fly a flight.
+pub fn apart_of_a_base_fly_no_flight_more_often()
+    ensures { (s : Settings) (t : Timetable) (base : List ℕ) (limit share flight : ℕ)
+        (pairings : List PricedPairing) → AreApartOf s t base limit share pairings
+        → count_by (flies flight) pairings ≤ share }
 {}

@@ -6,9 +6,11 @@ ghost use Rattle.crew_fronts.specs.crew_answers.Bests.{AreFronts};
 ghost use Rattle.crew_flights.specs.Timetable.{IsSound, Timetable};
 ghost use Rattle.crew_fronts.specs.Fronts.{BaseFronts as FrontsOf, front_at};
 ghost use Rattle.crew_pairing.specs.declared.duty.Duty.{Duty as DutyOf};
-ghost use Rattle.crew_plan.specs.Apart.{AreApart};
-ghost use Rattle.crew_plan.specs.Cheapest.{AreCheapest};
-ghost use Rattle.crew_plan.specs.Machinery.Kept.{AreThoseOf};
+ghost use Rattle.crew_plan.specs.Apart.{AreApart, AreApartOf};
+ghost use Rattle.crew_plan.specs.Cheapest.{AreCheapest, AreCheapestOf, IsBestOf};
+ghost use Rattle.crew_plan.specs.Machinery.Homes as Homes;
+ghost use Rattle.crew_plan.specs.Machinery.Homes.{IsPayable};
+ghost use Rattle.crew_plan.specs.Machinery.Kept.{AreThoseOf, IsSolved};
 ghost use Rattle.crew_plan.specs.Machinery.Kinds.{IsForSweeps, plan_by_sweeps};
 ghost use Rattle.crew_plan.specs.Plans.{AreAllIn, IsSolutionIn};
 ghost use Rattle.crew_plan.specs.Solutions.{HasNetOf, IsFrontOf, front_of};
@@ -28,6 +30,7 @@ use crew_pairing::Key;
 use crew_vector::PricedPairing;
 use std::alloc::{AllocError, Global};
 use std::marker::Model;
+use std::slice;
 use std::sync::Arc;
 
 // A solution by sweeps; or else the network, and the best of what passes show.
@@ -86,6 +89,16 @@ fn fronts_of(bases: &[Arc<BaseFronts, Global>], base: Code) -> Option<&Arc<BaseF
         }
     }
     None
+}
+
+// The fronts of a base alone; none where there are none of it.
+fn alone(bases: &[Arc<BaseFronts, Global>], base: Code) -> &[Arc<BaseFronts, Global>]
+    ensures { map arc_value result.now ≡ Homes.alone base (map arc_value bases.now) }
+{
+    match fronts_of(bases, base) {
+        Some(found) => slice::from_ref(found),
+        None => &[],
+    }
 }
 
 impl Solution {
@@ -240,6 +253,58 @@ impl Solution {
                 apart_of(alloc, &self.bases, net.settings().trip_rig, limit, share)
             }
         }
+    }
+
+    // The fronts of a base alone; none where there are none of it. The amounts of what they show fit.
+    fn alone(&self, base: Code) -> &[Arc<BaseFronts, Global>]
+        ensures fronts { map arc_value result.now ≡ Homes.alone base self.now.bases }
+        ensures pay { Each (IsPayable self.now.net.settings.trip_rig) (map arc_value result.now) }
+        ensures solved { IsSolved self.now.net self.now.bases }
+    {
+        alone(&self.bases, base)
+    }
+
+    /// The column of least reduced cost of a base: of what its Pareto fronts show the first by cost and
+    /// path. `None` exactly where the base has no legal pairing, or the code is no base. The settings
+    /// and the timetable are those whose network and fronts these are.
+    pub fn best_of(&self, alloc: Global, base: Code) -> Result<Option<PricedPairing>, AllocError>
+        ensures { IfOk result (λ best. (s : Settings) (t : Timetable) → IsChecked s → IsSound t
+            → HasNetOf s t self.now → AreFronts s s.fdp_total t (front_of self.now)
+            → IsBestOf s t base best) }
+    {
+        best_of(alloc, self.alone(base), self.net().settings().trip_rig)
+    }
+
+    /// The columns of least reduced cost of a base, as those of all bases are listed; none where the
+    /// code is no base.
+    pub fn cheapest_of(
+        &self,
+        alloc: Global,
+        base: Code,
+        limit: usize,
+    ) -> Result<Vec<PricedPairing>, AllocError>
+        ensures { IfOk result (λ pairings. (s : Settings) (t : Timetable) → IsChecked s → IsSound t
+            → HasNetOf s t self.now → AreFronts s s.fdp_total t (front_of self.now)
+            → AreCheapestOf s t base limit pairings.items) }
+    {
+        let trip_rig = self.net().settings().trip_rig;
+        cheapest_of(alloc, self.alone(base), trip_rig, limit)
+    }
+
+    /// Diverse columns of a base, as those of all bases are taken; none where the code is no base.
+    pub fn apart_of(
+        &self,
+        alloc: Global,
+        base: Code,
+        limit: usize,
+        share: u32,
+    ) -> Result<Vec<PricedPairing>, AllocError>
+        ensures { IfOk result (λ pairings. (s : Settings) (t : Timetable) → IsChecked s → IsSound t
+            → HasNetOf s t self.now → AreFronts s s.fdp_total t (front_of self.now)
+            → AreApartOf s t base limit share pairings.items) }
+    {
+        let trip_rig = self.net().settings().trip_rig;
+        apart_of(alloc, self.alone(base), trip_rig, limit, share)
     }
 
     /// The fronts of a base; `None` where the code is no base.

@@ -1,5 +1,5 @@
 -- The pairings that come home, base by base.
-use Rattle.std.specs.Prelude.{◌≡◌, ◌<◌, ℕ, cond, List, [], length, map, take}
+use Rattle.std.specs.Prelude.{◌≡◌, ◌<◌, ℕ, cond, List, [], ◌∷◌, length, map, take}
 use Rattle.std.specs.List.{flat_map}
 use Rattle.std.specs.Ordering.{eq_by_cmp}
 use Rattle.crew_fronts.specs.crew_answers.LongVectors.{LongVector}
@@ -28,6 +28,11 @@ home_at rate b d = cond (eq_by_cmp code_cmp d.to b.base) (ended_by rate b d) []
 -- all that comes home to a base
 abbrev pub home_of : ℕ → BaseFronts → List PricedPairing
 home_of rate b = flat_map (home_at rate b) b.net.duties
+
+-- the fronts of a base alone; none where there are none of it
+abbrev pub alone : List ℕ → List BaseFronts → List BaseFronts
+alone base [] = []
+alone base (b ∷ bs) = cond (eq_by_cmp code_cmp b.base base) (b ∷ []) (alone base bs)
 
 -- the amounts of the pairing of each entry fit
 abbrev pub IsPayable : ℕ → BaseFronts → Type 0

@@ -8,7 +8,7 @@ use Rattle.crew_net.specs.Nets.{Net}
 use Rattle.crew_pairing.specs.Duties.{AreDuties}
 use Rattle.crew_pairing.specs.declared.duty.Duty.{Duty}
 use Rattle.crew_resource.specs.Members.{Each, Member}
-use Rattle.crew_plan.specs.Machinery.Homes.{IsPayable}
+use Rattle.crew_plan.specs.Machinery.Homes.{IsPayable, alone}
 use Rattle.crew_plan.specs.Solutions.{front_among}
 use Rattle.crew_fronts.specs.crew_solve.Machinery.Planned.{IsOver}
 use Rattle.crew_fronts.specs.crew_solve.Solutions as Plain
@@ -26,10 +26,12 @@ AreOfSweeps [] (b ∷ bs) = ⊥
 AreOfSweeps (sweep ∷ sweeps) [] = ⊥
 AreOfSweeps (sweep ∷ sweeps) (b ∷ bs) = IsOfSweep sweep b × AreOfSweeps sweeps bs
 
--- fronts are those of a solution by sweeps, which settings without long pairings need no more than
+-- fronts are those of a solution by sweeps, which settings without long pairings need no more than,
+-- and the amounts of what they show fit
 pub record IsBySweeps (solution : Plain.Solution) (bases : List BaseFronts) : Type 0 where
   pub short : is_plain solution.net.settings ≡ true
   pub each : AreOfSweeps solution.sweeps bases
+  pub pay : Each (IsPayable solution.net.settings.trip_rig) bases
 
 -- fronts are those of passes, and the amounts of what they show fit
 pub record IsByPasses (net : Net) (bases : List BaseFronts) : Type 0 where
@@ -49,6 +51,7 @@ pub record AreThoseOf (bases : List BaseFronts) (base : List ℕ) (b : BaseFront
   pub among : Member bases b
   pub own : b.base ≡ base
   pub fronts : (d : Duty) → front_among bases base d ≡ front_at b d
+  pub only : alone base bases ≡ b ∷ []
 
 -- earlier fronts of a base at its price, right in each timetable that their network is of
 pub record AreAt (past : List BaseFronts) (base : List ℕ × ℤ) (b : BaseFronts) : Type 0 where

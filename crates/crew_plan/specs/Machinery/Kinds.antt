@@ -1,7 +1,7 @@
 -- Plans and solutions of the two kinds: by sweeps, and by passes.
 use Rattle.std.specs.Prelude.{◌≡◌, List, Option, true}
 use Rattle.std.specs.Arc.{arc_value}
-use Rattle.crew_flights.specs.Timetable.{Timetable}
+use Rattle.crew_flights.specs.Timetable.{IsSound, Timetable}
 use Rattle.crew_fronts.specs.Fronts.{BaseFronts, is_plain}
 use Rattle.crew_net.specs.Nets.{Net}
 use Rattle.crew_plan.specs.Machinery.Kept.{IsByPasses, IsBySweeps}
@@ -10,6 +10,7 @@ use Rattle.crew_plan.specs.declared.plan.Kind.{Kind}
 use Rattle.crew_plan.specs.declared.plan.Kind.TheVariants as Planned
 use Rattle.crew_plan.specs.declared.solution.Made.{Made}
 use Rattle.crew_plan.specs.declared.solution.Made.TheVariants as Solved
+use Rattle.crew_rules.specs.Settings.{IsChecked}
 use Rattle.crew_rules.specs.declared.settings.Settings.{Settings}
 use Rattle.crew_fronts.specs.crew_solve.Plans as Plain
 use Rattle.crew_vector.specs.declared.priced.PricedPairing.{PricedPairing}
@@ -27,6 +28,8 @@ pub record IsForSweeps (plan : Plain.Plan) : Type 0 where
   pub short : is_plain plan.net.settings ≡ true
   pub settings : Settings
   pub timetable : Timetable
+  pub checked : IsChecked settings
+  pub sound : IsSound timetable
   pub planned : Plain.IsPlanOf settings timetable plan
 
 abbrev pub IsOfKind : Kind → Type 0

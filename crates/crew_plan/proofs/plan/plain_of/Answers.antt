@@ -8,6 +8,8 @@ returns-clause-kind c = record {
   short = subst (λ x. is_plain x ≡ true) (sym c.in_ok-plan.ensures.plan.network.2.settings) c.requires.plain;
   settings = c.args.settings.now;
   timetable = c.args.timetable.now;
+  checked = c.requires.checked;
+  sound = c.see_dates.ensures.sound;
   planned = c.in_ok-plan.ensures.plan;
 }
 

@@ -6,7 +6,7 @@ use Rattle.crew_resource.proofs.Members.{Member-at, Member-map_in}
 use Rattle.crew_fronts.specs.Fronts.{BaseFronts}
 use Rattle.crew_vector.proofs.Orders.{same-code}
 use Rattle.crew_fronts.proofs.crew_solve_lemmas.Departing.{read-at}
-use Rattle.crew_plan.proofs.Among.{among-at, none-at}
+use Rattle.crew_plan.proofs.Among.{alone-at, among-at, none-at}
 use Rattle.crew_plan.proofs.solution.fronts_of.Goals as goal
 
 pub returns-then-eq-clause-found : goal.returns-then-eq-clause-found
@@ -22,6 +22,7 @@ returns-then-eq-clause-found c =
       among = Member-map_in arc_value arcs a (Member-at arcs i a at);
       own = same-code (arc_value a).base c.args.base test;
       fronts = among-at arc_value arcs i a c.args.base at c.loop-fronts.invariant test;
+      only = alone-at arc_value arcs i a c.args.base at c.loop-fronts.invariant test;
     }
 
 pub returns-clause-none : goal.returns-clause-none

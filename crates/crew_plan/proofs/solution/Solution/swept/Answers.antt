@@ -2,6 +2,7 @@ use Rattle.std.proofs.Common.{◌≡◌, List, map, subst, sym, true}
 use Rattle.std.specs.Arc.{arc_value}
 use Rattle.crew_fronts.specs.Fronts.{BaseFronts, is_plain}
 use Rattle.crew_plan.proofs.Among.{each-plain, still-solved}
+use Rattle.crew_plan.proofs.Paying.{swept-pay}
 use Rattle.crew_plan.proofs.Shorter.{solved-too, still-plain}
 use Rattle.crew_plan.specs.Machinery.Kept.{AreOfSweeps}
 use Rattle.crew_resource.specs.Members.{Each}
@@ -22,7 +23,8 @@ invariant_of-result c =
     let each = subst (λ (cs : List BaseSweep). AreOfSweeps cs bases) c.fronts.ensures.all c.in_ok-bases.ensures in
     let kept : IsSolved solution.net solution.sweeps = record { bases = c.fronts.ensures.bases; nets = c.fronts.ensures.nets } in
     let plain = still-plain c.args.plan.now solution c.requires.plain c.requires.solved in
-    (still-solved solution.net solution.sweeps bases each kept, record { short = plain; each = each })
+    let solved = still-solved solution.net solution.sweeps bases each kept in
+    (solved, record { short = plain; each = each; pay = swept-pay c.args.plan.now solution bases c.requires.plain c.requires.solved each solved })
 
 pub returns : goal.returns
 returns c =
