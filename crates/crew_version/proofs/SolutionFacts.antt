@@ -28,8 +28,8 @@ use Rattle.crew_version.specs.Fronts.{IsFrontByKey}
 use Rattle.crew_version.specs.Versions.{timetable_of}
 use Rattle.crew_version.specs.Machinery.Kept.{IsSolved, best_of}
 use Rattle.crew_rules.specs.Settings.{IsChecked}
-use Rattle.crew_plan.specs.Apart.{AreApart}
-use Rattle.crew_plan.specs.Cheapest.{AreCheapest}
+use Rattle.crew_plan.specs.Apart.{AreApart, AreApartOf, AreTaken}
+use Rattle.crew_plan.specs.Cheapest.{AreCheapest, AreCheapestOf, AreFirst, IsBestOf, IsShown, IsShownOf}
 use Rattle.crew_plan.specs.Solutions.{IsFrontOf, Solution, front_of}
 use Rattle.crew_plan.specs.crew_answers.Bests.{IsBest, IsPairing}
 use Rattle.crew_plan.proofs.crew_answers_lemmas.Cheapest.{best-least}
@@ -114,25 +114,40 @@ sound-after (e ∷ earlier) =
 pub timetable-sound : (entries : List Entry) → IsSound (timetable_of entries)
 timetable-sound entries = sound-after (reverse entries)
 
--- before any entry there is none
-pub no-pairing-at-start : (s : Settings) (t : Timetable) (limit : ℕ) → t ≡ empty_timetable → AreCheapest s t limit []
-no-pairing-at-start s t limit e = rw e (record {
-  rise = tt;
-  few = omega arith;
-  shown = λ p m. absurd m;
-  least = λ q h. absurd (no-base q.base h.pairing.price h.pairing.based);
-})
+-- where none is shown none is the first
+no-first : (Shown : PricedPairing → Type 0) (limit : ℕ) → ((q : PricedPairing) → Shown q → ⊥) → AreFirst Shown limit []
+no-first Shown limit none = record { rise = tt; few = omega arith; shown = λ p m. absurd m; least = λ q h. absurd (none q h) }
 
-pub none-apart-at-start : (s : Settings) (t : Timetable) (limit share : ℕ) → t ≡ empty_timetable → AreApart s t limit share []
-none-apart-at-start s t limit share e = rw e (record {
+none-taken : (Shown : PricedPairing → Type 0) (limit share : ℕ) → ((q : PricedPairing) → Shown q → ⊥) → AreTaken Shown limit share []
+none-taken Shown limit share none = record {
   all = [];
-  are = record { rise = tt; shown = λ p m. absurd m; each = λ q h. absurd (no-base q.base h.pairing.price h.pairing.based) };
+  are = record { rise = tt; shown = λ p m. absurd m; each = λ q h. absurd (none q h) };
   first = none-of limit;
-})
+}
   where
     none-of : (n : ℕ) → let none : List PricedPairing = [] in none ≡ take n none
     none-of zero = refl
     none-of (suc n) = refl
+
+-- before any entry there is none
+none-legal : (s : Settings) (t : Timetable) → t ≡ empty_timetable → (p : PricedPairing) → IsPairing s s.fdp_total t p → ⊥
+none-legal s t e = rw e (λ p h. no-base p.base h.price h.based)
+
+pub no-pairing-at-start : (s : Settings) (t : Timetable) (limit : ℕ) → t ≡ empty_timetable → AreCheapest s t limit []
+no-pairing-at-start s t limit e = no-first (IsShown s t) limit (λ q h. none-legal s t e q h.pairing)
+
+pub none-apart-at-start : (s : Settings) (t : Timetable) (limit share : ℕ) → t ≡ empty_timetable → AreApart s t limit share []
+none-apart-at-start s t limit share e = none-taken (IsShown s t) limit share (λ q h. none-legal s t e q h.pairing)
+
+-- nor of any base
+pub no-best-of-at-start : (s : Settings) (t : Timetable) (base : List ℕ) → t ≡ empty_timetable → IsBestOf s t base None
+no-best-of-at-start s t base e = λ p is own. none-legal s t e p is
+
+pub none-of-at-start : (s : Settings) (t : Timetable) (base : List ℕ) (limit : ℕ) → t ≡ empty_timetable → AreCheapestOf s t base limit []
+none-of-at-start s t base limit e = no-first (IsShownOf s t base) limit (λ q h. none-legal s t e q h.0.pairing)
+
+pub none-apart-of-at-start : (s : Settings) (t : Timetable) (base : List ℕ) (limit share : ℕ) → t ≡ empty_timetable → AreApartOf s t base limit share []
+none-apart-of-at-start s t base limit share e = none-taken (IsShownOf s t base) limit share (λ q h. none-legal s t e q h.0.pairing)
 
 -- ---- the best
 

@@ -8,8 +8,8 @@ ghost use mathlib.Core.List.{IsPrefix};
 ghost use Rattle.crew_pairing.specs.Duties.{HasFew};
 ghost use Rattle.crew_rules.specs.Settings.{IsChecked};
 ghost use Rattle.crew_flights.specs.Timetable.{empty_timetable};
-ghost use Rattle.crew_plan.specs.Apart.{AreApart};
-ghost use Rattle.crew_plan.specs.Cheapest.{AreCheapest};
+ghost use Rattle.crew_plan.specs.Apart.{AreApart, AreApartOf};
+ghost use Rattle.crew_plan.specs.Cheapest.{AreCheapest, AreCheapestOf, IsBestOf};
 ghost use Rattle.crew_plan.specs.Solutions.{HasNetOf, front_of};
 ghost use Rattle.crew_plan.specs.crew_answers.Bests.{IsPairing, IsScratch};
 ghost use Rattle.crew_vector.specs.declared.priced.PricedPairing.{PricedPairing as Pairing};
@@ -222,6 +222,53 @@ impl Version {
         match &self.solution {
             None => Ok(Vec::new(alloc)),
             Some(solution) => solution.apart(alloc, limit, share),
+        }
+    }
+
+    /// The best pairing of a base: of what its Pareto fronts show the first by cost and path, than which
+    /// no legal pairing of the base has less reduced cost. `None` exactly where the base has no legal
+    /// pairing, or the code is no base.
+    pub fn best_of(&self, alloc: Global, base: Code) -> Result<Option<PricedPairing>, AllocError>
+        ensures { IfOk result (λ best. IsBestOf self.now.settings
+            (Spec.timetable_of self.now.entries) base best) }
+    {
+        match &self.solution {
+            None => Ok(None),
+            Some(solution) => solution.best_of(alloc, base),
+        }
+    }
+
+    /// The columns of least reduced cost of a base, as `cheapest` lists those of all bases; none where
+    /// the code is no base.
+    pub fn cheapest_of(
+        &self,
+        alloc: Global,
+        base: Code,
+        limit: usize,
+    ) -> Result<Vec<PricedPairing>, AllocError>
+        ensures { IfOk result (λ pairings. AreCheapestOf self.now.settings
+            (Spec.timetable_of self.now.entries) base limit pairings.items) }
+    {
+        match &self.solution {
+            None => Ok(Vec::new(alloc)),
+            Some(solution) => solution.cheapest_of(alloc, base, limit),
+        }
+    }
+
+    /// Diverse columns of a base, as `apart` takes those of all bases; none where the code is no base.
+    pub fn apart_of(
+        &self,
+        alloc: Global,
+        base: Code,
+        limit: usize,
+        share: u32,
+    ) -> Result<Vec<PricedPairing>, AllocError>
+        ensures { IfOk result (λ pairings. AreApartOf self.now.settings
+            (Spec.timetable_of self.now.entries) base limit share pairings.items) }
+    {
+        match &self.solution {
+            None => Ok(Vec::new(alloc)),
+            Some(solution) => solution.apart_of(alloc, base, limit, share),
         }
     }
 
