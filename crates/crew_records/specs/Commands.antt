@@ -1,13 +1,14 @@
 -- What a record asks for.
-use Rattle.std.specs.Prelude.{ℕ, List, Option, Some, None, Result, Ok, Err, codes, length, nat_eq, if◌then◌else◌}
+use Rattle.std.specs.Prelude.{◌+◌, ◌&&◌, ℕ, List, Option, Some, None, Result, Ok, Err, codes, length, nat_eq, if◌then◌else◌}
 use Rattle.std.specs.Str.{bytes_eq}
 use Rattle.crew_time.specs.Instant.{IsInYears}
+use Rattle.crew_flights.specs.Codes.{is_code}
 use Rattle.crew_flights.specs.declared.edit.Edit.TheVariants as edit
-use Rattle.crew_records.specs.Fields.{Fields, ◌>>=◌, count_field, field_of, code_field, duty_field, id_field, limit_field, price_field, time_field, zone_field}
+use Rattle.crew_records.specs.Fields.{Fields, ◌>>=◌, count_field, count_up_to, field_of, code_field, duty_field, id_field, limit_field, price_field, time_field, zone_field}
 use Rattle.crew_records.specs.declared.fault.RecordFault.{RecordFault}
 use Rattle.crew_records.specs.declared.fault.RecordFault.TheVariants.{UnknownRecord}
 use Rattle.crew_records.specs.declared.command.Command.{Command}
-use Rattle.crew_records.specs.declared.command.Command.TheVariants.{AddZone, Submit, AddFlight, Retime, Settle, Best, ShowFront, Cheapest, Apart, Audit, Refuse}
+use Rattle.crew_records.specs.declared.command.Command.TheVariants.{AddZone, Submit, AddFlight, Retime, Settle, Best, BestOf, ShowFront, Cheapest, Apart, CheapestOf, ApartOf, Audit, Refuse}
 
 -- ---- each kind of record: its number of fields, then its fields from left to right
 
@@ -80,6 +81,12 @@ front_command fields = do
   key ← duty_field (field_of fields 2)
   Ok (ShowFront base key)
 
+-- the base that a field names, where it is the last and a code
+abbrev pub base_at : Fields → ℕ → Option (List ℕ)
+base_at fields at =
+    if nat_eq (length fields) (at + 1) && is_code (field_of fields at) then Some (field_of fields at)
+    else None
+
 -- pairings,LIMIT
 unfoldable pub cheapest_command : Fields → Result Command RecordFault
 cheapest_command fields = do
@@ -95,10 +102,27 @@ apart_command fields = do
   share ← limit_field 10_000 (field_of fields 2)
   Ok (Apart limit share)
 
--- a record of three fields has a share; each other is refused where it hasn't two
-abbrev pub pairings_command : Fields → Result Command RecordFault
-pairings_command fields =
+-- the pairings of a base, where a share of 0 is any
+abbrev pub pairings_of : List ℕ → ℕ → ℕ → Command
+pairings_of base limit share =
+    if nat_eq share 0 then CheapestOf base limit else ApartOf base limit share
+
+-- pairings,LIMIT,SHARE,CODE
+unfoldable pub pairings_of_command : Fields → List ℕ → Result Command RecordFault
+pairings_of_command fields base = do
+  limit ← limit_field 10_000 (field_of fields 1)
+  share ← count_up_to 5 10_000 (field_of fields 2)
+  Ok (pairings_of base limit share)
+
+-- a record of three fields has a share; each other without a base is refused where it hasn't two
+abbrev pub pairings_by : Option (List ℕ) → Fields → Result Command RecordFault
+pairings_by (Some base) fields = pairings_of_command fields base
+pairings_by None fields =
     if nat_eq (length fields) 3 then apart_command fields else cheapest_command fields
+
+-- a record has a base where its fourth field is the last and a code
+abbrev pub pairings_command : Fields → Result Command RecordFault
+pairings_command fields = pairings_by (base_at fields 3) fields
 
 -- audit,LIMIT
 unfoldable pub audit_command : Fields → Result Command RecordFault
@@ -112,6 +136,15 @@ unfoldable pub plain_command : Fields → Command → Result Command RecordFault
 plain_command fields command = do
   count ← count_field fields 1
   Ok command
+
+-- best,CODE; a record without a base is refused where it has more than its name
+abbrev pub best_by : Option (List ℕ) → Fields → Result Command RecordFault
+best_by (Some base) fields = Ok (BestOf base)
+best_by None fields = plain_command fields Best
+
+-- a record has a base where its second field is the last and a code
+abbrev pub best_command : Fields → Result Command RecordFault
+best_command fields = best_by (base_at fields 1) fields
 
 -- ---- a record, by its name
 
@@ -133,7 +166,7 @@ abbrev pub kind_of : List ℕ → Fields → Result Command RecordFault
 kind_of name fields =
     if bytes_eq name (codes "zone") then zone_command fields
     else (if bytes_eq name (codes "settle") then plain_command fields Settle
-    else (if bytes_eq name (codes "best") then plain_command fields Best
+    else (if bytes_eq name (codes "best") then best_command fields
     else (if bytes_eq name (codes "front") then front_command fields
     else (if bytes_eq name (codes "pairings") then pairings_command fields
     else (if bytes_eq name (codes "audit") then audit_command fields
@@ -163,8 +196,11 @@ IsDated (AddFlight id from to dep arr price) = IsInYears dep
 IsDated (Retime id from dep arr) = IsInYears dep
 IsDated Settle = Unit {0}
 IsDated Best = Unit {0}
+IsDated (BestOf base) = Unit {0}
 IsDated (ShowFront base key) = Unit {0}
 IsDated (Cheapest limit) = Unit {0}
 IsDated (Apart limit share) = Unit {0}
+IsDated (CheapestOf base limit) = Unit {0}
+IsDated (ApartOf base limit share) = Unit {0}
 IsDated (Audit limit) = Unit {0}
 IsDated (Refuse fault) = Unit {0}

@@ -7,8 +7,8 @@ ghost use Rattle.crew_records.specs.Commands as Spec;
 
 use crate::fault::RecordFault;
 use crate::fields::{
-    count_fields, count_fields_at, field, field_at, read_code, read_id, read_key, read_limit,
-    read_price, read_time, read_zone,
+    count_fields, count_fields_at, field, field_at, read_code, read_count, read_id, read_key,
+    read_limit, read_price, read_time, read_zone,
 };
 use crew_clocks::Zone;
 use crew_flights::{Code, Edit, FlightId};
@@ -46,6 +46,10 @@ pub enum Command {
     Settle,
     /// The best pairing of the last version.
     Best,
+    /// The best pairing of a base in the last version.
+    BestOf {
+        base: Code,
+    },
     /// The front of a base and the duty of a key in the last version.
     ShowFront {
         base: Code,
@@ -57,6 +61,17 @@ pub enum Command {
     },
     /// So many pairings of the last version, of which so many at most fly a flight.
     Apart {
+        limit: u32,
+        share: u32,
+    },
+    /// So many pairings of a base in the last version, the least first.
+    CheapestOf {
+        base: Code,
+        limit: u32,
+    },
+    /// So many pairings of a base in the last version, of which so many at most fly a flight.
+    ApartOf {
+        base: Code,
         limit: u32,
         share: u32,
     },
@@ -174,6 +189,17 @@ fn front_command(row: &ByteRecord) -> Result<Command, RecordFault>
     Ok(Command::ShowFront { base, key })
 }
 
+// The base that a field names, where it is the last and a code.
+fn base_at(row: &ByteRecord, at: usize) -> Option<Code>
+    requires { at ≤ 3 }
+    ensures { result ≡ Spec.base_at (fields_of row.now) at }
+{
+    if row.len() != at + 1 {
+        return None;
+    }
+    read_code(field(row, at)).ok()
+}
+
 #[tactic(auto, unfolding(crate::specs::Commands::cheapest_command))]
 fn cheapest_command(row: &ByteRecord) -> Result<Command, RecordFault>
     ensures value { result ≡ Spec.cheapest_command (fields_of row.now) }
@@ -195,11 +221,36 @@ fn apart_command(row: &ByteRecord) -> Result<Command, RecordFault>
     Ok(Command::Apart { limit: most, share })
 }
 
-// A record of three fields has a share; each other is refused where it hasn't two.
+// The pairings of a base, where a share of 0 is any.
+fn pairings_of(base: Code, limit: u32, share: u32) -> Command
+    ensures value { result ≡ Spec.pairings_of base limit share }
+    ensures dated { IsDated result }
+{
+    if share == 0 {
+        return Command::CheapestOf { base, limit };
+    }
+    Command::ApartOf { base, limit, share }
+}
+
+#[tactic(auto, unfolding(crate::specs::Commands::pairings_of_command))]
+fn pairings_of_command(row: &ByteRecord, base: Code) -> Result<Command, RecordFault>
+    ensures value { result ≡ Spec.pairings_of_command (fields_of row.now) base }
+    ensures dated { IfOk result IsDated }
+{
+    let most = read_limit(field(row, 1), 10_000)?;
+    let share = read_count(field(row, 2), 5, 10_000)?;
+    Ok(pairings_of(base, most, share))
+}
+
+// A record has a base where its fourth field is the last and a code, and a share where it has three
+// fields; each other is refused where it hasn't two.
 fn pairings_command(row: &ByteRecord) -> Result<Command, RecordFault>
     ensures value { result ≡ Spec.pairings_command (fields_of row.now) }
     ensures dated { IfOk result IsDated }
 {
+    if let Some(base) = base_at(row, 3) {
+        return pairings_of_command(row, base);
+    }
     if row.len() == 3 {
         return apart_command(row);
     }
@@ -224,6 +275,18 @@ fn plain_command(row: &ByteRecord, command: Command) -> Result<Command, RecordFa
 {
     count_fields(row, 1)?;
     Ok(command)
+}
+
+// A record has a base where its second field is the last and a code; each other is refused where it
+// has more than its name.
+fn best_command(row: &ByteRecord) -> Result<Command, RecordFault>
+    ensures value { result ≡ Spec.best_command (fields_of row.now) }
+    ensures dated { IfOk result IsDated }
+{
+    match base_at(row, 1) {
+        Some(base) => Ok(Command::BestOf { base }),
+        None => plain_command(row, Command::Best),
+    }
 }
 
 // The edit that a record of this name asks for from a place on, if it is one of an edit.
@@ -270,7 +333,7 @@ fn named_command(row: &ByteRecord) -> Result<Command, RecordFault>
         return plain_command(row, Command::Settle);
     }
     if name == b"best".as_slice() {
-        return plain_command(row, Command::Best);
+        return best_command(row);
     }
     if name == b"front".as_slice() {
         return front_command(row);
