@@ -25,7 +25,9 @@ use Rattle.crew_answers.specs.LongVectors.{LongVector}
 use Rattle.crew_answers.proofs.OneBest.{one-best}
 use Rattle.crew_answers.proofs.Unique.{same-listed}
 use Rattle.crew_plan.proofs.OneList.{one-list}
+use Rattle.crew_plan.proofs.Owned.{one-best-of}
 use Rattle.crew_plan.proofs.Sharing.{one-apart}
+use Rattle.crew_plan.specs.Cheapest.{IsShown, IsShownOf}
 use Rattle.crew_audit.specs.Partials.{ArePartials, Rise, partial_cmp}
 use Rattle.crew_audit.specs.Tallies.{IsLeast, IsTally}
 use Rattle.crew_audit.specs.declared.partial.Partial.{Partial}
@@ -36,11 +38,11 @@ use Rattle.crew_version.proofs.SolutionFacts.{timetable-sound}
 use Rattle.crew_records.specs.Commands.{command_of}
 use Rattle.crew_records.specs.Fields.{Fields}
 use Rattle.crew_records.specs.declared.command.Command.{Command}
-use Rattle.crew_records.specs.declared.command.Command.TheVariants.{AddZone, Submit, AddFlight, Retime, Settle, Best, ShowFront, Cheapest, Apart, Audit, Refuse}
+use Rattle.crew_records.specs.declared.command.Command.TheVariants.{AddZone, Submit, AddFlight, Retime, Settle, Best, BestOf, ShowFront, Cheapest, Apart, CheapestOf, ApartOf, Audit, Refuse}
 use Rattle.crew_session.specs.Audits.{Audits, Counts, PassesLimit}
 use Rattle.crew_session.specs.Fronts.{ShowsFront}
-use Rattle.crew_session.specs.Lines.{audit_line, front_lines, pairings_lines, refused_lines, version_line}
-use Rattle.crew_session.specs.Pairings.{ShowsApart, ShowsCheapest}
+use Rattle.crew_session.specs.Lines.{audit_line, best_line, front_lines, pairings_lines, refused_lines, version_line}
+use Rattle.crew_session.specs.Pairings.{ShowsApart, ShowsApartOf, ShowsBestOf, ShowsCheapest, ShowsCheapestOf}
 use Rattle.crew_session.specs.Session.{Declines, Does, Obeys, Publishes, Settles, State, Writes}
 
 -- ---- the version that a settle makes
@@ -120,10 +122,22 @@ one-showing base key v x y h k =
     h.written ∙ ap (front_lines v.settings base key) (one-front v.settings (timetable_of v.entries) (timetable-sound v.entries) base key h.front k.front h.exact k.exact) ∙ sym k.written
 
 one-listing : (limit : ℕ) (v : Snapshot) (x y : List ℕ) → ShowsCheapest limit v x → ShowsCheapest limit v y → x ≡ y
-one-listing limit v x y h k = h.written ∙ ap pairings_lines (one-list v.settings (timetable_of v.entries) limit h.pairings k.pairings h.exact k.exact) ∙ sym k.written
+one-listing limit v x y h k = h.written ∙ ap pairings_lines (one-list (IsShown v.settings (timetable_of v.entries)) limit h.pairings k.pairings h.exact k.exact) ∙ sym k.written
 
 one-apart-listing : (limit share : ℕ) (v : Snapshot) (x y : List ℕ) → ShowsApart limit share v x → ShowsApart limit share v y → x ≡ y
-one-apart-listing limit share v x y h k = h.written ∙ ap pairings_lines (one-apart v.settings (timetable_of v.entries) limit share h.pairings k.pairings h.exact k.exact) ∙ sym k.written
+one-apart-listing limit share v x y h k = h.written ∙ ap pairings_lines (one-apart (IsShown v.settings (timetable_of v.entries)) limit share h.pairings k.pairings h.exact k.exact) ∙ sym k.written
+
+one-best-showing : (base : List ℕ) (v : Snapshot) (x y : List ℕ) → ShowsBestOf base v x → ShowsBestOf base v y → x ≡ y
+one-best-showing base v x y h k =
+    h.written ∙ ap best_line (one-best-of v.settings (timetable_of v.entries) (timetable-sound v.entries) base h.best k.best h.exact k.exact) ∙ sym k.written
+
+one-listing-of : (base : List ℕ) (limit : ℕ) (v : Snapshot) (x y : List ℕ) → ShowsCheapestOf base limit v x → ShowsCheapestOf base limit v y → x ≡ y
+one-listing-of base limit v x y h k =
+    h.written ∙ ap pairings_lines (one-list (IsShownOf v.settings (timetable_of v.entries) base) limit h.pairings k.pairings h.exact k.exact) ∙ sym k.written
+
+one-apart-listing-of : (base : List ℕ) (limit share : ℕ) (v : Snapshot) (x y : List ℕ) → ShowsApartOf base limit share v x → ShowsApartOf base limit share v y → x ≡ y
+one-apart-listing-of base limit share v x y h k =
+    h.written ∙ ap pairings_lines (one-apart (IsShownOf v.settings (timetable_of v.entries) base) limit share h.pairings k.pairings h.exact k.exact) ∙ sym k.written
 
 -- ---- an audit
 
@@ -182,9 +196,12 @@ one-record s number (AddFlight id from to dep arr price) a b c x y h k = both _ 
 one-record s number (Retime id from dep arr) a b c x y h k = both _ b c x y h k
 one-record s number Settle a b c x y h k = one-settle number a b c x y h k
 one-record s number Best a b c x y h k = both _ b c x y h k
+one-record s number (BestOf base) a b c x y h k = (h.0 ∙ sym k.0, one-best-showing base a.version x y h.1 k.1)
 one-record s number (ShowFront base key) a b c x y h k = (h.0 ∙ sym k.0, one-showing base key a.version x y h.1 k.1)
 one-record s number (Cheapest limit) a b c x y h k = (h.0 ∙ sym k.0, one-listing limit a.version x y h.1 k.1)
 one-record s number (Apart limit share) a b c x y h k = (h.0 ∙ sym k.0, one-apart-listing limit share a.version x y h.1 k.1)
+one-record s number (CheapestOf base limit) a b c x y h k = (h.0 ∙ sym k.0, one-listing-of base limit a.version x y h.1 k.1)
+one-record s number (ApartOf base limit share) a b c x y h k = (h.0 ∙ sym k.0, one-apart-listing-of base limit share a.version x y h.1 k.1)
 one-record s number (Audit limit) a b c x y h k = (h.0 ∙ sym k.0, one-audit limit number a.version x y h.1 k.1)
 one-record s number (Refuse fault) a b c x y h k = both _ b c x y h k
 

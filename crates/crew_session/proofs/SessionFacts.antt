@@ -63,6 +63,13 @@ apart-shown (Ok u) old new s number limit share command j v w taken e f told =
     (told.0, told.1, subst (λ (k : Command). Obeys s number k (state_of j v taken) (state_of j v taken) told.0) (sym e) (refl, subst (λ (x : Snapshot). ShowsApart limit share x told.0) f told.2))
 apart-shown (Err x) old new s number limit share command j v w taken e f told = tt
 
+-- nor does what is shown of one base
+pub shown-of : {F : Type 0} (r : Result (Unit {0}) F) (old new : Option (List ℕ)) (s : Settings) (number : ℕ) (command kind : Command) (a : State) (Shows : Snapshot → List ℕ → Type 0) (w : Snapshot) → command ≡ kind → w ≡ a.version
+    → ((text : List ℕ) → Shows a.version text → Obeys s number kind a a text) → OnOk r ((text : List ℕ) × Appends old new text × Shows w text) → OnOk r ((text : List ℕ) × Appends old new text × Obeys s number command a a text)
+shown-of (Ok u) old new s number command kind a Shows w e f does told =
+    (told.0, told.1, subst (λ (k : Command). Obeys s number k a a told.0) (sym e) (does told.0 (subst (λ (x : Snapshot). Shows x told.0) f told.2)))
+shown-of (Err x) old new s number command kind a Shows w e f does told = tt
+
 -- an audit changes nothing
 pub audited : {F : Type 0} (r : Result (Unit {0}) F) (old new : Option (List ℕ)) (s : Settings) (number limit : ℕ) (command : Command) (j : Journal) (v w : Snapshot) (taken : List Entry) → command ≡ Audit limit → w ≡ v
     → OnOk r ((text : List ℕ) × Appends old new text × Audits limit number w text) → OnOk r ((text : List ℕ) × Appends old new text × Obeys s number command (state_of j v taken) (state_of j v taken) text)
@@ -137,6 +144,12 @@ pub apart-begin : {F : Type 0} (r : Result (Unit {0}) F) (old new : Option (List
 apart-begin r old new s number limit share command j v w taken e f =
     begins-of r old new (ShowsApart limit share w) (λ text. (b : State) × Obeys s number command (state_of j v taken) b text)
     (λ text h. (state_of j v taken, subst (λ (k : Command). Obeys s number k (state_of j v taken) (state_of j v taken) text) (sym e) (refl, subst (λ (x : Snapshot). ShowsApart limit share x text) f h)))
+
+pub shown-begin : {F : Type 0} (r : Result (Unit {0}) F) (old new : Option (List ℕ)) (s : Settings) (number : ℕ) (command kind : Command) (a : State) (Shows : Snapshot → List ℕ → Type 0) (w : Snapshot) → command ≡ kind → w ≡ a.version
+    → ((text : List ℕ) → Shows a.version text → Obeys s number kind a a text) → OnErr r (BeginsOne old new (Shows w)) → OnErr r (BeginsOne old new (λ text. (b : State) × Obeys s number command a b text))
+shown-begin r old new s number command kind a Shows w e f does =
+    begins-of r old new (Shows w) (λ text. (b : State) × Obeys s number command a b text)
+    (λ text h. (a, subst (λ (k : Command). Obeys s number k a a text) (sym e) (does text (subst (λ (x : Snapshot). Shows x text) f h))))
 
 pub audited-begin : {F : Type 0} (r : Result (Unit {0}) F) (old new : Option (List ℕ)) (s : Settings) (number limit : ℕ) (command : Command) (j : Journal) (v w : Snapshot) (taken : List Entry) → command ≡ Audit limit → w ≡ v
     → OnErr r (BeginsOne old new (Audits limit number w)) → OnErr r (BeginsOne old new (λ text. (b : State) × Obeys s number command (state_of j v taken) b text))

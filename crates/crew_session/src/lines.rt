@@ -6,6 +6,7 @@
 ghost use Rattle.std.specs.Prelude.{◌≡◌, ◌++◌, ◌+◌, ◌≤◌, IfErr, IfOk, OnErr, OnOk, Some, decimal, drop, length, string_bytes};
 ghost use Rattle.std.specs.Fmt.{signed_decimal};
 ghost use Rattle.std.specs.Io.KnownBytes.{Appends};
+ghost use Rattle.std.specs.Option.{option_copied};
 ghost use Rattle.crew_session.specs.Faults.{IsLineFault};
 ghost use Rattle.crew_session.specs.Lines as Spec;
 ghost use Rattle.crew_session.specs.Texts.{AppendsBeginning};
@@ -209,6 +210,25 @@ pub(crate) fn write_version<W: Write>(
     write_line(writer, line.as_bytes())
 }
 
+// Writes the line of a best pairing, if there is one.
+pub(crate) fn write_best_line<W: Write>(
+    alloc: Global,
+    writer: &mut W,
+    best: Option<&PricedPairing>,
+) -> Result<(), SessionFault>
+    ensures written { OnOk result (Appends (W.contents writer.old) (W.contents writer.new)
+        (Spec.best_line (option_copied best.entry))) }
+    ensures begun { OnErr result
+        (AppendsBeginning (W.contents writer.old) (W.contents writer.new)
+        (Spec.best_line (option_copied best.entry))) }
+    ensures fault { IfErr result IsLineFault }
+{
+    match best {
+        None => write_line(writer, b"best none\n"),
+        Some(best) => write_line(writer, &pairing_line(alloc, b"best", best)?),
+    }
+}
+
 // Writes the best pairing of a version, if it has one.
 pub(crate) fn write_best<W: Write>(
     alloc: Global,
@@ -222,10 +242,7 @@ pub(crate) fn write_best<W: Write>(
         (Spec.best_line version.now.best)) }
     ensures fault { IfErr result IsLineFault }
 {
-    match version.best() {
-        None => write_line(writer, b"best none\n"),
-        Some(best) => write_line(writer, &pairing_line(alloc, b"best", best)?),
-    }
+    write_best_line(alloc, writer, version.best())
 }
 
 // Appends the least cost of a pairing, if there is one.

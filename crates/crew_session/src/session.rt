@@ -32,7 +32,9 @@ use crate::front::answer_front;
 use crate::journal::Journal;
 use crate::lines::{write_best, write_refusals, write_refused, write_version};
 use crate::noted::{NotedReader, NotedWriter};
-use crate::pairings::{answer_apart, answer_cheapest};
+use crate::pairings::{
+    answer_apart, answer_apart_of, answer_best_of, answer_cheapest, answer_cheapest_of,
+};
 use crate::rows::next_row;
 use crew_clocks::Zone;
 use crew_duty::{DutyFault, list_duties};
@@ -292,7 +294,7 @@ fn obey<R: Threads + Sync, W: Write, E: Engine>(
         } => match clock_at(settings, &journal.zones, from, dep) {
             None => write_refused(alloc, writer, number, RecordFault::NoZone.number()),
             Some(report_clock) => {
-                let flight = Flight {
+                let edit = Edit::AddFlight(Flight {
                     id,
                     from,
                     to,
@@ -300,15 +302,8 @@ fn obey<R: Threads + Sync, W: Write, E: Engine>(
                     arr,
                     report_clock,
                     price,
-                };
-                submit(
-                    alloc,
-                    number,
-                    Edit::AddFlight(flight),
-                    journal,
-                    writer,
-                    engine,
-                )
+                });
+                submit(alloc, number, edit, journal, writer, engine)
             }
         },
         Command::Retime { id, from, dep, arr } => {
@@ -328,12 +323,19 @@ fn obey<R: Threads + Sync, W: Write, E: Engine>(
         }
         Command::Settle => settle(rt, alloc, number, journal, writer, engine),
         Command::Best => write_best(alloc, writer, engine.version()),
+        Command::BestOf { base } => answer_best_of(alloc, writer, base, engine.version()),
         Command::ShowFront { base, key } => {
             answer_front(alloc, writer, base, &key, engine.version())
         }
         Command::Cheapest { limit } => answer_cheapest(alloc, writer, limit, engine.version()),
         Command::Apart { limit, share } => {
             answer_apart(alloc, writer, limit, share, engine.version())
+        }
+        Command::CheapestOf { base, limit } => {
+            answer_cheapest_of(alloc, writer, base, limit, engine.version())
+        }
+        Command::ApartOf { base, limit, share } => {
+            answer_apart_of(alloc, writer, base, limit, share, engine.version())
         }
         Command::Audit { limit } => answer_audit(alloc, number, limit, writer, engine.version()),
         Command::Refuse(fault) => write_refused(alloc, writer, number, fault.number()),

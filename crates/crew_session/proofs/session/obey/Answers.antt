@@ -3,10 +3,11 @@ use Rattle.crew_session.proofs.BeginFacts.{begun-as}
 use Rattle.std.proofs.Common.{◌∙◌, None, Some, sym}
 use Rattle.crew_flights.specs.declared.edit.Edit.TheVariants as edit
 use Rattle.crew_session.specs.Machinery.Journals.{state_of, zones_of}
+use Rattle.crew_session.specs.Pairings.{ShowsApartOf, ShowsBestOf, ShowsCheapestOf}
 use Rattle.crew_session.specs.Zones.{clock_at, flight_with}
 use Rattle.crew_session.proofs.SessionFacts.{apart-begin, audited-begin, begun-do, cheapest-begin, fronted-begin, settled-begin}
 use Rattle.std.proofs.Common.{refl}
-use Rattle.crew_session.proofs.SessionFacts.{apart-shown, audited, cheapest-shown, did, fronted}
+use Rattle.crew_session.proofs.SessionFacts.{apart-shown, audited, cheapest-shown, did, fronted, shown-begin, shown-of}
 use Rattle.std.proofs.lemmas.Result.{IfErr-weaker}
 use Rattle.crew_session.proofs.OddFacts.{odd-of}
 use Rattle.crew_session.proofs.session.obey.Goals as goal
@@ -80,3 +81,27 @@ returns-in-Some-clock_at-clause-begun g c =
 pub returns-in-Settle-clause-fault : goal.returns-in-Settle-clause-fault
 returns-in-Settle-clause-fault g c =
     IfErr-weaker c.settle.result _ _ (λ fault h. odd-of _ _ fault (λ number m. (m.0, (m.1.0, (c.in-Settle.is, m.1.1), m.1.2))) h) c.settle.ensures.fault
+
+pub returns-in-BestOf-clause-obeys : goal.returns-in-BestOf-clause-obeys
+returns-in-BestOf-clause-obeys g c =
+    shown-of c.answer_best_of.result _ _ c.args.settings.now c.args.number _ _ (state_of c.args.journal.now (g.E.Engine.shown c.args.engine.now) (g.E.Engine.entries c.args.engine.now)) (ShowsBestOf c.in-BestOf.base) _ c.in-BestOf.is c.version-in-BestOf.ensures (λ text shows. (refl, shows)) c.answer_best_of.ensures.answered
+
+pub returns-in-BestOf-clause-begun : goal.returns-in-BestOf-clause-begun
+returns-in-BestOf-clause-begun g c =
+    shown-begin c.answer_best_of.result _ _ c.args.settings.now c.args.number _ _ (state_of c.args.journal.now (g.E.Engine.shown c.args.engine.now) (g.E.Engine.entries c.args.engine.now)) (ShowsBestOf c.in-BestOf.base) _ c.in-BestOf.is c.version-in-BestOf.ensures (λ text shows. (refl, shows)) c.answer_best_of.ensures.begun
+
+pub returns-in-CheapestOf-clause-obeys : goal.returns-in-CheapestOf-clause-obeys
+returns-in-CheapestOf-clause-obeys g c =
+    shown-of c.answer_cheapest_of.result _ _ c.args.settings.now c.args.number _ _ (state_of c.args.journal.now (g.E.Engine.shown c.args.engine.now) (g.E.Engine.entries c.args.engine.now)) (ShowsCheapestOf c.in-CheapestOf.base c.in-CheapestOf.limit) _ c.in-CheapestOf.is c.version-in-CheapestOf.ensures (λ text shows. (refl, shows)) c.answer_cheapest_of.ensures.answered
+
+pub returns-in-CheapestOf-clause-begun : goal.returns-in-CheapestOf-clause-begun
+returns-in-CheapestOf-clause-begun g c =
+    shown-begin c.answer_cheapest_of.result _ _ c.args.settings.now c.args.number _ _ (state_of c.args.journal.now (g.E.Engine.shown c.args.engine.now) (g.E.Engine.entries c.args.engine.now)) (ShowsCheapestOf c.in-CheapestOf.base c.in-CheapestOf.limit) _ c.in-CheapestOf.is c.version-in-CheapestOf.ensures (λ text shows. (refl, shows)) c.answer_cheapest_of.ensures.begun
+
+pub returns-in-ApartOf-clause-obeys : goal.returns-in-ApartOf-clause-obeys
+returns-in-ApartOf-clause-obeys g c =
+    shown-of c.answer_apart_of.result _ _ c.args.settings.now c.args.number _ _ (state_of c.args.journal.now (g.E.Engine.shown c.args.engine.now) (g.E.Engine.entries c.args.engine.now)) (ShowsApartOf c.in-ApartOf.base c.in-ApartOf.limit c.in-ApartOf.share) _ c.in-ApartOf.is c.version-in-ApartOf.ensures (λ text shows. (refl, shows)) c.answer_apart_of.ensures.answered
+
+pub returns-in-ApartOf-clause-begun : goal.returns-in-ApartOf-clause-begun
+returns-in-ApartOf-clause-begun g c =
+    shown-begin c.answer_apart_of.result _ _ c.args.settings.now c.args.number _ _ (state_of c.args.journal.now (g.E.Engine.shown c.args.engine.now) (g.E.Engine.entries c.args.engine.now)) (ShowsApartOf c.in-ApartOf.base c.in-ApartOf.limit c.in-ApartOf.share) _ c.in-ApartOf.is c.version-in-ApartOf.ensures (λ text shows. (refl, shows)) c.answer_apart_of.ensures.begun

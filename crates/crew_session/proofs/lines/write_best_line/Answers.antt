@@ -5,7 +5,7 @@ use Rattle.crew_session.specs.Lines.{best_line}
 use Rattle.crew_session.specs.declared.fault.SessionFault.{SessionFault}
 use Rattle.crew_session.specs.declared.fault.SessionFault.TheVariants.{Write}
 use Rattle.crew_session.proofs.BeginFacts.{begins-nothing, begun-as, on-err}
-use Rattle.crew_session.proofs.lines.write_best.Goals as goal
+use Rattle.crew_session.proofs.lines.write_best_line.Goals as goal
 
 -- a line that isn't written is a write fault
 of-line : {X : Type 0} (r : Result X SessionFault) → IfErr r (λ why. why ≡ Write) → IfErr r IsLineFault
@@ -17,7 +17,7 @@ returns-in_err-pairing_line-in-Some-clause-begun g c = on-err c.from_residual.re
 
 pub returns-in_ok-pairing_line-in-Some-clause-begun : goal.returns-in_ok-pairing_line-in-Some-clause-begun
 returns-in_ok-pairing_line-in-Some-clause-begun g c =
-    let best = sym (ap option_copied c.in-Some.is) ∙ c.best.ensures.value in
+    let best = sym (ap option_copied c.in-Some.is) in
     begun-as c.write_line-in-Some.result _ _ _ _ (c.deref.ensures.value ∙ c.in_ok-pairing_line-in-Some.ensures ∙ ap best_line best) c.write_line-in-Some.ensures.begun
 
 pub returns-in_ok-pairing_line-in-Some-clause-fault : goal.returns-in_ok-pairing_line-in-Some-clause-fault
