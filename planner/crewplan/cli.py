@@ -18,7 +18,8 @@ from .files import check_folder, write_whole
 from .master import clp_library
 from .plan import Whole, whole_of
 from .progress import Progress
-from .relaxation import PENALTY, Cost, Result, Round, Ways, relax, ways_of
+from .problem import PENALTY, Cost
+from .relaxation import Result, Round, Ways, relax, ways_of
 from .report import Figures, Report, Run, csv_of, hours, json_of, report_of, text_of
 from .searches import Start, Took, how_many, run_all
 from .settings import settings_of

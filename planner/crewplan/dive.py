@@ -15,9 +15,11 @@ import numpy
 
 from .enforce import FollowOns, Pair
 from .engine import Engine
+from .pairing import Pairing
 from .plan import Whole, whole_of
 from .programs import least_cover
-from .relaxation import Cost, Problem, Relaxed, Ways, feed
+from .problem import Cost, Problem, Relaxed
+from .relaxation import Ways, feed
 
 WHOLE = 1e-6  # so near to 0 or 1 a value is that
 NEXT = 0.999  # pays are whole points, so a better plan costs a point less at least
@@ -58,7 +60,8 @@ Tell = Callable[[Step], None]
 
 
 class Dive:
-    """One dive, from duals of the relaxation, over a master problem of its own. Its follow-ons are released at its end."""
+    """One dive, from duals of the relaxation, over a master problem and a pool of its own. Its follow-ons stay enforced, for
+    the next one, which changes what differs."""
 
     def __init__(self, problem: Problem, duals: numpy.ndarray, engine: Engine, follow_ons: FollowOns, steps: Steps,
                  ways: Ways, tell: Tell, deadline: float, below: float, draw: numpy.random.Generator):
@@ -71,29 +74,52 @@ class Dive:
     def run(self, kept: list[Pair]) -> Whole | None:
         """The plan that the dive ends at, from where these follow-ons are enforced; none where it stopped: at its
         deadline, where no plan below a cost can come any more, or where nothing was left to enforce."""
-        self.follow_ons.enforce(kept)
-        self.problem = self.whole.part(self.broken(), self.duals, self.steps.columns * self.whole.count)
+        self.follow_ons.change_to(kept)
+        wanted = ~self.broken(self.whole)
+        self.problem = self.whole.part(self.merged(), wanted, self.duals, self.steps.columns * self.whole.count)
+        self.first = len(self.problem.pool)
         try:
-            relaxed, number = self.settle(), 0
-            while self.split(relaxed):
-                found, is_end = self.finish(relaxed)
-                if is_end:
-                    return found
-                if time.perf_counter() > self.deadline or relaxed.cost.all > self.below - NEXT:
-                    return None
-                if not self.follow_ons.enforce(self.next_pairs(relaxed)):
-                    return None
-                relaxed, number = self.settle(), number + 1
-                self.tell(Step(number, len(self.follow_ons.pairs), relaxed.cost, self.split(relaxed)))
-            return whole_of(self.problem, numpy.flatnonzero(relaxed.values > 0.5).tolist())
+            found = self.descend()
+            return found and self.in_whole(found)
         finally:
-            self.follow_ons.release(self.follow_ons.pairs)
             self.whole.masters += self.problem.masters
             self.whole.processor_seconds += self.problem.processor_seconds
 
-    def broken(self) -> numpy.ndarray:
-        """Which pairings of the pool break a follow-on that is enforced."""
-        return self.whole.pool.against(self.follow_ons.after, self.follow_ons.before)
+    def descend(self) -> Whole | None:
+        """The plan, by the dive's own pool."""
+        relaxed, number = self.settle(), 0
+        while self.split(relaxed):
+            found, is_end = self.finish(relaxed)
+            if is_end:
+                return found
+            if time.perf_counter() > self.deadline or relaxed.cost.all > self.below - NEXT:
+                return None
+            if not self.follow_ons.enforce(self.next_pairs(relaxed)):
+                return None
+            self.problem.leave_out(self.broken(self.problem))
+            relaxed, number = self.settle(), number + 1
+            self.tell(Step(number, len(self.follow_ons.pairs), relaxed.cost, self.split(relaxed)))
+        return whole_of(self.problem, numpy.flatnonzero(relaxed.values > 0.5).tolist())
+
+    def in_whole(self, found: Whole) -> Whole:
+        """The plan in the pool that all dives share."""
+        pairings = [self.problem.pool.pairings[place] for place in found.places]
+        self.whole.take_in(pairings)
+        return whole_of(self.whole, self.whole.pool.places(pairings))
+
+    def listed(self, most: float) -> list[Pairing]:
+        """The pairings that came in this dive whose reduced cost under the duals is at most that."""
+        pool = self.problem.pool
+        places = numpy.flatnonzero(pool.reduced(self.duals)[self.first:] <= most)
+        return [pool.pairings[self.first + place] for place in places]
+
+    def merged(self) -> dict[int, int]:
+        """The follow-ons whose flights may share a row: all, where no crew rides one of both and flies the other."""
+        return {} if self.follow_ons.settings.deadheads else self.follow_ons.after
+
+    def broken(self, problem: Problem) -> numpy.ndarray:
+        """Which pairings of the problem's pool break a follow-on that is enforced."""
+        return problem.pool.against(self.follow_ons.after, self.follow_ons.before)
 
     def split(self, relaxed: Relaxed) -> int:
         """How many columns, and flights, are neither taken nor left."""
@@ -137,7 +163,6 @@ class Dive:
 
     def settle(self) -> Relaxed:
         """An optimum of the master with what is enforced, after a few settles."""
-        self.problem.leave_out(self.broken())
         relaxed, _ = feed(self.problem, self.problem.relax(), self.ways)
         for _ in range(self.steps.settles):
             self.engine.set_prices(self.problem.prices(relaxed.duals, numpy.floor))

@@ -12,7 +12,7 @@ airport only b can come after a, and only d after c. A follow-on that is undone 
 """
 from __future__ import annotations
 
-from collections.abc import Iterable, Iterator
+from collections.abc import Iterable, Iterator, Sequence
 from dataclasses import replace
 from itertools import product
 from string import ascii_uppercase
@@ -59,6 +59,12 @@ class FollowOns:
             done.append(pair)
         self.move({number for pair in done for number in pair}, rules)
         return done
+
+    def change_to(self, pairs: Sequence[Pair]) -> None:
+        """Undoes those that are not of these, and enforces these."""
+        wanted = set(pairs)
+        self.release([pair for pair in self.pairs if pair not in wanted])
+        self.enforce(pairs)
 
     def release(self, pairs: Iterable[Pair]) -> None:
         """Undoes follow-ons."""

@@ -5,7 +5,7 @@ from dataclasses import dataclass
 
 import numpy
 
-from .relaxation import Cost, Problem
+from .problem import Cost, Problem
 
 
 @dataclass(frozen=True)

@@ -24,9 +24,12 @@ class Rows:
                                                   for place, base in enumerate(timetable.bases)}
         self.limits = [1.0] * len(self.flights) + [float(capacity or 0)] * len(self.bases)
 
-    def of(self, pairing: Pairing) -> list[int]:
-        rows = [self.flights[number] for number in pairing.flights]
-        return rows + [self.bases[pairing.base]] if self.bases else rows
+    def of_numbers(self, numbers: numpy.ndarray) -> numpy.ndarray:
+        """The rows of flights by their numbers, NONE where one has no row."""
+        order = numpy.argsort(self.numbers)
+        places = numpy.searchsorted(self.numbers, numbers, sorter=order)
+        rows = order[numpy.minimum(places, len(order) - 1)]
+        return numpy.where(numpy.array(self.numbers)[rows] == numbers, rows, NONE)
 
 
 class Pool:
@@ -54,28 +57,54 @@ class Pool:
         first = len(self.pairings)
         self.known.update(((pairing.base, pairing.walk), place) for place, pairing in enumerate(new, first))
         self.pairings += new
-        rows = [self.rows.of(pairing) for pairing in new]
-        self.rows_of += rows
         self.pays = numpy.concatenate((self.pays, [float(pairing.pay) for pairing in new]))
-        starts = numpy.concatenate(([0], numpy.cumsum([len(row) for row in rows]))) + self.matrix.nnz
-        places = numpy.fromiter((place for row in rows for place in row), numpy.int32)
-        self.matrix = csr_array((numpy.ones(self.matrix.nnz + len(places)),
-                                 numpy.concatenate((self.matrix.indices, places)).astype(numpy.int32),
-                                 numpy.concatenate((self.matrix.indptr[:-1], starts)).astype(numpy.int32)),
+        legs, is_flown = self.legs_of(new)
+        place, rows = legs[is_flown, 0], legs[is_flown, 1]
+        if self.rows.bases:
+            place = numpy.concatenate((place, numpy.arange(len(new))))
+            rows = numpy.concatenate((rows, [self.rows.bases[pairing.base] for pairing in new]))
+            order = numpy.argsort(place, kind='stable')
+            place, rows = place[order], rows[order]
+        ends = numpy.cumsum(numpy.bincount(place, minlength=len(new)))
+        listed = rows.tolist()
+        self.rows_of += [listed[begin:end] for begin, end in zip([0, *ends.tolist()], ends.tolist())]
+        held = self.matrix
+        self.matrix = csr_array((numpy.ones(held.nnz + len(rows)),
+                                 numpy.concatenate((held.indices, rows)).astype(numpy.int32),
+                                 numpy.concatenate((held.indptr, ends + held.nnz)).astype(numpy.int32)),
                                 shape=(len(self.pairings), len(self.rows.limits)))
-        self.legs = numpy.concatenate((self.legs, numpy.array([leg for place, pairing in enumerate(new, first)
-                                                               for leg in self.legs_of(place, pairing)], numpy.int32)))
+        legs[:, 0] += first
+        self.legs = numpy.concatenate((self.legs, legs))
         return len(new)
+
+    def legs_of(self, pairings: list[Pairing]) -> tuple[numpy.ndarray, numpy.ndarray]:
+        """Lines for the legs of these, counted from 0, and which of them the crew flies."""
+        text = ' '.join(pairing.walk for pairing in pairings).replace('-', ' ')
+        place = numpy.repeat(numpy.arange(len(pairings)),
+                             [pairing.walk.count('-') + pairing.walk.count(' ') + 1 for pairing in pairings])
+        rows = self.rows.of_numbers(numpy.fromstring(text.replace('d', ''), int, sep=' '))
+        is_flown = numpy.ones(len(rows), bool) if 'd' not in text else numpy.array([word[-1] != 'd' for word in text.split()])
+        is_last = numpy.append(place[1:] != place[:-1], True)
+        previous = numpy.where(numpy.roll(is_last, 1), NONE, numpy.roll(rows, 1))
+        following = numpy.where(is_last, NONE, numpy.roll(rows, -1))
+        is_both = is_flown & numpy.roll(is_flown, -1) & ~is_last
+        return numpy.column_stack((place, rows, previous, following, is_both)).astype(numpy.int32), is_flown
+
+    def part(self, wanted: numpy.ndarray) -> Pool:
+        """Another pool, of the pairings of this mask, in their order."""
+        other = Pool(self.rows)
+        places = numpy.flatnonzero(wanted)
+        other.pairings = [self.pairings[place] for place in places]
+        other.rows_of = [self.rows_of[place] for place in places]
+        other.known = {(pairing.base, pairing.walk): place for place, pairing in enumerate(other.pairings)}
+        other.pays, other.matrix = self.pays[places], self.matrix[places]
+        other.legs = self.legs[wanted[self.legs[:, 0]]]
+        other.legs[:, 0] = (numpy.cumsum(wanted) - 1)[other.legs[:, 0]]
+        return other
 
     def places(self, pairings: Iterable[Pairing]) -> list[int]:
         """Where these are, which are all there."""
         return [self.known[pairing.base, pairing.walk] for pairing in pairings]
-
-    def legs_of(self, place: int, pairing: Pairing) -> list[tuple[int, int, int, int, int]]:
-        rows = [self.rows.flights.get(number, NONE) for number in pairing.legs]
-        flown = [number not in pairing.ridden for number in pairing.legs]
-        both = [one and other for one, other in zip(flown, flown[1:] + [False])]
-        return list(zip([place] * len(rows), rows, [NONE] + rows[:-1], rows[1:] + [NONE], both))
 
     def follow_ons(self, values: numpy.ndarray) -> list[tuple[float, tuple[int, int]]]:
         """The flights that a crew flies one directly after the other, where pairings have these values: how much of

@@ -5,7 +5,7 @@ import numpy
 from scipy.optimize import Bounds, LinearConstraint, milp
 from scipy.sparse import coo_array, csc_array, hstack
 
-from .relaxation import Problem
+from .problem import Problem
 
 WHOLE = 1e-5  # so near to 0 or 1 a value of an integer program is that
 

@@ -9,20 +9,16 @@ import math
 import time
 from collections import Counter
 from collections.abc import Callable
-from dataclasses import dataclass, field
+from dataclasses import dataclass
 
 import numpy
 
 from .engine import Engine
 from .faults import Fault
-from .master import Master, master_of
-from .pairing import Pairing
-from .pool import Pool, Rows
 from .prices import Prices
+from .problem import PENALTY, Cost, Problem, Relaxed
 from .timetable import Timetable
 
-PENALTY = 100_000.0  # points that an uncovered flight costs in a master problem
-CLOSE = 1e-7  # so near to a whole number a dual is one
 INNER = 100  # most masters between two settles
 
 
@@ -53,19 +49,6 @@ def ways_of(flights: int) -> Ways:
 
 
 @dataclass(frozen=True)
-class Cost:
-    """An objective told apart: points of pay, and flights that are left uncovered at the penalty (in a relaxation, parts
-    of flights too)."""
-    pay: float
-    uncovered: float
-    penalty: float = PENALTY
-
-    @property
-    def all(self) -> float:
-        return self.pay + self.penalty * self.uncovered
-
-
-@dataclass(frozen=True)
 class Round:
     """One settle and the masters after it. `bound` is at most the optimum's `all`."""
     number: int
@@ -81,114 +64,6 @@ class Round:
 
 
 Tell = Callable[[Round], None]
-
-
-@dataclass
-class Relaxed:
-    """An optimum of a master problem: duals by row, and a value for each column of the pool (0 where the master doesn't
-    have it) and for each flight's own column, which leaves it uncovered."""
-    cost: Cost
-    duals: numpy.ndarray
-    values: numpy.ndarray
-    uncovered: numpy.ndarray
-
-
-@dataclass
-class Problem:
-    """The restricted master problem over a pool: which of its pairings are columns, and in which order.
-
-    `left_out` are pairings of the pool that a follow-on forbids. `processor_seconds` is what masters and pool took."""
-    timetable: Timetable
-    pool: Pool
-    master: Master
-    penalty: float
-    solver: str = 'auto'
-    places: numpy.ndarray = field(default_factory=lambda: numpy.zeros(0, int))
-    left_out: numpy.ndarray = field(default_factory=lambda: numpy.zeros(0, bool))
-    processor_seconds: float = 0.0
-    masters: int = 0
-
-    @classmethod
-    def of(cls, timetable: Timetable, penalty: float, capacity: int | None, solver: str) -> Problem:
-        rows = Rows(timetable, capacity)
-        master = master_of(rows.limits, len(rows.flights), solver)
-        count = len(rows.flights)
-        master.add([penalty] * count, [[row] for row in range(count)])
-        return cls(timetable, Pool(rows), master, penalty, solver)
-
-    def part(self, left_out: numpy.ndarray, duals: numpy.ndarray, most: int) -> Problem:
-        """Another problem over the same pool, without these pairings; its first columns are those of the others whose
-        reduced cost under these duals is least, up to so many. `most` of them leave out what a dive hardly wants, and
-        what it does comes back from the pool."""
-        rows = self.pool.rows
-        other = Problem(self.timetable, self.pool, master_of(rows.limits, self.count, self.solver), self.penalty,
-                        self.solver, left_out=left_out)
-        other.master.add([self.penalty] * self.count, [[row] for row in range(self.count)])
-        left = numpy.flatnonzero(~left_out)
-        other.add(left[numpy.argsort(self.pool.reduced(duals)[left], kind='stable')[:most]])
-        return other
-
-    @property
-    def count(self) -> int:
-        return len(self.pool.rows.flights)
-
-    def is_column(self) -> numpy.ndarray:
-        found = numpy.zeros(len(self.pool), bool)
-        found[self.places] = True
-        return found
-
-    def take_in(self, found: list[Pairing]) -> int:
-        """Adds to the pool, and says how many were new."""
-        began = time.process_time()
-        new = self.pool.add(found)
-        self.processor_seconds += time.process_time() - began
-        return new
-
-    def add(self, places: numpy.ndarray) -> None:
-        """Makes pairings of the pool columns."""
-        self.master.add(self.pool.pays[places], [self.pool.rows_of[place] for place in places])
-        self.places = numpy.concatenate((self.places, places))
-
-    def drop(self, dropped: numpy.ndarray) -> None:
-        """Takes columns out again, by a mask over `places`."""
-        self.master.drop(numpy.concatenate((numpy.zeros(self.count, bool), dropped)))
-        self.places = self.places[~dropped]
-
-    def leave_out(self, left_out: numpy.ndarray) -> None:
-        """Holds these pairings of the pool at 0, and no others."""
-        self.left_out = left_out
-        self.master.forbid(numpy.concatenate((numpy.zeros(self.count, bool), left_out[self.places])))
-
-    def relax(self) -> Relaxed:
-        began = time.process_time()
-        solved = self.master.solve()
-        self.processor_seconds += time.process_time() - began
-        self.masters += 1
-        values = numpy.zeros(len(self.pool))
-        values[self.places] = solved.values[self.count:]
-        uncovered = solved.values[:self.count]
-        missing = float(uncovered.sum())
-        cost = Cost(solved.objective - self.penalty * missing, missing, self.penalty)
-        return Relaxed(cost, solved.duals, values, uncovered)
-
-    def improving(self, relaxed: Relaxed, ways: Ways) -> tuple[numpy.ndarray, float]:
-        """Pairings of the pool for the next master, and the least reduced cost of them."""
-        began = time.process_time()
-        self.left_out = numpy.concatenate((self.left_out, numpy.zeros(len(self.pool) - len(self.left_out), bool)))
-        found = self.pool.improving(relaxed.duals, ways.take, ways.spread, self.is_column() | self.left_out)
-        self.processor_seconds += time.process_time() - began
-        return found
-
-    def prices(self, duals: numpy.ndarray, whole: Callable[[float], float]) -> Prices:
-        """Duals as whole points: so near to a whole number they are that. No price is above the penalty, nor that of
-        a base above 0."""
-        near = numpy.round(duals)
-        points = numpy.where(numpy.abs(duals - near) < CLOSE, near, whole(duals))
-        flights = numpy.minimum(points[:self.count], math.floor(self.penalty))
-        bases = numpy.minimum(points[self.count:], 0)
-        names = self.pool.rows.bases or dict.fromkeys(self.timetable.bases)
-        return Prices(dict(zip(self.pool.rows.numbers, flights.astype(int).tolist())),
-                      dict(zip(names, bases.astype(int).tolist())) if self.pool.rows.bases else dict.fromkeys(names, 0))
 
 
 @dataclass
@@ -260,7 +135,7 @@ def feed(problem: Problem, relaxed: Relaxed, ways: Ways, dropping: Dropping | No
     """Masters that take from the pool until none in it improves enough; the last optimum, and how many columns came."""
     took, enough = 0, 0.0
     for _ in range(INNER):
-        places, least = problem.improving(relaxed, ways)
+        places, least = problem.improving(relaxed.duals, ways.take, ways.spread)
         if not len(places) or least > enough:
             break
         enough = enough or ways.enough * least

@@ -10,7 +10,8 @@ from __future__ import annotations
 
 import math
 import time
-from collections.abc import Callable
+from collections import Counter
+from collections.abc import Callable, Sequence
 from dataclasses import dataclass, replace
 
 import numpy
@@ -20,7 +21,8 @@ from .enforce import FollowOns, Pair
 from .engine import Engine
 from .pairing import Pairing
 from .plan import Whole, whole_of
-from .relaxation import Problem, Relaxed, Ways
+from .problem import Problem, Relaxed
+from .relaxation import Ways
 from .settings import Settings
 from .timetable import Timetable
 
@@ -31,6 +33,9 @@ LEAPS = 0.5, 0.8  # .. and a leap
 SPREADS = 0.1, 0.4  # of the lots that change weights
 LAST = 3_000  # columns of an integer program of a first dive or a descent
 SHORT, LONG, LEAST = 0.008, 0.02, 1.5  # of the time, and least seconds: where a dive in vain took less more is given up
+GROWS, SHRINKS = 1.06, 0.95  # that part, where a dive in vain was short, and where one was long
+CHOSEN = 0.7  # of the good plans that are compared
+ENDS = 4  # of descents, the best ones, that count as good plans
 VAIN = 8  # dives of a descent in a row without a better plan
 PATIENCE = 12  # leaps in a row without a better plan
 ALONE = 0.5  # of the time: later the plans of others count too
@@ -39,9 +44,9 @@ ALONE = 0.5  # of the time: later the plans of others count too
 @dataclass
 class Exchange:
     """How searches side by side tell each other of plans: `tell` is given each plan that is better than those before,
-    and `hear` gives the best that another one has found since it was called last."""
+    and `hear` gives the best plan of each other one."""
     tell: Callable[[str, Whole, list[Pairing]], None]
-    hear: Callable[[], list[Pairing] | None] = lambda: None
+    hear: Callable[[], list[list[Pairing]]] = list
 
 
 @dataclass
@@ -64,6 +69,8 @@ class Search:
         self.draw = numpy.random.default_rng(self.number)
         self.weights = {pair: weight for weight, pair in self.problem.pool.follow_ons(self.relaxed.values)}
         self.plan = self.best = whole_of(self.problem, [])
+        self.ends: list[Whole] = []  # the best plans that descents came to
+        self.others: list[Whole] = []  # the best plans of other searches
         self.dives = 0
         self.is_proved = False
 
@@ -79,7 +86,7 @@ class Search:
         in_vain = 0
         while not self.is_done() and time.perf_counter() < deadline and in_vain < PATIENCE:
             if time.perf_counter() > began + ALONE * seconds:
-                self.hear()
+                self.best = min([self.best, *self.others], key=lambda it: it.cost.all)
             before = self.best
             self.plan = self.best
             self.dive(LEAP, self.kept(self.draw.uniform(*LEAPS)), deadline, math.inf)
@@ -97,16 +104,19 @@ class Search:
         steps = Steps(last=LAST, seconds=self.long)
         if self.is_small():
             self.dive(steps, [], deadline, self.plan.cost.all)
-        part, in_vain = PART, 0
+        parts, in_vain = [PART, PART], 0
         while in_vain < VAIN and not self.is_done() and time.perf_counter() < deadline:
+            self.hear()
             before, began = self.plan, time.perf_counter()
-            self.dive(steps, self.kept(part), deadline, self.plan.cost.all)
+            by_plans = int(self.draw.integers(2))
+            self.dive(steps, self.kept(parts[by_plans], self.good_plans() if by_plans else []), deadline, before.cost.all)
             took = time.perf_counter() - began
             in_vain = in_vain + 1 if self.plan is before else 0
             if took > self.long:
-                part *= 0.95
+                parts[by_plans] *= SHRINKS
             elif in_vain and took < self.short:
-                part = min(1.0, 1.03 * part)
+                parts[by_plans] = min(1.0, GROWS * parts[by_plans])
+        self.ends = sorted([self.plan, *self.ends], key=lambda it: it.cost.all)[:ENDS]
 
     def is_small(self) -> bool:
         """Whether one integer program takes all columns that a better plan can have."""
@@ -123,26 +133,29 @@ class Search:
         self.is_proved = dive.is_proved
         if found and found.cost.all < below:
             self.plan = found
+        self.problem.take_in(dive.listed(self.best.cost.all - self.relaxed.cost.all))
         if self.plan.cost.all < self.best.cost.all:
             self.best = self.plan
             self.exchange.tell(name, self.best, [self.problem.pool.pairings[place] for place in self.best.places])
 
     def hear(self) -> None:
-        """Goes on from another search's plan where that is better."""
-        if (pairings := self.exchange.hear()) is None:
-            return
-        self.problem.take_in(pairings)
-        heard = whole_of(self.problem, self.problem.pool.places(pairings))
-        self.best = min(heard, self.best, key=lambda it: it.cost.all)
+        """Takes in the plans of other searches."""
+        self.others = []
+        for pairings in self.exchange.hear():
+            self.problem.take_in(pairings)
+            self.others.append(whole_of(self.problem, self.problem.pool.places(pairings)))
 
-    def kept(self, part: float) -> list[Pair]:
-        """The follow-ons of the plan without such a part: without those of least weight, and every other time first
-        without those that the best plan doesn't have."""
+    def good_plans(self) -> list[Whole]:
+        """Some of the best plans of this and other searches, by lot."""
+        plans = {it.places: it for it in (self.best, *self.ends, *self.others) if it.places != self.plan.places}
+        return [it for it in plans.values() if self.draw.random() < CHOSEN] or list(plans.values())
+
+    def kept(self, part: float, plans: Sequence[Whole] = ()) -> list[Pair]:
+        """The follow-ons of the plan without such a part: without those that fewest of these plans have, and of as many
+        plans without those of least weight."""
         own = follow_ons_of(self.problem, self.plan)
+        counts = Counter(pair for plan in plans for pair in follow_ons_of(self.problem, plan))
         spread = self.draw.uniform(*SPREADS)
-        ranks = [self.weights.get(pair, 0.0) + spread * self.draw.normal() for pair in own]
-        if self.plan is not self.best and self.draw.integers(2):
-            shared = set(follow_ons_of(self.problem, self.best))
-            ranks = [rank if pair in shared else rank - 10 for rank, pair in zip(ranks, own)]
-        order = sorted(range(len(own)), key=lambda at: -ranks[at])
+        ranks = [(counts[pair], self.weights.get(pair, 0.0) + spread * self.draw.normal()) for pair in own]
+        order = sorted(range(len(own)), key=lambda at: ranks[at], reverse=True)
         return [own[at] for at in order[:round((1 - part) * len(own))]]

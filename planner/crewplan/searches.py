@@ -1,7 +1,7 @@
 """Searches side by side, each in a process with an engine and processors of its own.
 
 They begin at the same optimum of the relaxation and go different ways. Each tells of its steps and plans, and asks now and
-then for the best plan of the others; nothing is sent that wasn't asked for, so no pipe fills up.
+then for the best plans of the others; nothing is sent that wasn't asked for, so no pipe fills up.
 """
 from __future__ import annotations
 
@@ -17,7 +17,8 @@ from .engine import Engine
 from .faults import EngineFault, Fault
 from .pairing import Pairing
 from .plan import Whole
-from .relaxation import Cost, Problem, Relaxed, Ways
+from .problem import Cost, Problem, Relaxed
+from .relaxation import Ways
 from .search import Exchange, Search
 from .settings import settings_of
 from .timetable import Timetable
@@ -64,7 +65,7 @@ class Took:
 
 @dataclass(frozen=True)
 class Asked:
-    """A search asks for the best plan of the others."""
+    """A search asks for the best plans of the others."""
 
 
 TellStep = Callable[[str, Step], None]
@@ -77,7 +78,7 @@ def how_many(flights: int) -> int:
 
 
 def run_one(start: Start, number: int, tell_step: TellStep, tell: Callable[[Found], None],
-            hear: Callable[[], list[Pairing] | None]) -> Took:
+            hear: Callable[[], list[list[Pairing]]]) -> Took:
     """One search, from its start to its end."""
     def tell_plan(name: str, plan: Whole, pairings: list[Pairing]) -> None:
         tell(Found(name, plan.cost, pairings))
@@ -103,7 +104,7 @@ def run_all(start: Start, count: int, tell_step: TellStep, tell_plan: TellPlan) 
             tell_plan(found.name, found.cost)
 
     if count == 1:
-        took = [run_one(start, 0, tell_step, note, lambda: None)]
+        took = [run_one(start, 0, tell_step, note, list)]
     else:
         took = run_processes(start, count, tell_step, note)
     if not took:
@@ -133,8 +134,7 @@ def run_processes(start: Start, count: int, tell_step: TellStep, note: Callable[
                             plans[number] = found
                             note(found)
                         case Asked():
-                            others = [found for other, found in plans.items() if other != number]
-                            pipe.send(min(others, key=lambda it: it.cost.all).pairings if others else None)
+                            pipe.send([found.pairings for other, found in plans.items() if other != number])
                         case Took() as what:
                             took.append(what)
                         case EngineFault() as fault:
@@ -150,7 +150,7 @@ def run_processes(start: Start, count: int, tell_step: TellStep, note: Callable[
 
 def serve(pipe: Connection, start: Start, number: int, count: int) -> None:
     """One of so many searches in a process of its own, which ends where nobody listens any more."""
-    def hear() -> list[Pairing] | None:
+    def hear() -> list[list[Pairing]]:
         pipe.send(Asked())
         return pipe.recv()
 
