@@ -1,10 +1,11 @@
 """From the relaxation to the best plan that some time finds.
 
 A dive from the relaxation comes to a first plan. A descent betters it: it gives up a part of the plan's follow-ons all over
-the schedule, those of least weight in the relaxation, where lots change the weights a little, and dives again from what is
-left. That has a relaxation just below the plan, so few columns can be in a better one, and an integer program over these
-soon finds it or shows that there is none. Where a few dives in a row were in vain, a leap gives up more of the best plan
-and takes what it comes to, and a descent follows from there.
+the schedule and dives again from what is left. That has a relaxation below the plan, and few columns can be in a better
+one, so an integer program over these soon finds it or shows that there is none. Given up are those that fewest of the good
+plans have that this search and others came to, or those of least weight in the relaxation, where lots change the weights
+a little. Where a few dives in a row were in vain, a leap gives up more of the best plan and takes what it comes to, and a
+descent follows from there.
 """
 from __future__ import annotations
 
@@ -26,13 +27,14 @@ from .relaxation import Ways
 from .settings import Settings
 from .timetable import Timetable
 
-FIRST = (Steps(), Steps(spread=0.05), Steps(part=0.1, least=0.6, spread=0.05), Steps(part=0.03, spread=0.1))
-LEAP = Steps(spread=0.05)
+FIRST = (Steps(settles=1), Steps(settles=1, spread=0.05), Steps(part=0.1, least=0.6, spread=0.05),
+         Steps(settles=1, part=0.03, spread=0.1))
+LEAP = Steps(settles=1, spread=0.05)
 PART = 0.4  # of a plan's follow-ons that a descent gives up at first
 LEAPS = 0.5, 0.8  # .. and a leap
 SPREADS = 0.1, 0.4  # of the lots that change weights
 LAST = 3_000  # columns of an integer program of a first dive or a descent
-SHORT, LONG, LEAST = 0.008, 0.02, 1.5  # of the time, and least seconds: where a dive in vain took less more is given up
+SHORT, LONG, LEAST = 0.006, 0.01, 1.5  # of the time, and least seconds: where a dive in vain took less more is given up
 GROWS, SHRINKS = 1.06, 0.95  # that part, where a dive in vain was short, and where one was long
 CHOSEN = 0.7  # of the good plans that are compared
 ENDS = 4  # of descents, the best ones, that count as good plans
@@ -89,7 +91,8 @@ class Search:
                 self.best = min([self.best, *self.others], key=lambda it: it.cost.all)
             before = self.best
             self.plan = self.best
-            self.dive(LEAP, self.kept(self.draw.uniform(*LEAPS)), deadline, math.inf)
+            plans = self.good_plans() if self.draw.integers(2) else []
+            self.dive(LEAP, self.kept(self.draw.uniform(*LEAPS), plans), deadline, math.inf)
             self.descend(deadline)
             in_vain = in_vain + 1 if self.best is before else 0
         return self.best
