@@ -34,19 +34,20 @@ PART = 0.4  # of a plan's follow-ons that a descent gives up at first
 LEAPS = 0.5, 0.8  # .. and a leap
 SPREADS = 0.1, 0.4  # of the lots that change weights
 LAST = 3_000  # columns of an integer program of a first dive or a descent
-SHORT, LONG, LEAST = 0.006, 0.01, 1.5  # of the time, and least seconds: where a dive in vain took less more is given up
-GROWS, SHRINKS = 1.06, 0.95  # that part, where a dive in vain was short, and where one was long
+LONG, LEAST = 0.01, 1.5  # of the time, and least seconds: where a dive took more, less is given up
+SHORT = 0.6  # of that: where a dive in vain took less, more
+GROWS, SHRINKS = 1.06, 0.95  # that part, then
 CHOSEN = 0.7  # of the good plans that are compared
-ENDS = 4  # of descents, the best ones, that count as good plans
-VAIN = 8  # dives of a descent in a row without a better plan
+ENDS = 4  # of descents, the last ones, that count as good plans
+ALONE_VAIN, VAIN = 4, 8  # dives of a descent in a row without a better plan, by weights alone and by other plans as well
 PATIENCE = 12  # leaps in a row without a better plan
 ALONE = 0.5  # of the time: later the plans of others count too
 
 
 @dataclass
 class Exchange:
-    """How searches side by side tell each other of plans: `tell` is given each plan that is better than those before,
-    and `hear` gives the best plan of each other one."""
+    """How searches side by side tell each other of plans: `tell` is given each good plan, and `hear` gives for each other
+    search its best and its last one."""
     tell: Callable[[str, Whole, list[Pairing]], None]
     hear: Callable[[], list[list[Pairing]]] = list
 
@@ -71,8 +72,7 @@ class Search:
         self.draw = numpy.random.default_rng(self.number)
         self.weights = {pair: weight for weight, pair in self.problem.pool.follow_ons(self.relaxed.values)}
         self.plan = self.best = whole_of(self.problem, [])
-        self.ends: list[Whole] = []  # the best plans that descents came to
-        self.others: list[Whole] = []  # the best plans of other searches
+        self.ends: list[Whole] = []  # what the last descents came to by weights alone
         self.dives = 0
         self.is_proved = False
 
@@ -81,14 +81,14 @@ class Search:
         can cost less, or where many leaps in a row led to none that does."""
         began = time.perf_counter()
         deadline = began + seconds
-        self.short, self.long = SHORT * seconds, max(LONG * seconds, LEAST)
+        self.long = max(LONG * seconds, LEAST)
         first = replace(FIRST[self.number % len(FIRST)], last=LAST, seconds=2 * self.long)
         self.dive(first, [], math.inf, math.inf)
         self.descend(deadline)
         in_vain = 0
         while not self.is_done() and time.perf_counter() < deadline and in_vain < PATIENCE:
             if time.perf_counter() > began + ALONE * seconds:
-                self.best = min([self.best, *self.others], key=lambda it: it.cost.all)
+                self.best = min([self.best, *self.hear()], key=lambda it: it.cost.all)
             before = self.best
             self.plan = self.best
             plans = self.good_plans() if self.draw.integers(2) else []
@@ -97,29 +97,38 @@ class Search:
             in_vain = in_vain + 1 if self.best is before else 0
         return self.best
 
+    @property
+    def name(self) -> str:
+        """Of the dive under way, or the last one."""
+        return f'dive {self.dives}' if not self.number else f'dive {self.dives}, {self.number + 1}'
+
     def is_done(self) -> bool:
         """Whether no plan can cost a point less, or none of the pairings that were listed."""
         return self.is_proved or self.best.cost.all - self.relaxed.cost.all < NEXT
 
     def descend(self, deadline: float) -> None:
-        """Dives from parts of the plan, each from the better one that the last one came to; where one integer program
-        takes all columns that a better plan can have, that first."""
-        steps = Steps(last=LAST, seconds=self.long)
+        """Dives from parts of the plan, each from the better one that the last one came to: at first by weights alone, and
+        then by other good plans as well. Where one integer program takes all columns that a better plan can have, that
+        goes before."""
         if self.is_small():
-            self.dive(steps, [], deadline, self.plan.cost.all)
-        parts, in_vain = [PART, PART], 0
-        while in_vain < VAIN and not self.is_done() and time.perf_counter() < deadline:
-            self.hear()
+            self.dive(Steps(last=LAST, seconds=self.long), [], deadline, self.plan.cost.all)
+        self.descend_by(lambda part: self.kept(part, []), ALONE_VAIN, deadline)
+        self.ends = [*self.ends, self.plan][-ENDS:]
+        self.tell()
+        self.descend_by(lambda part: self.kept(part, self.good_plans() if self.draw.integers(2) else []), VAIN, deadline)
+
+    def descend_by(self, kept: Callable[[float], list[Pair]], vain: int, deadline: float) -> None:
+        """Such dives, until so many in a row were in vain."""
+        steps, part, in_vain = Steps(last=LAST, seconds=self.long), PART, 0
+        while in_vain < vain and not self.is_done() and time.perf_counter() < deadline:
             before, began = self.plan, time.perf_counter()
-            by_plans = int(self.draw.integers(2))
-            self.dive(steps, self.kept(parts[by_plans], self.good_plans() if by_plans else []), deadline, before.cost.all)
+            self.dive(steps, kept(part), deadline, before.cost.all)
             took = time.perf_counter() - began
             in_vain = in_vain + 1 if self.plan is before else 0
             if took > self.long:
-                parts[by_plans] *= SHRINKS
-            elif in_vain and took < self.short:
-                parts[by_plans] = min(1.0, GROWS * parts[by_plans])
-        self.ends = sorted([self.plan, *self.ends], key=lambda it: it.cost.all)[:ENDS]
+                part *= SHRINKS
+            elif in_vain and took < SHORT * self.long:
+                part = min(1.0, GROWS * part)
 
     def is_small(self) -> bool:
         """Whether one integer program takes all columns that a better plan can have."""
@@ -129,9 +138,8 @@ class Search:
     def dive(self, steps: Steps, kept: list[Pair], deadline: float, below: float) -> None:
         """A dive from where these follow-ons are enforced, to a plan that costs less than that."""
         self.dives += 1
-        name = f'dive {self.dives}' if not self.number else f'dive {self.dives}, {self.number + 1}'
         dive = Dive(self.problem, self.relaxed.duals, self.engine, self.follow_ons, steps, self.ways,
-                    lambda it: self.tell_step(name, it), deadline, below, self.draw)
+                    lambda it: self.tell_step(self.name, it), deadline, below, self.draw)
         found = dive.run(kept)
         self.is_proved = dive.is_proved
         if found and found.cost.all < below:
@@ -139,18 +147,23 @@ class Search:
         self.problem.take_in(dive.listed(self.best.cost.all - self.relaxed.cost.all))
         if self.plan.cost.all < self.best.cost.all:
             self.best = self.plan
-            self.exchange.tell(name, self.best, [self.problem.pool.pairings[place] for place in self.best.places])
+            self.tell()
 
-    def hear(self) -> None:
-        """Takes in the plans of other searches."""
-        self.others = []
-        for pairings in self.exchange.hear():
+    def tell(self) -> None:
+        """Tells others of the plan, if there is one."""
+        if self.plan.places:
+            self.exchange.tell(self.name, self.plan, [self.problem.pool.pairings[place] for place in self.plan.places])
+
+    def hear(self) -> list[Whole]:
+        """The plans of other searches."""
+        heard = self.exchange.hear()
+        for pairings in heard:
             self.problem.take_in(pairings)
-            self.others.append(whole_of(self.problem, self.problem.pool.places(pairings)))
+        return [whole_of(self.problem, self.problem.pool.places(pairings)) for pairings in heard]
 
     def good_plans(self) -> list[Whole]:
-        """Some of the best plans of this and other searches, by lot."""
-        plans = {it.places: it for it in (self.best, *self.ends, *self.others) if it.places != self.plan.places}
+        """Some good plans of this and other searches, by lot."""
+        plans = {it.places: it for it in (self.best, *self.ends, *self.hear()) if it.places != self.plan.places}
         return [it for it in plans.values() if self.draw.random() < CHOSEN] or list(plans.values())
 
     def kept(self, part: float, plans: Sequence[Whole] = ()) -> list[Pair]:

@@ -1,7 +1,7 @@
 """Searches side by side, each in a process with an engine and processors of its own.
 
 They begin at the same optimum of the relaxation and go different ways. Each tells of its steps and plans, and asks now and
-then for the best plans of the others; nothing is sent that wasn't asked for, so no pipe fills up.
+then for plans of the others; nothing is sent that wasn't asked for, so no pipe fills up.
 """
 from __future__ import annotations
 
@@ -44,7 +44,7 @@ class Start:
 
 @dataclass(frozen=True)
 class Found:
-    """A plan that is the best so far of the search that found it, in the dive of that name."""
+    """A good plan of a search, which a dive of that name found."""
     name: str
     cost: Cost
     pairings: list[Pairing]
@@ -65,7 +65,7 @@ class Took:
 
 @dataclass(frozen=True)
 class Asked:
-    """A search asks for the best plans of the others."""
+    """A search asks for the plans of the others."""
 
 
 TellStep = Callable[[str, Step], None]
@@ -115,7 +115,9 @@ def run_all(start: Start, count: int, tell_step: TellStep, tell_plan: TellPlan) 
 def run_processes(start: Start, count: int, tell_step: TellStep, note: Callable[[Found], None]) -> list[Took]:
     """Searches in processes, until the last one has ended. They are stopped where this one is."""
     context = multiprocessing.get_context('spawn')  # a fork would have HiGHS's threads in name alone, and wait for them
-    processes, searches, plans, took = [], {}, {}, []
+    processes, searches, took = [], {}, []
+    best: dict[int, Found] = {}
+    last: dict[int, Found] = {}
     try:
         for number in range(count):
             ours, theirs = context.Pipe()
@@ -131,10 +133,12 @@ def run_processes(start: Start, count: int, tell_step: TellStep, note: Callable[
                         case str() as name, Step() as step:
                             tell_step(name, step)
                         case Found() as found:
-                            plans[number] = found
+                            last[number] = found
+                            best[number] = min(best.get(number, found), found, key=lambda it: it.cost.all)
                             note(found)
                         case Asked():
-                            pipe.send([found.pairings for other, found in plans.items() if other != number])
+                            pipe.send([found.pairings for told in (best, last) for other, found in told.items()
+                                       if other != number])
                         case Took() as what:
                             took.append(what)
                         case EngineFault() as fault:
