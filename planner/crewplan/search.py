@@ -82,7 +82,7 @@ class Search:
         began = time.perf_counter()
         deadline = began + seconds
         self.long = max(LONG * seconds, LEAST)
-        first = replace(FIRST[self.number % len(FIRST)], last=LAST, seconds=2 * self.long)
+        first = replace(FIRST[self.number % len(FIRST)], last=LAST, seconds=self.long)
         self.dive(first, [], math.inf, math.inf)
         self.descend(deadline)
         in_vain = 0
