@@ -7,6 +7,7 @@ which is near enough, an integer program over them ends the dive.
 """
 from __future__ import annotations
 
+import math
 import time
 from collections.abc import Callable
 from dataclasses import dataclass
@@ -31,8 +32,8 @@ class Steps:
     there is none the few of `few` or more, and where there is none the greatest alone. Weights differ by a lot of this
     `spread`. Between two steps there are up to `settles` settles, and no further one where the least cost is above
     `-close` points. Once no more than `last` columns keep what is enforced at a reduced cost of `near` of the pay, an
-    integer program is tried for so many `seconds`, and again at half as many columns. The dive's own master problem
-    begins with so many `columns` for each flight."""
+    integer program over the `core`, so many of least reduced cost, is tried for so many `seconds`, and again at half as
+    many columns. The dive's own master problem begins with so many `columns` for each flight."""
     part: float = 0.05
     least: float = 0.75
     few: float = 0.6
@@ -41,7 +42,8 @@ class Steps:
     close: float = 200.0
     most: int = 2_000
     share: int = 20
-    last: int = 2_000
+    last: int = 5_000
+    core: int = 1_500
     near: float = 0.003
     seconds: float = 4.0
     columns: int = 5
@@ -127,27 +129,30 @@ class Dive:
         return int(numpy.count_nonzero((values > WHOLE) & (values < 1 - WHOLE)))
 
     def finish(self, relaxed: Relaxed) -> tuple[Whole | None, bool]:
-        """The plan of an integer program over the columns that a plan near enough can have, where they are few; and
-        whether the dive is at its end: with a plan that is near, or the best of these columns, or where there is none
-        below the cost that it has to be below."""
+        """The plan of an integer program over the columns that a plan near enough can have, where they are few, or over the
+        cheapest of these; and whether the dive is at its end: with a plan that is near and costs less than it has to, or
+        the best of all these columns, or where there is none below that cost."""
         near = relaxed.cost.all + self.steps.near * abs(relaxed.cost.pay)
         gap = min(self.below - NEXT, near) - relaxed.cost.all
         problem = self.problem
-        places = numpy.flatnonzero((problem.pool.reduced(relaxed.duals) <= gap) & ~problem.left_out)
-        if gap < 0 or len(places) > self.last:
+        reduced = numpy.where(problem.left_out, math.inf, problem.pool.reduced(relaxed.duals))
+        count = numpy.count_nonzero(reduced <= gap)
+        if gap < 0 or count > self.last:
             return None, False
-        self.last = len(places) // 2
+        self.last = count // 2
+        places = numpy.sort(numpy.argsort(reduced, kind='stable')[:min(count, self.steps.core)])
         dear = problem.penalty - relaxed.duals[:problem.count]
         may_miss = numpy.flatnonzero((dear <= gap) | (relaxed.uncovered > WHOLE))
         began = time.process_time()
         seconds = min(self.steps.seconds, self.deadline - time.perf_counter())
         found, is_whole = least_cover(problem, places, may_miss, seconds)
         problem.processor_seconds += time.process_time() - began
+        is_whole = is_whole and len(places) == count
         self.is_proved = is_whole and self.below <= near and not self.follow_ons.pairs
         if found is None:
             return None, is_whole and self.below <= near
         plan = whole_of(problem, found)
-        return plan, is_whole or plan.cost.all <= near
+        return plan, is_whole or plan.cost.all <= min(near, self.below - NEXT)
 
     def next_pairs(self, relaxed: Relaxed) -> list[Pair]:
         """Those that are whole, and then some others, the greatest first."""

@@ -29,17 +29,18 @@ from .timetable import Timetable
 
 FIRST = (Steps(settles=1), Steps(settles=1, spread=0.05), Steps(part=0.1, least=0.6, spread=0.05),
          Steps(settles=1, part=0.03, spread=0.1))
-LEAP = Steps(settles=1, spread=0.05)
+LEAP = Steps(spread=0.05)
 PART = 0.4  # of a plan's follow-ons that a descent gives up at first
 LEAPS = 0.5, 0.8  # .. and a leap
 SPREADS = 0.1, 0.4  # of the lots that change weights
-LAST = 3_000  # columns of an integer program of a first dive or a descent
+SMALL = 3_000  # columns of an integer program that has all that a better plan can have
 LONG, LEAST = 0.01, 1.5  # of the time, and least seconds: where a dive took more, less is given up
 SHORT = 0.6  # of that: where a dive in vain took less, more
 GROWS, SHRINKS = 1.06, 0.95  # that part, then
 CHOSEN = 0.7  # of the good plans that are compared
 ENDS = 4  # of descents, the last ones, that count as good plans
 ALONE_VAIN, VAIN = 4, 8  # dives of a descent in a row without a better plan, by weights alone and by other plans as well
+AGAIN = 3  # .. from a plan that a descent ended at before
 PATIENCE = 12  # leaps in a row without a better plan
 ALONE = 0.5  # of the time: later the plans of others count too
 
@@ -73,6 +74,7 @@ class Search:
         self.weights = {pair: weight for weight, pair in self.problem.pool.follow_ons(self.relaxed.values)}
         self.plan = self.best = whole_of(self.problem, [])
         self.ends: list[Whole] = []  # what the last descents came to by weights alone
+        self.spent: set[tuple[int, ...]] = set()  # the places of plans that descents ended at
         self.dives = 0
         self.is_proved = False
 
@@ -82,17 +84,16 @@ class Search:
         began = time.perf_counter()
         deadline = began + seconds
         self.long = max(LONG * seconds, LEAST)
-        first = replace(FIRST[self.number % len(FIRST)], last=LAST, seconds=self.long)
+        first = replace(FIRST[self.number % len(FIRST)], seconds=self.long)
         self.dive(first, [], math.inf, math.inf)
-        self.descend(deadline)
+        self.descend(deadline, is_alone=self.number % 2 == 1)
         in_vain = 0
         while not self.is_done() and time.perf_counter() < deadline and in_vain < PATIENCE:
             if time.perf_counter() > began + ALONE * seconds:
                 self.best = min([self.best, *self.hear()], key=lambda it: it.cost.all)
             before = self.best
             self.plan = self.best
-            plans = self.good_plans() if self.draw.integers(2) else []
-            self.dive(LEAP, self.kept(self.draw.uniform(*LEAPS), plans), deadline, math.inf)
+            self.dive(LEAP, self.kept(self.draw.uniform(*LEAPS)), deadline, math.inf)
             self.descend(deadline)
             in_vain = in_vain + 1 if self.best is before else 0
         return self.best
@@ -106,21 +107,25 @@ class Search:
         """Whether no plan can cost a point less, or none of the pairings that were listed."""
         return self.is_proved or self.best.cost.all - self.relaxed.cost.all < NEXT
 
-    def descend(self, deadline: float) -> None:
-        """Dives from parts of the plan, each from the better one that the last one came to: at first by weights alone, and
-        then by other good plans as well. Where one integer program takes all columns that a better plan can have, that
-        goes before."""
+    def descend(self, deadline: float, is_alone: bool = True) -> None:
+        """Dives from parts of the plan, each from the better one that the last one came to: by weights alone, if that is
+        wanted first, and then by other good plans as well. Where one integer program takes all columns that a better plan
+        can have, that goes before."""
         if self.is_small():
-            self.dive(Steps(last=LAST, seconds=self.long), [], deadline, self.plan.cost.all)
-        self.descend_by(lambda part: self.kept(part, []), ALONE_VAIN, deadline)
+            self.dive(Steps(core=SMALL, seconds=self.long), [], deadline, self.plan.cost.all)
+        if is_alone:
+            self.descend_by(self.kept, ALONE_VAIN, deadline)
         self.ends = [*self.ends, self.plan][-ENDS:]
         self.tell()
         self.descend_by(lambda part: self.kept(part, self.good_plans() if self.draw.integers(2) else []), VAIN, deadline)
+        self.spent.add(self.plan.places)
 
     def descend_by(self, kept: Callable[[float], list[Pair]], vain: int, deadline: float) -> None:
         """Such dives, until so many in a row were in vain."""
-        steps, part, in_vain = Steps(last=LAST, seconds=self.long), PART, 0
-        while in_vain < vain and not self.is_done() and time.perf_counter() < deadline:
+        steps, part, in_vain = Steps(seconds=self.long), PART, 0
+        while not self.is_done() and time.perf_counter() < deadline:
+            if in_vain >= (AGAIN if self.plan.places in self.spent else vain):
+                break
             before, began = self.plan, time.perf_counter()
             self.dive(steps, kept(part), deadline, before.cost.all)
             took = time.perf_counter() - began
@@ -133,7 +138,7 @@ class Search:
     def is_small(self) -> bool:
         """Whether one integer program takes all columns that a better plan can have."""
         gap = self.plan.cost.all - self.relaxed.cost.all
-        return numpy.count_nonzero(self.problem.pool.reduced(self.relaxed.duals) <= gap) <= LAST
+        return numpy.count_nonzero(self.problem.pool.reduced(self.relaxed.duals) <= gap) <= SMALL
 
     def dive(self, steps: Steps, kept: list[Pair], deadline: float, below: float) -> None:
         """A dive from where these follow-ons are enforced, to a plan that costs less than that."""
