@@ -1,8 +1,8 @@
 """From the relaxation to the best plan that some time finds.
 
 A dive from the relaxation comes to a first plan. A descent betters it: it gives up a part of the plan's follow-ons all over
-the schedule and dives again from what is left. That has a relaxation below the plan, and few columns can be in a better
-one, so an integer program over these soon finds it or shows that there is none. Given up are those that fewest of the good
+the schedule and dives again from what is left. That has a relaxation just below the plan, and few columns can be in a
+better one, so an integer program over the cheapest of these soon finds it. Given up are those that fewest of the good
 plans have that this search and others came to, or those of least weight in the relaxation, where lots change the weights
 a little. Where a few dives in a row were in vain, a leap gives up more of the best plan and takes what it comes to, and a
 descent follows from there.
