@@ -42,7 +42,7 @@ ENDS = 4  # of descents, the last ones, that count as good plans
 ALONE_VAIN, VAIN = 4, 8  # dives of a descent in a row without a better plan, by weights alone and by other plans as well
 AGAIN = 3  # .. from a plan that a descent ended at before
 PATIENCE = 12  # leaps in a row without a better plan
-ALONE = 0.5  # of the time: later the plans of others count too
+ALONE = 0.5  # of the time: later leaps are from the best plan of all searches
 
 
 @dataclass
