@@ -14,6 +14,7 @@ mod copy;
 mod glance;
 mod held;
 mod join;
+mod long;
 mod room;
 mod stand;
 

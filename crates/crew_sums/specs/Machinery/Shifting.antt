@@ -20,7 +20,7 @@ both_ways false false f g = refl
 
 -- values that are at most each other are one
 module _ {V : Type 0} (cmp : V → V → Ordering) (le : V → V → Bool) (order : OrderLaws cmp le) where
-  one_value : (a b : V) → is_same le a b ≡ true → a ≡ b
+  pub one_value : (a b : V) → is_same le a b ≡ true → a ≡ b
   one_value a b h = let k = and_parts (le a b) (le b a) h in order.antisymmetric a b k.0 k.1
 
   are_same : (a b : V) → a ≡ b → is_same le a b ≡ true

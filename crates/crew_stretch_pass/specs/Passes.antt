@@ -1,0 +1,19 @@
+-- What passes over the departures of a base show.
+use Rattle.std.specs.Prelude.{◌≡◌, ℕ, ℤ, List, Some, slice_get}
+use Rattle.crew_answers.specs.Fronts.{IsFrontAt}
+use Rattle.crew_answers.specs.Shown.{shown_entries}
+use Rattle.crew_answers.specs.declared.value.LongValue.{LongValue}
+use Rattle.crew_flights.specs.Timetable.{Timetable}
+use Rattle.crew_pairing.specs.Duties.{flights_of}
+use Rattle.crew_pairing.specs.Pairings.{IsDuty}
+use Rattle.crew_pairing.specs.declared.duty.Duty.{Duty}
+use Rattle.crew_rules.specs.declared.settings.Settings.{Settings}
+-- what a resource counts, and what a pass of its shows
+pub use Rattle.crew_labelling.specs.Passes.{AreTold, BasePass, IsCoveredBy, entries, keyed_entries}
+pub use Rattle.crew_labelling.specs.Terms.{CountsDuties}
+
+-- each legal duty of a timetable has a rank, and the fronts show the duty's front there
+abbrev pub ShowsFronts : Settings → ℕ → Timetable → List ℕ → ℤ → BasePass LongValue → Type 0
+ShowsFronts s fdp_total t base price p = (d : Duty) → IsDuty s (flights_of t) d → (rank : ℕ)
+    × (slice_get p.net.duties rank ≡ Some d)
+    × IsFrontAt s fdp_total t base price d (shown_entries s d (keyed_entries p rank))

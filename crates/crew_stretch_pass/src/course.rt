@@ -1,0 +1,109 @@
+//! What the passes of all bases go by.
+ghost use Rattle.std.specs.Prelude.{◌≡◌, IfOk};
+ghost use Rattle.std.specs.Arc.{arc_value};
+ghost use Rattle.crew_net.specs.Positions.{ArePositions};
+ghost use Rattle.crew_stretch_pass.specs.Machinery.Passing.{IsCharted};
+
+use crew_net::{Net, Window, departure_positions};
+use std::alloc::{AllocError, Global};
+use std::marker::Model;
+use std::sync::Arc;
+
+/// What the passes of all bases go by: a network; by rank the position of each duty's departure, which
+/// is its place among all departures in order of report; and where windows are cut. It owns what it goes by, so it can be
+/// kept, and be shared by threads.
+///
+/// A contract sees the network.
+pub struct Course {
+    net: Arc<Net, Global>,
+    positions: Arc<Vec<u32>, Global>,
+    middles: Arc<Vec<usize>, Global>,
+}
+
+impl Drop for Course {
+    fn drop(self) {
+        let Self {
+            net: _,
+            positions: _,
+            middles: _,
+        } = self;
+    }
+}
+
+impl Model for Course {
+    ghost use Rattle.crew_net.specs.Nets as Spec;
+    ghost use Rattle.crew_net.specs.Positions.{ArePositions};
+    ghost use Rattle.crew_stretch_pass.specs.Machinery.Passing.{IsCharted};
+
+    ghost Value = { Spec.Net };
+
+    ghost view = { λ c. c.net.value };
+
+    ghost invariant = { λ c. IsCharted c.net.value
+        × ArePositions c.net.value c.positions.value.items };
+}
+
+// What a network has of its events, its duties and its settings.
+fn chart(net: &Net)
+    ensures { IsCharted net.now }
+{
+    let _ = net.departures();
+    let _ = net.arrivals();
+    let _ = net.by_report();
+    let _ = net.duty_count();
+    let _ = net.settings();
+}
+
+// Where the window of each departure is cut, by place: at the middle of the one before it where that
+// lies within it too, so that as few middles as may be do, and else at its end.
+fn middles_of(alloc: Global, net: &Net) -> Result<Vec<usize>, AllocError> {
+    let departures = net.departures().len();
+    let mut middles = Vec::with_capacity(alloc, departures)?;
+    let mut middle = 0;
+    for place in 0..departures {
+        let Window { from, end } = net.window(place);
+        if middle <= from || end < middle {
+            middle = end;
+        }
+        middles.push(middle)?;
+    }
+    Ok(middles)
+}
+
+impl Course {
+    /// The course over a network.
+    pub fn new(alloc: Global, net: Arc<Net, Global>) -> Result<Course, AllocError>
+        ensures { IfOk result (λ course. course ≡ arc_value net) }
+    {
+        chart(&net);
+        let positions = departure_positions(alloc, &net)?;
+        let positions = Arc::new(alloc, positions)?;
+        let middles = Arc::new(alloc, middles_of(alloc, &net)?)?;
+        Ok(Course {
+            net,
+            positions,
+            middles,
+        })
+    }
+
+    /// The network.
+    pub fn net(&self) -> &Arc<Net, Global>
+        ensures net { arc_value result.now ≡ self.now }
+        ensures charted { IsCharted self.now }
+    {
+        &self.net
+    }
+
+    /// The position of each duty's departure, by rank.
+    pub(crate) fn positions(&self) -> &Arc<Vec<u32>, Global>
+        ensures { ArePositions self.now (arc_value result.now).items }
+    {
+        &self.positions
+    }
+
+    /// The middle of the window of each departure, by place. No clause says more: whatever they are, a
+    /// pass is right.
+    pub(crate) fn middles(&self) -> &Arc<Vec<usize>, Global> {
+        &self.middles
+    }
+}

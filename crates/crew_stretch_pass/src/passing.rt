@@ -1,0 +1,136 @@
+//! One pass over the departures of a base's network.
+ghost use Rattle.std.specs.Prelude.{◌≡◌, IfOk};
+ghost use Rattle.std.specs.Arc.{arc_value};
+ghost use Rattle.crew_answers.specs.Schedules.{schedule_of};
+ghost use Rattle.crew_forgetful.specs.Sweeps.{network_of};
+ghost use Rattle.crew_labelling.specs.Labellings.{labelling_of};
+ghost use Rattle.crew_labelling.specs.Passes.{pass_of};
+ghost use Rattle.crew_net.specs.Positions.{ArePositions};
+ghost use Rattle.crew_pairing.specs.Events.{IsSound, arrival_of, departure_of};
+ghost use Rattle.crew_pairing.specs.declared.duty.Duty.{Duty};
+ghost use Rattle.crew_resource.specs.Members.{Member};
+ghost use Rattle.crew_stretch_pass.specs.Machinery.Cells.{AreCells};
+ghost use Rattle.crew_stretch_pass.specs.Machinery.Terms.{MayPass, terms};
+ghost use Rattle.crew_stretch_pass.specs.Passes.{CountsDuties, IsCoveredBy};
+
+use crate::base_fronts::BaseFronts;
+use crate::cells::Cells;
+use crate::course::Course;
+use crate::gathering::{fronts_of, see_departures, see_fronts, table_of};
+use crate::ground::Ground;
+use crate::pooled::Pooled;
+use crate::seen::Seen;
+use crate::workers::fill_by_threads;
+use crew_flights::Code;
+use crew_labelling::laws::resources_are_lawful;
+use crew_pairing::Duty;
+use crew_resource::Resource;
+use crew_room::Room;
+use std::alloc::{AllocError, Global};
+use std::sync::Arc;
+use std::thread::Threads;
+
+// What the pass of a base goes by, over a course and its positions.
+fn ground_over<'a, 'r, R: Pooled>(
+    course: &'a Course,
+    positions: &'a Arc<Vec<u32>, Global>,
+    resource: &'r R,
+    base: Code,
+) -> Ground<'a, 'r, R>
+    requires sound { (d : Duty) → Member course.now.duties d → IsSound d }
+    requires counts { CountsDuties R.same_sums (R.count_of resource.now) (R.most resource.now)
+        (R.fits resource.now) }
+    requires positions { ArePositions course.now (arc_value positions.now).items }
+    ensures may { MayPass
+        (terms R.Value.cmp R.Lapses.own R.Staged.own R.Forgets.own R.Resource.own result) }
+    ensures net { result.net.now ≡ course.now }
+    ensures positions { result.positions.now ≡ (arc_value positions.now).items }
+    ensures resource { result.resource.now ≡ resource.now }
+    ensures base { result.base ≡ base }
+{
+    resources_are_lawful::<R>();
+    Ground {
+        net: course.net(),
+        positions: positions.as_slice(),
+        middles: course.middles().as_slice(),
+        resource,
+        base,
+    }
+}
+
+// What a pass leaves, whose cells may be filled already: this thread sees all pools, and makes what
+// is wanting.
+fn passed<R: Pooled>(
+    alloc: Global,
+    course: &Course,
+    positions: &Arc<Vec<u32>, Global>,
+    ground: &Ground<R>,
+    cells: &Cells<R>,
+) -> Result<BaseFronts<R>, AllocError>
+    requires may { MayPass (terms R.Value.cmp R.Lapses.own R.Staged.own R.Forgets.own R.Resource.own ground.now) }
+    requires cells { AreCells ground.now cells.now }
+    requires net { ground.now.net.now ≡ course.now }
+    requires positions { (arc_value positions.now).items ≡ ground.now.positions.now }
+    ensures { IfOk result (λ passed. passed ≡ pass_of (terms R.Value.cmp R.Lapses.own R.Staged.own R.Forgets.own R.Resource.own ground.now) (labelling_of (terms R.Value.cmp R.Lapses.own R.Staged.own R.Forgets.own R.Resource.own ground.now))) }
+{
+    let mut seen = Seen::new(alloc, ground)?;
+    let mut room = Room::new(alloc);
+    see_departures(alloc, ground, cells, &mut seen, &mut room)?;
+    see_fronts(alloc, ground, cells, &mut seen, &mut room)?;
+    let table = table_of(alloc, ground, positions, &seen)?;
+    let fronts = fronts_of(alloc, ground, &seen)?;
+    let net = Arc::try_clone(course.net())?;
+    Ok(BaseFronts::new(net, table, fronts))
+}
+
+/// The pass of a base, over the network of a course: the pools of its departures, and the front of
+/// each duty.
+///
+/// Each departure's pool is made of the empty label, where the base is, and of the labels of all
+/// arrivals in its window; each front is what dominance leaves of the labels that board its duty.
+pub fn pass<R: Pooled>(
+    alloc: Global,
+    course: &Course,
+    resource: &R,
+    base: Code,
+) -> Result<BaseFronts<R>, AllocError>
+    requires sound { (d : Duty) → Member course.now.duties d → IsSound d }
+    requires counts { CountsDuties R.same_sums (R.count_of resource.now) (R.most resource.now)
+        (R.fits resource.now) }
+    ensures net { IfOk result (λ passed. passed.net ≡ course.now) }
+    ensures covered { IfOk result (IsCoveredBy R.below R.same_sums (network_of
+        (schedule_of course.now.settings base course.now.duties) departure_of arrival_of
+        (R.idle_of resource.now) (R.waited resource.now) (R.boards resource.now))) }
+{
+    let positions = course.positions();
+    let ground = ground_over(course, positions, resource, base);
+    let cells = Cells::new(alloc, &ground, positions)?;
+    passed(alloc, course, positions, &ground, &cells)
+}
+
+/// The same pass in at most so many threads, this one among them: each makes what it needs of what
+/// others have made, and what nobody has made yet.
+pub fn pass_by_threads<T: Threads + Sync, R: Pooled + Sync>(
+    rt: &T,
+    alloc: Global,
+    threads: usize,
+    course: &Course,
+    resource: &R,
+    base: Code,
+) -> Result<BaseFronts<R>, AllocError>
+where
+    R::Value: Send + Sync,
+    requires sound { (d : Duty) → Member course.now.duties d → IsSound d }
+    requires counts { CountsDuties R.same_sums (R.count_of resource.now) (R.most resource.now)
+        (R.fits resource.now) }
+    ensures net { IfOk result (λ passed. passed.net ≡ course.now) }
+    ensures covered { IfOk result (IsCoveredBy R.below R.same_sums (network_of
+        (schedule_of course.now.settings base course.now.duties) departure_of arrival_of
+        (R.idle_of resource.now) (R.waited resource.now) (R.boards resource.now))) }
+{
+    let positions = course.positions();
+    let ground = ground_over(course, positions, resource, base);
+    let cells = Cells::new(alloc, &ground, positions)?;
+    fill_by_threads(rt, alloc, threads, &ground, &cells)?;
+    passed(alloc, course, positions, &ground, &cells)
+}
