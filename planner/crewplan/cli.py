@@ -50,7 +50,7 @@ def parser() -> argparse.ArgumentParser:
     run = made.add_argument_group('the run')
     run.add_argument('--seconds', type=positive, metavar='N',
                      help='how long plans are looked for after the relaxation; the first dive runs to its end (20 and '
-                          'more: 48 at 500 flights, 250 at 1,000, 1,340 at 2,000)')
+                          'more: 51 at 500 flights, 270 at 1,000, 1,420 at 2,000)')
     run.add_argument('--relax-seconds', type=positive, default=math.inf, metavar='N',
                      help='ends the relaxation after so long, with the bound that it has (to its optimum)')
     run.add_argument('--gap', type=positive, default=0.0, metavar='PERCENT',
@@ -158,7 +158,7 @@ def ways_from(given: argparse.Namespace, flights: int) -> Ways:
 
 def seconds_for(given: argparse.Namespace, flights: int) -> float:
     """How long plans are looked for."""
-    return max(20.0, 48 * (flights / 500) ** 2.4) if given.seconds is None else given.seconds
+    return max(20.0, 51 * (flights / 500) ** 2.4) if given.seconds is None else given.seconds
 
 
 def whole_plan(start: Start, relaxed: Result, given: argparse.Namespace, progress: Progress) -> tuple[Whole, list[Took]]:
