@@ -48,12 +48,13 @@ module _ {R V : Type 0} (w : Terms V) (may : MayPass w) (seen : Seen R V Duty) (
       let same = pools-seen-at (labelling_of w).departures seen.departures is.departures position there in
       ap (λ (p : List (Label V)). nat_lt link.duty (length w.positions) && nat_lt link.place (length p)) same ∙ e
 
-  -- a link of a duty whose front is seen
-  front-leads : (rank place : ℕ) (o : Option Link) → o ≡ Some (record { duty = rank; place = place }) → Leads (leads_in w.positions (labelling_of w).departures) o → IsThere seen.fronts rank → Known o
+  -- a link of a duty whose departure is seen
+  front-leads : (rank place : ℕ) (o : Option Link) → o ≡ Some (record { duty = rank; place = place }) → Leads (leads_in w.positions (labelling_of w).departures) o
+      → IsThere seen.departures (get_or w.positions rank 0) → Known o
   front-leads rank place o e led there =
       let link : Link = record { duty = rank; place = place } in
       subst (λ (p : Option Link). Known p) (sym e)
-      (leads-there link (subst (λ (p : Option Link). Leads (leads_in w.positions (labelling_of w).departures) p) e led) (is.boarded rank there))
+      (leads-there link (subst (λ (p : Option Link). Leads (leads_in w.positions (labelling_of w).departures) p) e led) there)
 
   -- a duty that arrives there
   arriving : (place : ℕ) (rank : ℕ) (d : Duty) → slice_get w.net.duties rank ≡ Some d → slice_get w.net.arrivals place ≡ Some (arrival_of d) → ArrivesAt w.net place rank
@@ -66,7 +67,7 @@ module _ {R V : Type 0} (w : Terms V) (may : MayPass w) (seen : Seen R V Duty) (
   pub front-known : (rank : ℕ) → IsThere seen.fronts rank → (l : Label V) → Member (get_or (labelling_of w).fronts rank []) l → Known l.before
   front-known rank there l m =
       let k = front-links w may.terms may.lawful rank l m in
-      front-leads rank k.0 l.before k.1 (fronts-held w may.terms may.lawful rank l m).leading there
+      front-leads rank k.0 l.before k.1 (fronts-held w may.terms may.lawful rank l m).leading (is.boarded rank there)
 
   pub arrival-known : (place : ℕ) (x : Arrival) → slice_get w.net.arrivals place ≡ Some x → IsThere seen.arrivals place → (l : Label V) → Member (get_or (labelling_of w).arrivals place []) l → Known l.before
   arrival-known place x at there l m =
@@ -98,7 +99,7 @@ module _ {R V : Type 0} (w : Terms V) (may : MayPass w) (seen : Seen R V Duty) (
           let k = departures-link w may.terms may.lawful i g.0 g.1 l m link e in
           let at = member-place w.net.arrivals (arrival_of k.0) (p.arrives.every k.0 (member-got w.net.duties link.duty k.0 k.1)) in
           let waits : MayWaitAt w.net i at.0 = record { departure = g.0; arrival = arrival_of k.0; reports = g.1; releases = at.1; may = k.2 } in
-          leads-there link led (is.boarded link.duty (is.gathered at.0 link.duty (is.waited i at.0 there waits) (arriving at.0 link.duty k.0 k.1 at.1)))
+          leads-there link led (is.gathered at.0 link.duty (is.waited i at.0 there waits) (arriving at.0 link.duty k.0 k.1 at.1))
 
   -- walks can be read from what is seen
   pub all-sighted : IsSighted (sighted w seen.departures)

@@ -1,4 +1,5 @@
 pub mod Passes
+pub mod Plain
 pub mod Machinery
 -- of crates below this one, which those above cite through it
 pub use Rattle.crew_answers.specs as crew_answers

@@ -4,3 +4,5 @@ pub mod Passing
 pub mod Shelves
 pub mod Seen
 pub mod Cells
+pub mod Plain
+pub mod Stretches

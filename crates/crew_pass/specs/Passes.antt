@@ -13,7 +13,7 @@ pub use Rattle.crew_labelling.specs.Passes.{AreTold, BasePass, IsCoveredBy, entr
 pub use Rattle.crew_labelling.specs.Terms.{CountsDuties}
 
 -- each legal duty of a timetable has a rank, and the fronts show the duty's front there
-abbrev pub ShowsFronts : Settings → ℕ → Timetable → List ℕ → ℤ → BasePass LongValue → Type 0
-ShowsFronts s fdp_total t base price p = (d : Duty) → IsDuty s (flights_of t) d → (rank : ℕ)
+abbrev pub ShowsFronts : Settings → Timetable → List ℕ → ℤ → BasePass LongValue → Type 0
+ShowsFronts s t base price p = (d : Duty) → IsDuty s (flights_of t) d → (rank : ℕ)
     × (slice_get p.net.duties rank ≡ Some d)
-    × IsFrontAt s fdp_total t base price d (shown_entries s d (keyed_entries p rank))
+    × IsFrontAt s t base price d (shown_entries s d (keyed_entries p rank))

@@ -2,13 +2,15 @@
 //!
 //! In each cell one pool is right, the one that the labelling of the network has there
 //! (`crew_labelling`). So nothing depends on which thread made it.
-ghost use Rattle.std.specs.Prelude.{◌≡◌, [], IfOk, get_or};
+ghost use Rattle.std.specs.Prelude.{◌≡◌, ◌+◌, [], IfOk, get_or};
 ghost use Rattle.std.specs.Arc.{arc_value};
 ghost use Rattle.crew_labelling.specs.Labellings.{labelling_of};
 ghost use Rattle.crew_pass.specs.Machinery.Cells.{AreCells};
+ghost use Rattle.crew_pass.specs.Machinery.Stretches.{IsStretch};
 ghost use Rattle.crew_pass.specs.Machinery.Terms.{basis_terms};
 
 use crate::ground::{Basis, Ground};
+use crate::stretch::Stretch;
 use crew_cells::{CellRule, OnceCells};
 use crew_forgetful::Lapses;
 use crew_label::Pool;
@@ -52,8 +54,29 @@ impl<R: Lapses<Duty>> CellRule<Basis<R>, Arc<Pool<R>, Global>> for Fronts {
         rank [] };
 }
 
+/// The stretches down to places from their middles.
+pub(crate) struct Downs;
+
+/// The stretches up to places from their middles.
+pub(crate) struct Ups;
+
+impl<R: Lapses<Duty>> CellRule<Basis<R>, Arc<Stretch<R>, Global>> for Downs {
+    ghost holds = { λ over place stretch. IsStretch
+        (basis_terms R.Value.cmp R.Lapses.own R.Staged.own R.Forgets.own R.Resource.own over)
+        place (arc_value stretch).middle (arc_value stretch).pool };
+}
+
+impl<R: Lapses<Duty>> CellRule<Basis<R>, Arc<Stretch<R>, Global>> for Ups {
+    ghost holds = { λ over place stretch. IsStretch
+        (basis_terms R.Value.cmp R.Lapses.own R.Staged.own R.Forgets.own R.Resource.own over)
+        (arc_value stretch).middle (place + 1) (arc_value stretch).pool };
+}
+
 // Cells of pools over what a pass goes by.
 type PoolCells<R, K> = OnceCells<Basis<R>, Arc<Pool<R>, Global>, K>;
+
+// Cells of stretches.
+type StretchCells<R, K> = OnceCells<Basis<R>, Arc<Stretch<R>, Global>, K>;
 
 /// The cells of a pass.
 #[derive(Drop)]
@@ -62,6 +85,8 @@ pub(crate) struct Cells<R: Lapses<Duty>> {
     pub(crate) arrivals: PoolCells<R, Arrivals>,
     pub(crate) rested: PoolCells<R, Rests>,
     pub(crate) fronts: PoolCells<R, Fronts>,
+    pub(crate) downs: StretchCells<R, Downs>,
+    pub(crate) ups: StretchCells<R, Ups>,
 }
 
 impl<R: Lapses<Duty>> Cells<R> {
@@ -83,6 +108,8 @@ impl<R: Lapses<Duty>> Cells<R> {
             arrivals: OnceCells::new(alloc, &basis, places)?,
             rested: OnceCells::new(alloc, &basis, places)?,
             fronts: OnceCells::new(alloc, &basis, net.duty_count())?,
+            downs: OnceCells::new(alloc, &basis, places)?,
+            ups: OnceCells::new(alloc, &basis, places)?,
         })
     }
 }

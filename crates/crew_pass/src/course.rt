@@ -4,19 +4,20 @@ ghost use Rattle.std.specs.Arc.{arc_value};
 ghost use Rattle.crew_net.specs.Positions.{ArePositions};
 ghost use Rattle.crew_pass.specs.Machinery.Passing.{IsCharted};
 
-use crew_net::{Net, departure_positions};
+use crew_net::{Net, Window, departure_positions};
 use std::alloc::{AllocError, Global};
 use std::marker::Model;
 use std::sync::Arc;
 
-/// What the passes of all bases go by: a network, and by rank the position of each duty's departure,
-/// which is its place among all departures in order of report. It owns what it goes by, so it can be
+/// What the passes of all bases go by: a network; by rank the position of each duty's departure, which
+/// is its place among all departures in order of report; and where windows are cut. It owns what it goes by, so it can be
 /// kept, and be shared by threads.
 ///
 /// A contract sees the network.
 pub struct Course {
     net: Arc<Net, Global>,
     positions: Arc<Vec<u32>, Global>,
+    middles: Arc<Vec<usize>, Global>,
 }
 
 impl Drop for Course {
@@ -24,6 +25,7 @@ impl Drop for Course {
         let Self {
             net: _,
             positions: _,
+            middles: _,
         } = self;
     }
 }
@@ -52,6 +54,22 @@ fn chart(net: &Net)
     let _ = net.settings();
 }
 
+// Where the window of each departure is cut, by place: at the middle of the one before it where that
+// lies within it too, so that as few middles as may be do, and else at its end.
+fn middles_of(alloc: Global, net: &Net) -> Result<Vec<usize>, AllocError> {
+    let departures = net.departures().len();
+    let mut middles = Vec::with_capacity(alloc, departures)?;
+    let mut middle = 0;
+    for place in 0..departures {
+        let Window { from, end } = net.window(place);
+        if middle <= from || end < middle {
+            middle = end;
+        }
+        middles.push(middle)?;
+    }
+    Ok(middles)
+}
+
 impl Course {
     /// The course over a network.
     pub fn new(alloc: Global, net: Arc<Net, Global>) -> Result<Course, AllocError>
@@ -60,7 +78,12 @@ impl Course {
         chart(&net);
         let positions = departure_positions(alloc, &net)?;
         let positions = Arc::new(alloc, positions)?;
-        Ok(Course { net, positions })
+        let middles = Arc::new(alloc, middles_of(alloc, &net)?)?;
+        Ok(Course {
+            net,
+            positions,
+            middles,
+        })
     }
 
     /// The network.
@@ -76,5 +99,11 @@ impl Course {
         ensures { ArePositions self.now (arc_value result.now).items }
     {
         &self.positions
+    }
+
+    /// The middle of the window of each departure, by place. No clause says more: whatever they are, a
+    /// pass is right.
+    pub(crate) fn middles(&self) -> &Arc<Vec<usize>, Global> {
+        &self.middles
     }
 }

@@ -9,20 +9,21 @@ ghost use Rattle.crew_pass.specs.Machinery.Terms.{MayPass, labels_table, terms};
 
 use crate::cells::Cells;
 use crate::ground::Ground;
+use crate::pooled::Pooled;
 use crate::seeing::{see_departure, see_front};
 use crate::seen::Seen;
-use crew_forgetful::Lapses;
 use crew_label::{Pool, Table};
-use crew_pairing::Duty;
+use crew_room::Room;
 use std::alloc::{AllocError, Global};
 use std::sync::Arc;
 
 /// Sees all departures, in order of report.
-pub(crate) fn see_departures<R: Lapses<Duty>>(
+pub(crate) fn see_departures<R: Pooled>(
     alloc: Global,
     ground: &Ground<R>,
     cells: &Cells<R>,
     seen: &mut Seen<R>,
+    room: &mut Room<R>,
 ) -> Result<(), AllocError>
     requires may { MayPass (terms R.Value.cmp R.Lapses.own R.Staged.own R.Forgets.own R.Resource.own ground.now) }
     requires cells { AreCells ground.now cells.now }
@@ -33,17 +34,18 @@ pub(crate) fn see_departures<R: Lapses<Duty>>(
         → IsThere seen.new.departures position) }
 {
     for position in 0..ground.net.by_report().len() {
-        see_departure(alloc, ground, cells, seen, position)?;
+        see_departure(alloc, ground, cells, seen, room, position)?;
     }
     Ok(())
 }
 
 /// Sees the fronts of all duties.
-pub(crate) fn see_fronts<R: Lapses<Duty>>(
+pub(crate) fn see_fronts<R: Pooled>(
     alloc: Global,
     ground: &Ground<R>,
     cells: &Cells<R>,
     seen: &mut Seen<R>,
+    room: &mut Room<R>,
 ) -> Result<(), AllocError>
     requires may { MayPass (terms R.Value.cmp R.Lapses.own R.Staged.own R.Forgets.own R.Resource.own ground.now) }
     requires cells { AreCells ground.now cells.now }
@@ -54,13 +56,13 @@ pub(crate) fn see_fronts<R: Lapses<Duty>>(
         → IsThere seen.new.fronts rank) }
 {
     for rank in 0..ground.net.duty_count() {
-        see_front(alloc, ground, cells, seen, rank as u32)?;
+        see_front(alloc, ground, cells, seen, room, rank as u32)?;
     }
     Ok(())
 }
 
 /// The table of the departures, all of which have been seen.
-pub(crate) fn table_of<R: Lapses<Duty>>(
+pub(crate) fn table_of<R: Pooled>(
     alloc: Global,
     ground: &Ground<R>,
     positions: &Arc<Vec<u32>, Global>,
@@ -84,7 +86,7 @@ pub(crate) fn table_of<R: Lapses<Duty>>(
 }
 
 /// The fronts of the duties by rank, all of which have been seen.
-pub(crate) fn fronts_of<R: Lapses<Duty>>(
+pub(crate) fn fronts_of<R: Pooled>(
     alloc: Global,
     ground: &Ground<R>,
     seen: &Seen<R>,

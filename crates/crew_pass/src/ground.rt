@@ -9,12 +9,13 @@ use crew_flights::Code;
 use crew_net::Net;
 use std::snapshot::Snapshot;
 
-/// What a pass of one base goes by: a network, by rank the position of each duty's departure, the
-/// resource of the base's lists, and the base.
+/// What a pass of one base goes by: a network, by rank the position of each duty's departure, by
+/// place the middle of each departure's window, the resource of the base's lists, and the base.
 #[derive(Drop)]
 pub(crate) struct Ground<'a, 'r, R> {
     pub(crate) net: &'a Net,
     pub(crate) positions: &'a [u32],
+    pub(crate) middles: &'a [usize],
     pub(crate) resource: &'r R,
     pub(crate) base: Code,
 }

@@ -1,6 +1,5 @@
 //! Laws over the definitions alone.
 ghost use Rattle.std.specs.Prelude.{◌≡◌, ℕ, ℤ, List};
-ghost use Rattle.crew_answers.specs.Ranges.{IsInRange};
 ghost use Rattle.crew_answers.specs.Schedules.{IsDated, schedule_of};
 ghost use Rattle.crew_answers.specs.Shown.{long_resource};
 ghost use Rattle.crew_answers.specs.declared.resource.LongResource.{LongResource};
@@ -11,6 +10,7 @@ ghost use Rattle.crew_forgetful.specs.Sweeps.{network_of};
 ghost use Rattle.crew_net.specs.Nets.{Net};
 ghost use Rattle.crew_pairing.specs.Duties.{AreDuties};
 ghost use Rattle.crew_pairing.specs.Events.{arrival_of, departure_of};
+ghost use Rattle.crew_rules.specs.Settings.{IsChecked};
 ghost use Rattle.crew_rules.specs.declared.settings.Settings.{Settings};
 ghost use Rattle.crew_pass.specs.Passes.{BasePass, CountsDuties, IsCoveredBy, ShowsFronts};
 
@@ -22,22 +22,22 @@ use crew_resource::{Resource, Staged};
 /// The resource of pairings of up to 240 hours counts their duties; and a covered pass with it, over
 /// a timetable's legal duties, shows the front of each.
 pub fn long_passes_show_the_fronts()
-    ensures counts { (s : Settings) (fdp_total : ℕ) (price : ℤ) (r : LongResource)
-        → r ≡ long_resource s fdp_total price → IsInRange s fdp_total
+    ensures counts { (s : Settings) (price : ℤ) (r : LongResource)
+        → r ≡ long_resource s price → IsChecked s
         → TimetableSpec.IsBasePrice price
         → CountsDuties ⟦<LongResource as Forgets<Duty>>⟧.same_sums
         (⟦<LongResource as Staged<Duty>>⟧.count_of r) (⟦<LongResource as Staged<Duty>>⟧.most r)
         (⟦<LongResource as Staged<Duty>>⟧.fits r) }
-    ensures fronts { (s : Settings) (fdp_total : ℕ) (t : Timetable) (base : List ℕ) (price : ℤ)
+    ensures fronts { (s : Settings) (t : Timetable) (base : List ℕ) (price : ℤ)
         (r : LongResource) (net : Net) (p : BasePass LongValue)
-        → r ≡ long_resource s fdp_total price → p.net ≡ net → IsInRange s fdp_total
+        → r ≡ long_resource s price → p.net ≡ net → IsChecked s
         → TimetableSpec.IsSound t → IsDated t → AreDuties s t net.duties
         → net.settings ≡ record s { away_cap = net.settings.away_cap }
         → IsCoveredBy ⟦<LongResource as Resource>⟧.below
         ⟦<LongResource as Forgets<Duty>>⟧.same_sums (network_of
         (schedule_of net.settings base net.duties) departure_of arrival_of
         (⟦<LongResource as Staged<Duty>>⟧.idle_of r) (⟦<LongResource as Staged<Duty>>⟧.waited r)
-        (⟦<LongResource as Staged<Duty>>⟧.boards r)) p → ShowsFronts s fdp_total t base price p }
+        (⟦<LongResource as Staged<Duty>>⟧.boards r)) p → ShowsFronts s t base price p }
 {
     crew_answers::laws::sums_fit();
     crew_answers::laws::legal_duties_are_a_schedule();

@@ -12,7 +12,8 @@
 //! (`crew_forgetful`), whatever the resource is, so that the fronts are those of all legal lists of
 //! duties; and that with the resource of pairings of up to 240 hours (`crew_answers`) they show the
 //! front of each legal duty (`long_fronts`, `laws`). What the passes of several bases share is a
-//! `Course`. Want of memory is all that ends a pass early.
+//! `Course`. Want of memory is all that ends a pass early. Where nothing is ever forgotten (`Pooled`)
+//! windows are stretches, each made once, in a room.
 #![tactic(auto)]
 
 mod arrivals;
@@ -22,13 +23,18 @@ mod cells;
 mod course;
 mod gathering;
 mod ground;
+mod joining;
 pub mod laws;
 mod long;
 mod passing;
+mod pooled;
 mod seeing;
 mod seen;
 mod shelf;
 mod sight;
+mod standing;
+mod stretch;
+mod stretching;
 mod taking;
 mod waits;
 mod workers;
@@ -40,3 +46,4 @@ pub use crew_answers;
 pub use crew_answers::crew_history;
 pub use long::long_fronts;
 pub use passing::{pass, pass_by_threads};
+pub use pooled::Pooled;

@@ -1,12 +1,12 @@
 //! The fronts of pairings of up to 240 hours.
 ghost use Rattle.std.specs.Prelude.{◌≡◌, IfOk};
-ghost use Rattle.crew_answers.specs.Ranges.{IsInRange};
 ghost use Rattle.crew_answers.specs.Schedules.{IsDated};
 ghost use Rattle.crew_flights.specs.Timetable as TimetableSpec;
 ghost use Rattle.crew_pairing.specs.Duties.{AreDuties};
 ghost use Rattle.crew_pairing.specs.Events.{IsSound};
 ghost use Rattle.crew_pairing.specs.declared.duty.Duty.{Duty};
 ghost use Rattle.crew_resource.specs.Members.{Member};
+ghost use Rattle.crew_rules.specs.Settings.{IsChecked};
 ghost use Rattle.crew_pass.specs.Passes.{ShowsFronts};
 
 use crate::base_fronts::BaseFronts;
@@ -28,22 +28,21 @@ pub fn long_fronts(
     alloc: Global,
     course: &Course,
     settings: &Settings,
-    fdp_total: u32,
     base: Code,
     price: i64,
 ) -> Result<BaseFronts<LongResource>, AllocError>
     requires sound { (d : Duty) → Member course.now.duties d → IsSound d }
-    requires range { IsInRange settings.now fdp_total }
+    requires checked { IsChecked settings.now }
     requires price { TimetableSpec.IsBasePrice price }
     requires settings { course.now.settings
         ≡ record settings.now { away_cap = course.now.settings.away_cap } }
     ensures net { IfOk result (λ fronts. fronts.net ≡ course.now) }
     ensures right { IfOk result (λ fronts. (t : TimetableSpec.Timetable) → TimetableSpec.IsSound t
         → IsDated t → AreDuties settings.now t course.now.duties
-        → ShowsFronts settings.now fdp_total t base price fronts) }
+        → ShowsFronts settings.now t base price fronts) }
 {
     long_passes_show_the_fronts();
-    let sums = VectorResource::under(&settings_of_sums(settings, fdp_total), price);
+    let sums = VectorResource::under(&settings_of_sums(settings), price);
     let resource = LongResource::new(sums, settings);
     let fronts = pass(alloc, course, &resource, base)?;
     Ok(fronts)

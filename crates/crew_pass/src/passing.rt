@@ -18,19 +18,20 @@ use crate::cells::Cells;
 use crate::course::Course;
 use crate::gathering::{fronts_of, see_departures, see_fronts, table_of};
 use crate::ground::Ground;
+use crate::pooled::Pooled;
 use crate::seen::Seen;
 use crate::workers::fill_by_threads;
 use crew_flights::Code;
-use crew_forgetful::Lapses;
 use crew_labelling::laws::resources_are_lawful;
 use crew_pairing::Duty;
 use crew_resource::Resource;
+use crew_room::Room;
 use std::alloc::{AllocError, Global};
 use std::sync::Arc;
 use std::thread::Threads;
 
 // What the pass of a base goes by, over a course and its positions.
-fn ground_over<'a, 'r, R: Lapses<Duty>>(
+fn ground_over<'a, 'r, R: Pooled>(
     course: &'a Course,
     positions: &'a Arc<Vec<u32>, Global>,
     resource: &'r R,
@@ -51,6 +52,7 @@ fn ground_over<'a, 'r, R: Lapses<Duty>>(
     Ground {
         net: course.net(),
         positions: positions.as_slice(),
+        middles: course.middles().as_slice(),
         resource,
         base,
     }
@@ -58,7 +60,7 @@ fn ground_over<'a, 'r, R: Lapses<Duty>>(
 
 // What a pass leaves, whose cells may be filled already: this thread sees all pools, and makes what
 // is wanting.
-fn passed<R: Lapses<Duty>>(
+fn passed<R: Pooled>(
     alloc: Global,
     course: &Course,
     positions: &Arc<Vec<u32>, Global>,
@@ -72,8 +74,9 @@ fn passed<R: Lapses<Duty>>(
     ensures { IfOk result (λ passed. passed ≡ pass_of (terms R.Value.cmp R.Lapses.own R.Staged.own R.Forgets.own R.Resource.own ground.now) (labelling_of (terms R.Value.cmp R.Lapses.own R.Staged.own R.Forgets.own R.Resource.own ground.now))) }
 {
     let mut seen = Seen::new(alloc, ground)?;
-    see_departures(alloc, ground, cells, &mut seen)?;
-    see_fronts(alloc, ground, cells, &mut seen)?;
+    let mut room = Room::new(alloc);
+    see_departures(alloc, ground, cells, &mut seen, &mut room)?;
+    see_fronts(alloc, ground, cells, &mut seen, &mut room)?;
     let table = table_of(alloc, ground, positions, &seen)?;
     let fronts = fronts_of(alloc, ground, &seen)?;
     let net = Arc::try_clone(course.net())?;
@@ -85,7 +88,7 @@ fn passed<R: Lapses<Duty>>(
 ///
 /// Each departure's pool is made of the empty label, where the base is, and of the labels of all
 /// arrivals in its window; each front is what dominance leaves of the labels that board its duty.
-pub fn pass<R: Lapses<Duty>>(
+pub fn pass<R: Pooled>(
     alloc: Global,
     course: &Course,
     resource: &R,
@@ -107,7 +110,7 @@ pub fn pass<R: Lapses<Duty>>(
 
 /// The same pass in at most so many threads, this one among them: each makes what it needs of what
 /// others have made, and what nobody has made yet.
-pub fn pass_by_threads<T: Threads + Sync, R: Lapses<Duty> + Sync>(
+pub fn pass_by_threads<T: Threads + Sync, R: Pooled + Sync>(
     rt: &T,
     alloc: Global,
     threads: usize,

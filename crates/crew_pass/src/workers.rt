@@ -1,6 +1,6 @@
 //! The threads of a pass.
 //!
-//! Each takes the next position that nobody has taken yet, and sees the departure there; and when all
+//! Each has a room of its own. It takes the next position that nobody has taken yet, and sees the departure there; and when all
 //! are taken, the next duty, and sees its front, since some end where nobody waits. Another thread
 //! may be making what it needs just then: it makes that too, and who is quicker fills the cell.
 ghost use Rattle.std.specs.Prelude.{◌≡◌, OnOk, length};
@@ -10,20 +10,21 @@ ghost use Rattle.crew_pass.specs.Machinery.Terms.{MayPass, terms};
 
 use crate::cells::Cells;
 use crate::ground::Ground;
+use crate::pooled::Pooled;
 use crate::seeing::{see_departure, see_front};
 use crate::seen::Seen;
 use crew_claims::{Claims, map_jobs};
-use crew_forgetful::Lapses;
-use crew_pairing::Duty;
+use crew_room::Room;
 use std::alloc::{AllocError, Global};
 use std::thread::Threads;
 
 // Sees the departures whose positions it takes.
-fn see_taken_departures<R: Lapses<Duty>>(
+fn see_taken_departures<R: Pooled>(
     alloc: Global,
     ground: &Ground<R>,
     cells: &Cells<R>,
     seen: &mut Seen<R>,
+    room: &mut Room<R>,
     positions: &Claims,
 ) -> Result<(), AllocError>
     requires may { MayPass (terms R.Value.cmp R.Lapses.own R.Staged.own R.Forgets.own R.Resource.own ground.now) }
@@ -36,17 +37,18 @@ fn see_taken_departures<R: Lapses<Duty>>(
         let Some(position) = positions.next() else {
             break;
         };
-        see_departure(alloc, ground, cells, seen, position)?;
+        see_departure(alloc, ground, cells, seen, room, position)?;
     }
     Ok(())
 }
 
 // Sees the fronts of the duties whose ranks it takes.
-fn see_taken_fronts<R: Lapses<Duty>>(
+fn see_taken_fronts<R: Pooled>(
     alloc: Global,
     ground: &Ground<R>,
     cells: &Cells<R>,
     seen: &mut Seen<R>,
+    room: &mut Room<R>,
     ranks: &Claims,
 ) -> Result<(), AllocError>
     requires may { MayPass (terms R.Value.cmp R.Lapses.own R.Staged.own R.Forgets.own R.Resource.own ground.now) }
@@ -59,13 +61,13 @@ fn see_taken_fronts<R: Lapses<Duty>>(
         let Some(rank) = ranks.next() else {
             break;
         };
-        see_front(alloc, ground, cells, seen, rank as u32)?;
+        see_front(alloc, ground, cells, seen, room, rank as u32)?;
     }
     Ok(())
 }
 
 // What one thread does.
-fn work<R: Lapses<Duty>>(
+fn work<R: Pooled>(
     alloc: Global,
     ground: &Ground<R>,
     cells: &Cells<R>,
@@ -78,14 +80,15 @@ fn work<R: Lapses<Duty>>(
     requires ranks { ranks.now ≡ length ground.now.net.now.duties }
 {
     let mut seen = Seen::new(alloc, ground)?;
-    see_taken_departures(alloc, ground, cells, &mut seen, positions)?;
-    see_taken_fronts(alloc, ground, cells, &mut seen, ranks)
+    let mut room = Room::new(alloc);
+    see_taken_departures(alloc, ground, cells, &mut seen, &mut room, positions)?;
+    see_taken_fronts(alloc, ground, cells, &mut seen, &mut room, ranks)
 }
 
 /// Fills the cells of a pass by so many threads, this one among them.
 ///
 /// No contract says that any cell is filled: who reads an empty one makes what is wanting.
-pub(crate) fn fill_by_threads<T: Threads + Sync, R: Lapses<Duty> + Sync>(
+pub(crate) fn fill_by_threads<T: Threads + Sync, R: Pooled + Sync>(
     rt: &T,
     alloc: Global,
     threads: usize,

@@ -6,7 +6,7 @@ use Rattle.crew_pairing.specs.Duties.{flights_of}
 use Rattle.crew_pairing.specs.Pairings.{IsDuty}
 use Rattle.crew_pairing.specs.declared.duty.Duty.{Duty}
 use Rattle.crew_pairing.specs.declared.vector.PairingVector.{PairingVector}
-use Rattle.crew_stretch_pass.specs.Passes.{BasePass, keyed_entries}
+use Rattle.crew_pass.specs.Passes.{BasePass, keyed_entries}
 use Rattle.crew_rules.specs.declared.settings.Settings.{Settings}
 use Rattle.crew_vector.specs.Fronts.{IsFrontAt}
 

@@ -12,8 +12,8 @@ ghost use Rattle.crew_sums.specs.Passes.{ShowsFronts};
 use crate::SumsResource;
 use crate::laws::sums_passes_show_the_fronts;
 use crew_flights::Code;
+use crew_pass::{BaseFronts, Course, pass, pass_by_threads};
 use crew_rules::Settings;
-use crew_stretch_pass::{BaseFronts, Course, pass, pass_by_threads};
 use std::alloc::{AllocError, Global};
 use std::thread::Threads;
 

@@ -5,9 +5,9 @@ ghost use Rattle.crew_sums.specs.Machinery.Plain.{sums_plain};
 
 use crate::SumsResource;
 use crew_anchor::AnchoredVector;
+use crew_pass::Pooled;
 use crew_pool::Marked;
 use crew_room::Glanced;
-use crew_stretch_pass::Pooled;
 
 impl Glanced for SumsResource {
     ghost glance_of = { marks_of };

@@ -13,7 +13,7 @@ ghost use Rattle.crew_pairing.specs.Legs.{Leg};
 ghost use Rattle.crew_pairing.specs.Pairings.{IsDuty};
 ghost use Rattle.crew_pairing.specs.declared.duty.Duty.{Duty};
 ghost use Rattle.crew_pairing.specs.declared.vector.PairingVector.{PairingVector};
-ghost use Rattle.crew_stretch_pass.specs.Passes.{BasePass, CountsDuties, IsCoveredBy};
+ghost use Rattle.crew_pass.specs.Passes.{BasePass, CountsDuties, IsCoveredBy};
 ghost use Rattle.crew_resource.specs.Members.{Member};
 ghost use Rattle.crew_rules.specs.Settings.{IsChecked};
 ghost use Rattle.crew_rules.specs.declared.settings.Settings.{Settings};

@@ -18,3 +18,5 @@ pub record AreCells {R V : Type 0} (over : Ground R) (cells : Cells R V) : Type 
   pub arrivals : AreCellsOver over cells.arrivals (length over.net.now.arrivals)
   pub rested : AreCellsOver over cells.rested (length over.net.now.arrivals)
   pub fronts : AreCellsOver over cells.fronts (length over.net.now.duties)
+  pub downs : AreCellsOver over cells.downs (length over.net.now.arrivals)
+  pub ups : AreCellsOver over cells.ups (length over.net.now.arrivals)

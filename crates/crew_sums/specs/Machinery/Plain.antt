@@ -1,9 +1,9 @@
 -- Seven sums are plain.
-use Rattle.std.specs.Prelude.{◌≡◌, true, false}
+use Rattle.std.specs.Prelude.{false}
 use Rattle.std.proofs.Common.{refl}
 use Rattle.crew_forgetful.specs.Machinery.Sums.{is_same}
 use Rattle.crew_pairing.specs.declared.vector.PairingVector.{PairingVector}
-use Rattle.crew_stretch_pass.specs.Plain.{IsPlain}
+use Rattle.crew_pass.specs.Plain.{IsPlain}
 use Rattle.crew_vector.specs.Dominance.{is_at_most}
 use Rattle.crew_vector.specs.Machinery.Named.{named_order}
 use Rattle.crew_sums.specs.Machinery.Shifting.{one_value}

@@ -1,6 +1,6 @@
 use Rattle.std.proofs.Common.{◌≡◌, ◌<◌, ℕ, List, get_or, length, sym, subst, arith}
 use Rattle.std.proofs.lemmas.Result.{on_ok_weaker}
-use Rattle.crew_labelling.proofs.Right.{arrivals-long, departures-long, fronts-long}
+use Rattle.crew_labelling.proofs.Right.{arrivals-long, departures-long}
 use Rattle.crew_net.specs.Events.{arrives_at}
 use Rattle.crew_net.specs.Ranks.{ranks_where}
 use Rattle.crew_net.specs.Positions.{in_order}
@@ -28,7 +28,7 @@ see_departure-has-requires g t c =
     omega (arith, within, one, two)
 
 pub see_departure-loop-place-init : goal.see_departure-loop-place-init
-see_departure-loop-place-init g t c = (c.requires.seen, stay c.args.seen.now, λ k a b. absurd (omega (arith, a, b)), λ k a b. absurd (omega (arith, a, b)))
+see_departure-loop-place-init g t c = (c.requires.seen, stay c.args.seen.now, λ k a b. absurd (omega (arith, a, b)), λ other k a b. absurd (omega (arith, a, b)))
 
 pub see_departure-see_arrival-requires : goal.see_departure-see_arrival-requires
 see_departure-see_arrival-requires g t c κs within =
@@ -59,7 +59,7 @@ see_departure-loop-place-preserved g t c =
       is.seen,
       stay-then c.args.seen.now c.loop-place.seen now so.1 is.stays,
       one-step (λ (n : ℕ). IsThere now.arrivals n) c.window_at-window.result.from place (λ n a b. is.stays.arrivals n (so.2 n a b)) is.there,
-      one-step (λ (n : ℕ). IsThere now.rested n) c.window_at-window.result.from place (λ n a b. is.stays.rested n (so.3 n a b)) is.rested,
+      λ other. one-step (λ (n : ℕ). IsThere now.rested n) c.window_at-window.result.from place (λ n a b. is.stays.rested n (so.3 other n a b)) (is.rested other),
     )
 
 pub see_departure-take_departure-requires-clause-seen : goal.see_departure-take_departure-requires-clause-seen
@@ -74,12 +74,12 @@ see_departure-take_departure-requires-clause-there g t c place waits =
     c.loop-place.invariant.2 place inside.0 (omega (arith, end, test))
 
 pub see_departure-take_departure-requires-clause-rested : goal.see_departure-take_departure-requires-clause-rested
-see_departure-take_departure-requires-clause-rested g t c place waits =
+see_departure-take_departure-requires-clause-rested g t c other place waits =
     let window = c.window_at-window.ensures waits.departure waits.reports in
     let inside = (window.exact place waits.arrival waits.releases).0 waits.may in
     let end = inside.1 in
     let test = c.loop-place-test.false in
-    c.loop-place.invariant.3 place inside.0 (omega (arith, end, test))
+    c.loop-place.invariant.3 other place inside.0 (omega (arith, end, test))
 
 pub see_departure-returns-clause-stays : goal.see_departure-returns-clause-stays
 see_departure-returns-clause-stays g t c =
@@ -95,68 +95,76 @@ see_arrival-has-requires g t c =
 pub see_arrival-loop-rank-init : goal.see_arrival-loop-rank-init
 see_arrival-loop-rank-init g t c = (c.requires.seen, stay c.args.seen.now, λ k a b. absurd (omega (arith, b)))
 
-pub see_arrival-see_front-requires : goal.see_arrival-see_front-requires
-see_arrival-see_front-requires g t c κs within =
+pub see_arrival-bounds-ground-rank : goal.see_arrival-bounds-ground-rank
+see_arrival-bounds-ground-rank g t c =
     let net = c.args.ground.now.net.now in
+    let ranks = c.arriving-rank-items.result.now in
+    let rank = get_or ranks c.loop-rank.rank-index 0 in
+    let x = stands net.arrivals c.args.place c.requires.place in
+    let among = subst (λ (rs : List ℕ). Member rs rank) (c.arriving-rank-items.ensures x.0 x.1) (Member-get ranks c.loop-rank.rank-index 0 c.loop-rank-test.true) in
+    let inside = rank-within x.0 net.duties rank among in
+    let long = c.requires.may.terms.passable.are_positions.long in
+    omega (arith, inside, long)
+
+pub see_arrival-see_departure-requires : goal.see_arrival-see_departure-requires
+see_arrival-see_departure-requires g t c κs within =
+    let net = c.args.ground.now.net.now in
+    let p = c.requires.may.terms.passable in
     let positions = c.args.ground.now.positions.now in
     let place = c.args.place in
     let ranks = c.arriving-rank-items.result.now in
     let rank = get_or ranks c.loop-rank.rank-index 0 in
+    let position = get_or positions rank 0 in
     let x = stands net.arrivals place c.requires.place in
     let is = c.arriving-rank-items.ensures x.0 x.1 in
     let among = subst (λ (rs : List ℕ). Member rs rank) is (Member-get ranks c.loop-rank.rank-index 0 c.loop-rank-test.true) in
     let here = subst (λ (z : Arrival). Member (ranks_where (arrives_at z) net.duties) rank) (sym (get-at net.arrivals place x.0 no_arrival x.1)) among in
     let before = after-each positions (arriving_ranks net place) rank here in
     let falls = c.decreases in
-    (omega (arith, before, falls), (within.0, (within.1, (c.requires.may, (c.requires.cells, (c.loop-rank.invariant.0, rank-within x.0 net.duties rank among))))))
+    let d = stands net.duties rank (rank-within x.0 net.duties rank among) in
+    let inside = get-within (in_order net) position (departure_of d.0) (p.are_positions.exact rank d.0 d.1) in
+    let long = in-order-long net p.departs p.ordered in
+    (omega (arith, before, falls), (within.0, (within.1, (c.requires.may, (c.requires.cells, (c.loop-rank.invariant.0, omega (arith, inside, long)))))))
 
 pub see_arrival-loop-rank-preserved : goal.see_arrival-loop-rank-preserved
 see_arrival-loop-rank-preserved g t c =
-    let is = c.in_ok-see_front.ensures in
+    let is = c.in_ok-see_departure.ensures in
     let so = c.loop-rank.invariant in
-    let now = c.see_front.new.seen in
+    let now = c.see_departure.new.seen in
+    let positions = c.args.ground.now.positions.now in
     let ranks = c.arriving-rank-items.result.now in (
       is.seen,
       stay-then c.args.seen.now c.loop-rank.seen now so.1 is.stays,
-      one-step (λ (i : ℕ). IsThere now.fronts (get_or ranks i 0)) 0 c.loop-rank.rank-index (λ i a b. is.stays.fronts (get_or ranks i 0) (so.2 i a b)) is.there,
+      one-step (λ (i : ℕ). IsThere now.departures (get_or positions (get_or ranks i 0) 0)) 0 c.loop-rank.rank-index
+          (λ i a b. is.stays.departures (get_or positions (get_or ranks i 0) 0) (so.2 i a b)) is.there,
     )
 
-pub see_arrival-take_arrival-requires-clause-seen : goal.see_arrival-take_arrival-requires-clause-seen
-see_arrival-take_arrival-requires-clause-seen g t c = c.loop-rank.invariant.0
+pub see_arrival-see_fronts_between-requires-clause-seen : goal.see_arrival-see_fronts_between-requires-clause-seen
+see_arrival-see_fronts_between-requires-clause-seen g t c = c.loop-rank.invariant.0
 
-pub see_arrival-take_arrival-requires-clause-there : goal.see_arrival-take_arrival-requires-clause-there
-see_arrival-take_arrival-requires-clause-there g t c rank arrives =
+pub see_arrival-see_fronts_between-requires-clause-there : goal.see_arrival-see_fronts_between-requires-clause-there
+see_arrival-see_fronts_between-requires-clause-there g t c rank arrives =
     let ranks = c.arriving-rank-items.result.now in
+    let positions = c.args.ground.now.positions.now in
     let is : ranks ≡ ranks_where (arrives_at arrives.arrival) c.args.ground.now.net.now.duties = c.arriving-rank-items.ensures arrives.arrival arrives.releases in
     let at = member-place ranks rank (subst (λ (rs : List ℕ). Member rs rank) (sym is) arrives.among) in
     let inside = get-within ranks at.0 rank at.1 in
     let test = c.loop-rank-test.false in
-    subst (λ (r : ℕ). IsThere c.loop-rank.seen.fronts r) (get-at ranks at.0 rank 0 at.1) (c.loop-rank.invariant.2 at.0 (omega arith) (omega (arith, inside, test)))
+    subst (λ (r : ℕ). IsThere c.loop-rank.seen.departures (get_or positions r 0)) (get-at ranks at.0 rank 0 at.1) (c.loop-rank.invariant.2 at.0 (omega arith) (omega (arith, inside, test)))
+
+pub see_arrival-take_arrival-requires-clause-there : goal.see_arrival-take_arrival-requires-clause-there
+see_arrival-take_arrival-requires-clause-there g t c rank arrives =
+    let ranks = c.arriving-rank-items.result.now in
+    let positions = c.args.ground.now.positions.now in
+    let is : ranks ≡ ranks_where (arrives_at arrives.arrival) c.args.ground.now.net.now.duties = c.arriving-rank-items.ensures arrives.arrival arrives.releases in
+    let at = member-place ranks rank (subst (λ (rs : List ℕ). Member rs rank) (sym is) arrives.among) in
+    let inside = get-within ranks at.0 rank at.1 in
+    let test = c.loop-rank-test.false in
+    let there = subst (λ (r : ℕ). IsThere c.loop-rank.seen.departures (get_or positions r 0)) (get-at ranks at.0 rank 0 at.1) (c.loop-rank.invariant.2 at.0 (omega arith) (omega (arith, inside, test))) in
+    c.in_ok-see_fronts_between.ensures.stays.departures (get_or positions rank 0) there
 
 pub see_arrival-returns-clause-stays : goal.see_arrival-returns-clause-stays
 see_arrival-returns-clause-stays g t c =
-    let so = stay-then c.args.seen.now c.loop-rank.seen c.take_arrival.new.seen c.loop-rank.invariant.1 c.in_ok-take_arrival.ensures.stays in
+    let one = stay-then c.args.seen.now c.loop-rank.seen c.see_fronts_between.new.seen c.loop-rank.invariant.1 c.in_ok-see_fronts_between.ensures.stays in
+    let so = stay-then c.args.seen.now c.see_fronts_between.new.seen c.take_arrival.new.seen one c.in_ok-take_arrival.ensures.stays in
     on_ok_weaker c.see_rest-2.result (λ more. stay-then c.args.seen.now c.take_arrival.new.seen c.see_rest-2.new.seen so more) c.see_rest-2.ensures.stays
-
-pub see_front-has-requires : goal.see_front-has-requires
-see_front-has-requires g t c =
-    let within = c.requires.rank in
-    let one = c.requires.seen.fronts.long in
-    let two = fronts-long (terms g.R.Value.Ord.cmp g.R.Lapses g.R.Staged g.R.Forgets g.R.Resource c.args.ground.now) c.requires.may.terms in
-    omega (arith, within, one, two)
-
-pub see_front-see_departure-requires : goal.see_front-see_departure-requires
-see_front-see_departure-requires g t c κs within =
-    let net = c.args.ground.now.net.now in
-    let p = c.requires.may.terms.passable in
-    let rank = c.args.rank in
-    let position = get_or c.args.ground.now.positions.now rank 0 in
-    let d = stands net.duties rank c.requires.rank in
-    let inside = get-within (in_order net) position (departure_of d.0) (p.are_positions.exact rank d.0 d.1) in
-    let long = in-order-long net p.departs p.ordered in
-    let falls = c.decreases in
-    (omega (arith, falls), (within.0, (within.1, (c.requires.may, (c.requires.cells, (c.requires.seen, omega (arith, inside, long)))))))
-
-pub see_front-returns-clause-stays : goal.see_front-returns-clause-stays
-see_front-returns-clause-stays g t c =
-    on_ok_weaker c.take_front.result (λ more. stay-then c.args.seen.now c.see_departure.new.seen c.take_front.new.seen c.in_ok-see_departure.ensures.stays more) c.take_front.ensures.stays

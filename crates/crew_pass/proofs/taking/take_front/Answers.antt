@@ -7,6 +7,13 @@ use Rattle.crew_pass.specs.Machinery.Terms.{terms}
 use Rattle.crew_pass.proofs.More.{front-more}
 use Rattle.crew_pass.proofs.taking.take_front.Goals as goal
 
+pub has-requires : goal.has-requires
+has-requires g c =
+    let within = c.requires.rank in
+    let one = c.requires.seen.fronts.long in
+    let two = fronts-long (terms g.R.Value.Ord.cmp g.R.Lapses g.R.Staged g.R.Forgets g.R.Resource c.args.ground.now) c.requires.may.terms in
+    omega (arith, within, one, two)
+
 pub put-requires : goal.put-requires
 put-requires g c =
     let within = c.requires.rank in

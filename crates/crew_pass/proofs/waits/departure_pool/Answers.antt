@@ -1,15 +1,9 @@
-use Rattle.std.proofs.Common.{◌∙◌, ℕ, List, Some, get_or, length, sym, ap, subst, arith}
-use Rattle.crew_label.specs.Pools.{ArePoolsOf}
-use Rattle.crew_label.specs.declared.label.Label.{Label}
-use Rattle.crew_labelling.specs.Candidates.{Waits}
-use Rattle.crew_labelling.specs.Held.{trail_of}
-use Rattle.crew_labelling.specs.Labellings.{labelling_of}
+use Rattle.std.proofs.Common.{◌∙◌, ℕ, List, Some, get_or, length, sym, ap, arith}
 use Rattle.crew_labelling.proofs.One.{departure-one}
 use Rattle.crew_net.proofs.Orders.{in-order-of, place-within}
 use Rattle.crew_net.proofs.Slices.{at-within, item-in, stands}
 use Rattle.crew_pass.specs.Machinery.Passing.{MayWaitAt}
-use Rattle.crew_pass.specs.Machinery.Terms.{labels_table, terms}
-use Rattle.crew_pass.proofs.Collected.{all-gathered}
+use Rattle.crew_pass.specs.Machinery.Terms.{terms}
 use Rattle.crew_pass.proofs.waits.departure_pool.Goals as goal
 
 pub bounds-departures-place : goal.bounds-departures-place
@@ -22,8 +16,8 @@ bounds-departures-place g c =
     let within = place-within net p.departs p.ordered c.args.position place at in
     omega (arith, within, same)
 
-pub window_pools-requires-clause-window : goal.window_pools-requires-clause-window
-window_pools-requires-clause-window g c =
+pub event_pool-requires-clause-window : goal.event_pool-requires-clause-window
+event_pool-requires-clause-window g c =
     let net = c.args.ground.now.net.now in
     let p = c.requires.may.terms.passable in
     let position = c.args.position in
@@ -35,8 +29,8 @@ window_pools-requires-clause-window g c =
     let reports = in-order-of net p.departs p.ordered position place departure at here in
     c.window_at-window.ensures departure reports
 
-pub window_pools-requires-clause-there : goal.window_pools-requires-clause-there
-window_pools-requires-clause-there g c k from end =
+pub event_pool-requires-clause-there : goal.event_pool-requires-clause-there
+event_pool-requires-clause-there g c k from end =
     let net = c.args.ground.now.net.now in
     let p = c.requires.may.terms.passable in
     let position = c.args.position in
@@ -52,8 +46,8 @@ window_pools-requires-clause-there g c k from end =
     let waits : MayWaitAt net position k = record { departure = departure; arrival = x.0; reports = reports; releases = x.1; may = (window.exact k x.0 x.1).1 (from, end) } in
     c.requires.there k waits
 
-pub window_pools-requires-clause-rested : goal.window_pools-requires-clause-rested
-window_pools-requires-clause-rested g c k from end =
+pub event_pool-requires-clause-rested : goal.event_pool-requires-clause-rested
+event_pool-requires-clause-rested g c other k from end =
     let net = c.args.ground.now.net.now in
     let p = c.requires.may.terms.passable in
     let position = c.args.position in
@@ -67,7 +61,7 @@ window_pools-requires-clause-rested g c k from end =
     let most = window.within in
     let x = stands net.arrivals k (omega (arith, end, most)) in
     let waits : MayWaitAt net position k = record { departure = departure; arrival = x.0; reports = reports; releases = x.1; may = (window.exact k x.0 x.1).1 (from, end) } in
-    c.requires.rested k waits
+    c.requires.rested other k waits
 
 pub returns : goal.returns
 returns g c =
@@ -81,8 +75,4 @@ returns g c =
     let here = item-in net.departures c.departures.result.now place departure within c.departures.ensures.events c.index-departures-place.is in
     let reports = in-order-of net p.departs p.ordered position place departure at here in
     let w = (terms g.R.Value.Ord.cmp g.R.Lapses g.R.Staged g.R.Forgets g.R.Resource c.args.ground.now) in
-    let trail = trail_of (labels_table w) in
-    let pool = c.in_ok-pool.pool in
-    let gathered = all-gathered w trail (Waits w trail (labelling_of w).arrivals departure) c.in_ok-pools.pools.items pool c.in_ok-pools.ensures.collected
-    (λ candidates are. c.in_ok-pool.ensures.pool candidates (subst (λ (lss : List (List (Label g.row.R-Value.Denot))). ArePoolsOf w.below w.same trail candidates lss) (sym c.deref.ensures.value) are)) in
-    departure-one w c.requires.may.terms c.requires.may.lawful position departure reports pool c.rises.ensures c.in_ok-pool.ensures.held gathered
+    departure-one w c.requires.may.terms c.requires.may.lawful position departure reports c.in_ok-pool.pool c.rises.ensures c.in_ok-pool.ensures.held c.in_ok-pool.ensures.pool

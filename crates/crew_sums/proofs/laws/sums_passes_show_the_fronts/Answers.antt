@@ -6,7 +6,7 @@ use Rattle.crew_net.specs.Nets.{Net}
 use Rattle.crew_net.proofs.Slices.{member-place}
 use Rattle.crew_pairing.specs.Legs.{Leg}
 use Rattle.crew_pairing.specs.declared.vector.PairingVector.{PairingVector}
-use Rattle.crew_stretch_pass.proofs.Alike.{covered-alike}
+use Rattle.crew_pass.proofs.Alike.{covered-alike}
 use Rattle.crew_resource.specs.Members.{Member}
 use Rattle.crew_vector.specs.Fronts.{IsFrontAt}
 use Rattle.crew_sums.specs.Sums.{sums_resource}

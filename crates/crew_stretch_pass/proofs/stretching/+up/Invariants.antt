@@ -1,4 +1,0 @@
-use Rattle.crew_stretch_pass.proofs.stretching.+up.Given as goal
-
-abbrev pub decreases-stretch_up : goal.decreases-stretch_up
-decreases-stretch_up g l = l.end
