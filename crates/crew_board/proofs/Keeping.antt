@@ -12,7 +12,8 @@ use Rattle.crew_board.proofs.Steps.{kept, opened}
 use Rattle.crew_board.proofs.Turned.{Found, arc-in, at-marks, found, job-node-is, shows-own}
 use Rattle.crew_board.proofs.Works.{some-work-of}
 use Rattle.crew_board.proofs.Untouched.{rank-of}
-use Rattle.crew_board.proofs.Written.{get-elsewhere, get-here, same-place}
+use Rattle.crew_board.proofs.Written.{get-elsewhere, get-here}
+use Rattle.crew_machine.proofs.Cells.{same-place}
 use Rattle.crew_board.specs.Machinery.Held.{IsBegun, IsHeld, IsMarkedOver, Marked}
 use Rattle.crew_board.specs.Machinery.Turns.{AllSameBefore, IsReadableFrom, StoresAt, with_marks}
 use Rattle.crew_job.specs.Grounds.{Ground, IsGround, data_of, nodes_in}

@@ -4,14 +4,15 @@ use Rattle.std.specs.Prelude.{◌↔◌, slice_get}
 use Rattle.std.proofs.lemmas.List.{get_or-set_other, get_or-set_same, length-set as length-slice_set}
 use Rattle.std.proofs.lemmas.Option.{slice_get_within}
 use Rattle.crew_board.proofs.Cells.{AreMarked, all-in, before-in, before-out, just-before, mark-at, node-is, place-of, waiting-at}
-use Rattle.crew_board.proofs.Written.{get-elsewhere, get-here, map-set-here, same-place}
+use Rattle.crew_board.proofs.Written.{get-elsewhere, get-here, map-set-here}
 use Rattle.crew_board.specs.Cells.{CrewCells, mark_of}
 use Rattle.crew_flights.specs.Timetable.{Timetable}
 use Rattle.crew_flights.specs.declared.entries.Entry.{Entry}
 use Rattle.crew_machine.proofs.Boards.{reusable_local, store_sound}
-use Rattle.crew_machine.proofs.Cells.{Some-same, map-slice_set_same}
+use Rattle.crew_machine.proofs.Cells.{Some-same, map-slice_set_same, same-place}
 use Rattle.crew_machine.proofs.CrewLaws.{crew-laws}
 use Rattle.crew_machine.proofs.OwnJobs.{one-cell, ready-work}
+use Rattle.crew_machine.proofs.Reuse.{reuse-first}
 use Rattle.crew_machine.specs.Crew.{CrewRound, CrewVersion, DutyNode, DutyWork, Entries, crew, timetable_of}
 use Rattle.crew_machine.specs.Machinery.Sound.{IsRound, IsVersion}
 use Rattle.crew_machine.specs.Rounds as Rounds
@@ -93,16 +94,16 @@ module _ (s : Settings) (checked : IsChecked s) (sealed : CrewVersion) (is : IsV
               (let b = (own.2.before.exact p).0 (Member-map_in (λ (x : DutyNode × Entries). x.0) job.before (p, g) k) in
               stood place job.node Waiting here r.2 p g b (own.2.fronts p g k));
         } in
-        (job, from.0.1, ((here, own.2), kept.there, was, there))
+        (job, from.0.1, ((here, own.2), record { there = kept.there; work = was; front_is = there }))
 
     pub reusable-out : (place : ℕ) (job : DutyWork) (f : Entries) → Rounds.IsReusable (crew s) sealed (round_of entries cells) place job f → Marks.IsReusable m place
     reusable-out place job f r =
         let at = r.0.0 in
         let now = r.0.1 in
-        let was = r.2 in
+        let was = r.1.work in
         let n = job.node in
         let u : IsUntouched (crew s) old new n = record {
-          there = r.1;
+          there = r.1.there;
           input = sym was.input ∙ now.input;
           before = λ p a. (
             λ k. ((now.before.exact p).0 ((was.before.exact p).1 (k, a))).0,
@@ -201,15 +202,15 @@ module _ (s : Settings) (checked : IsChecked s) (sealed : CrewVersion) (is : IsV
 
   -- nodes are marked one after another
   pub reuses-over : (m : Marks.Marks) (cells : CrewCells) → IsOver s sealed entries m cells → (places : List ℕ) (after : Marks.Marks) → Marks.Reuses m places after
-      → (marks : List (ℕ × (DutyWork × Entries))) × (end : CrewCells) × Rounds.Reuses (crew s) sealed entries cells marks end × IsOver s sealed entries after end
-  reuses-over m cells over [] after e = ([], cells, refl, subst (λ (z : Marks.Marks). IsOver s sealed entries z cells) (sym e) over)
+      → (end : CrewCells) × Rounds.Reuses (crew s) sealed entries cells end × IsOver s sealed entries after end
+  reuses-over m cells over [] after e = (cells, λ k. inl refl, subst (λ (z : Marks.Marks). IsOver s sealed entries z cells) (sym e) over)
   reuses-over m cells over (place ∷ places) after r =
       let one = reusable-in m cells over place r.0 in
       let job = one.0 in
       let f = one.1 in
-      let told : (true ≡ true) ↔ Member sealed.fronts (job.node, f) = (λ t. one.2.3, λ t. refl) in
+      let told : (true ≡ true) ↔ Member sealed.fronts (job.node, f) = (λ t. one.2.1.front_is, λ t. refl) in
       let local = reusable_local (crew s) (crew-laws s checked) sealed (round_of entries cells) place job f is one.2 in
       let right = store_sound (crew s) (crew-laws s checked) sealed (round_of entries cells) place Waiting job f over.right one.2.0 local in
       let next = next-over m cells over place job.node Waiting one.2.0.0 f true told right in
       let rest = reuses-over (Marks.marked m place true) (slice_set cells place (job.node, Done f)) next places after r.1 in
-      ((place, (job, f)) ∷ rest.0, rest.1, (one.2, rest.2), rest.3)
+      (rest.0, reuse-first (crew s) sealed entries cells place job f rest.0 one.2 rest.1, rest.2)

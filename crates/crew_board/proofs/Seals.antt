@@ -84,9 +84,9 @@ module _ (r : Marked) (over : IsMarkedOver r) (b : CrewBoard) (o : IsOpen r b) w
       let nodes : AreNodes (crew s) t (map (λ (e : DutyNode × Entries). e.0) f.0) = subst (AreNodes (crew s) t) (sym names) o.right.nodes in
       let fronts : (n : DutyNode) (g : Entries) → Member f.0 (n, g) → IsFrontOf s t n g = λ n g m. o.right.right n g (subst (λ (z : CrewCells). Member z (n, Done g)) f.1 (Member-map_in done f.0 (n, g) m)) in
       let l = some-least s f.0 in
-      let best : IsBest s s.fdp_total t l.0 = (crew-laws s over.ground.checked).least r.ground.entries f.0 l.0 nodes fronts l.1 in
-      let own : IsBest s s.fdp_total t v.best = subst (λ (z : Settings). IsBest z z.fdp_total t v.best) settings (subst (λ (es : List Entry). IsBest v.settings v.settings.fdp_total (timetable_of es) v.best) entries right.least) in
-      let one : l.0 ≡ v.best = one-best s s.fdp_total t l.0 v.best (timetable-sound r.ground.entries) best own in
+      let best : IsBest s t l.0 = (crew-laws s over.ground.checked).least r.ground.entries f.0 l.0 nodes fronts l.1 in
+      let own : IsBest s t v.best = subst (λ (z : Settings). IsBest z t v.best) settings (subst (λ (es : List Entry). IsBest v.settings (timetable_of es) v.best) entries right.least) in
+      let one : l.0 ≡ v.best = one-best s t l.0 v.best (timetable-sound r.ground.entries) best own in
       let next = b.sealed.number + 1 in
       let version : CrewVersion = record { number = next; entries = r.ground.entries; fronts = f.0; best = v.best } in
       let after : CrewBoard = record { sealed = version; round = None } in

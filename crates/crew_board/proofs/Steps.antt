@@ -17,6 +17,7 @@ use Rattle.crew_machine.proofs.Boards.{brings_sound, claims_sound, gives_back_so
 use Rattle.crew_machine.proofs.Cells.{Some-same}
 use Rattle.crew_machine.proofs.CrewLaws.{crew-laws}
 use Rattle.crew_machine.proofs.OwnJobs.{ready-work, right-work}
+use Rattle.crew_machine.proofs.Reuse.{stored-others, stored-there}
 use Rattle.crew_machine.proofs.Alike.{same-front-of}
 use Rattle.crew_machine.specs.Choices.{ClaimsLeast, StoresAll}
 use Rattle.crew_machine.specs.Crew.{CrewBoard, CrewRound, DutyNode, DutyWork, Entries, IsFrontOf, IsLocalOf, crew, timetable_of}
@@ -245,7 +246,7 @@ module _ (r : Marked) (over : IsMarkedOver r) where
           let sound = store_sound (crew s) (crew-laws s over.ground.checked) b.sealed round place c work front o.right own.1 local in
           let next = next-over s over.ground.checked b.sealed o.version r.ground.entries r.marks o.cells cells-over place work.node c own.1.0 front st.same told sound in
           let rest = reuses-over s over.ground.checked b.sealed o.version r.ground.entries (Marks.marked r.marks place st.same) first next st.stores.reused st.marks st.stores.reuses in
-          let end = rest.1 in
+          let end = rest.0 in
           let after = with_cells (crew s) b round end in
           let stores : Stores (crew s) b work front after = record {
             round = round;
@@ -255,21 +256,21 @@ module _ (r : Marked) (over : IsMarkedOver r) where
             own = own.1;
             undone = undone-cell place work.node c own.1.0 st.undone.1;
             local = local;
-            reused = rest.0;
             cells = end;
-            reuses = rest.2;
+            stored = stored-there (crew s) b.sealed r.ground.entries o.cells place work.node c front end own.1.0 rest.1;
+            others = stored-others (crew s) b.sealed r.ground.entries o.cells place work.node front end rest.1;
             after = refl;
           } in
           let all : StoresAll (crew s) b work front after = record {
             stores = stores;
-            none_left = none-reusable s over.ground.checked b.sealed o.version r.ground.entries st.marks end rest.3 st.stores.none_left;
+            none_left = none-reusable s over.ground.checked b.sealed o.version r.ground.entries st.marks end rest.2 st.stores.none_left;
           } in
           record {
             after = after;
             stores = all;
             end = end;
             made = refl;
-            over_end = rest.3;
+            over_end = rest.2;
             standing = brings_sound (crew s) (crew-laws s over.ground.checked) b work front Stored after o.standing stores;
           }
 

@@ -1,5 +1,5 @@
 -- One cell is written, with its mark.
-use Rattle.std.proofs.Common.{◌≡◌, ◌<◌, ◌∷◌, [], ℕ, zero, suc, ◌⊎◌, inl, inr, List, Some, map, length, slice_set, refl, ap, arith}
+use Rattle.std.proofs.Common.{◌≡◌, ◌<◌, ◌∷◌, [], ℕ, zero, suc, List, Some, map, length, slice_set, refl, ap, arith}
 use Rattle.std.specs.Prelude.{slice_get}
 use Rattle.std.proofs.lemmas.List.{map-set}
 
@@ -17,13 +17,3 @@ get-elsewhere (x ∷ xs) (suc i) (suc j) v h = get-elsewhere xs i j v (λ e. h (
 
 pub map-set-here : {X Y : Type 0} (f : X → Y) (xs : List X) (i : ℕ) (v : X) → map f (slice_set xs i v) ≡ slice_set (map f xs) i (f v)
 map-set-here f xs i v = map-set f xs i v
-
--- two places are one, or not
-pub same-place : (i j : ℕ) → (i ≡ j) ⊎ (i ≡ j → ⊥)
-same-place zero zero = inl refl
-same-place zero (suc j) = inr (λ e. omega (arith, e))
-same-place (suc i) zero = inr (λ e. omega (arith, e))
-same-place (suc i) (suc j) = elim (same-place i j) as (λ _. (suc i ≡ suc j) ⊎ (suc i ≡ suc j → ⊥)) [
-  | inl e ↦ inl (ap suc e)
-  | inr f ↦ inr (λ e. f (omega (arith, e)))
-]

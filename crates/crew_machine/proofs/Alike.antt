@@ -1,9 +1,9 @@
 -- Versions of the same entries have the same fronts and the same best.
-use Rattle.std.proofs.Common.{◌≡◌, List, [], ◌∷◌, map, inl, inr, ℤ, refl, sym, ◌∙◌, ap, subst}
+use Rattle.std.proofs.Common.{◌≡◌, List, [], ◌∷◌, map, inl, inr, refl, sym, ◌∙◌, ap, subst}
 use Rattle.std.specs.Cmp.{IsTotalOrder, on_total, then_total}
 use Rattle.crew_flights.specs.Codes.{code_cmp_total}
 use Rattle.crew_flights.specs.Timetable.{Timetable}
-use Rattle.crew_machine.proofs.CrewLaws.{one-price, timetable-sound}
+use Rattle.crew_machine.proofs.CrewLaws.{one-front, timetable-sound}
 use Rattle.crew_machine.specs.Crew.{CrewVersion, DutyNode, Entries, IsFrontOf, RiseByNode, crew, node_cmp, timetable_of}
 use Rattle.crew_machine.specs.Machinery.Sound.{IsVersion}
 use Rattle.crew_machine.specs.Worlds.{AreNodes}
@@ -13,8 +13,6 @@ use Rattle.crew_resource.specs.Members.{Member}
 use Rattle.crew_rules.specs.Settings.{IsChecked}
 use Rattle.crew_rules.specs.declared.settings.Settings.{Settings}
 use Rattle.crew_answers.proofs.OneBest.{one-best}
-use Rattle.crew_answers.proofs.Unique.{same-listed}
-use Rattle.crew_answers.specs.Fronts.{IsFrontAt}
 
 pub node-total : IsTotalOrder node_cmp
 node-total = then_total (on_total (λ (n : DutyNode). n.base) code_cmp_total) (on_total (λ (n : DutyNode). n.duty.key) key_total)
@@ -29,9 +27,7 @@ module _ (s : Settings) (checked : IsChecked s) where
       same-rising node_cmp node-total ns ms (rising ns h.rise) (rising ms k.rise) (λ n m. (k.exact n).1 ((h.exact n).0 m)) (λ n m. (h.exact n).1 ((k.exact n).0 m))
 
   pub same-front-of : (t : Timetable) (n : DutyNode) (f g : Entries) → IsFrontOf s t n f → IsFrontOf s t n g → f ≡ g
-  same-front-of t n f g h k =
-      let price = one-price s checked t n.base n.base k.price h.price refl k.based h.based in
-      same-listed s s.fdp_total t n.base h.price n.duty f g h.front (subst (λ (p : ℤ). IsFrontAt s s.fdp_total t n.base p n.duty g) price k.front) h.rises k.rises
+  same-front-of t n f g h k = one-front s checked t n f g h k
 
   pub same-fronts : (t : Timetable) (fs gs : List (DutyNode × Entries)) → map (λ e. e.0) fs ≡ map (λ e. e.0) gs → ((n : DutyNode) (f : Entries) → Member fs (n, f) → IsFrontOf s t n f) → ((n : DutyNode) (f : Entries) → Member gs (n, f) → IsFrontOf s t n f) → fs ≡ gs
   same-fronts t [] [] e h k = refl
@@ -53,5 +49,5 @@ module _ (s : Settings) (checked : IsChecked s) where
       let right : (n : DutyNode) (f : Entries) → Member v.fronts (n, f) → IsFrontOf s t n f = λ n f m. subst (λ (z : Timetable). IsFrontOf s z n f) same (k.right n f m) in
       let listed = same-nodes t (map (λ e. e.0) u.fronts) (map (λ e. e.0) v.fronts) h.nodes nodes in (
         same-fronts t u.fronts v.fronts listed h.right right,
-        one-best s s.fdp_total t u.best v.best (timetable-sound u.entries) h.best_is (subst (λ (z : Timetable). (crew s).IsBest z v.best) same k.best_is),
+        one-best s t u.best v.best (timetable-sound u.entries) h.best_is (subst (λ (z : Timetable). (crew s).IsBest z v.best) same k.best_is),
       )

@@ -1,16 +1,17 @@
 -- Each call of the board keeps that what is done is right.
-use Rattle.std.proofs.Common.{◌≡◌, ℕ, Bool, true, false, List, [], ◌∷◌, map, slice_set, Some, None, ◌≤◌, refl, sym, ◌∙◌, ap, subst, ⊎_elim, arith}
+use Rattle.std.proofs.Common.{◌≡◌, ◌≢◌, ℕ, zero, suc, ◌<◌, ◌≤◌, Bool, true, false, List, map, slice_set, Some, None, inl, inr, refl, sym, ◌∙◌, ap, subst, ⊎_elim, arith}
 use Rattle.std.specs.List.{slice_get}
 use Rattle.crew_resource.specs.Members.{Member}
 use Rattle.crew_machine.specs.Worlds.{AreNodes, IsWorkOf, Work, World}
-use Rattle.crew_machine.specs.Rounds.{Abandons, Board, Brings, Claims, Frees, GivesBack, IsDone, IsOwn, IsReusable, Opens, Restores, Reuses, Round, Seals, Stores, Version, last_number}
+use Rattle.crew_machine.specs.Rounds.{Abandons, Board, Brings, Claims, Frees, GivesBack, IsDone, IsOfVersion, IsOwn, IsReusable, Opens, Restores, Round, Seals, StaysOrReused, Stores, Version, last_number}
 use Rattle.crew_machine.specs.declared.rounds.Cell.{Cell}
 use Rattle.crew_machine.specs.declared.rounds.Cell.TheVariants.{Waiting, Out, Done}
 use Rattle.crew_machine.specs.declared.rounds.Brought.{Brought}
 use Rattle.crew_machine.specs.declared.rounds.Brought.TheVariants.{Stale, Again, Stored}
 use Rattle.crew_machine.specs.Machinery.Sound.{IsVersion, IsRound, IsStanding}
 use Rattle.crew_machine.specs.Machinery.Worked.{Laws}
-use Rattle.crew_machine.proofs.Cells.{Some-same, Member-slice_set, map-slice_set_same, map-map_lem}
+use Rattle.crew_machine.proofs.Cells.{IsSameNode, Member-slice_set, Some-same, map-map_lem, map-slice_set_same, same-nodes, same-place}
+use Rattle.crew_machine.proofs.Reuse.{place-of-member}
 use Rattle.crew_resource.proofs.Members.{Member-at, Member-map_in}
 
 abbrev front_in : {F : Type 0} → Cell F → F → F
@@ -58,20 +59,66 @@ module _ {E D N I F B : Type 0} (w : World E D N I F B) (laws : Laws w) where
       (λ g e. subst (λ z. w.IsFront (w.fold r.entries) job.node z) (Done-same f g e) (own_front sealed r i cell job f sound own local))
 
   -- an equal job has an equal front
+  version_local : (sealed : Version E N F B) (job : Work N I F) (f : F) → IsVersion w sealed → IsOfVersion w sealed job f → w.IsLocal job f
+  version_local sealed job f scratch v =
+      laws.local_out sealed.entries job f v.there
+      (IsWorkOf-weaker w (w.fold sealed.entries) (λ p g. Member sealed.fronts (p, g)) (w.IsFront (w.fold sealed.entries)) job scratch.right v.work)
+      (scratch.right job.node f v.front_is)
+
   pub reusable_local : (sealed : Version E N F B) (r : Round E N F) (i : ℕ) (job : Work N I F) (f : F)
       → IsVersion w sealed → IsReusable w sealed r i job f → w.IsLocal job f
   reusable_local sealed r i job f scratch u =
-      laws.local_out sealed.entries job f u.1
-      (IsWorkOf-weaker w (w.fold sealed.entries) (λ p g. Member sealed.fronts (p, g)) (w.IsFront (w.fold sealed.entries)) job scratch.right u.2)
-      (scratch.right job.node f u.3)
+      version_local sealed job f scratch u.1
 
-  pub reuses_sound : (sealed : Version E N F B) (entries : List E) (old : List (N × Cell F)) (marks : List (ℕ × (Work N I F × F))) (new : List (N × Cell F))
-      → IsVersion w sealed → IsRound w sealed (record { entries = entries; cells = old }) → Reuses w sealed entries old marks new → IsRound w sealed (record { entries = entries; cells = new })
-  reuses_sound sealed entries old [] new scratch sound e = subst (λ z. IsRound w sealed (record { entries = entries; cells = z })) (sym e) sound
-  reuses_sound sealed entries old (m ∷ ms) new scratch sound h =
-      let r : Round E N F = record { entries = entries; cells = old } in
-      reuses_sound sealed entries (slice_set old m.0 (m.1.0.node, Done m.1.1)) ms new scratch
-      (store_sound sealed r m.0 Waiting m.1.0 m.1.1 sound h.0.0 (reusable_local sealed r m.0 m.1.0 m.1.1 scratch h.0)) h.1
+  -- where one node is stored, and others are reused, each that is done is right, the earlier ones first
+  module _ (sealed : Version E N F B) (scratch : IsVersion w sealed) (r : Round E N F) (sound : IsRound w sealed r) (i : ℕ) (cell : Cell F) (job : Work N I F) (f : F) (own : IsOwn w r i cell job) (local : w.IsLocal job f)
+      (cells : List (N × Cell F)) (stored : slice_get cells i ≡ Some (job.node, Done f)) (others : (k : ℕ) → k ≢ i → StaysOrReused w sealed r.entries r.cells cells k) where
+    right_below : (bound : ℕ) (n : N) (g : F) (k : ℕ) → laws.time r.entries n < bound → slice_get cells k ≡ Some (n, Done g) → w.IsFront (w.fold r.entries) n g
+    right_below zero n g k low at = absurd (omega (arith, low))
+    right_below (suc bound) n g k low at =
+        ⊎_elim {C = w.IsFront (w.fold r.entries) n g}
+        (λ e. same_front i job.node f n g stored (subst (λ z. slice_get cells z ≡ Some (n, Done g)) e at) (own_front sealed r i cell job f sound own local))
+        (λ other.
+        ⊎_elim {C = w.IsFront (w.fold r.entries) n g}
+        (λ s. sound.right n g (Member-at r.cells k (n, Done g) (sym s ∙ at)))
+        (λ u.
+        let there : w.IsNode (w.fold r.entries) u.job.node = (sound.nodes.exact u.job.node).0 (Member-map_in (λ c. c.0) r.cells (u.job.node, Waiting) (Member-at r.cells k (u.job.node, Waiting) u.waited)) in
+        let node : u.job.node ≡ n = ap (λ z. z.0) (Some-same (u.job.node, Done u.front) (n, Done g) (sym u.own.0 ∙ at)) in
+        let same : laws.time r.entries u.job.node ≡ laws.time r.entries n = ap (laws.time r.entries) node in
+        let work : IsWorkOf w (w.fold r.entries) (w.IsFront (w.fold r.entries)) u.job = record {
+          input = u.own.1.input;
+          before = u.own.1.before;
+          fronts = λ p h x.
+              let less = laws.earlier r.entries p u.job.node ((u.own.1.before.exact p).0 (Member-map_in (λ e. e.0) u.job.before (p, h) x)) in
+              let found = place-of-member cells (p, Done h) (u.own.1.fronts p h x) in
+              right_below bound p h found.0 (omega (arith, low, less, same)) found.1;
+        } in
+        same_front k u.job.node u.front n g u.own.0 at (laws.local_in r.entries u.job u.front there work (version_local sealed u.job u.front scratch u.of_version)))
+        (others k other))
+        (same-place k i)
+      where
+        same_front : (place : ℕ) (m : N) (h : F) (n : N) (g : F) → slice_get cells place ≡ Some (m, Done h) → slice_get cells place ≡ Some (n, Done g) → w.IsFront (w.fold r.entries) m h → w.IsFront (w.fold r.entries) n g
+        same_front place m h n g here there front =
+            let a : N × Cell F = (m, Done h) in
+            let b : N × Cell F = (n, Done g) in
+            let pair : a ≡ b = Some-same a b (sym here ∙ there) in
+            subst (λ z. w.IsFront (w.fold r.entries) z g) (ap (λ z. z.0) pair) (subst (λ z. w.IsFront (w.fold r.entries) m z) (Done-same h g (ap (λ z. z.1) pair)) front)
+
+    same_at : (k : ℕ) → IsSameNode r.cells cells k
+    same_at k =
+        ⊎_elim {C = IsSameNode r.cells cells k}
+        (λ e. inr (job.node, cell, Done f, ap (slice_get r.cells) e ∙ own.0, ap (slice_get cells) e ∙ stored))
+        (λ other. ⊎_elim {C = IsSameNode r.cells cells k} (λ s. inl s) (λ u. inr (u.job.node, Waiting, Done u.front, u.waited, u.own.0)) (others k other))
+        (same-place k i)
+
+    pub reuses_sound : IsRound w sealed (cells_of r cells)
+    reuses_sound = record {
+      nodes = subst (AreNodes w (w.fold r.entries)) (sym (same-nodes r.cells cells same_at)) sound.nodes;
+      right = λ n g m. (let found = place-of-member cells (n, Done g) m in right_below (suc (laws.time r.entries n)) n g found.0 (omega arith) found.1);
+      begins = sound.begins;
+      small = sound.small;
+      number_left = sound.number_left;
+    }
 
   -- a board over a round that is right
   pub standing_over : (sealed : Version E N F B) (r : Round E N F) → IsVersion w sealed → IsRound w sealed r → IsStanding w (record { sealed = sealed; round = Some r })
@@ -105,8 +152,7 @@ module _ {E D N I F B : Type 0} (w : World E D N I F B) (laws : Laws w) where
   pub stores_sound : (old : Board E N F B) (job : Work N I F) (front : F) (new : Board E N F B) → IsStanding w old → Stores w old job front new → IsStanding w new
   stores_sound old job front new s c = subst (IsStanding w) (sym c.after)
       (standing_over old.sealed (cells_of c.round c.cells) s.sealed
-      (reuses_sound old.sealed c.round.entries (slice_set c.round.cells c.place (job.node, Done front)) c.reused c.cells s.sealed
-      (store_sound old.sealed c.round c.place c.cell job front (s.round c.round c.is_open) c.own c.local) c.reuses))
+      (reuses_sound old.sealed s.sealed c.round (s.round c.round c.is_open) c.place c.cell job front c.own c.local c.cells c.stored c.others))
 
   pub brings_sound : (old : Board E N F B) (job : Work N I F) (front : F) (brought : Brought) (new : Board E N F B) → IsStanding w old → Brings w old job front brought new → IsStanding w new
   brings_sound old job front Stale new s b = subst (IsStanding w) (sym b.1) s

@@ -1,13 +1,13 @@
 -- A round in which nothing is out can be finished: its nodes are claimed and brought one after another, and then it is sealed.
-use Rattle.std.proofs.Common.{◌≡◌, ℕ, zero, suc, ◌+◌, List, [], ◌∷◌, ◌++◌, map, length, slice_set, Option, Some, None, ◌⊎◌, inl, inr, refl, sym, ◌∙◌, ap, subst, ⊎_elim, arith}
+use Rattle.std.proofs.Common.{◌≡◌, ℕ, zero, suc, ◌+◌, List, [], ◌∷◌, ◌++◌, map, length, slice_set, Option, Some, None, ◌⊎◌, inl, inr, refl, sym, ap, subst, ⊎_elim, arith}
 use Rattle.std.specs.List.{slice_get}
 use Rattle.crew_flights.specs.Timetable.{Timetable}
 use Rattle.crew_flights.specs.declared.entries.Entry.{Entry}
-use Rattle.crew_machine.proofs.Cells.{Member-slice_set, Some-same, map-slice_set_same}
+use Rattle.crew_machine.proofs.Cells.{Member-slice_set, Some-same, map-slice_set_same, set-keeps}
 use Rattle.crew_machine.proofs.CrewLaws.{crew-laws, timetable-sound}
 use Rattle.crew_machine.proofs.Least.{some-least}
 use Rattle.crew_machine.proofs.Progress.{some-claim}
-use Rattle.crew_machine.proofs.Reuse.{slice_get-set_here}
+use Rattle.crew_machine.proofs.Reuse.{slice_get-set_here, stored-others}
 use Rattle.crew_machine.proofs.Runs.{slice_get_push_new}
 use Rattle.crew_machine.proofs.Sorted.{rising-front}
 use Rattle.crew_machine.specs.Crew.{CrewAct, CrewReply, CrewRound, CrewState, CrewVersion, DutyNode, DutyWork, Entries, IsFrontOf, IsLocalOf, IsNodeOf, crew, timetable_of}
@@ -35,12 +35,6 @@ set-twice : {X : Type 0} (xs : List X) (i : ℕ) (a b : X) → slice_set (slice_
 set-twice [] i a b = refl
 set-twice (x ∷ xs) zero a b = refl
 set-twice (x ∷ xs) (suc i) a b = ap (λ z. x ∷ z) (set-twice xs i a b)
-
--- another element stays when one is written over
-set-keeps : {X : Type 0} (xs : List X) (i : ℕ) (was v x : X) → slice_get xs i ≡ Some was → (was ≡ x → ⊥) → Member xs x → Member (slice_set xs i v) x
-set-keeps [] i was v x at other m = m
-set-keeps (y ∷ ys) zero was v x at other m = ⊎_elim (λ e. absurd (other (sym (Some-same y was at) ∙ e))) (λ k. inr k) m
-set-keeps (y ∷ ys) (suc i) was v x at other m = ⊎_elim inl (λ k. inr (set-keeps ys i was v x at other k)) m
 
 abbrev pub undone : Cell Entries → ℕ
 undone Waiting = 1
@@ -146,7 +140,7 @@ module _ (s : Settings) (checked : IsChecked s) where
         let first : HandsOut (crew s) (over cells jobs) job (over out (jobs ++ job ∷ [])) = record { board = (over out jobs).board; claims = claims; after = refl } in
         let written : done ≡ slice_set out place (job.node, Done f.0) = sym (set-twice cells place (job.node, Out) (job.node, Done f.0)) in
         let now : slice_get out place ≡ Some (job.node, Out) = slice_get-set_here cells place (job.node, Waiting) (job.node, Out) at in
-        let stores : Stores (crew s) (over out jobs).board job f.0 (over done jobs).board = record { round = record { entries = entries; cells = out }; is_open = refl; place = place; cell = Out; own = (now, later); undone = tt; local = local; reused = []; cells = done; reuses = written; after = refl } in
+        let stores : Stores (crew s) (over out jobs).board job f.0 (over done jobs).board = record { round = record { entries = entries; cells = out }; is_open = refl; place = place; cell = Out; own = (now, later); undone = tt; local = local; cells = done; stored = slice_get-set_here cells place (job.node, Waiting) (job.node, Done f.0) at; others = stored-others (crew s) sealed entries out place job.node f.0 done (λ k. inl (ap (λ (z : Cells). slice_get z k) written)); after = refl } in
         let second : TakesBack (crew s) (over out (jobs ++ job ∷ [])) (length jobs) Stored (over done (jobs ++ job ∷ [])) = record { job = job; handed_out = slice_get_push_new jobs job; front = f.0; local = local; board = (over done jobs).board; brings = stores; after = refl } in
         record { place = place; job = job; front = f.0; at = at; right = f.1; run = (over out (jobs ++ job ∷ []), (refl, first), (over done (jobs ++ job ∷ []), (refl, second), refl)) }
       where

@@ -1,5 +1,5 @@
--- Equal jobs can be marked until none is left.
-use Rattle.std.proofs.Common.{◌≡◌, ℕ, zero, suc, ◌<◌, List, [], ◌∷◌, length, map, slice_set, Some, ◌⊎◌, inl, inr, refl, sym, ◌∙◌, ap, subst, ⊎_elim, arith}
+-- Nodes can be reused until none is left.
+use Rattle.std.proofs.Common.{◌≡◌, ℕ, zero, suc, ◌<◌, List, length, map, slice_set, Some, ◌⊎◌, inl, inr, refl, sym, ◌∙◌, ap, subst, ⊎_elim, arith}
 use Rattle.std.specs.List.{slice_get}
 use Rattle.std.proofs.lemmas.Option.{slice_get_within}
 use Rattle.crew_flights.specs.declared.entries.Entry.{Entry}
@@ -9,6 +9,7 @@ use Rattle.crew_machine.proofs.CrewLaws.{crew-laws}
 use Rattle.crew_machine.proofs.Decided.{Decided, least-or-none, told-work}
 use Rattle.crew_machine.proofs.Finish.{left, left-less}
 use Rattle.crew_machine.proofs.OwnJobs.{cell-of, one-job, right-work, some-work}
+use Rattle.crew_machine.proofs.Reuse.{reuse-first}
 use Rattle.crew_machine.specs.Crew.{CrewRound, CrewVersion, DutyNode, DutyWork, Entries, IsFrontOf, IsNodeOf, crew, timetable_of}
 use Rattle.crew_machine.specs.Machinery.Sound.{IsRound, IsVersion}
 use Rattle.crew_machine.specs.Rounds.{IsDone, IsReusable, NoneReusable, Reuses}
@@ -109,18 +110,18 @@ module _ (s : Settings) (checked : IsChecked s) (sealed : CrewVersion) (is : IsV
         let there : Member sealed.fronts (now.0.node, was.front) = subst (λ (z : DutyNode). Member sealed.fronts (z, was.front)) (sym now.1) was.there in
         let known : IsNodeOf s (timetable_of sealed.entries) now.0.node = (is.nodes.exact now.0.node).0 (Member-map_in (λ (e : DutyNode × Entries). e.0) sealed.fronts (now.0.node, was.front) there) in
         let work : Was now.0 = subst Was (sym same) was.work in
-        inl (now.0, was.front, ((here, now.2), known, work, there))))
+        inl (now.0, was.front, ((here, now.2), record { there = known; work = work; front_is = there }))))
         (λ f. inr (λ r.
         (
         let node : r.0.node ≡ n = ap (λ (z : DutyNode × Cell Entries). z.0) (Some-same _ _ (sym r.2.0.0 ∙ at)) in
         let first : r.0 ≡ now.0 = one-job s checked (timetable_of entries) r.0 now.0 (node ∙ sym now.1) (right-work s checked (timetable_of entries) cells sound.nodes sound.right r.0 r.2.0.1) (right-work s checked (timetable_of entries) cells sound.nodes sound.right now.0 now.2) in
-        let second : r.0 ≡ was.job = one-job s checked (timetable_of sealed.entries) r.0 was.job (node ∙ sym was.own) (right-work s checked (timetable_of sealed.entries) settled settled-nodes settled-right r.0 (was-settled r.0 r.2.2)) (right-work s checked (timetable_of sealed.entries) settled settled-nodes settled-right was.job (was-settled was.job was.work)) in
+        let second : r.0 ≡ was.job = one-job s checked (timetable_of sealed.entries) r.0 was.job (node ∙ sym was.own) (right-work s checked (timetable_of sealed.entries) settled settled-nodes settled-right r.0 (was-settled r.0 r.2.1.work)) (right-work s checked (timetable_of sealed.entries) settled settled-nodes settled-right was.job (was-settled was.job was.work)) in
         f (sym first ∙ second))))
         (told-work now.0 was.job (ap (λ i. i.settings) now.2.input ∙ sym (ap (λ i. i.settings) was.work.input))))
         (λ none. inr (λ r.
         (
         let node : r.0.node ≡ n = ap (λ (z : DutyNode × Cell Entries). z.0) (Some-same _ _ (sym r.2.0.0 ∙ at)) in
-        none r.0 r.1 node r.2.2 (subst (λ (z : DutyNode). Member sealed.fronts (z, r.1)) node r.2.3))))
+        none r.0 r.1 node r.2.1.work (subst (λ (z : DutyNode). Member sealed.fronts (z, r.1)) node r.2.1.front_is))))
         (was-or-not n))
         (λ none. inr (λ r.
         (
@@ -142,11 +143,10 @@ module _ (s : Settings) (checked : IsChecked s) (sealed : CrewVersion) (is : IsV
         (λ none. inr (λ place job f r. none place (slice_get_within cells place _ r.0.0) (job, f, r)))
         (least-or-none ReusableAt reusable-or-not (length cells))
 
-  -- the marks, one after another, and the cells that they leave
+  -- the cells where some nodes are reused, and none is left that could be
   pub record Marked (cells : Cells) : Type 0 where
-    pub marks : List (ℕ × (DutyWork × Entries))
     pub end : Cells
-    pub reuses : Reuses (crew s) sealed entries cells marks end
+    pub reuses : Reuses (crew s) sealed entries cells end
     pub none_left : NoneReusable (crew s) sealed entries end
 
   marked-below : (k : ℕ) (cells : Cells) → left cells < k → IsRound (crew s) sealed (let r : CrewRound = record { entries = entries; cells = cells } in r) → Marked cells
@@ -161,8 +161,8 @@ module _ (s : Settings) (checked : IsChecked s) (sealed : CrewVersion) (is : IsV
       let next : Cells = slice_set cells r.0 (job.node, Done f) in
       let less = left-less cells r.0 job.node job.node f r.1.2.0.0 in
       let rest = marked-below k next (omega (arith, low, less)) (store_sound (crew s) (crew-laws s checked) sealed round r.0 Waiting job f sound r.1.2.0 (reusable_local (crew s) (crew-laws s checked) sealed round r.0 job f is r.1.2)) in
-      record { marks = (r.0, (job, f)) ∷ rest.marks; end = rest.end; reuses = (r.1.2, rest.reuses); none_left = rest.none_left }))
-      (λ none. record { marks = []; end = cells; reuses = refl; none_left = none })
+      record { end = rest.end; reuses = reuse-first (crew s) sealed entries cells r.0 job f rest.end r.1.2 rest.reuses; none_left = rest.none_left }))
+      (λ none. record { end = cells; reuses = λ k. inl refl; none_left = none })
       (some-reusable cells sound)
 
   pub marked : (cells : Cells) → IsRound (crew s) sealed (let r : CrewRound = record { entries = entries; cells = cells } in r) → Marked cells

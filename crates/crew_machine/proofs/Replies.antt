@@ -14,7 +14,7 @@ use Rattle.crew_machine.proofs.Marked.{marked}
 use Rattle.crew_machine.proofs.NodeList.{some-nodes}
 use Rattle.crew_machine.proofs.OwnJobs.{cell-of, least-ready, least-undone, one-cell, ready-work, work-or-not}
 use Rattle.crew_machine.proofs.Reached.{some-carried}
-use Rattle.crew_machine.proofs.Reuse.{place-of-member}
+use Rattle.crew_machine.proofs.Reuse.{place-of-member, stored-others, stored-there}
 use Rattle.crew_machine.proofs.Runs.{start_sound, step_sound}
 use Rattle.crew_machine.proofs.Served.{start_served, step_served}
 use Rattle.crew_machine.proofs.Sorted.{rising-front}
@@ -184,7 +184,7 @@ module _ (s : Settings) (checked : IsChecked s) where
         let right = store_sound (crew s) (crew-laws s checked) state.board.sealed o.round o.place o.cell job f.0 (sound.board.round o.round o.is_open) o.own f.1 in
         let marks = marked s checked state.board.sealed sound.board.sealed o.round.entries first right in
         let board = with_cells (crew s) state.board o.round marks.end in
-        let stores : Stores (crew s) state.board job f.0 board = record { round = o.round; is_open = o.is_open; place = o.place; cell = o.cell; own = o.own; undone = u; local = f.1; reused = marks.marks; cells = marks.end; reuses = marks.reuses; after = refl } in
+        let stores : Stores (crew s) state.board job f.0 board = record { round = o.round; is_open = o.is_open; place = o.place; cell = o.cell; own = o.own; undone = u; local = f.1; cells = marks.end; stored = stored-there (crew s) state.board.sealed o.round.entries o.round.cells o.place job.node o.cell f.0 marks.end o.own.0 marks.reuses; others = stored-others (crew s) state.board.sealed o.round.entries o.round.cells o.place job.node f.0 marks.end marks.reuses; after = refl } in
         let all : StoresAll (crew s) state.board job f.0 board = record { stores = stores; none_left = marks.none_left } in
         let next = on_board (crew s) state board in
         let back : TakesBack (crew s) state j Stored next = record { job = job; handed_out = at; front = f.0; local = f.1; board = board; brings = stores; after = refl } in

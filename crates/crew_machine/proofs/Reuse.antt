@@ -1,13 +1,13 @@
--- Marking equal jobs until none is left ends in one list of cells, whatever the order; and after a round is begun none is left.
-use Rattle.std.proofs.Common.{◌≡◌, ℕ, zero, suc, List, [], ◌∷◌, slice_set, Option, Some, None, ◌⊎◌, inl, inr, refl, sym, ◌∙◌, ap, subst, ⊎_elim}
+-- Reusing nodes until none is left ends in one list of cells, whichever are reused; and after a round is begun none is left.
+use Rattle.std.proofs.Common.{◌≡◌, ◌≢◌, ℕ, zero, suc, ◌<◌, List, [], ◌∷◌, slice_set, Option, Some, None, ◌⊎◌, inl, inr, refl, sym, ◌∙◌, ap, subst, ⊎_elim, arith}
 use Rattle.std.specs.List.{slice_get}
 use Rattle.crew_resource.specs.Members.{Member}
 use Rattle.crew_machine.specs.Worlds.{IsBefore, IsUnreached, IsUntouched, IsWorkOf, Leads, Work, World}
 use Rattle.crew_machine.specs.declared.rounds.Cell.{Cell}
 use Rattle.crew_machine.specs.declared.rounds.Cell.TheVariants.{Waiting, Done}
-use Rattle.crew_machine.specs.Rounds.{IsCarried, IsDone, IsReusable, IsUndone, NoneReusable, Reuses, Version}
-use Rattle.crew_machine.proofs.Cells.{Some-same}
-use Rattle.crew_resource.proofs.Members.{Member-at, Member-map_out}
+use Rattle.crew_machine.specs.Rounds.{IsCarried, IsDone, IsReusable, IsReused, IsUndone, NoneReusable, Reuses, StaysOrReused, Version}
+use Rattle.crew_machine.proofs.Cells.{Some-same, set-keeps}
+use Rattle.crew_resource.proofs.Members.{Member-at, Member-map_in, Member-map_out}
 
 pub place-of-member : {X : Type 0} (xs : List X) (x : X) → Member xs x → (i : ℕ) × (slice_get xs i ≡ Some x)
 place-of-member [] x m = absurd m
@@ -19,7 +19,10 @@ waits-not-done {N} {F} n m f e =
     let b : N × Cell F = (m, Waiting) in
     let q : Done f ≡ Waiting = ap (λ z. z.1) (Some-same a b e) in let r : ⊥ = (cc) in r
 
-slice_get-set_split : {X : Type 0} (xs : List X) (i k : ℕ) (v : X) → ((k ≡ i) × (slice_get (slice_set xs i v) k ≡ slice_get (slice_set xs i v) i)) ⊎ (slice_get (slice_set xs i v) k ≡ slice_get xs k)
+waiting-other : {N F : Type 0} (n m : N) (f : F) → ◌≡◌ {A = N × Cell F} (n, Waiting) (m, Done f) → ⊥
+waiting-other {N} {F} n m f e = waits-not-done m n f (ap Some (sym e))
+
+pub slice_get-set_split : {X : Type 0} (xs : List X) (i k : ℕ) (v : X) → ((k ≡ i) × (slice_get (slice_set xs i v) k ≡ slice_get (slice_set xs i v) i)) ⊎ (slice_get (slice_set xs i v) k ≡ slice_get xs k)
 slice_get-set_split [] i k v = inr refl
 slice_get-set_split (y ∷ ys) zero zero v = inl (refl, refl)
 slice_get-set_split (y ∷ ys) zero (suc k) v = inr refl
@@ -37,81 +40,107 @@ same-list [] (y ∷ ys) h = absurd (let e : None ≡ Some y = h zero in let q : 
 same-list (x ∷ xs) [] h = absurd (let e : Some x ≡ None = h zero in let q : ⊥ = (cc) in q)
 same-list (x ∷ xs) (y ∷ ys) h = ap (λ z. z ∷ xs) (Some-same x y (h zero)) ∙ ap (λ z. y ∷ z) (same-list xs ys (λ i. h (suc i)))
 
+same-pair : {N F : Type 0} (n m : N) (f g : F) → n ≡ m → f ≡ g → ◌≡◌ {A = N × Cell F} (n, Done f) (m, Done g)
+same-pair {N} {F} n m f g node front = ap (λ z. let c : N × Cell F = (z, Done f) in c) node ∙ ap (λ z. let c : N × Cell F = (m, Done z) in c) front
+
+same-told : {X : Type 0} (a b : List X) (i : ℕ) (x y : X) → slice_get b i ≡ Some x → x ≡ y → slice_get a i ≡ Some y → slice_get b i ≡ slice_get a i
+same-told a b i x y e same f = e ∙ (ap Some same ∙ sym f)
+
 module _ {E D N I F B : Type 0} (w : World E D N I F B) (sealed : Version E N F B) (entries : List E) where
-  -- each cell is as it was, or waited and has the version's front
-  abbrev Grown : List (N × Cell F) → List (N × Cell F) → Type 0
-  Grown old new = (i : ℕ) → (slice_get new i ≡ slice_get old i) ⊎ ((n : N) × (f : F) × (slice_get old i ≡ Some (n, Waiting)) × (slice_get new i ≡ Some (n, Done f)) × Member sealed.fronts (n, f))
+  -- what is done stays done
+  stays-done : (old new : List (N × Cell F)) → Reuses w sealed entries old new → (i : ℕ) (n : N) (f : F) → slice_get old i ≡ Some (n, Done f) → slice_get new i ≡ Some (n, Done f)
+  stays-done old new r i n f at = ⊎_elim {C = slice_get new i ≡ Some (n, Done f)} (λ s. s ∙ at) (λ u. absurd (waits-not-done n u.job.node f (sym at ∙ u.waited))) (r i)
 
-  -- what is done in the one is done in the other
-  abbrev Within : List (N × Cell F) → List (N × Cell F) → Type 0
-  Within a b = (i : ℕ) (n : N) (f : F) → slice_get a i ≡ Some (n, Done f) → slice_get b i ≡ Some (n, Done f)
+  same-done : (old new : List (N × Cell F)) → Reuses w sealed entries old new → (n : N) (f : F) → IsDone w old n f → IsDone w new n f
+  same-done old new r n f m =
+      let at = place-of-member old (n, Done f) m in
+      Member-at new at.0 (n, Done f) (stays-done old new r at.0 n f at.1)
 
-  grown-mark : (old mid : List (N × Cell F)) (i : ℕ) (job : Work N I F) (f : F) → Grown old mid → IsReusable w sealed (record { entries = entries; cells = mid }) i job f → Grown old (slice_set mid i (job.node, Done f))
-  grown-mark old mid i job f g u k =
-      let v : N × Cell F = (job.node, Done f) in
-      ⊎_elim {C = (slice_get (slice_set mid i v) k ≡ slice_get old k) ⊎ ((n : N) × (h : F) × (slice_get old k ≡ Some (n, Waiting)) × (slice_get (slice_set mid i v) k ≡ Some (n, Done h)) × Member sealed.fronts (n, h))}
+  -- a node that can be reused, and others after it, one after another
+  pub reuse-first : (old : List (N × Cell F)) (i : ℕ) (job : Work N I F) (f : F) (new : List (N × Cell F)) → IsReusable w sealed (record { entries = entries; cells = old }) i job f
+      → Reuses w sealed entries (slice_set old i (job.node, Done f)) new → Reuses w sealed entries old new
+  reuse-first old i job f new can rest k =
+      let was : N × Cell F = (job.node, Waiting) in
+      let now : N × Cell F = (job.node, Done f) in
+      let next : List (N × Cell F) = slice_set old i now in
+      let here : slice_get next i ≡ Some now = slice_get-set_here old i was now can.0.0 in
+      let work : IsWorkOf w (w.fold entries) (IsDone w new) job = record {
+        input = can.0.1.input;
+        before = can.0.1.before;
+        fronts = λ p g x. same-done next new rest p g (set-keeps old i was now (p, Done g) can.0.0 (waiting-other job.node p g) (can.0.1.fronts p g x));
+      } in
+      ⊎_elim {C = StaysOrReused w sealed entries old new k}
       (λ e.
-      let now : slice_get (slice_set mid i v) k ≡ Some v = e.1 ∙ slice_get-set_here mid i (job.node, Waiting) v u.0.0 in
-      let was : slice_get mid k ≡ Some (job.node, Waiting) = ap (slice_get mid) e.0 ∙ u.0.0 in
-      ⊎_elim {C = (slice_get (slice_set mid i v) k ≡ slice_get old k) ⊎ ((n : N) × (h : F) × (slice_get old k ≡ Some (n, Waiting)) × (slice_get (slice_set mid i v) k ≡ Some (n, Done h)) × Member sealed.fronts (n, h))}
-      (λ s. inr (job.node, f, sym s ∙ was, now, u.3))
-      (λ s. absurd (waits-not-done s.0 job.node s.1 (sym s.3 ∙ was)))
-      (g k))
-      (λ e. ⊎_elim (λ s. inl (e ∙ s)) (λ s. inr (s.0, s.1, s.2, e ∙ s.3, s.4)) (g k))
-      (slice_get-set_split mid i k v)
+      ⊎_elim {C = StaysOrReused w sealed entries old new k}
+      (λ s. inr (record { job = job; front = f; waited = ap (slice_get old) e.0 ∙ can.0.0; own = (s ∙ (e.1 ∙ here), work); of_version = can.1 }))
+      (λ u. absurd (waits-not-done job.node u.job.node f (sym (e.1 ∙ here) ∙ u.waited)))
+      (rest k))
+      (λ e.
+      ⊎_elim {C = StaysOrReused w sealed entries old new k}
+      (λ s. inl (s ∙ e))
+      (λ u. inr (record { job = u.job; front = u.front; waited = sym e ∙ u.waited; own = u.own; of_version = u.of_version }))
+      (rest k))
+      (slice_get-set_split old i k now)
 
-  module _ (functional : (n : N) (f g : F) → Member sealed.fronts (n, f) → Member sealed.fronts (n, g) → f ≡ g) where
-    -- marks stay within any list that is marked to the end
-    marks-within : (old end mid : List (N × Cell F)) (marks : List (ℕ × (Work N I F × F))) (new : List (N × Cell F))
-        → Grown old end → NoneReusable w sealed entries end → Grown old mid → Within mid end → Reuses w sealed entries mid marks new → Within new end
-    marks-within old end mid [] new g none h within e = λ i n f at. within i n f (ap (λ z. slice_get z i) (sym e) ∙ at)
-    marks-within old end mid (m ∷ ms) new g none h within r =
-        let i = m.0 in let job = m.1.0 in let f = m.1.1 in
-        let waits : slice_get mid i ≡ Some (job.node, Waiting) = r.0.0.0 in
-        let work : IsWorkOf w (w.fold entries) (IsDone w end) job = record {
-          input = r.0.0.1.input;
-          before = r.0.0.1.before;
-          fronts = λ p q x.
-              let at = place-of-member mid (p, Done q) (r.0.0.1.fronts p q x) in
-              Member-at end at.0 (p, Done q) (within at.0 p q at.1);
+  -- where a node is stored first, it has its front in the end
+  pub stored-there : (cells : List (N × Cell F)) (place : ℕ) (n : N) (c : Cell F) (f : F) (new : List (N × Cell F)) → slice_get cells place ≡ Some (n, c)
+      → Reuses w sealed entries (slice_set cells place (n, Done f)) new → slice_get new place ≡ Some (n, Done f)
+  stored-there cells place n c f new at r = stays-done (slice_set cells place (n, Done f)) new r place n f (slice_get-set_here cells place (n, c) (n, Done f) at)
+
+  -- .. and the other cells stay, or are reused
+  pub stored-others : (cells : List (N × Cell F)) (place : ℕ) (n : N) (f : F) (new : List (N × Cell F))
+      → Reuses w sealed entries (slice_set cells place (n, Done f)) new → (k : ℕ) → k ≢ place → StaysOrReused w sealed entries cells new k
+  stored-others cells place n f new r k other =
+      let v : N × Cell F = (n, Done f) in
+      let e : slice_get (slice_set cells place v) k ≡ slice_get cells k = ⊎_elim {C = slice_get (slice_set cells place v) k ≡ slice_get cells k} (λ z. absurd (other z.0)) (λ z. z) (slice_get-set_split cells place k v) in
+      ⊎_elim {C = StaysOrReused w sealed entries cells new k}
+      (λ s. inl (s ∙ e))
+      (λ u. inr (record { job = u.job; front = u.front; waited = sym e ∙ u.waited; own = u.own; of_version = u.of_version }))
+      (r k)
+
+  module _ (functional : (n : N) (f g : F) → Member sealed.fronts (n, f) → Member sealed.fronts (n, g) → f ≡ g) (time : N → ℕ) (earlier : (p n : N) → IsBefore w (w.fold entries) p n → time p < time n) where
+    -- a node that is reused is reused wherever none is left, the earlier ones first
+    reused-below : (bound : ℕ) (old a b : List (N × Cell F)) → Reuses w sealed entries old a → Reuses w sealed entries old b → NoneReusable w sealed entries b
+        → (i : ℕ) → (u : IsReused w sealed entries old a i) → time u.job.node < bound → slice_get b i ≡ slice_get a i
+    reused-below zero old a b r q none i u low = absurd (omega (arith, low))
+    reused-below (suc bound) old a b r q none i u low =
+        let job = u.job in
+        let work : IsWorkOf w (w.fold entries) (IsDone w b) job = record {
+          input = u.own.1.input;
+          before = u.own.1.before;
+          fronts = λ p g x.
+              let at = place-of-member a (p, Done g) (u.own.1.fronts p g x) in
+              let less = earlier p job.node ((u.own.1.before.exact p).0 (Member-map_in (λ e. e.0) job.before (p, g) x)) in
+              Member-at b at.0 (p, Done g)
+              (⊎_elim {C = slice_get b at.0 ≡ Some (p, Done g)}
+              (λ s. stays-done old b q at.0 p g (sym s ∙ at.1))
+              (λ v. (
+              let node : v.job.node ≡ p = ap (λ z. z.0) (Some-same (v.job.node, Done v.front) (p, Done g) (sym v.own.0 ∙ at.1)) in
+              let same : time v.job.node ≡ time p = ap time node in
+              let now : slice_get b at.0 ≡ slice_get a at.0 = reused-below bound old a b r q none at.0 v (omega (arith, low, less, same)) in
+              now ∙ at.1))
+              (r at.0));
         } in
-        let was : slice_get old i ≡ Some (job.node, Waiting) = ⊎_elim (λ s. sym s ∙ waits) (λ s. absurd (waits-not-done s.0 job.node s.1 (sym s.3 ∙ waits))) (h i) in
-        let there : slice_get end i ≡ Some (job.node, Done f) =
-        ⊎_elim {C = slice_get end i ≡ Some (job.node, Done f)}
-        (λ s. absurd (none i job f ((s ∙ was, work), r.0.1, r.0.2, r.0.3)))
-        (λ s.
-        let node : s.0 ≡ job.node = ap (λ z. z.0) (Some-same (s.0, Waiting) (job.node, Waiting) (sym s.2 ∙ was)) in
-        let front : s.1 ≡ f = functional job.node s.1 f (subst (λ z. Member sealed.fronts (z, s.1)) node s.4) r.0.3 in
-        s.3 ∙ (ap (λ z. Some (z, Done s.1)) node ∙ ap (λ z. Some (job.node, Done z)) front))
-        (g i) in
-        let next : List (N × Cell F) = slice_set mid i (job.node, Done f) in
-        marks-within old end next ms new g none (grown-mark old mid i job f h r.0)
-        (λ k n q at. ⊎_elim {C = slice_get end k ≡ Some (n, Done q)}
-        (λ e. ap (slice_get end) e.0 ∙ (there ∙ (sym (slice_get-set_here mid i (job.node, Waiting) (job.node, Done f) waits) ∙ (sym e.1 ∙ at))))
-        (λ e. within k n q (sym e ∙ at))
-        (slice_get-set_split mid i k (job.node, Done f)))
-        r.1
+        ⊎_elim {C = slice_get b i ≡ slice_get a i}
+        (λ s. absurd (none i job u.front ((s ∙ u.waited, work), u.of_version)))
+        (λ v.
+        let node : v.job.node ≡ job.node = ap (λ z. z.0) (Some-same (v.job.node, Waiting) (job.node, Waiting) (sym v.waited ∙ u.waited)) in
+        let front : v.front ≡ u.front = functional job.node v.front u.front (subst (λ z. Member sealed.fronts (z, v.front)) node v.of_version.front_is) u.of_version.front_is in
+        same-told a b i (v.job.node, Done v.front) (job.node, Done u.front) v.own.0 (same-pair v.job.node job.node v.front u.front node front) u.own.0)
+        (q i)
 
-    reuses-grown : (old mid : List (N × Cell F)) (marks : List (ℕ × (Work N I F × F))) (new : List (N × Cell F)) → Grown old mid → Reuses w sealed entries mid marks new → Grown old new
-    reuses-grown old mid [] new g e = subst (Grown old) (sym e) g
-    reuses-grown old mid (m ∷ ms) new g r = reuses-grown old (slice_set mid m.0 (m.1.0.node, Done m.1.1)) ms new (grown-mark old mid m.0 m.1.0 m.1.1 g r.0) r.1
+    reused-same : (old a b : List (N × Cell F)) → Reuses w sealed entries old a → Reuses w sealed entries old b → NoneReusable w sealed entries b
+        → (i : ℕ) → IsReused w sealed entries old a i → slice_get b i ≡ slice_get a i
+    reused-same old a b r q none i u = reused-below (suc (time u.job.node)) old a b r q none i u (omega arith)
 
-    within-self : (old end : List (N × Cell F)) → Grown old end → Within old end
-    within-self old end g i n f at = ⊎_elim (λ s. s ∙ at) (λ s. absurd (waits-not-done n s.0 f (sym at ∙ s.2))) (g i)
-
-    -- two markings to the end give the same cells
-    pub one-end : (old : List (N × Cell F)) (ms ns : List (ℕ × (Work N I F × F))) (a b : List (N × Cell F))
-        → Reuses w sealed entries old ms a → NoneReusable w sealed entries a → Reuses w sealed entries old ns b → NoneReusable w sealed entries b → a ≡ b
-    one-end old ms ns a b r none s none' =
-        let self : Grown old old = λ i. inl refl in
-        let ga : Grown old a = reuses-grown old old ms a self r in
-        let gb : Grown old b = reuses-grown old old ns b self s in
-        let ab : Within a b = marks-within old b old ms a gb none' self (within-self old b gb) r in
-        let ba : Within b a = marks-within old a old ns b ga none self (within-self old a ga) s in
+    -- where none is left the cells are the same
+    pub one-end : (old a b : List (N × Cell F))
+        → Reuses w sealed entries old a → NoneReusable w sealed entries a → Reuses w sealed entries old b → NoneReusable w sealed entries b → a ≡ b
+    one-end old a b r none q none' =
         same-list a b (λ i. ⊎_elim {C = slice_get a i ≡ slice_get b i}
-        (λ p. ⊎_elim {C = slice_get a i ≡ slice_get b i} (λ q. p ∙ sym q) (λ q. ba i q.0 q.1 q.3 ∙ sym q.3) (gb i))
-        (λ p. p.3 ∙ sym (ab i p.0 p.1 p.3))
-        (ga i))
+        (λ s. ⊎_elim {C = slice_get a i ≡ slice_get b i} (λ t. s ∙ sym t) (λ v. reused-same old b a q r none i v) (q i))
+        (λ u. sym (reused-same old a b r q none' i u))
+        (r i))
 
 -- an arc list ends at its node, or goes on from a node just before
 pub Leads-last : {E D N I F B : Type 0} (w : World E D N I F B) (d : D) (m : N) (way : List N) (n : N) → Leads w d m way n → (m ≡ n) ⊎ ((p : N) × (rest : List N) × IsBefore w d p n × Leads w d m rest p)
@@ -141,7 +170,7 @@ module _ {E D N I F B : Type 0} (w : World E D N I F B) where
   carried-none sealed entries cells carried i job f u =
       let old : D = w.fold sealed.entries in
       let new : D = w.fold entries in
-      let untouched : IsUntouched w old new job.node = same-untouched sealed entries cells job u.1 u.2 u.0.1 in
+      let untouched : IsUntouched w old new job.node = same-untouched sealed entries cells job u.1.there u.1.work u.0.1 in
       let unreached : IsUnreached w old new job.node = λ m way is h. ⊎_elim {C = IsUntouched w old new m}
       (λ e. subst (IsUntouched w old new) (sym e) untouched)
       (λ r.

@@ -4,7 +4,6 @@ use Rattle.std.specs.Cmp.Lexicographic.{slice_cmp}
 use Rattle.std.specs.Ordering.{int_cmp, ordering_reverse, ordering_then}
 use Rattle.std.specs.declared.cmp.Ordering.{Ordering}
 use Rattle.std.specs.declared.cmp.Ordering.TheVariants.{Less, Equal, Greater}
-use Rattle.crew_answers.proofs.InRange.{checked-in-range}
 use Rattle.crew_answers.proofs.PlainNodes.{node-front}
 use Rattle.crew_answers.proofs.Unique.{vector-total}
 use Rattle.crew_answers.specs.Fronts.{IsFrontAt, RiseByVector, period_cmp, vector_cmp}
@@ -129,10 +128,10 @@ sorted-has (e ∷ es) v w m =
 -- each node has a front in order of vector
 pub rising-front : (s : Settings) (t : Timetable) → IsChecked s → IsSound t → (n : DutyNode) → IsNodeOf s t n → (f : Entries) × IsFrontOf s t n f
 rising-front s t checked sound n is =
-    let some = node-front s s.fdp_total t n.base is.price (checked-in-range s checked) sound n.duty is.legal in
+    let some = node-front s t n.base is.price checked sound n.duty is.legal in
     let es = some.0 in
     let f = some.1 in
-    let front : IsFrontAt s s.fdp_total t n.base is.price n.duty (sorted es) = record {
+    let front : IsFrontAt s t n.base is.price n.duty (sorted es) = record {
       clean = λ v w m. f.clean v w (sorted-from es (v, w) m);
       undominated = λ v w m. f.undominated v w (sorted-from es (v, w) m);
       least = λ v w y m c. f.least v w y (sorted-from es (v, w) m) c;

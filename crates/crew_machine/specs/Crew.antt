@@ -5,7 +5,7 @@ use Rattle.std.specs.FinMap as fin
 use Rattle.std.specs.Ordering.{then_cmp}
 use Rattle.std.specs.declared.cmp.Ordering.{Ordering}
 use Rattle.std.specs.declared.cmp.Ordering.TheVariants.{Less}
-use Rattle.crew_answers.specs.Bests.{IsBest}
+use Rattle.crew_answers.specs.Bests.{IsBest, IsScratch}
 use Rattle.crew_answers.specs.Fronts.{IsFrontAt, RiseByVector}
 use Rattle.crew_answers.specs.Locals.{Feed, IsLocalAt}
 use Rattle.crew_answers.specs.LongVectors.{LongVector}
@@ -15,7 +15,7 @@ use Rattle.crew_flights.specs.Timetable.{Timetable}
 use Rattle.crew_flights.specs.declared.entries.Entry.{Entry}
 use Rattle.crew_machine.specs.Rounds as Rounds
 use Rattle.crew_machine.specs.Steps as Steps
-use Rattle.crew_machine.specs.Worlds.{Work, World}
+use Rattle.crew_machine.specs.Worlds.{AreNodes, Work, World}
 use Rattle.crew_pairing.specs.Duties.{HasFew, HasTooMany, flights_of}
 use Rattle.crew_pairing.specs.Keys.{key_cmp}
 use Rattle.crew_pairing.specs.Legs.{Leg}
@@ -73,7 +73,7 @@ pub record IsFrontOf (s : Settings) (t : Timetable) (n : DutyNode) (entries : En
     0 where
   pub price : ℤ
   pub based : fin.get t.bases n.base ≡ Some price
-  pub front : IsFrontAt s s.fdp_total t n.base price n.duty entries
+  pub front : IsFrontAt s t n.base price n.duty entries
   pub rises : RiseByVector entries
 
 -- the duties of nodes, each with the node's front
@@ -84,7 +84,7 @@ feed_of before = map (λ b. (b.0.duty, b.1)) before
 pub record IsLocalOf (job : DutyWork) (entries : Entries) : Type 0 where
   pub price : ℤ
   pub based : job.input.price ≡ Some price
-  pub local : IsLocalAt job.input.settings job.input.settings.fdp_total job.node.base price
+  pub local : IsLocalAt job.input.settings job.node.base price
       job.node.duty (feed_of job.before) entries
   pub rises : RiseByVector entries
 
@@ -128,7 +128,7 @@ crew s = record {
   IsFront = IsFrontOf s;
   IsLocal = IsLocalOf;
   IsLeast = IsLeastOf s;
-  IsBest = IsBest s s.fdp_total;
+  IsBest = IsBest s;
 }
 
 abbrev pub CrewVersion : Type 0
@@ -149,15 +149,12 @@ CrewReply = Steps.Reply Entry DutyNode Inputs Entries PricedPairing
 abbrev pub CrewState : Type 0
 CrewState = Steps.State Entry DutyNode Inputs Entries PricedPairing
 
--- a version is from scratch: its fronts are those of each base and each legal duty of the timetable
--- that its entries come to, and of no other nodes, and its best is the best pairing there
+-- a version is from scratch: of the timetable that its entries come to it lists exactly the nodes, in
+-- node order, each with its front, in order of vector; and it has the best
 pub record IsFromScratch (s : Settings) (v : CrewVersion) : Type 0 where
-  pub every : (base : List ℕ) (price : ℤ) (d : Duty)
-      → fin.get (timetable_of v.entries).bases base ≡ Some price
-      → IsDuty s (flights_of (timetable_of v.entries)) d
-      → (entries : Entries) × Member v.fronts (record { base = base; duty = d }, entries)
-      × IsFrontAt s s.fdp_total (timetable_of v.entries) base price d entries
-  pub only : (n : DutyNode) (entries : Entries) → Member v.fronts (n, entries)
-      → IsNodeOf s (timetable_of v.entries) n × IsFrontOf s (timetable_of v.entries) n entries
-  pub best : IsBest s s.fdp_total (timetable_of v.entries) v.best
+  pub front : List ℕ → Duty → Entries
+  pub scratch : IsScratch s (timetable_of v.entries) front v.best
+  pub nodes : AreNodes (crew s) (timetable_of v.entries) (map (λ e. e.0) v.fronts)
+  pub fronts : (n : DutyNode) (entries : Entries) → Member v.fronts (n, entries)
+      → (entries ≡ front n.base n.duty) × RiseByVector entries
   pub few : HasFew s (timetable_of v.entries)

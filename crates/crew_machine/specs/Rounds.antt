@@ -1,6 +1,6 @@
 -- One round of work: the version that was sealed last, the round that is open, and what each call
 -- does to them, or why it doesn't. The relations leave free which node is claimed and which equal jobs are reused.
-use Rattle.std.specs.Prelude.{◌≡◌, ℕ, ◌+◌, ◌<◌, Bool, true, false, List, [], ◌∷◌, Option, Some, None, filter, length, map, slice_set}
+use Rattle.std.specs.Prelude.{◌≡◌, ◌≢◌, ◌⊎◌, ℕ, ◌+◌, ◌<◌, Bool, true, false, List, Option, Some, None, filter, length, map, slice_set}
 use mathlib.Core.List.{IsPrefix}
 use Rattle.std.specs.List.{slice_get}
 use Rattle.crew_resource.specs.Members.{Member}
@@ -95,26 +95,40 @@ module _ {E D N I F B : Type 0} (w : World E D N I F B) where
   NoneReady old = (round : Round E N F) (place : ℕ) (n : N) → old.round ≡ Some round
       → IsReady (w.fold round.entries) round.cells place n → ⊥
 
+  -- the job that the sealed version had of a node, and the front that it has of it
+  pub record IsOfVersion (sealed : Version E N F B) (job : Work N I F) (front : F) : Type 0 where
+    pub there : w.IsNode (w.fold sealed.entries) job.node
+    pub work : IsWorkOf w (w.fold sealed.entries) (λ p f. Member sealed.fronts (p, f)) job
+    pub front_is : Member sealed.fronts (job.node, front)
+
   -- the job of a waiting node is the version's job of it, and this is the version's front
   abbrev pub IsReusable : Version E N F B → Round E N F → ℕ → Work N I F → F → Type 0
-  IsReusable sealed round place job f =
-      IsOwn round place Waiting job
-      × w.IsNode (w.fold sealed.entries) job.node
-      × IsWorkOf w (w.fold sealed.entries) (λ p g. Member sealed.fronts (p, g)) job
-      × Member sealed.fronts (job.node, f)
+  IsReusable sealed round place job f = IsOwn round place Waiting job × IsOfVersion sealed job f
 
-  -- nodes whose jobs are the version's are marked done, one after another
-  abbrev pub Reuses : Version E N F B → List E → List (N × Cell F)
-      → List (ℕ × (Work N I F × F)) → List (N × Cell F) → Type 0
-  Reuses sealed entries old [] new = new ≡ old
-  Reuses sealed entries old (m ∷ ms) new =
-      IsReusable sealed (record { entries = entries; cells = old }) m.0 m.1.0 m.1.1
-      × Reuses sealed entries (slice_set old m.0 (m.1.0.node, Done m.1.1)) ms new
-
-  -- .. until there is none left
+  -- there is none left
   abbrev pub NoneReusable : Version E N F B → List E → List (N × Cell F) → Type 0
   NoneReusable sealed entries cells = (place : ℕ) (job : Work N I F) (f : F)
       → IsReusable sealed (record { entries = entries; cells = cells }) place job f → ⊥
+
+  -- the node at a place waited, and is done with the version's front: its own job, over the fronts
+  -- that are done in the new cells, is the version's job of it
+  pub record IsReused (sealed : Version E N F B) (entries : List E) (old new : List (N × Cell F))
+      (place : ℕ) : Type 0 where
+    pub job : Work N I F
+    pub front : F
+    pub waited : slice_get old place ≡ Some (job.node, Waiting)
+    pub own : IsOwn (record { entries = entries; cells = new }) place (Done front) job
+    pub of_version : IsOfVersion sealed job front
+
+  -- the cell at a place stays, or its node is reused
+  abbrev pub StaysOrReused : Version E N F B → List E → List (N × Cell F) → List (N × Cell F) → ℕ
+      → Type 0
+  StaysOrReused sealed entries old new place =
+      (slice_get new place ≡ slice_get old place) ⊎ IsReused sealed entries old new place
+
+  -- some nodes are reused, and all other cells stay
+  abbrev pub Reuses : Version E N F B → List E → List (N × Cell F) → List (N × Cell F) → Type 0
+  Reuses sealed entries old new = (place : ℕ) → StaysOrReused sealed entries old new place
 
   -- the job is its node's own now, whatever is known of the node
   abbrev pub IsCurrent : Board E N F B → Work N I F → Type 0
@@ -126,7 +140,7 @@ module _ {E D N I F B : Type 0} (w : World E D N I F B) where
   IsAgain old job = (round : Round E N F) × (place : ℕ) × (g : F)
       × (old.round ≡ Some round) × IsOwn round place (Done g) job
 
-  -- a result is stored, and some of what can be reused is marked
+  -- a result is stored: its node is done with it, some nodes are reused, and all other cells stay
   pub record Stores (old : Board E N F B) (job : Work N I F) (front : F) (new : Board E N F B)
       : Type 0 where
     pub round : Round E N F
@@ -136,10 +150,10 @@ module _ {E D N I F B : Type 0} (w : World E D N I F B) where
     pub own : IsOwn round place cell job
     pub undone : IsUndone cell
     pub local : w.IsLocal job front
-    pub reused : List (ℕ × (Work N I F × F))
     pub cells : List (N × Cell F)
-    pub reuses : Reuses old.sealed round.entries
-        (slice_set round.cells place (job.node, Done front)) reused cells
+    pub stored : slice_get cells place ≡ Some (job.node, Done front)
+    pub others : (k : ℕ) → k ≢ place
+        → StaysOrReused old.sealed round.entries round.cells cells k
     pub after : new ≡ with_cells old round cells
 
   -- bring: a result is taken in by what its job holds, whoever made it and when

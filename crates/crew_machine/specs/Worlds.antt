@@ -64,10 +64,3 @@ module _ {E D N I F B : Type 0} (w : World E D N I F B) where
   abbrev pub IsUnreached : D → D → N → Type 0
   IsUnreached old new n = (m : N) (way : List N) → w.IsNode new m → Leads new m way n
       → IsUntouched old new m
-
-  -- from scratch: exactly the nodes of the data, each with its front, and the best
-  pub record IsScratch (d : D) (fronts : List (N × F)) (best : Option B) : Type 0 where
-    pub nodes : AreNodes d (map (λ e. e.0) fronts)
-    pub right : (n : N) (f : F) → Member fronts (n, f) → w.IsFront d n f
-    pub best_is : w.IsBest d best
-    pub small : w.IsSmall d

@@ -115,14 +115,13 @@ pub fn each_log_can_be_published()
         × (slice_get state.published place ≡ Some version) × (version.entries ≡ entries)) }
 {}
 
-/// Reuse has one end: where equal jobs are marked one after another until none is left, the cells
-/// are the same whatever the order. After a round is begun there is none to mark.
+/// Reuse has one end: where some nodes are reused and none is left that could be, the cells are the
+/// same whichever were. After a round is begun there is none to reuse.
 pub fn reuse_has_one_end()
     ensures alike { (s : Settings) (sealed : CrewVersion) (entries : List Entry)
-        (old a b : List (DutyNode × Cell Entries)) (ms ns : List (ℕ × (DutyWork × Entries)))
-        → IsChecked s → IsFromScratch s sealed
-        → Reuses (crew s) sealed entries old ms a → NoneReusable (crew s) sealed entries a
-        → Reuses (crew s) sealed entries old ns b → NoneReusable (crew s) sealed entries b
+        (old a b : List (DutyNode × Cell Entries)) → IsChecked s → IsFromScratch s sealed
+        → Reuses (crew s) sealed entries old a → NoneReusable (crew s) sealed entries a
+        → Reuses (crew s) sealed entries old b → NoneReusable (crew s) sealed entries b
         → a ≡ b }
     ensures begun { (s : Settings) (sealed : CrewVersion) (entries : List Entry)
         (cells : List (DutyNode × Cell Entries)) → IsCarried (crew s) sealed entries cells

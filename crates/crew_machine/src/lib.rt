@@ -5,7 +5,7 @@
 //! versions are a chain and each is from scratch, and no reader is answered a version before its
 //! last. No code runs here: a board of jobs, and the threads over it, are held to these steps.
 //!
-//! Over any world of entries, data, nodes, arcs and fronts, of which five laws are asked: so a
+//! Over any world of entries, data, nodes, arcs and fronts, of which six laws are asked: so a
 //! round whose unit isn't a node (a departure's pool, say) can be held to the same steps. The
 //! product's choices are steps with one fact more, so what holds of all runs holds of its runs.
 //! That each act has a reply under them is a law, so none can be had by refusing to go on.

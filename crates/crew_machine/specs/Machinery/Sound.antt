@@ -8,7 +8,8 @@ use Rattle.crew_machine.specs.Chains.{Follows}
 use Rattle.crew_resource.specs.Chains.{IsChain}
 use Rattle.crew_machine.specs.Rounds.{Board, Round, Version, last_number}
 use Rattle.crew_machine.specs.Steps.{State, last_of, seen_by}
-use Rattle.crew_machine.specs.Worlds.{AreNodes, IsScratch, IsWorkOf, Work, World}
+use Rattle.crew_machine.specs.Worlds.{AreNodes, IsWorkOf, Work, World}
+use Rattle.crew_machine.specs.Machinery.Worked.{IsScratch}
 use Rattle.crew_machine.specs.declared.rounds.Cell.TheVariants.{Done}
 
 module _ {E D N I F B : Type 0} (w : World E D N I F B) where
