@@ -7,6 +7,7 @@ use Rattle.crew_pairing.specs.declared.events.Arrival.{Arrival}
 use Rattle.crew_pairing.specs.declared.events.Departure.{Departure}
 use Rattle.crew_resource.specs.Machinery.Both.{both}
 use Rattle.crew_resource.proofs.SignedProducts.{*ℤ-+ℤ}
+use Rattle.crew_rules.specs.Settings.{fdp_most}
 use Rattle.crew_rules.specs.declared.settings.Settings.{Settings}
 use Rattle.crew_vector.specs.Machinery.Amounts.{guarantee_own, pay_own, rig_own}
 use Rattle.crew_vector.specs.Events.{board_vector, idle_vector, wait_vector}
@@ -70,7 +71,7 @@ board-one : (s : Settings) (v : PairingVector) (d : Duty) → board_vector s v d
 board-one s v d =
     let n = raised s v d in
     ap (option_map named)
-    (four-capped (int_le n.1.0.0 (pos s.fdp_cap)) (int_le n.1.0.1 (pos s.fly_cap)) (int_le n.1.1.0 (pos s.max_duties)) (int_le n.1.1.1 (pos s.away_cap)) n.0 n.1.0.0 n.1.0.1 n.1.1.0 n.1.1.1)
+    (four-capped (int_le n.1.0.0 (pos (fdp_most s))) (int_le n.1.0.1 (pos s.fly_cap)) (int_le n.1.1.0 (pos s.max_duties)) (int_le n.1.1.1 (pos s.away_cap)) n.0 n.1.0.0 n.1.0.1 n.1.1.0 n.1.1.1)
     ∙ named-cond (is_vector_within_caps s (named n)) n
 
 flown_rig : (v r p t q : ℤ) → (v +ℤ (r *ℤ (t -ℤ p) -ℤ q)) -ℤ r *ℤ t ≡ (v -ℤ r *ℤ p) -ℤ q
@@ -87,7 +88,7 @@ at_release v p t = omega (arith, ints)
 
 caps-are : (s : Settings) (price : ℤ) (v : PairingVector) (d : Duty) → is_vector_within_caps s (named (raised s v d)) ≡ is_within_caps_at (anchored_resource s price) d.release (flown (anchored_resource s price) (anchored s.trip_rig d.report v) d)
 caps-are s price v d =
-    ap (λ z. int_le (v.fdp +ℤ d.fdp) (pos s.fdp_cap) && (int_le (v.fly +ℤ d.fly) (pos s.fly_cap) && (int_le (v.duties +ℤ pos 1) (pos s.max_duties) && int_le z (pos s.away_cap))))
+    ap (λ z. int_le (v.fdp +ℤ d.fdp) (pos (fdp_most s)) && (int_le (v.fly +ℤ d.fly) (pos s.fly_cap) && (int_le (v.duties +ℤ pos 1) (pos s.max_duties) && int_le z (pos s.away_cap))))
     (at_release v.away d.report d.release)
 
 mapped-cond : {A B : Type 0} (f : A → B) (q : Bool) (x : A) → option_map f (cond q (Some x) None) ≡ cond q (Some (f x)) None

@@ -1,6 +1,7 @@
 -- The stages of anchored vectors. Waiting changes nothing.
 use Rattle.std.specs.Prelude.{Bool, ◌&&◌, cond, int_le, ℤ, pos, ◌+ℤ◌, ◌-ℤ◌, ◌*ℤ◌, neg_ℤ, Option, Some, None}
 use Rattle.crew_pairing.specs.declared.duty.Duty.{Duty}
+use Rattle.crew_rules.specs.Settings.{fdp_most}
 use Rattle.crew_rules.specs.declared.settings.Settings.{Settings}
 use Rattle.crew_pairing.specs.declared.vector.PairingVector.{PairingVector}
 use Rattle.crew_anchor.specs.declared.resource.AnchoredResource.{AnchoredResource}
@@ -10,7 +11,7 @@ anchored_resource s base_price = record {
   base_price = base_price;
   trip_rig = s.trip_rig;
   guarantee = s.guarantee;
-  fdp_cap = s.fdp_cap;
+  fdp_cap = fdp_most s;
   fly_cap = s.fly_cap;
   max_duties = s.max_duties;
   away_cap = s.away_cap;

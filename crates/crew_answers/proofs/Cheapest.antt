@@ -5,6 +5,7 @@ use Rattle.std.specs.Ordering.{eq_by_cmp}
 use Rattle.std.proofs.lemmas.Int.{ints}
 use Rattle.crew_flights.specs.Codes.{code_cmp}
 use Rattle.crew_flights.specs.Timetable.{IsSound, Timetable}
+use Rattle.crew_rules.specs.Settings.{IsChecked}
 use Rattle.crew_rules.specs.declared.settings.Settings.{Settings}
 use Rattle.crew_resource.specs.Members.{Each}
 use Rattle.crew_pairing.specs.Duties.{flights_of}
@@ -23,7 +24,6 @@ use Rattle.crew_vector.proofs.Orders.{code-itself, same-code, walk-order}
 use Rattle.crew_answers.specs.Bests.{AreFronts, IsBest, IsCleanPairing, IsHomeEntry, IsPairing}
 use Rattle.crew_answers.specs.Fronts.{At}
 use Rattle.crew_answers.specs.LongVectors.{LongVector, long_vector_of}
-use Rattle.crew_answers.specs.Ranges.{IsInRange}
 use Rattle.crew_answers.proofs.PlainNodes.{each-below, each-clean}
 use Rattle.crew_answers.proofs.Vectors.{sums-at-most}
 
@@ -35,10 +35,10 @@ last-of-each P first (next ∷ others) h = last-of-each P next others h.1
 pay-again : (cost pay prices rig rig_less : ℤ) → cost ≡ pay -ℤ prices → rig_less ≡ rig -ℤ prices → pay ≡ cost +ℤ (rig -ℤ rig_less)
 pay-again cost pay prices rig rig_less h k = omega (arith, ints)
 
-module _ (s : Settings) (fdp_total : ℕ) (t : Timetable) where
+module _ (s : Settings) (t : Timetable) where
   -- an entry at home is a clean pairing
-  pub entry-pairing : (front : List ℕ → Duty → List (LongVector × List (List Leg))) → AreFronts s fdp_total t front → (base : List ℕ) (v : LongVector) (w : List (List Leg)) → IsHomeEntry s t front base v w
-      → (p : PricedPairing) × IsCleanPairing s fdp_total t p × (p.base ≡ base) × (p.walk ≡ w) × (p.cost ≡ reduced_cost v.sums)
+  pub entry-pairing : (front : List ℕ → Duty → List (LongVector × List (List Leg))) → AreFronts s t front → (base : List ℕ) (v : LongVector) (w : List (List Leg)) → IsHomeEntry s t front base v w
+      → (p : PricedPairing) × IsCleanPairing s t p × (p.base ≡ base) × (p.walk ≡ w) × (p.cost ≡ reduced_cost v.sums)
       × (p.pay ≡ reduced_cost v.sums +ℤ (pos s.trip_rig *ℤ v.sums.away -ℤ v.sums.trip_rig)) × (p.away ≡ v.sums.away)
   entry-pairing front right base v w h =
       let clean = (right base h.price h.duty h.based h.legal).clean v w h.held in
@@ -67,15 +67,15 @@ module _ (s : Settings) (fdp_total : ℕ) (t : Timetable) where
         sym away,
       )
 
-  module _ (range : IsInRange s fdp_total) (sound : IsSound t) where
-    pub clean-below : (p : PricedPairing) → IsPairing s fdp_total t p → (q : PricedPairing) × IsCleanPairing s fdp_total t q × (q.cost ≤ℤ p.cost)
+  module _ (range : IsChecked s) (sound : IsSound t) where
+    pub clean-below : (p : PricedPairing) → IsPairing s t p → (q : PricedPairing) × IsCleanPairing s t q × (q.cost ≤ℤ p.cost)
     clean-below p h =
         let last = last_duty h.first h.others in
         let vector = long_vector_of s h.price h.first h.others in
-        let here : At s fdp_total t p.base h.price last vector (walk_of (h.first ∷ h.others)) =
+        let here : At s t p.base h.price last vector (walk_of (h.first ∷ h.others)) =
         record { first = h.first; others = h.others; partial = h.partial; ends = refl; vector = refl; walk = refl } in
-        let low = each-below s fdp_total t p.base h.price range sound last vector (walk_of (h.first ∷ h.others)) here in
-        let clean = each-clean s fdp_total t p.base h.price range sound last low.0 low.1 in
+        let low = each-below s t p.base h.price range sound last vector (walk_of (h.first ∷ h.others)) here in
+        let clean = each-clean s t p.base h.price range sound last low.0 low.1 in
         let at = clean.1.at in
         let q : PricedPairing = record {
           base = p.base;
@@ -96,14 +96,14 @@ module _ (s : Settings) (fdp_total : ℕ) (t : Timetable) where
           subst (λ z. z ≤ℤ p.cost) cost_q (subst (λ z. reduced_cost low.0.sums ≤ℤ z) cost_p less),
         )
 
-    pub best-least : (best p : PricedPairing) → IsBest s fdp_total t (Some best) → IsPairing s fdp_total t p → best.cost ≤ℤ p.cost
+    pub best-least : (best p : PricedPairing) → IsBest s t (Some best) → IsPairing s t p → best.cost ≤ℤ p.cost
     best-least best p is h =
         let q = clean-below p h in
         let less = q.2 in
         ⊎_elim (λ lt. omega (arith, ints, lt, less)) (λ eq. let e = eq.0 in omega (arith, ints, e, less)) (is.1 q.0 q.1)
 
     -- a clean pairing's vector is an entry at home, with a walk that is at most the pairing's
-    pairing-entry : (front : List ℕ → Duty → List (LongVector × List (List Leg))) → AreFronts s fdp_total t front → (p : PricedPairing) → IsCleanPairing s fdp_total t p
+    pairing-entry : (front : List ℕ → Duty → List (LongVector × List (List Leg))) → AreFronts s t front → (p : PricedPairing) → IsCleanPairing s t p
         → (v : LongVector) × (w : List (List Leg)) × IsHomeEntry s t front p.base v w × (reduced_cost v.sums ≡ p.cost) × (walk_at_most w p.walk ≡ true)
     pairing-entry front right p c =
         let is = c.pairing in
@@ -119,18 +119,18 @@ module _ (s : Settings) (fdp_total : ℕ) (t : Timetable) where
           f.least vector e.0 p.walk e.1 (record { at = record { first = is.first; others = is.others; partial = is.partial; ends = refl; vector = refl; walk = is.walk }; stays = c.stays }),
         )
 
-    pub least-entry : (front : List ℕ → Duty → List (LongVector × List (List Leg))) (best : PricedPairing) → AreFronts s fdp_total t front → IsCleanPairing s fdp_total t best
-        → ((base : List ℕ) (v : LongVector) (w : List (List Leg)) → IsHomeEntry s t front base v w → NoDearer best.cost best.walk (reduced_cost v.sums) w) → IsBest s fdp_total t (Some best)
+    pub least-entry : (front : List ℕ → Duty → List (LongVector × List (List Leg))) (best : PricedPairing) → AreFronts s t front → IsCleanPairing s t best
+        → ((base : List ℕ) (v : LongVector) (w : List (List Leg)) → IsHomeEntry s t front base v w → NoDearer best.cost best.walk (reduced_cost v.sums) w) → IsBest s t (Some best)
     least-entry front best right clean least = (clean, each)
       where
-        each : (p : PricedPairing) → IsCleanPairing s fdp_total t p → NoDearer best.cost best.walk p.cost p.walk
+        each : (p : PricedPairing) → IsCleanPairing s t p → NoDearer best.cost best.walk p.cost p.walk
         each p c =
             let e = pairing-entry front right p c in
             let n : NoDearer best.cost best.walk p.cost e.1 = subst (λ z. NoDearer best.cost best.walk z e.1) e.3 (least p.base e.0 e.1 e.2) in
             ⊎_elim inl (λ q. inr (q.0, walk-order.transitive best.walk e.1 p.walk q.1 e.4)) n
 
-    pub no-entry : (front : List ℕ → Duty → List (LongVector × List (List Leg))) → AreFronts s fdp_total t front
-        → ((base : List ℕ) (v : LongVector) (w : List (List Leg)) → IsHomeEntry s t front base v w → ⊥) → IsBest s fdp_total t None
+    pub no-entry : (front : List ℕ → Duty → List (LongVector × List (List Leg))) → AreFronts s t front
+        → ((base : List ℕ) (v : LongVector) (w : List (List Leg)) → IsHomeEntry s t front base v w → ⊥) → IsBest s t None
     no-entry front right none = λ p h.
         let q = clean-below p h in
         let e = pairing-entry front right q.0 q.1 in

@@ -4,6 +4,7 @@ use Rattle.std.specs.Prelude.{◌<ℤ◌}
 use Rattle.std.specs.Option.{option_and_then}
 use Rattle.std.proofs.lemmas.Int.{ints}
 use Rattle.crew_flights.specs.Timetable.{IsSound, Timetable}
+use Rattle.crew_rules.specs.Settings.{IsChecked}
 use Rattle.crew_rules.specs.declared.settings.Settings.{Settings}
 use Rattle.crew_resource.specs.Members.{Each}
 use Rattle.crew_resource.specs.Resource.{StepLaws}
@@ -19,7 +20,6 @@ use Rattle.crew_history.proofs.Histories.{ends_before_cut, follows_decides}
 use Rattle.crew_history.proofs.LegalOrder.{in_order}
 use Rattle.crew_answers.specs.Locals.{grown, is_within_limits}
 use Rattle.crew_answers.specs.LongVectors.{LongVector, is_long, long_vector_of}
-use Rattle.crew_answers.specs.Ranges.{IsInRange}
 use Rattle.crew_answers.proofs.Growth.{Value, periods-end, start-in, start-out, step-in, step-out}
 use Rattle.crew_answers.proofs.PlainNodes as Plain
 use Rattle.crew_answers.proofs.Ranking.{later-report}
@@ -40,12 +40,12 @@ last-each P (x ∷ ds) d h = last-each P ds d h.1
 later-period : (r f : ℤ) → pos 0 <ℤ f → r <ℤ (r +ℤ f)
 later-period r f h = omega (arith, ints)
 
-module _ (s : Settings) (fdp_total : ℕ) (t : Timetable) (base : List ℕ) (price : ℤ) (sound : IsSound t) where
+module _ (s : Settings) (t : Timetable) (base : List ℕ) (price : ℤ) (sound : IsSound t) where
   pub timed : (d : Duty) → IsDuty s (flights_of t) d → IsTimed d
   timed d legal = in_order s t d [] sound (legal, tt) tt
 
   abbrev Partial : Duty → List Duty → Type 0
-  Partial first others = IsLongPartial s (pos fdp_total) (flights_of t) base first others
+  Partial first others = IsLongPartial s (flights_of t) base first others
 
   -- what the plain value of a partial before d knows of the past
   pub past : (first : Duty) (others : List Duty) (d : Duty) → Partial first others → IsDuty s (flights_of t) d → may_stand_after s (last_duty first others) d ≡ true → (u : Value)
@@ -63,7 +63,7 @@ module _ (s : Settings) (fdp_total : ℕ) (t : Timetable) (base : List ℕ) (pri
 
   -- by any values that tell partials
   module _ (V : Type 0) (opens : Duty → Option V) (extends : V → Duty → Duty → Option V) (le : V → V → Bool) (value_of : List Duty → Option V)
-      (steps : StepLaws opens extends le value_of) (shown : Duty → V → LongVector) (tells : Tells s fdp_total t base price V le value_of shown) where
+      (steps : StepLaws opens extends le value_of) (shown : Duty → V → LongVector) (tells : Tells s t base price V le value_of shown) where
     -- the value of a list with one duty more is the step's
     pub stepped : (first : Duty) (others : List Duty) (d : Duty) (u : V) → value_of (first ∷ others) ≡ Some u → value_of (first ∷ (others ++ d ∷ [])) ≡ extends u (last_duty first others) d
     stepped first others d u e =
@@ -83,26 +83,26 @@ module _ (s : Settings) (fdp_total : ℕ) (t : Timetable) (base : List ℕ) (pri
     longer-partial first others d v p legal after e =
         (tells.partial first (others ++ d ∷ []) v (each-pushed (IsDuty s (flights_of t)) (first ∷ others) d p.legal legal) p.leaves (rested-pushed s first others d p.rested after) e).0
 
-  module _ (range : IsInRange s fdp_total) where
+  module _ (range : IsChecked s) where
     abbrev all : List Duty → Option Value
-    all = Plain.all_of s fdp_total price
+    all = Plain.all_of s price
 
     abbrev Shown : Duty → Value → LongVector
-    Shown = Plain.shown s fdp_total t base price range sound
+    Shown = Plain.shown s t base price range sound
 
-    tells : Tells s fdp_total t base price Value Plain.at_most all Shown
-    tells = Plain.tells s fdp_total t base price range sound
+    tells : Tells s t base price Value Plain.at_most all Shown
+    tells = Plain.tells s t base price range sound
 
-    abbrev plain_steps : StepLaws (Plain.opens s fdp_total price) (Plain.extends s fdp_total price) Plain.at_most all
-    plain_steps = Plain.value-steps s fdp_total price
+    abbrev plain_steps : StepLaws (Plain.opens s price) (Plain.extends s price) Plain.at_most all
+    plain_steps = Plain.value-steps s price
 
     plain-told : (first : Duty) (others : List Duty) (v : Value) → Partial first others → all (first ∷ others) ≡ Some v → Shown (last_duty first others) v ≡ long_vector_of s price first others
-    plain-told = told Value (Plain.opens s fdp_total price) (Plain.extends s fdp_total price) Plain.at_most all plain_steps Shown tells
+    plain-told = told Value (Plain.opens s price) (Plain.extends s price) Plain.at_most all plain_steps Shown tells
 
     -- a longer partial is within the limits, and its vector is grown
     pub partial-out : (first : Duty) (others : List Duty) (d : Duty) → Partial first others → IsDuty s (flights_of t) d → may_stand_after s (last_duty first others) d ≡ true
         → Partial first (others ++ d ∷ [])
-        → (is_within_limits s fdp_total d (grown s (last_duty first others) d (long_vector_of s price first others)) ≡ true)
+        → (is_within_limits s d (grown s (last_duty first others) d (long_vector_of s price first others)) ≡ true)
         × (long_vector_of s price first (others ++ d ∷ []) ≡ grown s (last_duty first others) d (long_vector_of s price first others))
     partial-out first others d p legal after q =
         let e = last_duty first others in
@@ -110,33 +110,33 @@ module _ (s : Settings) (fdp_total : ℕ) (t : Timetable) (base : List ℕ) (pri
         let z = tells.value first (others ++ d ∷ []) q in
         let shows = plain-told first others u.0 p u.1 in
         let k = past first others d p legal after u.0 (ap (λ (x : LongVector). x.history) shows) in
-        let step = sym (stepped Value (Plain.opens s fdp_total price) (Plain.extends s fdp_total price) Plain.at_most all plain_steps Shown tells first others d u.0 u.1) ∙ z.1 in
-        let o = step-out s fdp_total u.0 z.0 e d k.1 step in (
-          subst (λ x. is_within_limits s fdp_total d (grown s e d x) ≡ true) shows o.0,
-          sym (told-longer Value (Plain.opens s fdp_total price) (Plain.extends s fdp_total price) Plain.at_most all plain_steps Shown tells first others d z.0 q z.1) ∙ (o.1 ∙ ap (grown s e d) shows),
+        let step = sym (stepped Value (Plain.opens s price) (Plain.extends s price) Plain.at_most all plain_steps Shown tells first others d u.0 u.1) ∙ z.1 in
+        let o = step-out s u.0 z.0 e d k.1 step in (
+          subst (λ x. is_within_limits s d (grown s e d x) ≡ true) shows o.0,
+          sym (told-longer Value (Plain.opens s price) (Plain.extends s price) Plain.at_most all plain_steps Shown tells first others d z.0 q z.1) ∙ (o.1 ∙ ap (grown s e d) shows),
         )
 
     -- and within the limits the longer list is a partial
     pub partial-in : (first : Duty) (others : List Duty) (d : Duty) → Partial first others → IsDuty s (flights_of t) d → may_stand_after s (last_duty first others) d ≡ true
-        → is_within_limits s fdp_total d (grown s (last_duty first others) d (long_vector_of s price first others)) ≡ true → Partial first (others ++ d ∷ [])
+        → is_within_limits s d (grown s (last_duty first others) d (long_vector_of s price first others)) ≡ true → Partial first (others ++ d ∷ [])
     partial-in first others d p legal after h =
         let e = last_duty first others in
         let u = tells.value first others p in
         let shows = plain-told first others u.0 p u.1 in
         let k = past first others d p legal after u.0 (ap (λ (x : LongVector). x.history) shows) in
-        let z = step-in s fdp_total u.0 e d k.0 k.1 (subst (λ x. is_within_limits s fdp_total d (grown s e d x) ≡ true) (sym shows) h) in
-        longer-partial Value (Plain.opens s fdp_total price) (Plain.extends s fdp_total price) Plain.at_most all plain_steps Shown tells first others d z.0 p legal after
-        (stepped Value (Plain.opens s fdp_total price) (Plain.extends s fdp_total price) Plain.at_most all plain_steps Shown tells first others d u.0 u.1 ∙ z.1)
+        let z = step-in s u.0 e d k.0 k.1 (subst (λ x. is_within_limits s d (grown s e d x) ≡ true) (sym shows) h) in
+        longer-partial Value (Plain.opens s price) (Plain.extends s price) Plain.at_most all plain_steps Shown tells first others d z.0 p legal after
+        (stepped Value (Plain.opens s price) (Plain.extends s price) Plain.at_most all plain_steps Shown tells first others d u.0 u.1 ∙ z.1)
 
     -- one duty
-    pub first-out : (d : Duty) → Partial d [] → is_within_limits s fdp_total d (long_vector_of s price d []) ≡ true
+    pub first-out : (d : Duty) → Partial d [] → is_within_limits s d (long_vector_of s price d []) ≡ true
     first-out d p =
         let z = tells.value d [] p in
-        (start-out s fdp_total price z.0 d (sym (plain_steps.opening d) ∙ z.1)).0
+        (start-out s price z.0 d (sym (plain_steps.opening d) ∙ z.1)).0
 
-    pub first-in : (d : Duty) → IsDuty s (flights_of t) d → d.from ≡ base → is_within_limits s fdp_total d (long_vector_of s price d []) ≡ true → Partial d []
+    pub first-in : (d : Duty) → IsDuty s (flights_of t) d → d.from ≡ base → is_within_limits s d (long_vector_of s price d []) ≡ true → Partial d []
     first-in d legal leaves h =
-        let z = start-in s fdp_total price d (timed d legal) h in
+        let z = start-in s price d (timed d legal) h in
         (tells.partial d [] z.0 (legal, tt) leaves tt (plain_steps.opening d ∙ z.1)).0
 
     some-or-none : (o : Option Value) → ((v : Value) × (o ≡ Some v)) ⊎ (o ≡ None)
@@ -153,6 +153,6 @@ module _ (s : Settings) (fdp_total : ℕ) (t : Timetable) (base : List ℕ) (pri
         (λ k. (tells.partial first taken k.0 (each-beginning (IsDuty s (flights_of t)) (first ∷ taken) left p.legal) p.leaves (rested-beginning s first taken left p.rested) k.1).0)
         (λ n.
         let gone = ap all (sym (last-split first taken left))
-        ∙ none-goes-on Value Duty (Plain.opens s fdp_total price) (Plain.extends s fdp_total price) Plain.at_most all plain_steps bs e left (ap all (whole-split first taken) ∙ n) in
+        ∙ none-goes-on Value Duty (Plain.opens s price) (Plain.extends s price) Plain.at_most all plain_steps bs e left (ap all (whole-split first taken) ∙ n) in
         absurd (let z : ⊥ = (cc) in z))
         (some-or-none (all (first ∷ taken)))

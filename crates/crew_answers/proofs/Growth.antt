@@ -1,5 +1,5 @@
 -- A step of the parts is a vector with one more duty, within the limits.
-use Rattle.std.proofs.Common.{◌≡◌, ℕ, Bool, true, false, ◌&&◌, cond, List, [], ◌∷◌, map, Option, Some, None, ℤ, pos, ◌+ℤ◌, ◌-ℤ◌, int_le, refl, sym, ◌∙◌, ap, subst, arith}
+use Rattle.std.proofs.Common.{◌≡◌, Bool, true, false, ◌&&◌, cond, List, [], ◌∷◌, map, Option, Some, None, ℤ, pos, ◌+ℤ◌, ◌-ℤ◌, int_le, refl, sym, ◌∙◌, ap, subst, arith}
 use Rattle.std.specs.Prelude.{◌≤ℤ◌, ◌<ℤ◌}
 use Rattle.std.proofs.lemmas.Bool.{and_from, and_parts, cases_Bool}
 use Rattle.std.proofs.lemmas.Int.{ints}
@@ -101,7 +101,7 @@ both-tests false a b = refl
 abbrev pub Value : Type 0
 Value = PairingVector × (RestEnd × Kept)
 
-module _ (s : Settings) (fdp_total : ℕ) where
+module _ (s : Settings) where
   abbrev on : Bool
   on = is_long s
 
@@ -112,50 +112,50 @@ module _ (s : Settings) (fdp_total : ℕ) where
   shown d v = record { sums = v.0; since_rest = cond on (d.report -ℤ v.1.0.minute) (pos 0); history = v.1.1.periods }
 
   abbrev pub stepped : Value → Duty → Duty → Option Value
-  stepped v e d = both (SumsSteps.extends (settings_of_sums s fdp_total) v.0 e d) (both (extend_rest on v.1.0 e d) (extend_kept on cap v.1.1 e d))
+  stepped v e d = both (SumsSteps.extends (settings_of_sums s) v.0 e d) (both (extend_rest on v.1.0 e d) (extend_kept on cap v.1.1 e d))
 
   abbrev pub started : ℤ → Duty → Option Value
-  started price d = both (SumsSteps.opens (settings_of_sums s fdp_total) price d) (both (open_rest on d) (open_kept on cap d))
+  started price d = both (SumsSteps.opens (settings_of_sums s) price d) (both (open_rest on d) (open_kept on cap d))
 
   -- the limits are three tests
-  three-tests : (last : Duty) (v : LongVector) → Locals.is_within_limits s fdp_total last v ≡ true
-      → (Sums.is_vector_within_caps (settings_of_sums s fdp_total) v.sums ≡ true) × (cond on (int_le v.since_rest (pos 8_280)) true ≡ true)
+  three-tests : (last : Duty) (v : LongVector) → Locals.is_within_limits s last v ≡ true
+      → (Sums.is_vector_within_caps (settings_of_sums s) v.sums ≡ true) × (cond on (int_le v.since_rest (pos 8_280)) true ≡ true)
       × (cond on (int_le (minutes_after v.history (arrival last -ℤ pos 10_080)) cap) true ≡ true)
   three-tests last v h =
       let a = int_le v.since_rest (pos 8_280) in
       let b = int_le (minutes_after v.history (arrival last -ℤ pos 10_080)) cap in
-      let k = and_parts (Sums.is_vector_within_caps (settings_of_sums s fdp_total) v.sums) (cond on (a && b) true) h in
+      let k = and_parts (Sums.is_vector_within_caps (settings_of_sums s) v.sums) (cond on (a && b) true) h in
       let l = and_parts (cond on a true) (cond on b true) (sym (both-tests on a b) ∙ k.1) in
       (k.0, l.0, l.1)
 
-  from-tests : (last : Duty) (v : LongVector) → Sums.is_vector_within_caps (settings_of_sums s fdp_total) v.sums ≡ true → cond on (int_le v.since_rest (pos 8_280)) true ≡ true
-      → cond on (int_le (minutes_after v.history (arrival last -ℤ pos 10_080)) cap) true ≡ true → Locals.is_within_limits s fdp_total last v ≡ true
+  from-tests : (last : Duty) (v : LongVector) → Sums.is_vector_within_caps (settings_of_sums s) v.sums ≡ true → cond on (int_le v.since_rest (pos 8_280)) true ≡ true
+      → cond on (int_le (minutes_after v.history (arrival last -ℤ pos 10_080)) cap) true ≡ true → Locals.is_within_limits s last v ≡ true
   from-tests last v p q r =
       let a = int_le v.since_rest (pos 8_280) in
       let b = int_le (minutes_after v.history (arrival last -ℤ pos 10_080)) cap in
-      and_from (Sums.is_vector_within_caps (settings_of_sums s fdp_total) v.sums) (cond on (a && b) true) p
+      and_from (Sums.is_vector_within_caps (settings_of_sums s) v.sums) (cond on (a && b) true) p
       (both-tests on a b ∙ and_from (cond on a true) (cond on b true) q r)
 
   pub step-in : (v : Value) (e d : Duty) → (on ≡ true → follows v.1.1.periods (period_of d) ≡ true) → (on ≡ false → v.1.1.periods ≡ [])
-      → Locals.is_within_limits s fdp_total d (Locals.grown s e d (shown e v)) ≡ true
+      → Locals.is_within_limits s d (Locals.grown s e d (shown e v)) ≡ true
       → (z : Value) × (stepped v e d ≡ Some z) × (shown d z ≡ Locals.grown s e d (shown e v))
   step-in v e d f n h =
       let tests = three-tests d (Locals.grown s e d (shown e v)) h in
-      let sums = SumsGrowth.step-in (settings_of_sums s fdp_total) e d v.0 (Sums.grown s e d v.0) tests.0 refl in
+      let sums = SumsGrowth.step-in (settings_of_sums s) e d v.0 (Sums.grown s e d v.0) tests.0 refl in
       let ends = wait_rest on v.1.0 (arrival_of e) (departure_of d) in
       let rested = rest-step on v.1.0 e d ∙ ap (λ b. cond b (Some ends) None) tests.1 in
       let past = kept-step-in on cap v.1.1 d f n tests.2 in (
         (Sums.grown s e d v.0, (ends, past.0)),
-        three (SumsSteps.extends (settings_of_sums s fdp_total) v.0 e d) (extend_rest on v.1.0 e d) (extend_kept on cap v.1.1 e d) (Sums.grown s e d v.0) ends past.0 sums rested past.1,
+        three (SumsSteps.extends (settings_of_sums s) v.0 e d) (extend_rest on v.1.0 e d) (extend_kept on cap v.1.1 e d) (Sums.grown s e d v.0) ends past.0 sums rested past.1,
         same-vector (Sums.grown s e d v.0) (Sums.grown s e d v.0) _ _ _ _ refl (rest-shown on v.1.0 e d) past.2,
       )
 
   pub step-out : (v z : Value) (e d : Duty) → (on ≡ false → v.1.1.periods ≡ []) → stepped v e d ≡ Some z
-      → (Locals.is_within_limits s fdp_total d (Locals.grown s e d (shown e v)) ≡ true) × (shown d z ≡ Locals.grown s e d (shown e v))
+      → (Locals.is_within_limits s d (Locals.grown s e d (shown e v)) ≡ true) × (shown d z ≡ Locals.grown s e d (shown e v))
   step-out v z e d n h =
-      let k = both_parts (SumsSteps.extends (settings_of_sums s fdp_total) v.0 e d) (both (extend_rest on v.1.0 e d) (extend_kept on cap v.1.1 e d)) z h in
+      let k = both_parts (SumsSteps.extends (settings_of_sums s) v.0 e d) (both (extend_rest on v.1.0 e d) (extend_kept on cap v.1.1 e d)) z h in
       let l = both_parts (extend_rest on v.1.0 e d) (extend_kept on cap v.1.1 e d) z.1 k.1 in
-      let sums = SumsGrowth.step-out (settings_of_sums s fdp_total) e d v.0 z.0 k.0 in
+      let sums = SumsGrowth.step-out (settings_of_sums s) e d v.0 z.0 k.0 in
       let ends = wait_rest on v.1.0 (arrival_of e) (departure_of d) in
       let rested = test-out (cond on (int_le (since-grown on e d v.1.0.minute) (pos 8_280)) true) ends z.1.0 (sym (rest-step on v.1.0 e d) ∙ l.0) in
       let past = kept-step-out on cap v.1.1 z.1.1 d n l.1 in (
@@ -177,26 +177,26 @@ module _ (s : Settings) (fdp_total : ℕ) where
       later : (r f : ℤ) → pos 0 <ℤ f → r <ℤ (r +ℤ f)
       later r f h = omega (arith, ints)
 
-  pub start-in : (price : ℤ) (d : Duty) → IsTimed d → Locals.is_within_limits s fdp_total d (long_vector_of s price d []) ≡ true
+  pub start-in : (price : ℤ) (d : Duty) → IsTimed d → Locals.is_within_limits s d (long_vector_of s price d []) ≡ true
       → (z : Value) × (started price d ≡ Some z) × (shown d z ≡ long_vector_of s price d [])
   start-in price d timed h =
       let tests = three-tests d (long_vector_of s price d []) h in
-      let sums = SumsGrowth.start-in (settings_of_sums s fdp_total) price d (vector_of s price (d ∷ [])) tests.0 refl in
+      let sums = SumsGrowth.start-in (settings_of_sums s) price d (vector_of s price (d ∷ [])) tests.0 refl in
       let ends = rest_end_at (cond on d.report (pos 0)) in
       let rested = rest-start on d ∙ ap (λ b. cond b (Some ends) None) (sym (collapsed on (d.report -ℤ d.report) (pos 8_280)) ∙ tests.1) in
       let fit : fits on cap none-kept.periods d ≡ true = subst (λ h. fits on cap h d ≡ true) (sym none-periods) tests.2 in
       let past = kept-step-in on cap none-kept d (λ e. first-follows d timed) (λ e. none-periods) fit in (
         (vector_of s price (d ∷ []), (ends, past.0)),
-        three (SumsSteps.opens (settings_of_sums s fdp_total) price d) (open_rest on d) (open_kept on cap d) (vector_of s price (d ∷ [])) ends past.0 sums rested past.1,
+        three (SumsSteps.opens (settings_of_sums s) price d) (open_rest on d) (open_kept on cap d) (vector_of s price (d ∷ [])) ends past.0 sums rested past.1,
         same-vector (vector_of s price (d ∷ [])) (vector_of s price (d ∷ [])) _ _ _ _ refl (start-shown on d.report) (past.2 ∙ ap (λ h. history-grown on h d) none-periods),
       )
 
   pub start-out : (price : ℤ) (z : Value) (d : Duty) → started price d ≡ Some z
-      → (Locals.is_within_limits s fdp_total d (long_vector_of s price d []) ≡ true) × (shown d z ≡ long_vector_of s price d [])
+      → (Locals.is_within_limits s d (long_vector_of s price d []) ≡ true) × (shown d z ≡ long_vector_of s price d [])
   start-out price z d h =
-      let k = both_parts (SumsSteps.opens (settings_of_sums s fdp_total) price d) (both (open_rest on d) (open_kept on cap d)) z h in
+      let k = both_parts (SumsSteps.opens (settings_of_sums s) price d) (both (open_rest on d) (open_kept on cap d)) z h in
       let l = both_parts (open_rest on d) (open_kept on cap d) z.1 k.1 in
-      let sums = SumsGrowth.start-out (settings_of_sums s fdp_total) price d z.0 k.0 in
+      let sums = SumsGrowth.start-out (settings_of_sums s) price d z.0 k.0 in
       let ends = rest_end_at (cond on d.report (pos 0)) in
       let rested = test-out (cond on (int_le (d.report -ℤ d.report) (pos 8_280)) true) ends z.1.0 (sym (rest-start on d) ∙ l.0) in
       let past = kept-step-out on cap none-kept z.1.1 d (λ e. none-periods) l.1 in

@@ -9,6 +9,7 @@ use Rattle.std.proofs.lemmas.Bool.{and_parts, cases_Bool}
 use Rattle.std.proofs.lemmas.Cmp.{tied_itself}
 use Rattle.std.proofs.lemmas.Int.{ints}
 use Rattle.crew_flights.specs.Timetable.{IsSound, Timetable}
+use Rattle.crew_rules.specs.Settings.{IsChecked}
 use Rattle.crew_rules.specs.declared.settings.Settings.{Settings}
 use Rattle.crew_resource.specs.Machinery.Both.{both}
 use Rattle.crew_resource.specs.Machinery.BothLaws.{both_parts}
@@ -29,7 +30,6 @@ use Rattle.crew_long.proofs.RestValues.{rest_off}
 use Rattle.crew_answers.specs.Fronts.{period_cmp, vector_cmp}
 use Rattle.crew_answers.specs.LongVectors.{LongVector, is_long, long_vector_of}
 use Rattle.crew_answers.specs.Machinery.Joined.{parts_of}
-use Rattle.crew_answers.specs.Ranges.{IsInRange}
 use Rattle.crew_answers.specs.Schedules.{IsDated}
 use Rattle.crew_answers.specs.Shown.{shown}
 use Rattle.crew_answers.specs.declared.value.LongValue.{LongValue}
@@ -55,32 +55,32 @@ late-by false h s = tt
 same-count : (m n : ℕ) → pos m ≡ pos n → m ≡ n
 same-count m n e = omega (arith, ints)
 
-module _ (s : Settings) (fdp_total : ℕ) (t : Timetable) (base : List ℕ) (price : ℤ) (range : IsInRange s fdp_total) (sound : IsSound t) (dated : IsDated t) where
+module _ (s : Settings) (t : Timetable) (base : List ℕ) (price : ℤ) (range : IsChecked s) (sound : IsSound t) (dated : IsDated t) where
   -- a partial, and its value
   pub record Valued (last : Duty) (u : LongValue) : Type 0 where
     pub first : Duty
     pub others : List Duty
-    pub partial : IsLongPartial s (pos fdp_total) (flights_of t) base first others
-    pub value : all s fdp_total t base price range sound dated (first ∷ others) ≡ Some u
+    pub partial : IsLongPartial s (flights_of t) base first others
+    pub value : all s t base price range sound dated (first ∷ others) ≡ Some u
     pub ends : last_duty first others ≡ last
 
   vector-is : (last : Duty) (u : LongValue) (a : Valued last u) → shown s last u ≡ long_vector_of s price a.first a.others
   vector-is last u a = subst (λ z. shown s z u ≡ long_vector_of s price a.first a.others) a.ends
-      ((tells s fdp_total t base price range sound dated).partial a.first a.others u a.partial.legal a.partial.leaves a.partial.rested a.value).1
+      ((tells s t base price range sound dated).partial a.first a.others u a.partial.legal a.partial.leaves a.partial.rested a.value).1
 
   starts-late : (last : Duty) (u : LongValue) (a : Valued last u) → StartsLate (recent_periods u.recent)
   starts-late last u a = subst StartsLate (sym (ap (λ (z : LongVector). z.history) (vector-is last u a)))
       (late-by (is_long s) (history_of a.first a.others)
       (cut-starts (arrival (last_duty a.first a.others) -ℤ pos 10_080) (map period_of (a.first ∷ a.others))
-      (dated-starts (a.first ∷ a.others) (all-dated s fdp_total t base price range sound dated (a.first ∷ a.others) a.partial.legal))))
+      (dated-starts (a.first ∷ a.others) (all-dated s t base price range sound dated (a.first ∷ a.others) a.partial.legal))))
 
   parts-of-value : (last : Duty) (u : LongValue) (a : Valued last u)
-      → (rest_of s fdp_total t base price range sound dated (a.first ∷ a.others) ≡ Some u.rest_end) × (third_of s fdp_total t base price range sound dated (a.first ∷ a.others) ≡ Some u.recent)
+      → (rest_of s t base price range sound dated (a.first ∷ a.others) ≡ Some u.rest_end) × (third_of s t base price range sound dated (a.first ∷ a.others) ≡ Some u.recent)
   parts-of-value last u a =
       let ds = a.first ∷ a.others in
-      let rest = rest_of s fdp_total t base price range sound dated ds in
-      let third = third_of s fdp_total t base price range sound dated ds in
-      let k = both_parts (value_of (Sums s fdp_total t base price range sound dated) price ds) (both rest third) (parts_of u) (out s fdp_total t base price range sound dated ds u a.value) in
+      let rest = rest_of s t base price range sound dated ds in
+      let third = third_of s t base price range sound dated ds in
+      let k = both_parts (value_of (Sums s t base price range sound dated) price ds) (both rest third) (parts_of u) (out s t base price range sound dated ds u a.value) in
       both_parts rest third (u.rest_end, u.recent) k.1
 
   counted : (last : Duty) (u : LongValue) (a : Valued last u) → pos (length (a.first ∷ a.others)) ≡ u.sums.duties
@@ -102,8 +102,8 @@ module _ (s : Settings) (fdp_total : ℕ) (t : Timetable) (base : List ℕ) (pri
   counts-tied : (last : Duty) (u v : LongValue) → Valued last u → Valued last v → u.sums ≡ v.sums → nat_cmp u.recent.duties v.recent.duties ≡ Equal
   counts-tied last u v a b e =
       let same : length (a.first ∷ a.others) ≡ length (b.first ∷ b.others) = same-count (length (a.first ∷ a.others)) (length (b.first ∷ b.others)) (counted last u a ∙ (ap (λ z. z.duties) e ∙ sym (counted last v b))) in
-      let p = fewer s fdp_total t base price range sound dated a.first a.others b.first b.others u.recent v.recent a.partial b.partial (parts-of-value last u a).1 (parts-of-value last v b).1 (omega (arith, same)) in
-      let q = fewer s fdp_total t base price range sound dated b.first b.others a.first a.others v.recent u.recent b.partial a.partial (parts-of-value last v b).1 (parts-of-value last u a).1 (omega (arith, same)) in
+      let p = fewer s t base price range sound dated a.first a.others b.first b.others u.recent v.recent a.partial b.partial (parts-of-value last u a).1 (parts-of-value last v b).1 (omega (arith, same)) in
+      let q = fewer s t base price range sound dated b.first b.others a.first a.others v.recent u.recent b.partial a.partial (parts-of-value last v b).1 (parts-of-value last u a).1 (omega (arith, same)) in
       let tied : u.recent.duties ≡ v.recent.duties = omega (arith, p, q) in
       ap (λ z. nat_cmp z v.recent.duties) tied ∙ tied_itself nat_cmp_total v.recent.duties
 

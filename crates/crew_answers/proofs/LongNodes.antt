@@ -2,6 +2,7 @@
 use Rattle.std.proofs.Common.{◌≡◌, ℕ, Bool, ◌&&◌, List, [], ◌∷◌, ◌++◌, length, Option, Some, ℤ, pos, refl, sym, ◌∙◌, ap}
 use Rattle.std.specs.Option.{option_map}
 use Rattle.crew_flights.specs.Timetable.{IsSound, Timetable}
+use Rattle.crew_rules.specs.Settings.{IsChecked}
 use Rattle.crew_rules.specs.declared.settings.Settings.{Settings}
 use Rattle.crew_resource.specs.Labels.{IsFront}
 use Rattle.crew_resource.specs.Machinery.Both.{both, both_extend}
@@ -34,7 +35,6 @@ use Rattle.crew_answers.specs.Fronts.{IsFrontAt}
 use Rattle.crew_answers.specs.LongVectors.{is_long, settings_of_sums}
 use Rattle.crew_answers.specs.Machinery.Joined.{joined, parts_of}
 use Rattle.crew_answers.specs.Machinery.JoinedLaws.{joined_order, joined_steps, unjoined}
-use Rattle.crew_answers.specs.Ranges.{IsInRange}
 use Rattle.crew_answers.specs.Schedules.{IsDated}
 use Rattle.crew_answers.specs.Shown.{long_resource, shown, shown_entries}
 use Rattle.crew_answers.specs.declared.resource.LongResource.{LongResource}
@@ -65,9 +65,9 @@ module _ (r : LongResource) where
   value-steps = joined_steps _ _ _ _ (both_steps _ _ _ _ _ _ _ _ (vector_steps r.sums)
       (both_steps _ _ _ _ _ _ _ _ (rest_steps r.rest.is_on) (recent_steps r.window.is_on r.window.cap)))
 
-module _ (s : Settings) (fdp_total : ℕ) (t : Timetable) (base : List ℕ) (price : ℤ) (range : IsInRange s fdp_total) (sound : IsSound t) (dated : IsDated t) where
+module _ (s : Settings) (t : Timetable) (base : List ℕ) (price : ℤ) (range : IsChecked s) (sound : IsSound t) (dated : IsDated t) where
   abbrev pub Sums : Settings
-  Sums = settings_of_sums s fdp_total
+  Sums = settings_of_sums s
 
   abbrev pub rest_of : List Duty → Option RestEnd
   rest_of ds = value_by (open_rest (is_long s)) (extend_rest (is_long s)) ds
@@ -76,35 +76,35 @@ module _ (s : Settings) (fdp_total : ℕ) (t : Timetable) (base : List ℕ) (pri
   third_of ds = value_by (open_recent (is_long s) (pos s.fdp_cap)) (extend_recent (is_long s) (pos s.fdp_cap)) ds
 
   abbrev pub all : List Duty → Option LongValue
-  all = all_of (long_resource s fdp_total price)
+  all = all_of (long_resource s price)
 
   pub out : (ds : List Duty) (v : LongValue) → all ds ≡ Some v → both (value_of Sums price ds) (both (rest_of ds) (third_of ds)) ≡ Some (parts_of v)
   out ds v e =
       ap (λ z. both z (both (rest_of ds) (third_of ds))) (sym (composed-value Sums price ds))
-      ∙ unjoined (both (option_map named (Sides.summed (long_resource s fdp_total price).sums ds)) (both (rest_of ds) (third_of ds))) v e
+      ∙ unjoined (both (option_map named (Sides.summed (long_resource s price).sums ds)) (both (rest_of ds) (third_of ds))) v e
 
   back : (ds : List Duty) (p : PairingVector × (RestEnd × Recent)) → both (value_of Sums price ds) (both (rest_of ds) (third_of ds)) ≡ Some p → (v : LongValue) × (all ds ≡ Some v)
   back ds p e = (joined p, ap (option_map joined) (ap (λ z. both z (both (rest_of ds) (third_of ds))) (composed-value Sums price ds) ∙ e))
 
-  pub tells : Tells s fdp_total t base price LongValue at_most all (shown s)
-  tells = Parts.tells s fdp_total t base price range sound Recent third_of recent_periods recent_at_most (recalls s fdp_total t base price range sound dated)
+  pub tells : Tells s t base price LongValue at_most all (shown s)
+  tells = Parts.tells s t base price range sound Recent third_of recent_periods recent_at_most (recalls s t base price range sound dated)
       LongValue at_most all parts_of out back (λ u v. refl)
 
   pub same-length : (xs ys : List Duty) (x y : Duty) (v : LongValue) → all (xs ++ x ∷ []) ≡ Some v → all (ys ++ y ∷ []) ≡ Some v → length (xs ++ x ∷ []) ≡ length (ys ++ y ∷ [])
   same-length xs ys x y v e f =
       let told : (ds : List Duty) → all ds ≡ Some v → pos (length ds) ≡ v.sums.duties = λ ds k.
-      Parts.told-length s fdp_total t base price range sound Recent third_of recent_periods recent_at_most (recalls s fdp_total t base price range sound dated)
+      Parts.told-length s t base price range sound Recent third_of recent_periods recent_at_most (recalls s t base price range sound dated)
       LongValue at_most all parts_of out back (λ u v. refl) ds v k in
       let q : pos (length (xs ++ x ∷ [])) ≡ pos (length (ys ++ y ∷ [])) = told (xs ++ x ∷ []) e ∙ sym (told (ys ++ y ∷ []) f) in
       (cc)
 
   module _ (duties : List Duty) (are : AreDuties s t duties) where
     abbrev PathAt : Duty → LongValue → List (List Leg) → Type 0
-    PathAt = Nodes.PathAt s fdp_total t base price sound duties are LongValue (opens (long_resource s fdp_total price)) (extends (long_resource s fdp_total price)) at_most all value-order (value-steps (long_resource s fdp_total price)) (shown s) tells same-length
+    PathAt = Nodes.PathAt s t base price sound duties are LongValue (opens (long_resource s price)) (extends (long_resource s price)) at_most all value-order (value-steps (long_resource s price)) (shown s) tells same-length
 
     abbrev CleanAt : Duty → LongValue → List (List Leg) → Type 0
-    CleanAt = Nodes.CleanAt s fdp_total t base price sound duties are LongValue (opens (long_resource s fdp_total price)) (extends (long_resource s fdp_total price)) at_most all value-order (value-steps (long_resource s fdp_total price)) (shown s) tells same-length
+    CleanAt = Nodes.CleanAt s t base price sound duties are LongValue (opens (long_resource s price)) (extends (long_resource s price)) at_most all value-order (value-steps (long_resource s price)) (shown s) tells same-length
 
     pub shown-front : (d : Duty) → IsDuty s (flights_of t) d → (entries : List (LongValue × List (List Leg))) → IsFront at_most walk_at_most (PathAt d) (CleanAt d) entries
-        → IsFrontAt s fdp_total t base price d (shown_entries s d entries)
-    shown-front = Nodes.shown-front s fdp_total t base price sound duties are LongValue (opens (long_resource s fdp_total price)) (extends (long_resource s fdp_total price)) at_most all value-order (value-steps (long_resource s fdp_total price)) (shown s) tells same-length
+        → IsFrontAt s t base price d (shown_entries s d entries)
+    shown-front = Nodes.shown-front s t base price sound duties are LongValue (opens (long_resource s price)) (extends (long_resource s price)) at_most all value-order (value-steps (long_resource s price)) (shown s) tells same-length

@@ -3,6 +3,7 @@ use Rattle.std.proofs.Common.{◌≡◌, ℕ, ◌≤◌, Bool, true, false, ◌&
 use Rattle.std.proofs.lemmas.Bool.{and_parts, cases_Bool}
 use Rattle.std.proofs.lemmas.Int.{ints}
 use Rattle.crew_flights.specs.Timetable.{IsSound, Timetable}
+use Rattle.crew_rules.specs.Settings.{IsChecked}
 use Rattle.crew_rules.specs.declared.settings.Settings.{Settings}
 use Rattle.crew_resource.specs.Machinery.Both.{both}
 use Rattle.crew_resource.specs.Machinery.BothLaws.{both_parts}
@@ -33,7 +34,7 @@ use Rattle.crew_long.specs.declared.rest_end.RestEnd.{RestEnd}
 use Rattle.crew_long.proofs.RestValues.{rest_off, rest_value, value_frees}
 use Rattle.crew_answers.specs.Dominance.{is_at_most}
 use Rattle.crew_answers.specs.LongVectors.{LongVector, is_long, long_vector_of, settings_of_sums}
-use Rattle.crew_answers.specs.Ranges.{IsInRange}
+use Rattle.crew_answers.proofs.InRange.{checked-short}
 use Rattle.crew_answers.proofs.Caps.{same-duties, same-legal, same-rests}
 use Rattle.crew_answers.proofs.Missing.{same-some, three}
 use Rattle.crew_answers.proofs.ShortPartials.{partial-from-long, partial-to-long}
@@ -45,20 +46,20 @@ and-under : (p q q' r r' : Bool) → q ≡ q' → (p ≡ true → r ≡ r') → 
 and-under true q q' r r' e f = ap (λ z. z && r) e ∙ ap (λ z. q' && z) (f refl)
 and-under false q q' r r' e f = refl
 
-module _ (s : Settings) (fdp_total : ℕ) (t : Timetable) (base : List ℕ) (price : ℤ) (range : IsInRange s fdp_total) (sound : IsSound t) where
+module _ (s : Settings) (t : Timetable) (base : List ℕ) (price : ℤ) (range : IsChecked s) (sound : IsSound t) where
   abbrev Sums : Settings
-  Sums = settings_of_sums s fdp_total
+  Sums = settings_of_sums s
 
   abbrev Partial : Duty → List Duty → Type 0
-  Partial first others = IsLongPartial s (pos fdp_total) (flights_of t) base first others
+  Partial first others = IsLongPartial s (flights_of t) base first others
 
   legal-in-range : (d : Duty) → IsDuty s (flights_of t) d → Events.IsSound d
   legal-in-range d l = subst Events.IsSound (sym l.3)
-      (legal-sound (record s { away_cap = 8_280 }) (flights_of t) l.0 l.1 range.others (flights-of-timetable t sound) (same-legal s s.fdp_cap 8_280 (flights_of t) l.0 l.1 l.2))
+      (legal-sound (record s { away_cap = 8_280 }) (flights_of t) l.0 l.1 (checked-short s range) (flights-of-timetable t sound) (same-legal s s.fdp_cap 8_280 (flights_of t) l.0 l.1 l.2))
 
   goes-on : (first : Duty) (others : List Duty) → Each (IsDuty s (flights_of t)) others → AllRested s first others → GoesOn Events.IsSound MayFollow arrival_of departure_of first others
   goes-on first [] h r = tt
-  goes-on first (next ∷ others) h r = (legal-in-range next h.0, follows (record s { away_cap = 8_280 }) first next range.others r.0, goes-on next others h.1 r.1)
+  goes-on first (next ∷ others) h r = (legal-in-range next h.0, follows (record s { away_cap = 8_280 }) first next (checked-short s range) r.0, goes-on next others h.1 r.1)
 
   pub line : (first : Duty) (others : List Duty) → Each (IsDuty s (flights_of t)) (first ∷ others) → AllRested s first others → IsLine (first ∷ others)
   line first others h r = (legal-in-range first h.0, goes-on first others h.1 r)
@@ -67,13 +68,18 @@ module _ (s : Settings) (fdp_total : ℕ) (t : Timetable) (base : List ℕ) (pri
   ordered first others = in_order s t first others sound
 
   -- where pairings may be long the caps on totals are those of the sums
-  long-caps : (ds : List Duty) → is_long s ≡ true → is_within_caps Sums ds ≡ is_within_totals s (pos fdp_total) ds
-  long-caps ds e = ap (λ b. int_le (total (λ d. d.fdp) ds) (pos (cond b fdp_total (min s.fdp_cap fdp_total)))
-      && (int_le (total (λ d. d.fly) ds) (pos s.fly_cap) && (int_le (pos (length ds)) (pos s.max_duties) && int_le (minutes_away ds) (pos s.away_cap)))) e
+  long-caps : (ds : List Duty) → is_long s ≡ true → is_within_caps Sums ds ≡ is_within_totals s ds
+  long-caps ds e =
+      ap (λ k. int_le (total (λ d. d.fdp) ds) (pos k)
+      && (int_le (total (λ d. d.fly) ds) (pos s.fly_cap) && (int_le (pos (length ds)) (pos s.max_duties) && int_le (minutes_away ds) (pos s.away_cap))))
+      (ap (λ b. min (cond b s.fdp_total s.fdp_cap) s.fdp_total) e ∙ itself s.fdp_total)
+    where
+      itself : (n : ℕ) → min n n ≡ n
+      itself n = omega arith
 
   within-sums : (first : Duty) (others : List Duty) → Partial first others → is_within_caps Sums (first ∷ others) ≡ true
   within-sums first others p =
-      ⊎_elim (λ e. long-caps (first ∷ others) e ∙ p.capped) (λ e. (partial-from-long s fdp_total t base first others sound e p).capped) (cases_Bool (is_long s))
+      ⊎_elim (λ e. long-caps (first ∷ others) e ∙ p.capped) (λ e. (partial-from-long s t base first others sound e p).capped) (cases_Bool (is_long s))
 
   sums-value : (first : Duty) (others : List Duty) → Partial first others → value_of Sums price (first ∷ others) ≡ Some (vector_of s price (first ∷ others))
   sums-value first others p =
@@ -145,7 +151,7 @@ module _ (s : Settings) (fdp_total : ℕ) (t : Timetable) (base : List ℕ) (pri
           windows = recalls.keeps first others (parts v).1.1 e o k.third;
           free = value_frees (is_long s) first others (parts v).1.0 e o k.rest;
         })
-        (λ e. partial-to-long s fdp_total t base first others sound e (record {
+        (λ e. partial-to-long s t base first others sound e (record {
           legal = same-duties s Sums.fdp_cap s.away_cap (flights_of t) (first ∷ others) legal;
           leaves = leaves;
           rested = same-rests s Sums.fdp_cap s.away_cap first others rested;
@@ -216,7 +222,7 @@ module _ (s : Settings) (fdp_total : ℕ) (t : Timetable) (base : List ℕ) (pri
         (λ h. recalls.decides first others other_first other_others (parts u).1.1 (parts v).1.1 p q k.third l.third
         (no-longer (parts u).0 (parts v).0 (first ∷ others) (other_first ∷ other_others) (value-out Sums price (first ∷ others) (parts u).0 k.sums).1 (value-out Sums price (other_first ∷ other_others) (parts v).0 l.sums).1 h))
 
-    pub tells : Tells s fdp_total t base price V le all_of shows
+    pub tells : Tells s t base price V le all_of shows
     tells = record {
       value = value;
       partial = λ first others v legal leaves rested e.

@@ -3,6 +3,7 @@ use Rattle.std.proofs.Common.{◌≡◌, ℕ, ◌<◌, Bool, true, ◌&&◌, Lis
 use Rattle.std.proofs.lemmas.Bool.{and_from, and_parts}
 use Rattle.std.proofs.lemmas.Int.{ints}
 use Rattle.crew_flights.specs.Timetable.{IsSound, Timetable}
+use Rattle.crew_rules.specs.Settings.{IsChecked}
 use Rattle.crew_rules.specs.declared.settings.Settings.{Settings}
 use Rattle.crew_resource.specs.Machinery.Both.{both}
 use Rattle.crew_resource.specs.Machinery.BothLaws.{both_steps}
@@ -33,7 +34,6 @@ use Rattle.crew_answers.specs.Dominance.{is_at_most}
 use Rattle.crew_answers.specs.Fronts.{At, Clean, IsFrontAt, IsUndominated}
 use Rattle.crew_answers.specs.LongVectors.{LongVector, is_long, settings_of_sums}
 use Rattle.crew_answers.specs.Machinery.Ranks.{rank_of}
-use Rattle.crew_answers.specs.Ranges.{IsInRange}
 use Rattle.crew_answers.proofs.Growth.{Value, started, stepped}
 use Rattle.crew_answers.proofs.KeptHistories.{Kept, kept-keeps, kept-off, kept-order, kept-steps, kept-value, kept_at_most, kept_of, none-kept, none-periods}
 use Rattle.crew_answers.proofs.Nodes as Nodes
@@ -62,45 +62,45 @@ pub value-order : IsOrder at_most
 value-order = both-order Plain.is_at_most (λ x y. rest_end_at_most x.0 y.0 && kept_at_most x.1 y.1) Sums.vector-order
     (both-order rest_end_at_most kept_at_most (below_order rest_end_order) kept-order)
 
-module _ (s : Settings) (fdp_total : ℕ) (price : ℤ) where
+module _ (s : Settings) (price : ℤ) where
   abbrev pub opens : Duty → Option Value
-  opens = started s fdp_total price
+  opens = started s price
 
   abbrev pub extends : Value → Duty → Duty → Option Value
-  extends = stepped s fdp_total
+  extends = stepped s
 
   abbrev pub all_of : List Duty → Option Value
-  all_of ds = both (value_of (settings_of_sums s fdp_total) price ds) (both (value_by (open_rest (is_long s)) (extend_rest (is_long s)) ds) (kept_of (is_long s) (pos s.fdp_cap) ds))
+  all_of ds = both (value_of (settings_of_sums s) price ds) (both (value_by (open_rest (is_long s)) (extend_rest (is_long s)) ds) (kept_of (is_long s) (pos s.fdp_cap) ds))
 
   pub value-steps : StepLaws opens extends at_most all_of
   value-steps =
-      both_steps _ _ _ _ _ _ _ _ (Sums.steps (settings_of_sums s fdp_total) price)
+      both_steps _ _ _ _ _ _ _ _ (Sums.steps (settings_of_sums s) price)
       (both_steps _ _ _ _ _ _ _ _ (rest_steps (is_long s)) (kept-steps (is_long s) (pos s.fdp_cap)))
 
-module _ (s : Settings) (fdp_total : ℕ) (t : Timetable) (base : List ℕ) (price : ℤ) (range : IsInRange s fdp_total) (sound : IsSound t) where
-  pub recalls : Recalls s fdp_total t base price range sound Kept (kept_of (is_long s) (pos s.fdp_cap)) (λ v. v.periods) kept_at_most
+module _ (s : Settings) (t : Timetable) (base : List ℕ) (price : ℤ) (range : IsChecked s) (sound : IsSound t) where
+  pub recalls : Recalls s t base price range sound Kept (kept_of (is_long s) (pos s.fdp_cap)) (λ v. v.periods) kept_at_most
   recalls = record {
     value = λ first others e p. kept-value (is_long s) (pos s.fdp_cap) first others e (omega (arith, ints))
-        (Parts.ordered s fdp_total t base price range sound first others p.legal p.rested) p.windows;
+        (Parts.ordered s t base price range sound first others p.legal p.rested) p.windows;
     keeps = λ first others w e o k. kept-keeps (is_long s) (pos s.fdp_cap) first others w e (omega (arith, ints)) o k;
     off = λ e. (none-kept, none-periods, kept-off (is_long s) (pos s.fdp_cap) e);
     decides = λ first others other_first other_others u v p q e f h. refl;
   }
 
   abbrev pub shown : Duty → Value → LongVector
-  shown = Parts.shows s fdp_total t base price range sound Kept (kept_of (is_long s) (pos s.fdp_cap)) (λ v. v.periods) kept_at_most recalls
-      Value at_most (all_of s fdp_total price) (λ v. v) (λ ds v e. e) (λ ds p e. (p, e)) (λ u v. refl)
+  shown = Parts.shows s t base price range sound Kept (kept_of (is_long s) (pos s.fdp_cap)) (λ v. v.periods) kept_at_most recalls
+      Value at_most (all_of s price) (λ v. v) (λ ds v e. e) (λ ds p e. (p, e)) (λ u v. refl)
 
-  pub tells : Tells s fdp_total t base price Value at_most (all_of s fdp_total price) shown
-  tells = Parts.tells s fdp_total t base price range sound Kept (kept_of (is_long s) (pos s.fdp_cap)) (λ v. v.periods) kept_at_most recalls
-      Value at_most (all_of s fdp_total price) (λ v. v) (λ ds v e. e) (λ ds p e. (p, e)) (λ u v. refl)
+  pub tells : Tells s t base price Value at_most (all_of s price) shown
+  tells = Parts.tells s t base price range sound Kept (kept_of (is_long s) (pos s.fdp_cap)) (λ v. v.periods) kept_at_most recalls
+      Value at_most (all_of s price) (λ v. v) (λ ds v e. e) (λ ds p e. (p, e)) (λ u v. refl)
 
-  pub same-length : (xs ys : List Duty) (x y : Duty) (v : Value) → all_of s fdp_total price (xs ++ x ∷ []) ≡ Some v → all_of s fdp_total price (ys ++ y ∷ []) ≡ Some v
+  pub same-length : (xs ys : List Duty) (x y : Duty) (v : Value) → all_of s price (xs ++ x ∷ []) ≡ Some v → all_of s price (ys ++ y ∷ []) ≡ Some v
       → length (xs ++ x ∷ []) ≡ length (ys ++ y ∷ [])
   same-length xs ys x y v e f =
-      let told : (ds : List Duty) → all_of s fdp_total price ds ≡ Some v → pos (length ds) ≡ v.0.duties = λ ds k.
-      Parts.told-length s fdp_total t base price range sound Kept (kept_of (is_long s) (pos s.fdp_cap)) (λ v. v.periods) kept_at_most recalls
-      Value at_most (all_of s fdp_total price) (λ v. v) (λ ds v e. e) (λ ds p e. (p, e)) (λ u v. refl) ds v k in
+      let told : (ds : List Duty) → all_of s price ds ≡ Some v → pos (length ds) ≡ v.0.duties = λ ds k.
+      Parts.told-length s t base price range sound Kept (kept_of (is_long s) (pos s.fdp_cap)) (λ v. v.periods) kept_at_most recalls
+      Value at_most (all_of s price) (λ v. v) (λ ds v e. e) (λ ds p e. (p, e)) (λ u v. refl) ds v k in
       let q : pos (length (xs ++ x ∷ [])) ≡ pos (length (ys ++ y ∷ [])) = told (xs ++ x ∷ []) e ∙ sym (told (ys ++ y ∷ []) f) in
       (cc)
 
@@ -111,58 +111,58 @@ module _ (s : Settings) (fdp_total : ℕ) (t : Timetable) (base : List ℕ) (pri
   unfolding duties
   are-duties = all-duties s (flights_of t) (flights-of-timetable t sound)
 
-  pub each-clean : (d : Duty) (x : LongVector) → IsUndominated s fdp_total t base price d x → (w : List (List Leg)) × Clean s fdp_total t base price d x w
-  each-clean = Nodes.each-clean s fdp_total t base price sound duties are-duties Value (opens s fdp_total price) (extends s fdp_total price) at_most (all_of s fdp_total price) value-order (value-steps s fdp_total price) shown tells same-length
+  pub each-clean : (d : Duty) (x : LongVector) → IsUndominated s t base price d x → (w : List (List Leg)) × Clean s t base price d x w
+  each-clean = Nodes.each-clean s t base price sound duties are-duties Value (opens s price) (extends s price) at_most (all_of s price) value-order (value-steps s price) shown tells same-length
 
-  pub each-below : (d : Duty) (x : LongVector) (y : List (List Leg)) → At s fdp_total t base price d x y
-      → (v : LongVector) × IsUndominated s fdp_total t base price d v × (is_at_most v x ≡ true)
-  each-below = Nodes.each-below s fdp_total t base price sound duties are-duties Value (opens s fdp_total price) (extends s fdp_total price) at_most (all_of s fdp_total price) value-order (value-steps s fdp_total price) shown tells same-length
+  pub each-below : (d : Duty) (x : LongVector) (y : List (List Leg)) → At s t base price d x y
+      → (v : LongVector) × IsUndominated s t base price d v × (is_at_most v x ≡ true)
+  each-below = Nodes.each-below s t base price sound duties are-duties Value (opens s price) (extends s price) at_most (all_of s price) value-order (value-steps s price) shown tells same-length
 
-  pub node-front : (d : Duty) → IsDuty s (flights_of t) d → (entries : List (LongVector × List (List Leg))) × IsFrontAt s fdp_total t base price d entries
-  node-front = Nodes.node-front s fdp_total t base price sound duties are-duties Value (opens s fdp_total price) (extends s fdp_total price) at_most (all_of s fdp_total price) value-order (value-steps s fdp_total price) shown tells same-length
+  pub node-front : (d : Duty) → IsDuty s (flights_of t) d → (entries : List (LongVector × List (List Leg))) × IsFrontAt s t base price d entries
+  node-front = Nodes.node-front s t base price sound duties are-duties Value (opens s price) (extends s price) at_most (all_of s price) value-order (value-steps s price) shown tells same-length
 
   abbrev pub PathAt : Duty → Value → List (List Leg) → Type 0
-  PathAt = Nodes.PathAt s fdp_total t base price sound duties are-duties Value (opens s fdp_total price) (extends s fdp_total price) at_most (all_of s fdp_total price) value-order (value-steps s fdp_total price) shown tells same-length
+  PathAt = Nodes.PathAt s t base price sound duties are-duties Value (opens s price) (extends s price) at_most (all_of s price) value-order (value-steps s price) shown tells same-length
 
   abbrev pub CleanAt : Duty → Value → List (List Leg) → Type 0
-  CleanAt = Nodes.CleanAt s fdp_total t base price sound duties are-duties Value (opens s fdp_total price) (extends s fdp_total price) at_most (all_of s fdp_total price) value-order (value-steps s fdp_total price) shown tells same-length
+  CleanAt = Nodes.CleanAt s t base price sound duties are-duties Value (opens s price) (extends s price) at_most (all_of s price) value-order (value-steps s price) shown tells same-length
 
   abbrev pub One : Duty → List (List Leg)
-  One = Nodes.One s fdp_total t base price sound duties are-duties Value (opens s fdp_total price) (extends s fdp_total price) at_most (all_of s fdp_total price) value-order (value-steps s fdp_total price) shown tells same-length
+  One = Nodes.One s t base price sound duties are-duties Value (opens s price) (extends s price) at_most (all_of s price) value-order (value-steps s price) shown tells same-length
 
   abbrev pub More : List (List Leg) → Duty → List (List Leg)
-  More = Nodes.More s fdp_total t base price sound duties are-duties Value (opens s fdp_total price) (extends s fdp_total price) at_most (all_of s fdp_total price) value-order (value-steps s fdp_total price) shown tells same-length
+  More = Nodes.More s t base price sound duties are-duties Value (opens s price) (extends s price) at_most (all_of s price) value-order (value-steps s price) shown tells same-length
 
   abbrev pub Opening : Duty → Option Value
-  Opening = Nodes.Opening s fdp_total t base price sound duties are-duties Value (opens s fdp_total price) (extends s fdp_total price) at_most (all_of s fdp_total price) value-order (value-steps s fdp_total price) shown tells same-length
+  Opening = Nodes.Opening s t base price sound duties are-duties Value (opens s price) (extends s price) at_most (all_of s price) value-order (value-steps s price) shown tells same-length
 
   abbrev pub Preds : Duty → List Duty
-  Preds = Nodes.Preds s fdp_total t base price sound duties are-duties Value (opens s fdp_total price) (extends s fdp_total price) at_most (all_of s fdp_total price) value-order (value-steps s fdp_total price) shown tells same-length
+  Preds = Nodes.Preds s t base price sound duties are-duties Value (opens s price) (extends s price) at_most (all_of s price) value-order (value-steps s price) shown tells same-length
 
-  pub node-rules : Rules Duty Value (List (List Leg)) One More Opening (extends s fdp_total price) (λ e d. Member (Preds d) e) at_most walk_at_most PathAt CleanAt
-  node-rules = Nodes.node-rules s fdp_total t base price sound duties are-duties Value (opens s fdp_total price) (extends s fdp_total price) at_most (all_of s fdp_total price) value-order (value-steps s fdp_total price) shown tells same-length
+  pub node-rules : Rules Duty Value (List (List Leg)) One More Opening (extends s price) (λ e d. Member (Preds d) e) at_most walk_at_most PathAt CleanAt
+  node-rules = Nodes.node-rules s t base price sound duties are-duties Value (opens s price) (extends s price) at_most (all_of s price) value-order (value-steps s price) shown tells same-length
 
   pub arcs-rise : (e d : Duty) → Member (Preds d) e → rank_of duties e < rank_of duties d
-  arcs-rise = Nodes.arcs-rise s fdp_total t base price sound duties are-duties Value (opens s fdp_total price) (extends s fdp_total price) at_most (all_of s fdp_total price) value-order (value-steps s fdp_total price) shown tells same-length
+  arcs-rise = Nodes.arcs-rise s t base price sound duties are-duties Value (opens s price) (extends s price) at_most (all_of s price) value-order (value-steps s price) shown tells same-length
 
-  pub some : (d : Duty) → (entries : List (Value × List (List Leg))) × Right Duty Value (List (List Leg)) One More Opening (extends s fdp_total price) Preds at_most walk_at_most PathAt CleanAt node-rules (rank_of duties) arcs-rise d entries
-  some = some_front Duty Value (List (List Leg)) One More Opening (extends s fdp_total price) Preds at_most walk_at_most PathAt CleanAt node-rules (rank_of duties) arcs-rise walk-either
+  pub some : (d : Duty) → (entries : List (Value × List (List Leg))) × Right Duty Value (List (List Leg)) One More Opening (extends s price) Preds at_most walk_at_most PathAt CleanAt node-rules (rank_of duties) arcs-rise d entries
+  some = some_front Duty Value (List (List Leg)) One More Opening (extends s price) Preds at_most walk_at_most PathAt CleanAt node-rules (rank_of duties) arcs-rise walk-either
 
   pub node-known : (d : Duty) → IsDuty s (flights_of t) d → Member duties d
-  node-known = Nodes.node-known s fdp_total t base price sound duties are-duties Value (opens s fdp_total price) (extends s fdp_total price) at_most (all_of s fdp_total price) value-order (value-steps s fdp_total price) shown tells same-length
+  node-known = Nodes.node-known s t base price sound duties are-duties Value (opens s price) (extends s price) at_most (all_of s price) value-order (value-steps s price) shown tells same-length
 
   pub known-legal : (d : Duty) → Member duties d → IsDuty s (flights_of t) d
   known-legal d m = are-duties.sound d m
 
   pub shown-front : (d : Duty) → IsDuty s (flights_of t) d → (entries : List (Value × List (List Leg))) → IsFront at_most walk_at_most (PathAt d) (CleanAt d) entries
-      → IsFrontAt s fdp_total t base price d (shown_entries (shown d) entries)
-  shown-front = Nodes.shown-front s fdp_total t base price sound duties are-duties Value (opens s fdp_total price) (extends s fdp_total price) at_most (all_of s fdp_total price) value-order (value-steps s fdp_total price) shown tells same-length
+      → IsFrontAt s t base price d (shown_entries (shown d) entries)
+  shown-front = Nodes.shown-front s t base price sound duties are-duties Value (opens s price) (extends s price) at_most (all_of s price) value-order (value-steps s price) shown tells same-length
 
-  pub path-listed : (d : Duty) → Member duties d → (v : Value) (w : List (List Leg)) (p : PathAt d v w) → Listed s fdp_total t base price duties are-duties Value (opens s fdp_total price) (extends s fdp_total price) at_most (all_of s fdp_total price) value-order (value-steps s fdp_total price) shown tells d v w p.before
-  path-listed = listed s fdp_total t base price duties are-duties Value (opens s fdp_total price) (extends s fdp_total price) at_most (all_of s fdp_total price) value-order (value-steps s fdp_total price) shown tells
+  pub path-listed : (d : Duty) → Member duties d → (v : Value) (w : List (List Leg)) (p : PathAt d v w) → Listed s t base price duties are-duties Value (opens s price) (extends s price) at_most (all_of s price) value-order (value-steps s price) shown tells d v w p.before
+  path-listed = listed s t base price duties are-duties Value (opens s price) (extends s price) at_most (all_of s price) value-order (value-steps s price) shown tells
 
   pub paths-compared : (d : Duty) → Member duties d → (u : Value) (y : List (List Leg)) (v : Value) (w : List (List Leg)) → PathAt d u y → PathAt d v w → at_most u v ≡ is_at_most (shown d u) (shown d v)
-  paths-compared = compared s fdp_total t base price duties are-duties Value (opens s fdp_total price) (extends s fdp_total price) at_most (all_of s fdp_total price) value-order (value-steps s fdp_total price) shown tells
+  paths-compared = compared s t base price duties are-duties Value (opens s price) (extends s price) at_most (all_of s price) value-order (value-steps s price) shown tells
 
   pub same-shown : (d : Duty) → Member duties d → (u : Value) (y : List (List Leg)) (v : Value) (w : List (List Leg)) → PathAt d u y → PathAt d v w → shown d u ≡ shown d v → u ≡ v
-  same-shown = Told.same-shown s fdp_total t base price duties are-duties Value (opens s fdp_total price) (extends s fdp_total price) at_most (all_of s fdp_total price) value-order (value-steps s fdp_total price) shown tells
+  same-shown = Told.same-shown s t base price duties are-duties Value (opens s price) (extends s price) at_most (all_of s price) value-order (value-steps s price) shown tells

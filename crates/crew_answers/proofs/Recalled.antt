@@ -5,6 +5,7 @@ use Rattle.std.proofs.lemmas.Bool.{and_from, and_parts, cases_Bool}
 use Rattle.std.proofs.lemmas.Bool.Decides.{nat_tests}
 use Rattle.std.proofs.lemmas.Int.{ints}
 use Rattle.crew_flights.specs.Timetable.{IsSound, Timetable}
+use Rattle.crew_rules.specs.Settings.{IsChecked}
 use Rattle.crew_rules.specs.declared.settings.Settings.{Settings}
 use Rattle.crew_resource.specs.Members.{Each}
 use Rattle.crew_pairing.specs.Duties.{flights_of}
@@ -21,7 +22,6 @@ use Rattle.crew_long.specs.Machinery.RecentStages.{extend_recent, idle_periods, 
 use Rattle.crew_long.specs.declared.recent.Recent.{Recent}
 use Rattle.crew_long.proofs.WindowValues.{value_keeps, window_value}
 use Rattle.crew_answers.specs.LongVectors.{is_long}
-use Rattle.crew_answers.specs.Ranges.{IsInRange}
 use Rattle.crew_answers.specs.Schedules.{IsDated}
 use Rattle.crew_answers.proofs.Missing.{same-some}
 use Rattle.crew_answers.proofs.Parts as Parts
@@ -48,11 +48,11 @@ window-off : (is_on : Bool) (cap : ℤ) → is_on ≡ false → (first : Duty) (
 window-off true cap e first others = absurd (let q : ⊥ = (cc) in q)
 window-off false cap e first others = same-from cap idle_recent first others
 
-module _ (s : Settings) (fdp_total : ℕ) (t : Timetable) (base : List ℕ) (price : ℤ) (range : IsInRange s fdp_total) (sound : IsSound t) (dated : IsDated t) where
+module _ (s : Settings) (t : Timetable) (base : List ℕ) (price : ℤ) (range : IsChecked s) (sound : IsSound t) (dated : IsDated t) where
   duty-dated : (d : Duty) → IsDuty s (flights_of t) d → is_dated d ≡ true
   duty-dated d l =
       let i = dated l.0.flight l.2.known.0 in
-      let k = dated-report l.0.flight.dep s.lead i.from i.to range.others.lead in
+      let k = dated-report l.0.flight.dep s.lead i.from i.to range.lead in
       subst (λ z. is_dated z ≡ true) (sym l.3) (and_from (int_le (pos 0) (duty_of s l.0 l.1).report) (int_le (duty_of s l.0 l.1).report (pos 2_000_000_000))
       (int-yes (pos 0) (duty_of s l.0 l.1).report k.0) (int-yes (duty_of s l.0 l.1).report (pos 2_000_000_000) k.1))
 
@@ -63,30 +63,30 @@ module _ (s : Settings) (fdp_total : ℕ) (t : Timetable) (base : List ℕ) (pri
   abbrev third_of : List Duty → Option Recent
   third_of ds = value_by (open_recent (is_long s) (pos s.fdp_cap)) (extend_recent (is_long s) (pos s.fdp_cap)) ds
 
-  few : (first : Duty) (others : List Duty) → IsLongPartial s (pos fdp_total) (flights_of t) base first others → length (first ∷ others) ≤ 12
+  few : (first : Duty) (others : List Duty) → IsLongPartial s (flights_of t) base first others → length (first ∷ others) ≤ 12
   few first others p =
       let ds = first ∷ others in
-      let k = and_parts (keeps_total (pos fdp_total) ds) (int_le (total (λ d. d.fly) ds) (pos s.fly_cap) && (int_le (pos (length ds)) (pos s.max_duties) && int_le (minutes_away ds) (pos s.away_cap))) p.capped in
+      let k = and_parts (keeps_total (pos s.fdp_total) ds) (int_le (total (λ d. d.fly) ds) (pos s.fly_cap) && (int_le (pos (length ds)) (pos s.max_duties) && int_le (minutes_away ds) (pos s.away_cap))) p.capped in
       let l = and_parts (int_le (total (λ d. d.fly) ds) (pos s.fly_cap)) (int_le (pos (length ds)) (pos s.max_duties) && int_le (minutes_away ds) (pos s.away_cap)) k.1 in
       let m = and_parts (int_le (pos (length ds)) (pos s.max_duties)) (int_le (minutes_away ds) (pos s.away_cap)) l.1 in
       let n = le-is (length ds) s.max_duties m.0 in
-      let most = range.others.max_duties_most in
+      let most = range.max_duties_most in
       omega (arith, n, most)
 
   -- what a partial has
-  there : (first : Duty) (others : List Duty) → is_long s ≡ true → IsLongPartial s (pos fdp_total) (flights_of t) base first others → (v : Recent)
+  there : (first : Duty) (others : List Duty) → is_long s ≡ true → IsLongPartial s (flights_of t) base first others → (v : Recent)
       × (third_of (first ∷ others) ≡ Some v) × (recent_periods v ≡ Limits.history_of first others) × (v.duties ≡ length (first ∷ others))
-  there first others e p = window_value (is_long s) (pos s.fdp_cap) first others e (omega (arith, ints)) (Parts.ordered s fdp_total t base price range sound first others p.legal p.rested)
+  there first others e p = window_value (is_long s) (pos s.fdp_cap) first others e (omega (arith, ints)) (Parts.ordered s t base price range sound first others p.legal p.rested)
       (all-dated (first ∷ others) p.legal) (few first others p) p.windows
 
-  counts : (first : Duty) (others : List Duty) (u : Recent) → is_long s ≡ true → IsLongPartial s (pos fdp_total) (flights_of t) base first others → third_of (first ∷ others) ≡ Some u → u.duties ≡ length (first ∷ others)
+  counts : (first : Duty) (others : List Duty) (u : Recent) → is_long s ≡ true → IsLongPartial s (flights_of t) base first others → third_of (first ∷ others) ≡ Some u → u.duties ≡ length (first ∷ others)
   counts first others u e p k =
       let z = there first others e p in
       let q : u ≡ z.0 = same-some u z.0 (sym k ∙ z.1) in
       ap (λ x. x.duties) q ∙ z.3
 
   pub fewer : (first : Duty) (others : List Duty) (other_first : Duty) (other_others : List Duty) (u v : Recent)
-      → IsLongPartial s (pos fdp_total) (flights_of t) base first others → IsLongPartial s (pos fdp_total) (flights_of t) base other_first other_others
+      → IsLongPartial s (flights_of t) base first others → IsLongPartial s (flights_of t) base other_first other_others
       → third_of (first ∷ others) ≡ Some u → third_of (other_first ∷ other_others) ≡ Some v → length (first ∷ others) ≤ length (other_first ∷ other_others) → u.duties ≤ v.duties
   fewer first others other_first other_others u v p q e f h = ⊎_elim
       (λ on. let a = counts first others u on p e in let b = counts other_first other_others v on q f in omega (arith, a, b, h))
@@ -97,7 +97,7 @@ module _ (s : Settings) (fdp_total : ℕ) (t : Timetable) (base : List ℕ) (pri
       omega (arith, c))
       (cases_Bool (is_long s))
 
-  pub recalls : Recalls s fdp_total t base price range sound Recent third_of recent_periods recent_at_most
+  pub recalls : Recalls s t base price range sound Recent third_of recent_periods recent_at_most
   recalls = record {
     value = λ first others e p. let z = there first others e p in (z.0, z.1, z.2);
     keeps = λ first others w e o k. value_keeps (is_long s) (pos s.fdp_cap) first others w e (omega (arith, ints)) o k;

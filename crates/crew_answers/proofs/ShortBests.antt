@@ -15,14 +15,14 @@ use Rattle.crew_answers.proofs.Caps.{same-duty}
 use Rattle.crew_answers.proofs.ShortPartials.{partial-from-long, partial-to-long}
 use Rattle.crew_answers.proofs.ShortFronts.{front-from-long, front-to-long, stays-from-long, stays-to-long}
 
-module _ (s : Settings) (fdp_total : ℕ) (t : Timetable) (sound : IsSound t) (short : is_long s ≡ false) where
-  pub pairing-to-long : (p : PricedPairing) → Plain.IsPairing (settings_of_sums s fdp_total) t p → IsPairing s fdp_total t p
+module _ (s : Settings) (t : Timetable) (sound : IsSound t) (short : is_long s ≡ false) where
+  pub pairing-to-long : (p : PricedPairing) → Plain.IsPairing (settings_of_sums s) t p → IsPairing s t p
   pairing-to-long p h = record {
     price = h.price;
     based = h.based;
     first = h.first;
     others = h.others;
-    partial = partial-to-long s fdp_total t p.base h.first h.others sound short h.partial;
+    partial = partial-to-long s t p.base h.first h.others sound short h.partial;
     returns = h.returns;
     walk = h.walk;
     cost = h.cost;
@@ -30,13 +30,13 @@ module _ (s : Settings) (fdp_total : ℕ) (t : Timetable) (sound : IsSound t) (s
     away = h.away;
   }
 
-  pub pairing-from-long : (p : PricedPairing) → IsPairing s fdp_total t p → Plain.IsPairing (settings_of_sums s fdp_total) t p
+  pub pairing-from-long : (p : PricedPairing) → IsPairing s t p → Plain.IsPairing (settings_of_sums s) t p
   pairing-from-long p h = record {
     price = h.price;
     based = h.based;
     first = h.first;
     others = h.others;
-    partial = partial-from-long s fdp_total t p.base h.first h.others sound short h.partial;
+    partial = partial-from-long s t p.base h.first h.others sound short h.partial;
     returns = h.returns;
     walk = h.walk;
     cost = h.cost;
@@ -44,42 +44,42 @@ module _ (s : Settings) (fdp_total : ℕ) (t : Timetable) (sound : IsSound t) (s
     away = h.away;
   }
 
-  pub clean-pairing-to-long : (p : PricedPairing) → Plain.IsCleanPairing (settings_of_sums s fdp_total) t p → IsCleanPairing s fdp_total t p
+  pub clean-pairing-to-long : (p : PricedPairing) → Plain.IsCleanPairing (settings_of_sums s) t p → IsCleanPairing s t p
   unfolding pairing-to-long
   clean-pairing-to-long p h = record {
     pairing = pairing-to-long p h.pairing;
-    stays = stays-to-long s fdp_total t p.base h.pairing.price sound short h.pairing.first h.pairing.others h.stays;
+    stays = stays-to-long s t p.base h.pairing.price sound short h.pairing.first h.pairing.others h.stays;
   }
 
-  pub clean-pairing-from-long : (p : PricedPairing) → IsCleanPairing s fdp_total t p → Plain.IsCleanPairing (settings_of_sums s fdp_total) t p
+  pub clean-pairing-from-long : (p : PricedPairing) → IsCleanPairing s t p → Plain.IsCleanPairing (settings_of_sums s) t p
   unfolding pairing-from-long
   clean-pairing-from-long p h = record {
     pairing = pairing-from-long p h.pairing;
-    stays = stays-from-long s fdp_total t p.base h.pairing.price sound short h.pairing.first h.pairing.others h.stays;
+    stays = stays-from-long s t p.base h.pairing.price sound short h.pairing.first h.pairing.others h.stays;
   }
 
-  pub best-to-long : (best : Option PricedPairing) → Plain.IsBest (settings_of_sums s fdp_total) t best → IsBest s fdp_total t best
+  pub best-to-long : (best : Option PricedPairing) → Plain.IsBest (settings_of_sums s) t best → IsBest s t best
   best-to-long None h = λ p q. h p (pairing-from-long p q)
   best-to-long (Some best) h = (clean-pairing-to-long best h.0, λ p q. h.1 p (clean-pairing-from-long p q))
 
-  pub best-from-long : (best : Option PricedPairing) → IsBest s fdp_total t best → Plain.IsBest (settings_of_sums s fdp_total) t best
+  pub best-from-long : (best : Option PricedPairing) → IsBest s t best → Plain.IsBest (settings_of_sums s) t best
   best-from-long None h = λ p q. h p (pairing-to-long p q)
   best-from-long (Some best) h = (clean-pairing-from-long best h.0, λ p q. h.1 p (clean-pairing-to-long p q))
 
   pub scratch-to-long : (front : List ℕ → Duty → List (PairingVector × List (List Leg))) (best : Option PricedPairing)
-      → Plain.IsScratch (settings_of_sums s fdp_total) t front best → IsScratch s fdp_total t (λ base d. with_no_pasts (front base d)) best
+      → Plain.IsScratch (settings_of_sums s) t front best → IsScratch s t (λ base d. with_no_pasts (front base d)) best
   scratch-to-long front best h = record {
     fronts = λ base price d based legal.
-        front-to-long s fdp_total t base price sound short d (front base d)
-        (h.fronts base price d based (same-duty s (settings_of_sums s fdp_total).fdp_cap s.away_cap (flights_of t) d legal));
+        front-to-long s t base price sound short d (front base d)
+        (h.fronts base price d based (same-duty s (settings_of_sums s).fdp_cap s.away_cap (flights_of t) d legal));
     best_is = best-to-long best h.best_is;
   }
 
   pub scratch-from-long : (front : List ℕ → Duty → List (LongVector × List (List Leg))) (best : Option PricedPairing)
-      → IsScratch s fdp_total t front best → Plain.IsScratch (settings_of_sums s fdp_total) t (λ base d. sums_of (front base d)) best
+      → IsScratch s t front best → Plain.IsScratch (settings_of_sums s) t (λ base d. sums_of (front base d)) best
   scratch-from-long front best h = record {
     fronts = λ base price d based legal.
-        front-from-long s fdp_total t base price sound short d (front base d)
-        (h.fronts base price d based (same-duty (settings_of_sums s fdp_total) s.fdp_cap s.away_cap (flights_of t) d legal));
+        front-from-long s t base price sound short d (front base d)
+        (h.fronts base price d based (same-duty (settings_of_sums s) s.fdp_cap s.away_cap (flights_of t) d legal));
     best_is = best-from-long best h.best_is;
   }

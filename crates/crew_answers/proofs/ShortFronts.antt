@@ -55,34 +55,34 @@ no-pasts-again (f ∷ fs) h =
     ap (λ z. (z, f.1) ∷ with_no_pasts (sums_of fs)) (sym (h f.0 f.1 (inl refl)))
     ∙ ap (λ z. f ∷ z) (no-pasts-again fs (λ v w m. h v w (inr m)))
 
-module _ (s : Settings) (fdp_total : ℕ) (t : Timetable) (base : List ℕ) (price : ℤ) (sound : IsSound t) (short : is_long s ≡ false) where
-  pub at-to-long : (d : Duty) (v : PairingVector) (w : List (List Leg)) → Plain.At (settings_of_sums s fdp_total) t base price d v w → At s fdp_total t base price d (with_no_past v) w
+module _ (s : Settings) (t : Timetable) (base : List ℕ) (price : ℤ) (sound : IsSound t) (short : is_long s ≡ false) where
+  pub at-to-long : (d : Duty) (v : PairingVector) (w : List (List Leg)) → Plain.At (settings_of_sums s) t base price d v w → At s t base price d (with_no_past v) w
   at-to-long d v w a = record {
     first = a.first;
     others = a.others;
-    partial = partial-to-long s fdp_total t base a.first a.others sound short a.partial;
+    partial = partial-to-long s t base a.first a.others sound short a.partial;
     ends = a.ends;
-    vector = ap with_no_past a.vector ∙ sym (no-past s fdp_total price a.first a.others short);
+    vector = ap with_no_past a.vector ∙ sym (no-past s price a.first a.others short);
     walk = a.walk;
   }
 
-  pub at-from-long : (d : Duty) (v : LongVector) (w : List (List Leg)) → At s fdp_total t base price d v w → Plain.At (settings_of_sums s fdp_total) t base price d v.sums w
+  pub at-from-long : (d : Duty) (v : LongVector) (w : List (List Leg)) → At s t base price d v w → Plain.At (settings_of_sums s) t base price d v.sums w
   at-from-long d v w a = record {
     first = a.first;
     others = a.others;
-    partial = partial-from-long s fdp_total t base a.first a.others sound short a.partial;
+    partial = partial-from-long s t base a.first a.others sound short a.partial;
     ends = a.ends;
-    vector = ap (λ z. z.sums) (a.vector ∙ no-past s fdp_total price a.first a.others short);
+    vector = ap (λ z. z.sums) (a.vector ∙ no-past s price a.first a.others short);
     walk = a.walk;
   }
 
   -- vectors of partials have no past
-  pub at-no-past : (d : Duty) (v : LongVector) (w : List (List Leg)) → At s fdp_total t base price d v w → v ≡ with_no_past v.sums
+  pub at-no-past : (d : Duty) (v : LongVector) (w : List (List Leg)) → At s t base price d v w → v ≡ with_no_past v.sums
   at-no-past d v w a =
-      let q = a.vector ∙ no-past s fdp_total price a.first a.others short in
+      let q = a.vector ∙ no-past s price a.first a.others short in
       q ∙ ap (λ z. with_no_past z.sums) (sym q)
 
-  pub undominated-to-long : (d : Duty) (v : PairingVector) → Plain.IsUndominated (settings_of_sums s fdp_total) t base price d v → IsUndominated s fdp_total t base price d (with_no_past v)
+  pub undominated-to-long : (d : Duty) (v : PairingVector) → Plain.IsUndominated (settings_of_sums s) t base price d v → IsUndominated s t base price d (with_no_past v)
   undominated-to-long d v u = record {
     walk = u.walk;
     has = at-to-long d v u.walk u.has;
@@ -94,7 +94,7 @@ module _ (s : Settings) (fdp_total : ℕ) (t : Timetable) (base : List ℕ) (pri
         );
   }
 
-  pub undominated-from-long : (d : Duty) (v : LongVector) → IsUndominated s fdp_total t base price d v → Plain.IsUndominated (settings_of_sums s fdp_total) t base price d v.sums
+  pub undominated-from-long : (d : Duty) (v : LongVector) → IsUndominated s t base price d v → Plain.IsUndominated (settings_of_sums s) t base price d v.sums
   undominated-from-long d v u = record {
     walk = u.walk;
     has = at-from-long d v u.walk u.has;
@@ -106,50 +106,50 @@ module _ (s : Settings) (fdp_total : ℕ) (t : Timetable) (base : List ℕ) (pri
         );
   }
 
-  pub stays-to-long : (first : Duty) (others : List Duty) → Plain.StaysUndominated (settings_of_sums s fdp_total) t base price first others → StaysUndominated s fdp_total t base price first others
+  pub stays-to-long : (first : Duty) (others : List Duty) → Plain.StaysUndominated (settings_of_sums s) t base price first others → StaysUndominated s t base price first others
   stays-to-long first others h = λ taken left e.
-      subst (IsUndominated s fdp_total t base price (last_duty first taken)) (sym (no-past s fdp_total price first taken short))
-      (undominated-to-long (last_duty first taken) (vector_of (settings_of_sums s fdp_total) price (first ∷ taken)) (h taken left e))
+      subst (IsUndominated s t base price (last_duty first taken)) (sym (no-past s price first taken short))
+      (undominated-to-long (last_duty first taken) (vector_of (settings_of_sums s) price (first ∷ taken)) (h taken left e))
 
-  pub stays-from-long : (first : Duty) (others : List Duty) → StaysUndominated s fdp_total t base price first others → Plain.StaysUndominated (settings_of_sums s fdp_total) t base price first others
+  pub stays-from-long : (first : Duty) (others : List Duty) → StaysUndominated s t base price first others → Plain.StaysUndominated (settings_of_sums s) t base price first others
   stays-from-long first others h = λ taken left e. undominated-from-long (last_duty first taken) (long_vector_of s price first taken) (h taken left e)
 
-  pub clean-to-long : (d : Duty) (v : PairingVector) (w : List (List Leg)) → Plain.Clean (settings_of_sums s fdp_total) t base price d v w → Clean s fdp_total t base price d (with_no_past v) w
+  pub clean-to-long : (d : Duty) (v : PairingVector) (w : List (List Leg)) → Plain.Clean (settings_of_sums s) t base price d v w → Clean s t base price d (with_no_past v) w
   unfolding at-to-long
   clean-to-long d v w c = record { at = at-to-long d v w c.at; stays = stays-to-long c.at.first c.at.others c.stays }
 
-  pub clean-from-long : (d : Duty) (v : LongVector) (w : List (List Leg)) → Clean s fdp_total t base price d v w → Plain.Clean (settings_of_sums s fdp_total) t base price d v.sums w
+  pub clean-from-long : (d : Duty) (v : LongVector) (w : List (List Leg)) → Clean s t base price d v w → Plain.Clean (settings_of_sums s) t base price d v.sums w
   unfolding at-from-long
   clean-from-long d v w c = record { at = at-from-long d v w c.at; stays = stays-from-long c.at.first c.at.others c.stays }
 
-  pub front-to-long : (d : Duty) (es : List (PairingVector × List (List Leg))) → Plain.IsFrontAt (settings_of_sums s fdp_total) t base price d es → IsFrontAt s fdp_total t base price d (with_no_pasts es)
+  pub front-to-long : (d : Duty) (es : List (PairingVector × List (List Leg))) → Plain.IsFrontAt (settings_of_sums s) t base price d es → IsFrontAt s t base price d (with_no_pasts es)
   front-to-long d es f = record {
     clean = λ v w m.
         let k = entry-out es v w m in
-        subst (λ z. Clean s fdp_total t base price d z w) (sym k.1) (clean-to-long d v.sums w (f.clean v.sums w k.0));
+        subst (λ z. Clean s t base price d z w) (sym k.1) (clean-to-long d v.sums w (f.clean v.sums w k.0));
     undominated = λ v w m.
         let k = entry-out es v w m in
-        subst (IsUndominated s fdp_total t base price d) (sym k.1) (undominated-to-long d v.sums (f.undominated v.sums w k.0));
+        subst (IsUndominated s t base price d) (sym k.1) (undominated-to-long d v.sums (f.undominated v.sums w k.0));
     least = λ v w y m c. f.least v.sums w y (entry-out es v w m).0 (clean-from-long d v y c);
     every = λ v u.
         let e = f.every v.sums (undominated-from-long d v u) in
         (e.0, subst (λ z. Member (with_no_pasts es) (z, e.0)) (sym (at-no-past d v u.walk u.has)) (entry-in es v.sums e.0 e.1));
   }
 
-  pub front-no-past : (d : Duty) (fs : List (LongVector × List (List Leg))) → IsFrontAt s fdp_total t base price d fs → with_no_pasts (sums_of fs) ≡ fs
+  pub front-no-past : (d : Duty) (fs : List (LongVector × List (List Leg))) → IsFrontAt s t base price d fs → with_no_pasts (sums_of fs) ≡ fs
   front-no-past d fs f = no-pasts-again fs (λ v w m. let u = f.undominated v w m in at-no-past d v u.walk u.has)
 
-  pub front-from-long : (d : Duty) (fs : List (LongVector × List (List Leg))) → IsFrontAt s fdp_total t base price d fs → Plain.IsFrontAt (settings_of_sums s fdp_total) t base price d (sums_of fs)
+  pub front-from-long : (d : Duty) (fs : List (LongVector × List (List Leg))) → IsFrontAt s t base price d fs → Plain.IsFrontAt (settings_of_sums s) t base price d (sums_of fs)
   front-from-long d fs f = record {
     clean = λ v w m.
         let k = sums-out fs v w m in
-        subst (λ z. Plain.Clean (settings_of_sums s fdp_total) t base price d z w) k.2 (clean-from-long d k.0 w (f.clean k.0 w k.1));
+        subst (λ z. Plain.Clean (settings_of_sums s) t base price d z w) k.2 (clean-from-long d k.0 w (f.clean k.0 w k.1));
     undominated = λ v w m.
         let k = sums-out fs v w m in
-        subst (Plain.IsUndominated (settings_of_sums s fdp_total) t base price d) k.2 (undominated-from-long d k.0 (f.undominated k.0 w k.1));
+        subst (Plain.IsUndominated (settings_of_sums s) t base price d) k.2 (undominated-from-long d k.0 (f.undominated k.0 w k.1));
     least = λ v w y m c.
         let k = sums-out fs v w m in
-        f.least k.0 w y k.1 (subst (λ z. Clean s fdp_total t base price d z y)
+        f.least k.0 w y k.1 (subst (λ z. Clean s t base price d z y)
         (ap with_no_past (sym k.2) ∙ (let u = f.undominated k.0 w k.1 in sym (at-no-past d k.0 u.walk u.has))) (clean-to-long d v y c));
     every = λ v u.
         let e = f.every (with_no_past v) (undominated-to-long d v u) in

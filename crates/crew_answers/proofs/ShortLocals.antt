@@ -36,12 +36,12 @@ feed-out (f ∷ feed) e fs (inl q) = (
 )
 feed-out (f ∷ feed) e fs (inr m) = let k = feed-out feed e fs m in (k.0, inr k.1, k.2)
 
-module _ (s : Settings) (fdp_total : ℕ) (short : is_long s ≡ false) where
+module _ (s : Settings) (short : is_long s ≡ false) where
   abbrev Sums : Settings
-  Sums = settings_of_sums s fdp_total
+  Sums = settings_of_sums s
 
   -- the caps on sums are all limits
-  within : (d : Duty) (x : LongVector) → is_within_limits s fdp_total d x ≡ Plain.is_vector_within_caps Sums x.sums
+  within : (d : Duty) (x : LongVector) → is_within_limits s d x ≡ Plain.is_vector_within_caps Sums x.sums
   within d x =
       ap (λ b. Plain.is_vector_within_caps Sums x.sums && cond b (int_le x.since_rest (pos 8_280)
       && int_le (Histories.minutes_after x.history (arrival d -ℤ pos 10_080)) (pos s.fdp_cap)) true) short
@@ -57,11 +57,11 @@ module _ (s : Settings) (fdp_total : ℕ) (short : is_long s ≡ false) where
       } in v) short
 
   module _ (base : List ℕ) (price : ℤ) (d : Duty) (feed : Plain.Feed) where
-    pub candidate-to-long : (v : PairingVector) (w : List (List Leg)) → Plain.Candidate Sums base price d feed v w → Candidate s fdp_total base price d (fed_with_no_past feed) (with_no_past v) w
+    pub candidate-to-long : (v : PairingVector) (w : List (List Leg)) → Plain.Candidate Sums base price d feed v w → Candidate s base price d (fed_with_no_past feed) (with_no_past v) w
     candidate-to-long v w (inl c) = inl (
       c.0,
       within d (long_vector_of s price d []) ∙ c.1,
-      ap with_no_past c.2 ∙ sym (no-past s fdp_total price d [] short),
+      ap with_no_past c.2 ∙ sym (no-past s price d [] short),
       c.3,
     )
     candidate-to-long v w (inr c) = inr (
@@ -76,10 +76,10 @@ module _ (s : Settings) (fdp_total : ℕ) (short : is_long s ≡ false) where
       c.8,
     )
 
-    pub candidate-from-long : (x : LongVector) (w : List (List Leg)) → Candidate s fdp_total base price d (fed_with_no_past feed) x w
+    pub candidate-from-long : (x : LongVector) (w : List (List Leg)) → Candidate s base price d (fed_with_no_past feed) x w
         → Plain.Candidate Sums base price d feed x.sums w × (x ≡ with_no_past x.sums)
     candidate-from-long x w (inl c) =
-        let is = c.2 ∙ no-past s fdp_total price d [] short in (
+        let is = c.2 ∙ no-past s price d [] short in (
           inl (c.0, sym (within d (long_vector_of s price d [])) ∙ c.1, ap (λ z. z.sums) is, c.3),
           is ∙ ap (λ z. with_no_past z.sums) (sym is),
         )
@@ -91,11 +91,11 @@ module _ (s : Settings) (fdp_total : ℕ) (short : is_long s ≡ false) where
           is ∙ ap (λ z. with_no_past z.sums) (sym is),
         )
 
-    pub local-to-long : (es : List (PairingVector × List (List Leg))) → Plain.IsLocalAt Sums base price d feed es → IsLocalAt s fdp_total base price d (fed_with_no_past feed) (with_no_pasts es)
+    pub local-to-long : (es : List (PairingVector × List (List Leg))) → Plain.IsLocalAt Sums base price d feed es → IsLocalAt s base price d (fed_with_no_past feed) (with_no_pasts es)
     local-to-long es l = record {
       among = λ x w m.
           let k = entry-out es x w m in
-          subst (λ z. Candidate s fdp_total base price d (fed_with_no_past feed) z w) (sym k.1) (candidate-to-long x.sums w (l.among x.sums w k.0));
+          subst (λ z. Candidate s base price d (fed_with_no_past feed) z w) (sym k.1) (candidate-to-long x.sums w (l.among x.sums w k.0));
       covers = λ x y c.
           let k = candidate-from-long x y c in
           let o = l.covers x.sums y k.0 in (
@@ -112,10 +112,10 @@ module _ (s : Settings) (fdp_total : ℕ) (short : is_long s ≡ false) where
           (a.1 ∙ (ap with_no_past k.0 ∙ sym b.1), k.1);
     }
 
-    pub local-no-past : (fs : List (LongVector × List (List Leg))) → IsLocalAt s fdp_total base price d (fed_with_no_past feed) fs → with_no_pasts (sums_of fs) ≡ fs
+    pub local-no-past : (fs : List (LongVector × List (List Leg))) → IsLocalAt s base price d (fed_with_no_past feed) fs → with_no_pasts (sums_of fs) ≡ fs
     local-no-past fs l = no-pasts-again fs (λ v w m. (candidate-from-long v w (l.among v w m)).1)
 
-    pub local-from-long : (fs : List (LongVector × List (List Leg))) → IsLocalAt s fdp_total base price d (fed_with_no_past feed) fs → Plain.IsLocalAt Sums base price d feed (sums_of fs)
+    pub local-from-long : (fs : List (LongVector × List (List Leg))) → IsLocalAt s base price d (fed_with_no_past feed) fs → Plain.IsLocalAt Sums base price d feed (sums_of fs)
     local-from-long fs l = record {
       among = λ v w m.
           let k = sums-out fs v w m in

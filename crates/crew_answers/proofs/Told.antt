@@ -1,5 +1,5 @@
 -- Values that tell which lists are partials, and their vectors; and how partials and clean ones are then the lists of label setting.
-use Rattle.std.proofs.Common.{◌≡◌, ℕ, Bool, List, [], ◌∷◌, ◌++◌, map, ◌⊎◌, inl, inr, Option, Some, None, ℤ, pos, refl, sym, ◌∙◌, ap, subst, ⊎_elim}
+use Rattle.std.proofs.Common.{◌≡◌, ℕ, Bool, List, [], ◌∷◌, ◌++◌, map, ◌⊎◌, inl, inr, Option, Some, None, ℤ, refl, sym, ◌∙◌, ap, subst, ⊎_elim}
 use Rattle.std.specs.Ordering.{eq_by_cmp}
 use Rattle.crew_flights.specs.Codes.{code_cmp}
 use Rattle.crew_flights.specs.Timetable.{Timetable}
@@ -25,15 +25,15 @@ use Rattle.crew_answers.specs.Fronts.{At, Clean, IsFrontAt, IsUndominated}
 use Rattle.crew_answers.specs.LongVectors.{LongVector, long_vector_of}
 
 -- a partial has a value, and where a list of legal duties of the base has one it is a partial; the value shows its vector, and two values at one last duty compare as their vectors do
-pub record Tells (s : Settings) (fdp_total : ℕ) (t : Timetable) (base : List ℕ) (price : ℤ) (V : Type 0) (le : V → V → Bool)
+pub record Tells (s : Settings) (t : Timetable) (base : List ℕ) (price : ℤ) (V : Type 0) (le : V → V → Bool)
     (value_of : List Duty → Option V) (shown : Duty → V → LongVector) : Type 0 where
-  pub value : (first : Duty) (others : List Duty) → IsLongPartial s (pos fdp_total) (flights_of t) base first others
+  pub value : (first : Duty) (others : List Duty) → IsLongPartial s (flights_of t) base first others
       → (v : V) × (value_of (first ∷ others) ≡ Some v)
   pub partial : (first : Duty) (others : List Duty) (v : V) → Each (IsDuty s (flights_of t)) (first ∷ others) → first.from ≡ base → AllRested s first others
       → value_of (first ∷ others) ≡ Some v
-      → IsLongPartial s (pos fdp_total) (flights_of t) base first others × (shown (last_duty first others) v ≡ long_vector_of s price first others)
+      → IsLongPartial s (flights_of t) base first others × (shown (last_duty first others) v ≡ long_vector_of s price first others)
   pub at_most : (first : Duty) (others : List Duty) (other_first : Duty) (other_others : List Duty) (u v : V)
-      → IsLongPartial s (pos fdp_total) (flights_of t) base first others → IsLongPartial s (pos fdp_total) (flights_of t) base other_first other_others
+      → IsLongPartial s (flights_of t) base first others → IsLongPartial s (flights_of t) base other_first other_others
       → value_of (first ∷ others) ≡ Some u → value_of (other_first ∷ other_others) ≡ Some v
       → last_duty first others ≡ last_duty other_first other_others
       → le u v ≡ is_at_most (shown (last_duty first others) u) (shown (last_duty first others) v)
@@ -77,10 +77,10 @@ in-middle : (bs : List Duty) (e : Duty) (rest : List Duty) → Member (bs ++ e �
 in-middle [] e rest = inl refl
 in-middle (b ∷ bs) e rest = inr (in-middle bs e rest)
 
-module _ (s : Settings) (fdp_total : ℕ) (t : Timetable) (base : List ℕ) (price : ℤ) (duties : List Duty) (are : AreDuties s t duties)
+module _ (s : Settings) (t : Timetable) (base : List ℕ) (price : ℤ) (duties : List Duty) (are : AreDuties s t duties)
     (V : Type 0) (opens : Duty → Option V) (extends : V → Duty → Duty → Option V) (le : V → V → Bool) (value_of : List Duty → Option V)
     (order : IsOrder le) (steps : StepLaws opens extends le value_of) (shown : Duty → V → LongVector)
-    (tells : Tells s fdp_total t base price V le value_of shown) where
+    (tells : Tells s t base price V le value_of shown) where
   abbrev pub key_of : Duty → List Leg
   key_of d = d.key
 
@@ -94,7 +94,7 @@ module _ (s : Settings) (fdp_total : ℕ) (t : Timetable) (base : List ℕ) (pri
   CleanPath = CleanPathTo le key_of duties may_start (may_stand_after s) value_of
 
   abbrev Partial : Duty → List Duty → Type 0
-  Partial first others = IsLongPartial s (pos fdp_total) (flights_of t) base first others
+  Partial first others = IsLongPartial s (flights_of t) base first others
 
   pub legal-known : (d : Duty) → IsDuty s (flights_of t) d → Member duties d
   legal-known d l = subst (Member duties) (sym l.3) (are.every l.0 l.1 l.2)
@@ -107,7 +107,7 @@ module _ (s : Settings) (fdp_total : ℕ) (t : Timetable) (base : List ℕ) (pri
   each-known (x ∷ ds) h d (inl e) = subst (Member duties) e (legal-known x h.0)
   each-known (x ∷ ds) h d (inr m) = each-known ds h.1 d m
 
-  path-of : (d : Duty) (x : LongVector) (w : List (List Leg)) (a : At s fdp_total t base price d x w) (v : V) → value_of (a.first ∷ a.others) ≡ Some v → Path d v w
+  path-of : (d : Duty) (x : LongVector) (w : List (List Leg)) (a : At s t base price d x w) (v : V) → value_of (a.first ∷ a.others) ≡ Some v → Path d v w
   path-of d x w a v value =
       let whole : before_last a.first a.others ++ d ∷ [] ≡ a.first ∷ a.others = ap (λ z. before_last a.first a.others ++ z ∷ []) (sym a.ends) ∙ whole-split a.first a.others in
       record {
@@ -120,7 +120,7 @@ module _ (s : Settings) (fdp_total : ℕ) (t : Timetable) (base : List ℕ) (pri
       }
 
   -- a partial's vector is shown by a value
-  pub to-path : (d : Duty) (x : LongVector) (w : List (List Leg)) → At s fdp_total t base price d x w → (v : V) × Path d v w × (shown d v ≡ x)
+  pub to-path : (d : Duty) (x : LongVector) (w : List (List Leg)) → At s t base price d x w → (v : V) × Path d v w × (shown d v ≡ x)
   to-path d x w a =
       let k = tells.value a.first a.others a.partial in
       let told = tells.partial a.first a.others k.0 a.partial.legal a.partial.leaves a.partial.rested k.1 in
@@ -159,7 +159,7 @@ module _ (s : Settings) (fdp_total : ℕ) (t : Timetable) (base : List ℕ) (pri
         walk = p.walk ∙ ap walk_of f.whole;
       }
 
-  pub from-path : (d : Duty) → Member duties d → (v : V) (w : List (List Leg)) → Path d v w → At s fdp_total t base price d (shown d v) w
+  pub from-path : (d : Duty) → Member duties d → (v : V) (w : List (List Leg)) → Path d v w → At s t base price d (shown d v) w
   from-path d k v w p =
       let l = listed d k v w p in
       record { first = l.first; others = l.others; partial = l.partial; ends = l.ends; vector = l.vector; walk = l.walk }
@@ -178,7 +178,7 @@ module _ (s : Settings) (fdp_total : ℕ) (t : Timetable) (base : List ℕ) (pri
       (compared d k u y v w p q ∙ (ap (is_at_most (shown d u)) (sym e) ∙ (sym (compared d k u y u y p p) ∙ order.reflexive u)))
       (compared d k v w u y q p ∙ (ap (is_at_most (shown d v)) e ∙ (sym (compared d k v w v w q q) ∙ order.reflexive v)))
 
-  pub undominated-from : (d : Duty) → Member duties d → (v : V) → Undominated le (Path d) v → IsUndominated s fdp_total t base price d (shown d v)
+  pub undominated-from : (d : Duty) → Member duties d → (v : V) → Undominated le (Path d) v → IsUndominated s t base price d (shown d v)
   undominated-from d k v u = record {
     walk = u.walk;
     has = from-path d k v u.walk u.has;
@@ -190,7 +190,7 @@ module _ (s : Settings) (fdp_total : ℕ) (t : Timetable) (base : List ℕ) (pri
         );
   }
 
-  pub undominated-to : (d : Duty) → Member duties d → (v : V) (w : List (List Leg)) → Path d v w → IsUndominated s fdp_total t base price d (shown d v) → Undominated le (Path d) v
+  pub undominated-to : (d : Duty) → Member duties d → (v : V) (w : List (List Leg)) → Path d v w → IsUndominated s t base price d (shown d v) → Undominated le (Path d) v
   undominated-to d k v w p u = record {
     walk = w;
     has = p;
@@ -218,7 +218,7 @@ module _ (s : Settings) (fdp_total : ℕ) (t : Timetable) (base : List ℕ) (pri
       (each-beginning (IsDuty s (flights_of t)) (first ∷ taken) left (subst (λ z. Each (IsDuty s (flights_of t)) (first ∷ z)) (sym q) p.legal))
       p.leaves (rested-beginning s first taken left (subst (AllRested s first) (sym q) p.rested)) value
 
-  pub clean-from : (d : Duty) → Member duties d → (v : V) (w : List (List Leg)) → CleanPath d v w → Clean s fdp_total t base price d (shown d v) w
+  pub clean-from : (d : Duty) → Member duties d → (v : V) (w : List (List Leg)) → CleanPath d v w → Clean s t base price d (shown d v) w
   unfolding from-path
   clean-from d k v w c =
       let l = listed d k v w c.path in
@@ -231,7 +231,7 @@ module _ (s : Settings) (fdp_total : ℕ) (t : Timetable) (base : List ℕ) (pri
             let value = beginning-value bs e left v (ap value_of whole ∙ c.path.value) in
             let known_e = path-known d k v w c.path e (subst (λ z. Member z e) whole (in-middle bs e left)) in
             let told = beginning-shown l.first l.others taken left l.partial q value.0 (ap value_of (sym (whole-split l.first taken)) ∙ value.1) in
-            subst (IsUndominated s fdp_total t base price e) told.1
+            subst (IsUndominated s t base price e) told.1
             (undominated-from e known_e value.0 (c.clean bs e left value.0 whole value.1));
       }
 
@@ -239,10 +239,10 @@ module _ (s : Settings) (fdp_total : ℕ) (t : Timetable) (base : List ℕ) (pri
   last-of-each first [] h = h.0
   last-of-each first (next ∷ others) h = last-of-each next others h.1
 
-  pub at-legal : (d : Duty) (x : LongVector) (w : List (List Leg)) → At s fdp_total t base price d x w → IsDuty s (flights_of t) d
+  pub at-legal : (d : Duty) (x : LongVector) (w : List (List Leg)) → At s t base price d x w → IsDuty s (flights_of t) d
   at-legal d x w a = subst (IsDuty s (flights_of t)) a.ends (last-of-each a.first a.others a.partial.legal)
 
-  pub clean-to : (d : Duty) (x : LongVector) (w : List (List Leg)) → Clean s fdp_total t base price d x w → (v : V) × CleanPath d v w × (shown d v ≡ x)
+  pub clean-to : (d : Duty) (x : LongVector) (w : List (List Leg)) → Clean s t base price d x w → (v : V) × CleanPath d v w × (shown d v ≡ x)
   unfolding path-of
   clean-to d x w c =
       let first = c.at.first in
@@ -258,11 +258,11 @@ module _ (s : Settings) (fdp_total : ℕ) (t : Timetable) (base : List ℕ) (pri
               let value = ap value_of (sym b.beginning) ∙ val in
               let shows = beginning-shown first others b.taken rest c.at.partial b.left u value in
               let vector = subst (λ z. shown z u ≡ long_vector_of s price first b.taken) b.ends shows.1 in
-              let here : At s fdp_total t base price e (shown e u) (walk_of (first ∷ b.taken)) =
+              let here : At s t base price e (shown e u) (walk_of (first ∷ b.taken)) =
               record { first = first; others = b.taken; partial = shows.0; ends = b.ends; vector = vector; walk = refl } in
-              let there : IsUndominated s fdp_total t base price e (shown e u) =
-              subst (IsUndominated s fdp_total t base price e) (sym vector)
-              (subst (λ z. IsUndominated s fdp_total t base price z (long_vector_of s price first b.taken)) b.ends (c.stays b.taken rest b.left)) in
+              let there : IsUndominated s t base price e (shown e u) =
+              subst (IsUndominated s t base price e) (sym vector)
+              (subst (λ z. IsUndominated s t base price z (long_vector_of s price first b.taken)) b.ends (c.stays b.taken rest b.left)) in
               undominated-to e (legal-known e (at-legal e (shown e u) (walk_of (first ∷ b.taken)) here)) u (walk_of (first ∷ b.taken))
               (path-of e (shown e u) (walk_of (first ∷ b.taken)) here u value) there;
         },
@@ -271,14 +271,14 @@ module _ (s : Settings) (fdp_total : ℕ) (t : Timetable) (base : List ℕ) (pri
 
   -- a front of values shows the front
   pub front-from : (d : Duty) → Member duties d → (entries : List (V × List (List Leg))) → IsFront le walk_at_most (Path d) (CleanPath d) entries
-      → IsFrontAt s fdp_total t base price d (shown_entries (shown d) entries)
+      → IsFrontAt s t base price d (shown_entries (shown d) entries)
   front-from d k entries f = record {
     clean = λ x w m.
         let e = shown-out (shown d) entries x w m in
-        subst (λ z. Clean s fdp_total t base price d z w) e.2 (clean-from d k e.0 w (f.clean e.0 w e.1));
+        subst (λ z. Clean s t base price d z w) e.2 (clean-from d k e.0 w (f.clean e.0 w e.1));
     undominated = λ x w m.
         let e = shown-out (shown d) entries x w m in
-        subst (IsUndominated s fdp_total t base price d) e.2 (undominated-from d k e.0 (f.undominated e.0 w e.1));
+        subst (IsUndominated s t base price d) e.2 (undominated-from d k e.0 (f.undominated e.0 w e.1));
     least = λ x w y m c.
         let e = shown-out (shown d) entries x w m in
         let p = clean-to d x y c in
@@ -286,6 +286,6 @@ module _ (s : Settings) (fdp_total : ℕ) (t : Timetable) (base : List ℕ) (pri
         f.least e.0 w y e.1 (subst (λ z. CleanPath d z y) same p.1);
     every = λ x u.
         let p = to-path d x u.walk u.has in
-        let e = f.every p.0 (undominated-to d k p.0 u.walk p.1 (subst (IsUndominated s fdp_total t base price d) (sym p.2) u)) in
+        let e = f.every p.0 (undominated-to d k p.0 u.walk p.1 (subst (IsUndominated s t base price d) (sym p.2) u)) in
         (e.0, subst (λ z. Member (shown_entries (shown d) entries) (z, e.0)) p.2 (shown-in (shown d) entries p.0 e.0 e.1));
   }

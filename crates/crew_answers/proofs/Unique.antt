@@ -41,13 +41,13 @@ rising : (es : List (LongVector × List (List Leg))) → RiseByVector es → Ris
 rising [] h = tt
 rising (e ∷ es) h = (h.0, rising es h.1)
 
-module _ (s : Settings) (fdp_total : ℕ) (t : Timetable) (base : List ℕ) (price : ℤ) (d : Duty) (es fs : List (LongVector × List (List Leg)))
-    (f : IsFrontAt s fdp_total t base price d es) (g : IsFrontAt s fdp_total t base price d fs) where
+module _ (s : Settings) (t : Timetable) (base : List ℕ) (price : ℤ) (d : Duty) (es fs : List (LongVector × List (List Leg)))
+    (f : IsFrontAt s t base price d es) (g : IsFrontAt s t base price d fs) where
   pub same-front : (v : LongVector) (w : List (List Leg)) → Member es (v, w) → Member fs (v, w)
-  same-front = same-entries is_at_most walk_at_most (At s fdp_total t base price d) (Clean s fdp_total t base price d) walk-order es fs f g
+  same-front = same-entries is_at_most walk_at_most (At s t base price d) (Clean s t base price d) walk-order es fs f g
 
   pub same-back : (v : LongVector) (w : List (List Leg)) → Member fs (v, w) → Member es (v, w)
-  same-back = same-entries is_at_most walk_at_most (At s fdp_total t base price d) (Clean s fdp_total t base price d) walk-order fs es g f
+  same-back = same-entries is_at_most walk_at_most (At s t base price d) (Clean s t base price d) walk-order fs es g f
 
   pub same-listed : RiseByVector es → RiseByVector fs → es ≡ fs
   same-listed h k =

@@ -1,9 +1,8 @@
 -- Partial pairings of up to 240 hours at a node, which is a base and a legal duty, and the node's
 -- front: its undominated vectors, each with the least clean walk that has it. Labels, and the
 -- dominance among them, are those of Irnich and Desaulniers 2005, "Shortest path problems with
--- resource constraints". `fdp_total` is the cap on all flight duty minutes of a pairing, `price` the
--- base's price, by which the vectors of its partials are less.
-use Rattle.std.specs.Prelude.{◌≡◌, ℕ, ℤ, pos, List, [], ◌∷◌, ◌++◌}
+-- resource constraints". `price` is the base's price, by which the vectors of its partials are less.
+use Rattle.std.specs.Prelude.{◌≡◌, ℕ, ℤ, List, [], ◌∷◌, ◌++◌}
 use Rattle.std.specs.Cmp.Lexicographic.{slice_cmp}
 use Rattle.std.specs.Ordering.{int_cmp, ordering_then}
 use Rattle.std.specs.declared.cmp.Ordering.{Ordering}
@@ -45,35 +44,35 @@ RiseByVector (entry ∷ entries) = Each (λ later. vector_cmp entry.0 later.0 �
     × RiseByVector entries
 
 -- a partial of the base whose last duty is d, by its vector and its walk
-pub record At (s : Settings) (fdp_total : ℕ) (t : Timetable) (base : List ℕ) (price : ℤ) (d : Duty)
+pub record At (s : Settings) (t : Timetable) (base : List ℕ) (price : ℤ) (d : Duty)
     (v : LongVector) (w : List (List Leg)) : Type 0 where
   pub first : Duty
   pub others : List Duty
-  pub partial : IsLongPartial s (pos fdp_total) (flights_of t) base first others
+  pub partial : IsLongPartial s (flights_of t) base first others
   pub ends : last_duty first others ≡ d
   pub vector : v ≡ long_vector_of s price first others
   pub walk : w ≡ walk_of (first ∷ others)
 
 -- a partial of the node has the vector, and no partial of the node has one that beats it
-abbrev pub IsUndominated : Settings → ℕ → Timetable → List ℕ → ℤ → Duty → LongVector → Type 0
-IsUndominated s fdp_total t base price d =
-    Undominated is_at_most (At s fdp_total t base price d)
+abbrev pub IsUndominated : Settings → Timetable → List ℕ → ℤ → Duty → LongVector → Type 0
+IsUndominated s t base price d =
+    Undominated is_at_most (At s t base price d)
 
 -- each beginning, the whole list included, has a vector that is undominated at its own node
-abbrev pub StaysUndominated : Settings → ℕ → Timetable → List ℕ → ℤ → Duty → List Duty → Type 0
-StaysUndominated s fdp_total t base price first others =
+abbrev pub StaysUndominated : Settings → Timetable → List ℕ → ℤ → Duty → List Duty → Type 0
+StaysUndominated s t base price first others =
     (taken left : List Duty) → taken ++ left ≡ others
-    → IsUndominated s fdp_total t base price (last_duty first taken)
+    → IsUndominated s t base price (last_duty first taken)
     (long_vector_of s price first taken)
 
 -- a clean partial
-pub record Clean (s : Settings) (fdp_total : ℕ) (t : Timetable) (base : List ℕ) (price : ℤ)
+pub record Clean (s : Settings) (t : Timetable) (base : List ℕ) (price : ℤ)
     (d : Duty) (v : LongVector) (w : List (List Leg)) : Type 0 where
-  pub at : At s fdp_total t base price d v w
-  pub stays : StaysUndominated s fdp_total t base price at.first at.others
+  pub at : At s t base price d v w
+  pub stays : StaysUndominated s t base price at.first at.others
 
 -- exactly the undominated vectors of the node, each with the least clean walk that has it
-abbrev pub IsFrontAt : Settings → ℕ → Timetable → List ℕ → ℤ → Duty
+abbrev pub IsFrontAt : Settings → Timetable → List ℕ → ℤ → Duty
     → List (LongVector × List (List Leg)) → Type 0
-IsFrontAt s fdp_total t base price d = IsFront is_at_most walk_at_most
-    (At s fdp_total t base price d) (Clean s fdp_total t base price d)
+IsFrontAt s t base price d = IsFront is_at_most walk_at_most
+    (At s t base price d) (Clean s t base price d)

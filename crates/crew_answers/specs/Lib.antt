@@ -3,7 +3,6 @@ pub mod Dominance
 pub mod Fronts
 pub mod Locals
 pub mod Bests
-pub mod Ranges
 pub mod Shown
 pub mod Schedules
 pub mod ShortPairings

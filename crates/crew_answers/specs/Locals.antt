@@ -31,9 +31,9 @@ grown s last next v = record {
 -- the limits, by the parts of a vector and the last duty: the caps on sums; at the last report 30
 -- free hours within the 168 hours before (117.25(b)); and in the window that ends with the last
 -- arrival no more flight duty than its cap (117.23(c)(1))
-abbrev pub is_within_limits : Settings → ℕ → Duty → LongVector → Bool
-is_within_limits s fdp_total last v =
-    Sums.is_vector_within_caps (settings_of_sums s fdp_total) v.sums
+abbrev pub is_within_limits : Settings → Duty → LongVector → Bool
+is_within_limits s last v =
+    Sums.is_vector_within_caps (settings_of_sums s) v.sums
     && cond (is_long s) (int_le v.since_rest (pos 8_280)
     && int_le (Histories.minutes_after v.history (arrival last -ℤ pos 10_080)) (pos s.fdp_cap))
     true
@@ -44,27 +44,27 @@ Feed = List (Duty × List (LongVector × List (List Leg)))
 
 -- within the limits: the duty alone, where it leaves the base, and each entry of the feed with the
 -- duty after it
-abbrev pub Candidate : Settings → ℕ → List ℕ → ℤ → Duty → Feed → LongVector → List (List Leg)
+abbrev pub Candidate : Settings → List ℕ → ℤ → Duty → Feed → LongVector → List (List Leg)
     → Type 0
-Candidate s fdp_total base price d feed v w =
-    ((d.from ≡ base) × (is_within_limits s fdp_total d (long_vector_of s price d []) ≡ true)
+Candidate s base price d feed v w =
+    ((d.from ≡ base) × (is_within_limits s d (long_vector_of s price d []) ≡ true)
     × (v ≡ long_vector_of s price d []) × (w ≡ d.key ∷ []))
     ⊎ ((e : Duty) × (es : List (LongVector × List (List Leg))) × (u : LongVector)
     × (y : List (List Leg)) × Member feed (e, es) × Member es (u, y)
-    × (is_within_limits s fdp_total d (grown s e d u) ≡ true) × (v ≡ grown s e d u)
+    × (is_within_limits s d (grown s e d u) ≡ true) × (v ≡ grown s e d u)
     × (w ≡ y ++ d.key ∷ []))
 
 -- the candidates that none beats, each vector with the least walk
-abbrev pub IsLocalAt : Settings → ℕ → List ℕ → ℤ → Duty → Feed
+abbrev pub IsLocalAt : Settings → List ℕ → ℤ → Duty → Feed
     → List (LongVector × List (List Leg)) → Type 0
-IsLocalAt s fdp_total base price d feed =
-    IsLocal is_at_most walk_at_most (Candidate s fdp_total base price d feed)
+IsLocalAt s base price d feed =
+    IsLocal is_at_most walk_at_most (Candidate s base price d feed)
 
 -- exactly the legal duties after which d may stand, each with its front
-pub record AreFrontsBefore (s : Settings) (fdp_total : ℕ) (t : Timetable) (base : List ℕ)
+pub record AreFrontsBefore (s : Settings) (t : Timetable) (base : List ℕ)
     (price : ℤ) (d : Duty) (feed : Feed) : Type 0 where
   pub right : (e : Duty) (es : List (LongVector × List (List Leg))) → Member feed (e, es)
       → IsDuty s (flights_of t) e × (may_stand_after s e d ≡ true)
-      × IsFrontAt s fdp_total t base price e es
+      × IsFrontAt s t base price e es
   pub every : (e : Duty) → IsDuty s (flights_of t) e → may_stand_after s e d ≡ true
       → (es : List (LongVector × List (List Leg))) × Member feed (e, es)

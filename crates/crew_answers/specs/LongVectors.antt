@@ -3,7 +3,7 @@
 -- duty periods of the last 168 hours, for 117.23(c). A pairing of at most 138 hours needs neither,
 -- so where settings allow no longer ones both are the same for all lists. A list of duties stands
 -- as its first duty and the list of the others.
-use Rattle.std.specs.Prelude.{ℕ, min, Bool, cond, nat_lt, ℤ, pos, List, [], ◌∷◌}
+use Rattle.std.specs.Prelude.{Bool, cond, nat_lt, ℤ, pos, List, [], ◌∷◌}
 use Rattle.crew_rules.specs.declared.settings.Settings.{Settings}
 use Rattle.crew_pairing.specs.Vectors.{vector_of}
 use Rattle.crew_pairing.specs.declared.duty.Duty.{Duty}
@@ -29,8 +29,7 @@ long_vector_of s base_price first others = record {
   history = cond (is_long s) (Limits.history_of first others) [];
 }
 
--- settings under whose caps the seven sums stand: the flight duty minutes of all duties are at most
--- `fdp_total`, and where one window covers every pairing at most the cap of a window too
-abbrev pub settings_of_sums : Settings → ℕ → Settings
-settings_of_sums s fdp_total = record s
-    { fdp_cap = cond (is_long s) fdp_total (min s.fdp_cap fdp_total) }
+-- settings under whose caps the seven sums stand: the cap of a window is one on all flight duty
+-- minutes where one window covers every pairing, and none where it doesn't
+abbrev pub settings_of_sums : Settings → Settings
+settings_of_sums s = record s { fdp_cap = cond (is_long s) s.fdp_total s.fdp_cap }

@@ -1,7 +1,7 @@
 -- What a value that labels keep shows of a list: its vector. The value has the end of the last long
 -- rest as an instant, since lists that stand at one release may have had their last reports at
 -- several times; where they end with one duty both tell the same.
-use Rattle.std.specs.Prelude.{ℕ, cond, ℤ, pos, ◌-ℤ◌, List, map}
+use Rattle.std.specs.Prelude.{cond, ℤ, pos, ◌-ℤ◌, List, map}
 use Rattle.crew_rules.specs.declared.settings.Settings.{Settings}
 use Rattle.crew_pairing.specs.Legs.{Leg}
 use Rattle.crew_pairing.specs.declared.duty.Duty.{Duty}
@@ -34,6 +34,6 @@ resource_over sums s = record {
 }
 
 -- the resource of a base's pairings
-abbrev pub long_resource : Settings → ℕ → ℤ → LongResource
-long_resource s fdp_total base_price =
-    resource_over (vector_resource (settings_of_sums s fdp_total) base_price) s
+abbrev pub long_resource : Settings → ℤ → LongResource
+long_resource s base_price =
+    resource_over (vector_resource (settings_of_sums s) base_price) s

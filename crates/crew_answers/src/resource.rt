@@ -44,15 +44,15 @@ pub struct LongResource {
     pub window: Window,
 }
 
-/// The settings under whose caps the seven sums stand: all flight duty minutes are capped by
-/// `fdp_total`, and where no pairing has more than 138 hours by the cap of a window too.
-pub fn settings_of_sums(settings: &Settings, fdp_total: u32) -> Settings
-    ensures { result ≡ LongVectors.settings_of_sums settings.now fdp_total }
+/// The settings under whose caps the seven sums stand: the cap of a window is one on all flight duty
+/// minutes where no pairing has more than 138 hours, and none where one may have.
+pub fn settings_of_sums(settings: &Settings) -> Settings
+    ensures { result ≡ LongVectors.settings_of_sums settings.now }
 {
     let fdp_cap = if settings.away_cap > 8_280 {
-        fdp_total
+        settings.fdp_total
     } else {
-        settings.fdp_cap.min(fdp_total)
+        settings.fdp_cap
     };
     Settings {
         fdp_cap,

@@ -157,7 +157,7 @@ windows-kept cap first others c o each from =
         subst (λ (q : ℤ × ℤ). minutes_within (map period_of (first ∷ others)) (q.1 -ℤ pos 10_080) q.1 ≤ℤ cap) k.3 (window-of cap first others k.0 k.1 k.2 o (each k.0 k.1 k.2)))
 
 -- a partial pairing is one as the search tests it
-pub tested-long : (s : Settings) (t : Timetable) (base : List ℕ) (first : Duty) (others : List Duty) → IsSound t → IsLongPartial s (pos s.fdp_total) (flights_of t) base first others
+pub tested-long : (s : Settings) (t : Timetable) (base : List ℕ) (first : Duty) (others : List Duty) → IsSound t → IsLongPartial s (flights_of t) base first others
     → IsTested s (flights_of t) base first others
 tested-long s t base first others sound p =
     let o = in_order s t first others sound p.legal p.rested in
@@ -174,7 +174,7 @@ tested-long s t base first others sound p =
     }
 
 pub long-tested : (s : Settings) (t : Timetable) (base : List ℕ) (first : Duty) (others : List Duty) → IsSound t → IsTested s (flights_of t) base first others
-    → IsLongPartial s (pos s.fdp_total) (flights_of t) base first others
+    → IsLongPartial s (flights_of t) base first others
 long-tested s t base first others sound p =
     let o = in_order s t first others sound p.legal p.rested in
     record {

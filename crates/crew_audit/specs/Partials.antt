@@ -1,5 +1,5 @@
 -- All partial pairings of a timetable, by base and walk.
-use Rattle.std.specs.Prelude.{◌≡◌, ◌<◌, ℕ, ℤ, pos, List, [], ◌∷◌, Some, length, map}
+use Rattle.std.specs.Prelude.{◌≡◌, ◌<◌, ℕ, ℤ, List, [], ◌∷◌, Some, length, map}
 use Rattle.std.specs.FinMap as fin
 use Rattle.std.specs.declared.cmp.Ordering.{Ordering}
 use Rattle.std.specs.declared.cmp.Ordering.TheVariants.{Less}
@@ -33,7 +33,7 @@ pub record IsPartialOf (s : Settings) (t : Timetable) (p : Partial) : Type 0 whe
   pub first : Duty
   pub others : List Duty
   pub held : fin.get t.bases base ≡ Some price
-  pub partial : IsLongPartial s (pos s.fdp_total) (flights_of t) base first others
+  pub partial : IsLongPartial s (flights_of t) base first others
   pub given : p ≡ partial_of s base price first others
 
 -- by base, and then by walk

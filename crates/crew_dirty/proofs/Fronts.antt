@@ -2,12 +2,10 @@
 use Rattle.std.proofs.Common.{◌≡◌, ◌<◌, ◌+◌, ◌++◌, ◌∷◌, [], inl, inr, ℕ, zero, suc, ℤ, true, List, Option, refl, sym, ap, subst, arith}
 use Rattle.std.specs.List.{filter}
 use Rattle.crew_answers.proofs.Feeding.{front-of-local, local-of-front}
-use Rattle.crew_answers.proofs.InRange.{checked-in-range}
 use Rattle.crew_answers.proofs.PlainNodes.{node-front}
 use Rattle.crew_answers.specs.Fronts.{IsFrontAt}
 use Rattle.crew_answers.specs.Locals.{AreFrontsBefore, Feed}
 use Rattle.crew_answers.specs.LongVectors.{LongVector}
-use Rattle.crew_answers.specs.Ranges.{IsInRange}
 use Rattle.crew_dirty.specs.Dirty.{IsUnreached}
 use Rattle.crew_dirty.proofs.Paths.{path-more, path-none}
 use Rattle.crew_flights.specs.Timetable.{IsSound, Timetable}
@@ -52,8 +50,8 @@ feed-of front (d ∷ ds) some =
 
 module _ (s : Settings) (t u : Timetable) (old new : Net) (checked : IsChecked s) (sound : IsSound t) (after : IsSound u) (olds : AreDuties s t old.duties) (news : AreDuties s u new.duties) (settings : new.settings ≡ s)
     (old_price new_price : Option ℤ) (base : List ℕ) (price : ℤ) where
-  range : IsInRange s s.fdp_total
-  range = checked-in-range s checked
+  range : IsChecked s
+  range = checked
 
   abbrev Unreached : Duty → Type 0
   Unreached d = IsUnreached old new old_price new_price base d
@@ -73,22 +71,22 @@ module _ (s : Settings) (t u : Timetable) (old new : Net) (checked : IsChecked s
   may-now : (e d : Duty) → may_stand_after s e d ≡ true → may_stand_after new.settings e d ≡ true
   may-now e d h = subst (λ (z : Settings). may_stand_after z e d ≡ true) (sym settings) h
 
-  kept-below : (n : ℕ) (d : Duty) → rank s u base price checked after d < n → Member new.duties d → Unreached d → (entries : Entries) → IsFrontAt s s.fdp_total t base price d entries → IsFrontAt s s.fdp_total u base price d entries
+  kept-below : (n : ℕ) (d : Duty) → rank s u base price checked after d < n → Member new.duties d → Unreached d → (entries : Entries) → IsFrontAt s t base price d entries → IsFrontAt s u base price d entries
   kept-below zero d low m clear entries front = absurd (omega (arith, low))
   kept-below (suc n) d low m clear entries front =
       let own = (clear d [] (path-none new d m)).1 in
       let before = filter (λ e. may_stand_after s e d) new.duties in
       let is-old : (e : Duty) → Member before e → Member old.duties e = λ e k.
       (let f = Member-filter_out (λ x. may_stand_after s x d) new.duties e k in (own.before e (may-now e d f.1)).1 f.0) in
-      let made = feed-of (IsFrontAt s s.fdp_total t base price) before (λ e k. node-front s s.fdp_total t base price range sound e (old-legal e (is-old e k))) in
+      let made = feed-of (IsFrontAt s t base price) before (λ e k. node-front s t base price range sound e (old-legal e (is-old e k))) in
       let feed = made.0 in
-      let fed : AreFrontsBefore s s.fdp_total t base price d feed = record {
+      let fed : AreFrontsBefore s t base price d feed = record {
         right = λ e es k. (
             let r = made.1.right e es k in
             (old-legal e (is-old e r.0), (Member-filter_out (λ x. may_stand_after s x d) new.duties e r.0).1, r.1));
         every = λ e legal may. made.1.every e (Member-filter_in (λ x. may_stand_after s x d) new.duties e ((own.before e (may-now e d may)).0 (legal-old e legal)) may);
       } in
-      let also : AreFrontsBefore s s.fdp_total u base price d feed = record {
+      let also : AreFrontsBefore s u base price d feed = record {
         right = λ e es k. (
             let r = made.1.right e es k in
             let f = Member-filter_out (λ x. may_stand_after s x d) new.duties e r.0 in
@@ -99,7 +97,7 @@ module _ (s : Settings) (t u : Timetable) (old new : Net) (checked : IsChecked s
             (legal, f.1, kept-below n e (omega (arith, low, less)) f.0 unreached es r.1));
         every = λ e legal may. made.1.every e (Member-filter_in (λ x. may_stand_after s x d) new.duties e (legal-new e legal) may);
       } in
-      front-of-local s s.fdp_total u base price range after d (new-legal d m) feed also entries (local-of-front s s.fdp_total t base price range sound d (old-legal d own.there) feed fed entries front)
+      front-of-local s u base price range after d (new-legal d m) feed also entries (local-of-front s t base price range sound d (old-legal d own.there) feed fed entries front)
 
-  pub front-stays : (d : Duty) → Member new.duties d → Unreached d → (entries : Entries) → IsFrontAt s s.fdp_total t base price d entries → IsFrontAt s s.fdp_total u base price d entries
+  pub front-stays : (d : Duty) → Member new.duties d → Unreached d → (entries : Entries) → IsFrontAt s t base price d entries → IsFrontAt s u base price d entries
   front-stays d m clear entries front = kept-below (rank s u base price checked after d + 1) d (omega arith) m clear entries front

@@ -20,8 +20,8 @@ pub fn unreached_nodes_keep_their_fronts()
         → IsChecked s → IsSound t → IsSound u → old.settings ≡ s → new.settings ≡ s
         → IsNetOver t old → IsNetOver u new → Member new.duties d
         → IsUnreached old new old_price new_price base d
-        → IsFrontAt s s.fdp_total t base price d entries
-        → IsFrontAt s s.fdp_total u base price d entries }
+        → IsFrontAt s t base price d entries
+        → IsFrontAt s u base price d entries }
 {}
 
 /// A node isn't reached exactly where it isn't touched and none of the nodes just before it is

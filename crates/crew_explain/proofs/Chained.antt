@@ -1,5 +1,5 @@
 -- The rules of duties together, against the definition of a pairing.
-use Rattle.std.proofs.Common.{◌≡◌, ◌+◌, ◌&&◌, ℕ, ℤ, pos, ◌+ℤ◌, int_le, Bool, true, false, cond, List, [], ◌∷◌, ◌++◌, map, Option, Some, None, inl, inr, refl, sym, ap, subst, ◌∙◌, arith, length}
+use Rattle.std.proofs.Common.{◌≡◌, ◌+◌, ◌&&◌, ℕ, ℤ, pos, ◌+ℤ◌, int_le, Bool, true, false, cond, List, [], ◌∷◌, ◌++◌, map, None, inl, inr, refl, sym, ap, subst, ◌∙◌, arith, length}
 use Rattle.std.specs.Prelude.{◌-ℤ◌, ◌≤ℤ◌}
 use Rattle.std.specs.Ordering.{eq_by_cmp, is_eq}
 use Rattle.std.proofs.lemmas.Bool.{and_from, and_parts}
@@ -9,7 +9,6 @@ use Rattle.std.proofs.lemmas.Map.Lookups.{exact_bytes}
 use Rattle.std.proofs.lemmas.Map.Views.{tells_apart}
 use Rattle.crew_flights.specs.Codes.{code_cmp, code_cmp_total}
 use Rattle.crew_flights.specs.Timetable.{IsSound, Timetable}
-use Rattle.crew_flights.specs.declared.flight.Flight.{Flight}
 use Rattle.crew_rules.specs.declared.settings.Settings.{Settings}
 use Rattle.crew_pairing.specs.Duties.{flights_of}
 use Rattle.crew_pairing.specs.Legality.{total}
@@ -18,13 +17,13 @@ use Rattle.crew_pairing.specs.declared.duty.Duty.{Duty}
 use Rattle.crew_resource.specs.Members.{Each, Member}
 use Rattle.crew_resource.proofs.Members.{Member-map_out}
 use Rattle.crew_history.specs.Histories.{KeepsCap, minutes_within}
-use Rattle.crew_history.specs.Limits.{AreInOrder, KeepsWindows, arrival, fdp_between, last_of, period_of, rested_reports, since_rest}
+use Rattle.crew_history.specs.Limits.{AreInOrder, KeepsWindows, arrival, fdp_between, last_of, period_of, rested_reports}
 use Rattle.crew_history.specs.LongPairings.{IsLongPartial, is_within_totals}
 use Rattle.crew_history.proofs.Histories.{ends_suffice}
 use Rattle.crew_history.proofs.LegalOrder.{in_order}
 use Rattle.crew_history.proofs.OfDuties.{between_is, free_minutes_told, is_history}
 use Rattle.crew_explain.specs.declared.breach.Rule.TheVariants as The
-use Rattle.crew_explain.specs.Rules.{Asked, at_least, at_most, between, first_of, free_times, rest_end, rests, returning, same, totals, walk_rules, window_to, windows}
+use Rattle.crew_explain.specs.Rules.{at_least, at_most, between, first_of, free_times, rest_end, rests, returning, same, totals, walk_rules, window_to, windows}
 use Rattle.crew_explain.proofs.Told.{first-holds, first-kept, four-hold, hold-four, hold-three, int-le, int-yes, none-both, none-parts, three-hold}
 
 -- neighbouring duties
@@ -51,14 +50,14 @@ rests-kept s duty first [] h = refl
 rests-kept s duty first (next ∷ others) h = none-both (between s duty first next) (rests s (duty + 1) next others) (stood s duty first next h.0) (rests-kept s (duty + 1) next others h.1)
 
 -- the caps on totals
-capped : (s : Settings) (ds : List Duty) → first_of (totals s ds) ≡ None → is_within_totals s (pos s.fdp_total) ds ≡ true
+capped : (s : Settings) (ds : List Duty) → first_of (totals s ds) ≡ None → is_within_totals s ds ≡ true
 capped s ds e =
     let p = four-hold (at_most The.FdpTotal 0 0 (total (λ d. d.fdp) ds) (pos s.fdp_total)) (at_most The.FlyCap 0 0 (total (λ d. d.fly) ds) (pos s.fly_cap)) (at_most The.MaxDuties 0 0 (pos (length ds)) (pos s.max_duties)) (at_most The.AwayCap 0 0 (minutes_away ds) (pos s.away_cap)) e in
     and_from (int_le (total (λ d. d.fdp) ds) (pos s.fdp_total)) (int_le (total (λ d. d.fly) ds) (pos s.fly_cap) && (int_le (pos (length ds)) (pos s.max_duties) && int_le (minutes_away ds) (pos s.away_cap))) p.0
     (and_from (int_le (total (λ d. d.fly) ds) (pos s.fly_cap)) (int_le (pos (length ds)) (pos s.max_duties) && int_le (minutes_away ds) (pos s.away_cap)) p.1
     (and_from (int_le (pos (length ds)) (pos s.max_duties)) (int_le (minutes_away ds) (pos s.away_cap)) p.2 p.3))
 
-caps-kept : (s : Settings) (ds : List Duty) → is_within_totals s (pos s.fdp_total) ds ≡ true → first_of (totals s ds) ≡ None
+caps-kept : (s : Settings) (ds : List Duty) → is_within_totals s ds ≡ true → first_of (totals s ds) ≡ None
 caps-kept s ds h =
     let p = and_parts (int_le (total (λ d. d.fdp) ds) (pos s.fdp_total)) (int_le (total (λ d. d.fly) ds) (pos s.fly_cap) && (int_le (pos (length ds)) (pos s.max_duties) && int_le (minutes_away ds) (pos s.away_cap))) h in
     let q = and_parts (int_le (total (λ d. d.fly) ds) (pos s.fly_cap)) (int_le (pos (length ds)) (pos s.max_duties) && int_le (minutes_away ds) (pos s.away_cap)) p.1 in
@@ -146,7 +145,7 @@ pub record Chained (s : Settings) (t : Timetable) (base : List ℕ) (ds : List D
   pub first : Duty
   pub others : List Duty
   pub given : ds ≡ first ∷ others
-  pub partial : IsLongPartial s (pos s.fdp_total) (flights_of t) base first others
+  pub partial : IsLongPartial s (flights_of t) base first others
   pub returns : is_pairing base first others ≡ true
 
 pub chained : (s : Settings) (t : Timetable) (base : List ℕ) (ds : List Duty) → IsSound t → Each (IsDuty s (flights_of t)) ds → first_of (walk_rules s base ds) ≡ None → Chained s t base ds
@@ -178,7 +177,7 @@ chained s t base (first ∷ others) sound legal e =
     none : (r : ℤ) → (r -ℤ r) ≤ℤ pos 8_280
     none r = omega (arith, ints)
 
-pub unbroken : (s : Settings) (t : Timetable) (base : List ℕ) (first : Duty) (others : List Duty) → IsSound t → IsLongPartial s (pos s.fdp_total) (flights_of t) base first others → is_pairing base first others ≡ true
+pub unbroken : (s : Settings) (t : Timetable) (base : List ℕ) (first : Duty) (others : List Duty) → IsSound t → IsLongPartial s (flights_of t) base first others → is_pairing base first others ≡ true
     → first_of (walk_rules s base (first ∷ others)) ≡ None
 unbroken s t base first others sound p home =
     let all = first ∷ others in

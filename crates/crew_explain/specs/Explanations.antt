@@ -26,7 +26,7 @@ pub record IsPairingOf (s : Settings) (t : Timetable) (base : List ℕ) (walk : 
   pub first : Duty
   pub others : List Duty
   pub given : duties ≡ first ∷ others
-  pub partial : IsLongPartial s (pos s.fdp_total) (flights_of t) base first others
+  pub partial : IsLongPartial s (flights_of t) base first others
   pub returns : is_pairing base first others ≡ true
   pub walked : map (λ d. d.key) (first ∷ others) ≡ walk
 

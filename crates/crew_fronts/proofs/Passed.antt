@@ -3,7 +3,6 @@ use Rattle.std.proofs.Common.{◌≡◌, ◌∙◌, ◌<◌, ◌+◌, ℕ, zero,
 use Rattle.std.specs.Prelude.{slice_get}
 use Rattle.std.specs.List.{range_with_len}
 use Rattle.crew_answers.specs.Fronts.{IsFrontAt, RiseByVector}
-use Rattle.crew_answers.specs.Ranges.{IsInRange}
 use Rattle.crew_answers.specs.Shown.{shown_entries}
 use Rattle.crew_answers.specs.declared.value.LongValue.{LongValue}
 use Rattle.crew_flights.specs.Timetable.{Timetable}
@@ -11,8 +10,6 @@ use Rattle.crew_pairing.specs.Duties.{RiseByKey}
 use Rattle.crew_pairing.specs.declared.duty.Duty.{Duty}
 use Rattle.crew_pass.specs.Passes as Passes
 use Rattle.crew_pass.specs.Passes.{BasePass, keyed_entries}
-use Rattle.crew_rules.specs.Settings.{IsChecked}
-use Rattle.crew_rules.specs.declared.settings.Settings.{Settings}
 use Rattle.crew_net.proofs.Numbers.{get-within}
 use Rattle.crew_fronts.specs.Fronts.{Entries, ShowsFronts, front_at}
 use Rattle.crew_fronts.specs.Machinery.Kept.{AreListed, AreValued, fronts_of_pass, passed_front}
@@ -40,42 +37,9 @@ passed-rises p rank d valued listed within =
 
 -- and is right
 pub pass-right : (base : List ℕ) (price : ℤ) (p : BasePass LongValue) (t : Timetable) → RiseByKey p.net.duties → AreValued p → AreListed p
-    → Passes.ShowsFronts p.net.settings p.net.settings.fdp_total t base price p → ShowsFronts t (fronts_of_pass base price p)
+    → Passes.ShowsFronts p.net.settings t base price p → ShowsFronts t (fronts_of_pass base price p)
 pass-right base price p t rise valued listed shows d legal =
     let own = shows d legal in
     let s = p.net.settings in
-    subst (λ (es : Entries). IsFrontAt s s.fdp_total t base price d es × RiseByVector es) (sym (passed-at base price p own.0 d rise own.1))
+    subst (λ (es : Entries). IsFrontAt s t base price d es × RiseByVector es) (sym (passed-at base price p own.0 d rise own.1))
     (own.2, passed-rises p own.0 d valued listed (get-within p.net.duties own.0 d own.1))
-
--- checked settings lie in the ranges
-pub in-range : (s : Settings) → IsChecked s → IsInRange s s.fdp_total
-in-range s h = record {
-  others = record {
-    lead = h.lead;
-    debrief = h.debrief;
-    connect = h.connect;
-    sit = h.sit;
-    sit_most = h.sit_most;
-    max_rest = h.max_rest;
-    max_rest_most = h.max_rest_most;
-    max_duties = h.max_duties;
-    max_duties_most = h.max_duties_most;
-    fdp_cap = h.fdp_cap;
-    fdp_cap_most = h.fdp_cap_most;
-    fly_cap = h.fly_cap;
-    fly_cap_most = h.fly_cap_most;
-    duty_rig = h.duty_rig;
-    trip_rig = h.trip_rig;
-    duty_min = h.duty_min;
-    guarantee = h.guarantee;
-    deadheads = h.deadheads;
-    fdp_total = h.fdp_total;
-    fdp_total_most = h.fdp_total_most;
-    away_cap = omega arith;
-    away_cap_most = omega arith;
-  };
-  away_cap = h.away_cap;
-  away_cap_most = h.away_cap_most;
-  total = h.fdp_total;
-  total_most = h.fdp_total_most;
-}

@@ -165,13 +165,13 @@ there (x ∷ xs) (suc k) h = there xs k (omega (arith, h))
 -- and so do the labels of a pass
 pub valued : (net : Net) (base : List ℕ) (price : ℤ) (p : BasePass LongValue) (le same : LongValue → LongValue → Bool) → p.net ≡ net
     → IsCoveredBy le same (network_of (schedule_of net.settings base net.duties) departure_of arrival_of
-    (idle_value (vector_resource (settings_of_sums net.settings net.settings.fdp_total) price) (is_long net.settings))
-    (wait_value (vector_resource (settings_of_sums net.settings net.settings.fdp_total) price) (is_long net.settings))
-    (board_value (vector_resource (settings_of_sums net.settings net.settings.fdp_total) price) (is_long net.settings) (pos net.settings.fdp_cap))) p
+    (idle_value (vector_resource (settings_of_sums net.settings) price) (is_long net.settings))
+    (wait_value (vector_resource (settings_of_sums net.settings) price) (is_long net.settings))
+    (board_value (vector_resource (settings_of_sums net.settings) price) (is_long net.settings) (pos net.settings.fdp_cap))) p
     → AreValued p
 valued net base price p le same is covered rank l within m =
     let s = net.settings in
-    let r = vector_resource (settings_of_sums s s.fdp_total) price in
+    let r = vector_resource (settings_of_sums s) price in
     let on = is_long s in
     let found = there p.net.duties rank within in
     let d = found.0 in

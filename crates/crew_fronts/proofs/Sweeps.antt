@@ -1,9 +1,8 @@
 -- The fronts of a sweep among those of pairings of up to 240 hours.
-use Rattle.std.proofs.Common.{◌≡◌, ◌∙◌, ◌≤◌, ℕ, ℤ, Bool, true, false, List, [], ◌∷◌, Some, refl, sym, ap, subst, Ordering, nat_le, nat_lt, not, arith}
+use Rattle.std.proofs.Common.{◌≡◌, ◌∙◌, ◌≤◌, ℕ, ℤ, Bool, true, false, List, [], ◌∷◌, Some, refl, sym, ap, subst, Ordering, nat_lt, not, arith}
 use Rattle.std.specs.Prelude.{IsPermutation, slice_get}
 use Rattle.std.specs.Ordering.{ordering_then}
 use Rattle.std.specs.declared.cmp.Ordering.TheVariants.{Less}
-use Rattle.std.proofs.lemmas.Bool.{and_parts}
 use Rattle.std.proofs.lemmas.Bool.Decides.{nat_tests}
 use Rattle.crew_answers.specs.Fronts as Long
 use Rattle.crew_answers.specs.LongVectors.{is_long, settings_of_sums}
@@ -67,15 +66,9 @@ short-by false e = refl
 not-lt : (a : ℕ) → nat_lt 8_280 a ≡ false → a ≤ 8_280
 not-lt a h = grind (arith, nat_tests)
 
-le-is : (a b : ℕ) → nat_le a b ≡ true → a ≤ b
-le-is a b h = grind (arith, nat_tests)
-
--- plain settings allow no more than 138 hours, and the cap of a window is one on all
+-- plain settings allow no more than 138 hours
 pub plain-away : (s : Settings) → is_plain s ≡ true → s.away_cap ≤ 8_280
-plain-away s h = not-lt s.away_cap (short-by (is_long s) (and_parts (not (is_long s)) (nat_le s.fdp_cap s.fdp_total) h).0)
-
-pub plain-cap : (s : Settings) → is_plain s ≡ true → s.fdp_cap ≤ s.fdp_total
-plain-cap s h = le-is s.fdp_cap s.fdp_total (and_parts (not (is_long s)) (nat_le s.fdp_cap s.fdp_total) h).1
+plain-away s h = not-lt s.away_cap (short-by (is_long s) h)
 
 -- what a sweep's fronts are here
 pub swept-at : (b : BaseSweep) (d : Duty) → RiseByKey b.net.duties → Member b.net.duties d → front_at (fronts_of_sweep b) d ≡ swept_front b d
@@ -101,16 +94,16 @@ pub known : (s : Settings) (t : Timetable) (ds : List Duty) (d : Duty) → AreDu
 known s t ds d are legal = subst (Member ds) (sym legal.3) (are.every legal.0 legal.1 legal.2)
 
 -- the fronts of a sweep of plain settings are right
-pub sweep-right : (b : BaseSweep) → is_plain b.net.settings ≡ true → RiseByKey b.net.duties → settings_of_sums b.net.settings b.net.settings.fdp_total ≡ b.net.settings
+pub sweep-right : (b : BaseSweep) → is_plain b.net.settings ≡ true → RiseByKey b.net.duties → settings_of_sums b.net.settings ≡ b.net.settings
     → (t : Timetable)
-    → ((d : Duty) (es : List Entry) → b.net.settings.away_cap ≤ 8_280 → IsFrontAt (settings_of_sums b.net.settings b.net.settings.fdp_total) t b.base b.price d es → Long.IsFrontAt b.net.settings b.net.settings.fdp_total t b.base b.price d (with_no_pasts es))
+    → ((d : Duty) (es : List Entry) → b.net.settings.away_cap ≤ 8_280 → IsFrontAt (settings_of_sums b.net.settings) t b.base b.price d es → Long.IsFrontAt b.net.settings t b.base b.price d (with_no_pasts es))
     → AreDuties b.net.settings t b.net.duties → Sweeps.ShowsFronts t b → ShowsFronts t (fronts_of_sweep b)
 sweep-right b plain h stays t on are shows d legal =
     let s = b.net.settings in
     let m = known s t b.net.duties d are legal in
     let own = shows d legal in
     let front = listed-front s t b.base b.price d (Sweeps.front_at b d) own in
-    let whole : Long.IsFrontAt s s.fdp_total t b.base b.price d (swept_front b d) =
+    let whole : Long.IsFrontAt s t b.base b.price d (swept_front b d) =
     on d (listed (Sweeps.front_at b d)) (plain-away s plain) (subst (λ z. IsFrontAt z t b.base b.price d (listed (Sweeps.front_at b d))) (sym stays) front) in
     let rises = rise-with-no-pasts (listed (Sweeps.front_at b d)) (front-rises s t b.base b.price d (Sweeps.front_at b d) own) in
-    subst (λ (es : Entries). Long.IsFrontAt s s.fdp_total t b.base b.price d es × Long.RiseByVector es) (sym (swept-at b d h m)) (whole, rises)
+    subst (λ (es : Entries). Long.IsFrontAt s t b.base b.price d es × Long.RiseByVector es) (sym (swept-at b d h m)) (whole, rises)

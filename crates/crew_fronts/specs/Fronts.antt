@@ -1,5 +1,5 @@
 -- The fronts of a crew base at its price, one for each duty of a network.
-use Rattle.std.specs.Prelude.{◌≡◌, ℕ, ℤ, suc, Bool, ◌&&◌, cond, nat_le, not, List, [], ◌∷◌, get_or}
+use Rattle.std.specs.Prelude.{◌≡◌, ℕ, ℤ, suc, Bool, cond, not, List, [], ◌∷◌, get_or}
 use Rattle.std.specs.Ordering.{eq_by_cmp}
 use Rattle.crew_answers.specs.Fronts.{IsFrontAt, RiseByVector}
 use Rattle.crew_answers.specs.LongVectors.{LongVector, is_long}
@@ -40,13 +40,13 @@ front_at b d = get_or b.fronts (rank_of b.net.duties d.key) []
 -- at each legal duty it is the duty's front, in order of vector
 abbrev pub ShowsFronts : Timetable → BaseFronts → Type 0
 ShowsFronts t b = (d : Duty) → IsDuty b.net.settings (flights_of t) d
-    → IsFrontAt b.net.settings b.net.settings.fdp_total t b.base b.price d (front_at b d)
+    → IsFrontAt b.net.settings t b.base b.price d (front_at b d)
     × RiseByVector (front_at b d)
 
--- where no pairing has more than 138 hours, and the cap on all flight duty minutes is no less than
--- that of one window, the seven sums tell all that has to be known of a list of duties
+-- where no pairing has more than 138 hours the seven sums tell all that has to be known of a list of
+-- duties
 abbrev pub is_plain : Settings → Bool
-is_plain s = not (is_long s) && nat_le s.fdp_cap s.fdp_total
+is_plain s = not (is_long s)
 
 -- the same entries, in whatever order
 abbrev pub HaveSame : List (PairingVector × List (List Leg)) → List (PairingVector × List (List Leg))

@@ -54,7 +54,7 @@ impl Model for PassedFronts {
 // The resource of a base's pairings at its price, which counts their duties.
 fn resource_of(course: &Course, price: i64) -> LongResource
     requires { IsGround course.now price }
-    ensures is { result ≡ Answers.long_resource course.now.settings course.now.settings.fdp_total
+    ensures is { result ≡ Answers.long_resource course.now.settings
         price }
     ensures counts { CountsDuties ⟦<LongResource as Forgets<Duty>>⟧.same_sums
         (⟦<LongResource as Staged<Duty>>⟧.count_of result)
@@ -63,7 +63,7 @@ fn resource_of(course: &Course, price: i64) -> LongResource
 {
     long_passes_show_the_fronts();
     let settings = course.net().settings();
-    let sums = VectorResource::under(&settings_of_sums(settings, settings.fdp_total), price);
+    let sums = VectorResource::under(&settings_of_sums(settings), price);
     LongResource::new(sums, settings)
 }
 
@@ -80,8 +80,7 @@ impl PassedFronts {
     // The fronts that a pass with a base's resource at its price has left, each listed by value.
     fn of(base: Code, price: i64, fronts: crew_pass::BaseFronts<LongResource>) -> PassedFronts
         requires ground { IsGround fronts.net price }
-        requires covered { (r : LongResource) → r ≡ Answers.long_resource fronts.net.settings
-            fronts.net.settings.fdp_total price
+        requires covered { (r : LongResource) → r ≡ Answers.long_resource fronts.net.settings price
             → IsCoveredBy ⟦<LongResource as Resource>⟧.below
             ⟦<LongResource as Forgets<Duty>>⟧.same_sums (network_of
             (schedule_of fronts.net.settings base fronts.net.duties) departure_of arrival_of

@@ -1,10 +1,11 @@
 -- Partial pairings of at most 138 hours: one window covers them, and the free minutes before the first report.
-use Rattle.std.proofs.Common.{◌≡◌, ℕ, ◌≤◌, Bool, true, ◌&&◌, List, [], ◌∷◌, ℤ, pos, ◌+ℤ◌, length, inl, inr, ◌∙◌, ap, subst, arith}
+use Rattle.std.proofs.Common.{◌≡◌, ℕ, min, ◌≤◌, Bool, true, ◌&&◌, List, [], ◌∷◌, ℤ, pos, ◌+ℤ◌, length, inl, inr, ◌∙◌, ap, subst, arith}
 use Rattle.std.specs.Prelude.{◌-ℤ◌, ◌≤ℤ◌, ◌<ℤ◌, int_le}
 use Rattle.std.specs.Int.{int_max, int_min}
 use Rattle.std.proofs.lemmas.Bool.{and_parts, and_from}
 use Rattle.std.proofs.lemmas.Int.{ints, clamps}
 use Rattle.crew_pairing.specs.crew_flights.Timetable.{IsSound, Timetable}
+use Rattle.crew_pairing.specs.crew_rules.Settings.{fdp_most}
 use Rattle.crew_pairing.specs.crew_rules.declared.settings.Settings.{Settings}
 use Rattle.crew_pairing.specs.Duties.{flights_of}
 use Rattle.crew_pairing.specs.Legality.{total}
@@ -76,8 +77,17 @@ reports_within first others o d (inl e) = subst (λ z. z.report ≤ℤ (last_dut
 reports_within first [] o d (inr m) = absurd m
 reports_within first (next ∷ others) o d (inr m) = reports_within next others o.2 d m
 
-module _ (s : Settings) (t : Timetable) (fdp_total : ℤ) (base : List ℕ) (first : Duty) (others : List Duty) (sound : IsSound t)
-    (short : s.away_cap ≤ 8_280) (enough : pos s.fdp_cap ≤ℤ fdp_total) where
+under-cap : (x : ℤ) (a b : ℕ) → x ≤ℤ pos (min a b) → x ≤ℤ pos a
+under-cap x a b h = omega (arith, ints, h)
+
+under-total : (x : ℤ) (a b : ℕ) → x ≤ℤ pos (min a b) → x ≤ℤ pos b
+under-total x a b h = omega (arith, ints, h)
+
+under-both : (x : ℤ) (a b : ℕ) → x ≤ℤ pos a → x ≤ℤ pos b → x ≤ℤ pos (min a b)
+under-both x a b h k = omega (arith, ints, h, k)
+
+module _ (s : Settings) (t : Timetable) (base : List ℕ) (first : Duty) (others : List Duty) (sound : IsSound t)
+    (short : s.away_cap ≤ 8_280) where
   spans : (a r c : ℤ) (cap : ℕ) → int_le (r -ℤ a) (pos cap) ≡ true → cap ≤ 8_280 → r ≤ℤ (a +ℤ pos 8_280)
   spans a r c cap h k = let q = le_is (r -ℤ a) (pos cap) h in omega (arith, ints, k)
 
@@ -115,35 +125,38 @@ module _ (s : Settings) (t : Timetable) (fdp_total : ℤ) (base : List ℕ) (fir
   through : (a b c : ℤ) → a ≤ℤ b → b ≤ℤ c → a ≤ℤ c
   through a b c h k = omega (arith, ints)
 
-  pub long_from_short : IsPartial s (flights_of t) base first others → IsLongPartial s fdp_total (flights_of t) base first others
+  pub long_from_short : IsPartial s (flights_of t) base first others → IsLongPartial s (flights_of t) base first others
   long_from_short p =
       let o = in_order s t first others sound p.legal p.rested in
-      let k = and_parts (int_le (total (λ d. d.fdp) (first ∷ others)) (pos s.fdp_cap)) Rest p.capped in
-      let few = le_is (total (λ d. d.fdp) (first ∷ others)) (pos s.fdp_cap) k.0 in
+      let k = and_parts (int_le (total (λ d. d.fdp) (first ∷ others)) (pos (fdp_most s))) Rest p.capped in
+      let both = le_is (total (λ d. d.fdp) (first ∷ others)) (pos (fdp_most s)) k.0 in
+      let few = under-cap (total (λ d. d.fdp) (first ∷ others)) s.fdp_cap s.fdp_total both in
       record {
         legal = p.legal;
         leaves = p.leaves;
         rested = p.rested;
-        capped = and_from (keeps_total fdp_total (first ∷ others)) Rest
-            (le_yes (total (λ d. d.fdp) (first ∷ others)) fdp_total (through (total (λ d. d.fdp) (first ∷ others)) (pos s.fdp_cap) fdp_total few enough)) k.1;
+        capped = and_from (keeps_total (pos s.fdp_total) (first ∷ others)) Rest
+            (le_yes (total (λ d. d.fdp) (first ∷ others)) (pos s.fdp_total) (under-total (total (λ d. d.fdp) (first ∷ others)) s.fdp_cap s.fdp_total both)) k.1;
         windows = λ from.
             through (total (fdp_between from (from +ℤ pos 10_080)) (first ∷ others)) (total (λ d. d.fdp) (first ∷ others)) (pos s.fdp_cap)
             (within_all from (from +ℤ pos 10_080) first others o (omega (arith, ints))) few;
         free = free_before o (ends_soon k.1);
       }
 
-  pub short_from_long : IsLongPartial s fdp_total (flights_of t) base first others → IsPartial s (flights_of t) base first others
+  pub short_from_long : IsLongPartial s (flights_of t) base first others → IsPartial s (flights_of t) base first others
   short_from_long p =
       let o = in_order s t first others sound p.legal p.rested in
-      let k = and_parts (keeps_total fdp_total (first ∷ others)) Rest p.capped in
+      let k = and_parts (keeps_total (pos s.fdp_total) (first ∷ others)) Rest p.capped in
+      let few = le_is (total (λ d. d.fdp) (first ∷ others)) (pos s.fdp_total) k.0 in
       let soon = ends_soon k.1 in
       let all = covers_all first.report (first.report +ℤ pos 10_080) first others o (omega (arith, ints)) (further first.report (last_duty first others).release soon) in
       record {
         legal = p.legal;
         leaves = p.leaves;
         rested = p.rested;
-        capped = and_from (int_le (total (λ d. d.fdp) (first ∷ others)) (pos s.fdp_cap)) Rest
-            (le_yes (total (λ d. d.fdp) (first ∷ others)) (pos s.fdp_cap) (subst (λ z. z ≤ℤ pos s.fdp_cap) all (p.windows first.report))) k.1;
+        capped = and_from (int_le (total (λ d. d.fdp) (first ∷ others)) (pos (fdp_most s))) Rest
+            (le_yes (total (λ d. d.fdp) (first ∷ others)) (pos (fdp_most s))
+            (under-both (total (λ d. d.fdp) (first ∷ others)) s.fdp_cap s.fdp_total (subst (λ z. z ≤ℤ pos s.fdp_cap) all (p.windows first.report)) few)) k.1;
       }
     where
       further : (a r : ℤ) → r ≤ℤ (a +ℤ pos 8_280) → r ≤ℤ (a +ℤ pos 10_080)

@@ -23,15 +23,15 @@ pub fn legal_duties_come_in_order()
 {}
 
 /// A pairing of at most 138 hours is legal by the rules of longer ones exactly where it is by its
-/// own, where the cap on all flight duty is no less than that of a window.
+/// own.
 pub fn short_pairings_are_as_before()
-    ensures long { (s : Settings) (t : Timetable) (fdp_total : ℤ) (base : List ℕ) (first : Duty)
-        (others : List Duty) → IsSound t → s.away_cap ≤ 8_280 → pos s.fdp_cap ≤ℤ fdp_total
+    ensures long { (s : Settings) (t : Timetable) (base : List ℕ) (first : Duty)
+        (others : List Duty) → IsSound t → s.away_cap ≤ 8_280
         → IsPartial s (flights_of t) base first others
-        → IsLongPartial s fdp_total (flights_of t) base first others }
-    ensures short { (s : Settings) (t : Timetable) (fdp_total : ℤ) (base : List ℕ) (first : Duty)
-        (others : List Duty) → IsSound t → s.away_cap ≤ 8_280 → pos s.fdp_cap ≤ℤ fdp_total
-        → IsLongPartial s fdp_total (flights_of t) base first others
+        → IsLongPartial s (flights_of t) base first others }
+    ensures short { (s : Settings) (t : Timetable) (base : List ℕ) (first : Duty)
+        (others : List Duty) → IsSound t → s.away_cap ≤ 8_280
+        → IsLongPartial s (flights_of t) base first others
         → IsPartial s (flights_of t) base first others }
 {}
 

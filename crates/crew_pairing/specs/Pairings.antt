@@ -7,6 +7,7 @@ use Rattle.std.specs.Prelude.{◌≡◌, ℕ, Bool, true, ◌&&◌, int_le, ℤ,
 use Rattle.std.specs.Ordering.{eq_by_cmp}
 use Rattle.crew_flights.specs.Codes.{code_cmp}
 use Rattle.crew_flights.specs.declared.flight.Flight.{Flight}
+use Rattle.crew_rules.specs.Settings.{fdp_most}
 use Rattle.crew_rules.specs.declared.settings.Settings.{Settings}
 use Rattle.crew_pairing.specs.Legality.{IsLegal, duty_of, total}
 use Rattle.crew_resource.specs.Members.{Each}
@@ -46,7 +47,7 @@ minutes_away (first ∷ others) = (last_duty first others).release -ℤ first.re
 
 -- the caps on totals. Where a pairing spans at most 138 hours, one window of 168 consecutive hours
 -- covers it, and one of 672. For a crew that has done no other work in these windows, 117.23(c)
--- caps its flight duty minutes and 117.23(b)(1) its flight minutes. 117.25(b) wants 30 consecutive
+-- caps its flight duty minutes, by the lesser of both caps, and 117.23(b)(1) its flight minutes. 117.25(b) wants 30 consecutive
 -- hours free from all duty within the 168 hours before each report. It holds for a crew that comes
 -- to the pairing off 30 such hours which end at its first report: they lie within the 168 hours
 -- before a report that is at most 138 hours later. That premise is the planner's, and no clause
@@ -54,7 +55,7 @@ minutes_away (first ∷ others) = (last_duty first others).release -ℤ first.re
 -- report, which totals don't tell
 abbrev pub is_within_caps : Settings → List Duty → Bool
 is_within_caps s duties =
-    int_le (total (λ d. d.fdp) duties) (pos s.fdp_cap)
+    int_le (total (λ d. d.fdp) duties) (pos (fdp_most s))
     && (int_le (total (λ d. d.fly) duties) (pos s.fly_cap)
     && (int_le (pos (length duties)) (pos s.max_duties)
     && int_le (minutes_away duties) (pos s.away_cap)))

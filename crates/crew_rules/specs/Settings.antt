@@ -1,5 +1,5 @@
 -- The settings of a session and their ranges.
-use Rattle.std.specs.Prelude.{ℕ, ◌+◌, ◌≤◌, not, List, [], ◌∷◌, Option, Some, None, Result, Ok, Err, position}
+use Rattle.std.specs.Prelude.{ℕ, ◌+◌, ◌≤◌, min, not, List, [], ◌∷◌, Option, Some, None, Result, Ok, Err, position}
 use Rattle.crew_rules.specs.Range.{is_in_range}
 use Rattle.crew_rules.specs.declared.settings.Settings.{Settings}
 use Rattle.crew_rules.specs.declared.settings.BadSetting.{BadSetting}
@@ -63,11 +63,13 @@ pub record IsChecked (s : Settings) : Type 0 where
 
 -- settings under which the sums over a pairing's duties tell whether it is legal: with 30 hours free from
 -- duty right before it all of it lies in 168 hours, so that no window of 168 hours (14 CFR 117.23(c)(1)) and
--- no free hours on its way (117.25(b)) ask for more, and the cap of a window is the lesser one on its flight
--- duty time
+-- no free hours on its way (117.25(b)) ask for more
 pub record SumsTellAll (s : Settings) : Type 0 where
   pub away : s.away_cap ≤ 8_280
-  pub total : s.fdp_cap ≤ s.fdp_total
+
+-- the cap on the flight duty time of such a pairing, which is both all of its own and that of one window
+abbrev pub fdp_most : Settings → ℕ
+fdp_most s = min s.fdp_cap s.fdp_total
 
 -- the defaults
 abbrev pub standard : Settings

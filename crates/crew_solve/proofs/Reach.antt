@@ -20,6 +20,7 @@ use Rattle.crew_pairing.specs.declared.duty.Duty.{Duty}
 use Rattle.crew_resource.specs.Machinery.Sum.{LiesWithin}
 use Rattle.crew_resource.specs.Machinery.Uses.{HasRoom}
 use Rattle.crew_resource.specs.Members.{Each}
+use Rattle.crew_rules.specs.Settings.{fdp_most}
 use Rattle.crew_rules.specs.Settings.{IsChecked}
 use Rattle.crew_rules.specs.declared.settings.Settings.{Settings}
 use Rattle.crew_solve.specs.Machinery.Homes.{HasPay}
@@ -84,14 +85,14 @@ module _ (s : Settings) (t : Timetable) (base : List ℕ) (price : ℤ) (checked
 
   pub few : length Duties ≤ 12
   few =
-      let k = last-caps (int_le (total (λ d. d.fdp) Duties) (pos s.fdp_cap)) (int_le (total (λ d. d.fly) Duties) (pos s.fly_cap)) (int_le (pos (length Duties)) (pos s.max_duties)) (int_le (minutes_away Duties) (pos s.away_cap)) partial.capped in
+      let k = last-caps (int_le (total (λ d. d.fdp) Duties) (pos (fdp_most s))) (int_le (total (λ d. d.fly) Duties) (pos s.fly_cap)) (int_le (pos (length Duties)) (pos s.max_duties)) (int_le (minutes_away Duties) (pos s.away_cap)) partial.capped in
       let most = test-le (pos (length Duties)) (pos s.max_duties) k.0 in
       let cap = checked.max_duties_most in
       omega (arith, ints, most, cap)
 
   away-within : LiesWithin 14_400 (minutes_away Duties)
   away-within =
-      let k = last-caps (int_le (total (λ d. d.fdp) Duties) (pos s.fdp_cap)) (int_le (total (λ d. d.fly) Duties) (pos s.fly_cap)) (int_le (pos (length Duties)) (pos s.max_duties)) (int_le (minutes_away Duties) (pos s.away_cap)) partial.capped in
+      let k = last-caps (int_le (total (λ d. d.fdp) Duties) (pos (fdp_most s))) (int_le (total (λ d. d.fly) Duties) (pos s.fly_cap)) (int_le (pos (length Duties)) (pos s.max_duties)) (int_le (minutes_away Duties) (pos s.away_cap)) partial.capped in
       let most = test-le (minutes_away Duties) (pos s.away_cap) k.1 in
       let cap = checked.away_cap_most in
       between (minutes_away Duties) 14_400 (later s first others each-sound partial.rested) (omega (arith, ints, most, cap))

@@ -15,6 +15,7 @@ use Rattle.crew_resource.specs.Machinery.Sum.{is_within, sum_of, beginnings, fir
 use Rattle.crew_resource.specs.Machinery.Count.{count_grade}
 use Rattle.crew_resource.specs.Machinery.SumStages.{sum_fits}
 use Rattle.crew_resource.proofs.Caps.{whole_test}
+use Rattle.crew_rules.specs.Settings.{fdp_most}
 use Rattle.crew_rules.specs.Settings.{IsChecked}
 use Rattle.crew_rules.specs.declared.settings.Settings.{Settings}
 use Rattle.crew_vector.specs.Machinery.Along.{GoesOn, IsLine}
@@ -103,7 +104,7 @@ pub caps-of-whole : (s : Settings) (x : Duty) (ys : List Duty) → IsLine (x ∷
 caps-of-whole s x ys h =
     sym (caps-together s (beginnings (x ∷ ys)))
     ∙ regroup _ _ _ _ _ _ _ _
-    (own-capped (λ d. d.fdp) s.fdp_cap (λ d sound. sound.fdp) x ys h.1)
+    (own-capped (λ d. d.fdp) (fdp_most s) (λ d sound. sound.fdp) x ys h.1)
     (own-capped (λ d. d.fly) s.fly_cap (λ d sound. sound.fly) x ys h.1)
     (capped-whole (λ _. pos 1) (λ _ _. pos 1) (λ ds. pos (length ds)) s.max_duties sum-count x ys (count-never x ys))
     (capped-whole (first_adds departure_of (λ _. pos 0) away_own) (next_adds arrival_of departure_of away_wait away_own) minutes_away s.away_cap sum-away x ys (away-never x ys h.1))

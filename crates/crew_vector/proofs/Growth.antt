@@ -7,6 +7,7 @@ use Rattle.crew_pairing.specs.Events.{arrival_of, departure_of}
 use Rattle.crew_pairing.specs.Pairings.{is_within_caps}
 use Rattle.crew_pairing.specs.declared.duty.Duty.{Duty}
 use Rattle.crew_resource.specs.Machinery.Both.{both}
+use Rattle.crew_rules.specs.Settings.{fdp_most}
 use Rattle.crew_rules.specs.declared.settings.Settings.{Settings}
 use Rattle.crew_vector.specs.Machinery.Amounts.{away_own, away_wait, guarantee_own, pay_own, rig_own, rig_wait}
 use Rattle.crew_pairing.specs.Vectors.{vector_of}
@@ -62,7 +63,7 @@ pub step-is : (s : Settings) (e d : Duty) (u : PairingVector) → extends s u e 
 step-is s e d u =
     let v = raised s e d u in
     ap (option_map named)
-    (four-capped (int_le v.1.0.0 (pos s.fdp_cap)) (int_le v.1.0.1 (pos s.fly_cap)) (int_le v.1.1.0 (pos s.max_duties)) (int_le v.1.1.1 (pos s.away_cap)) v.0 v.1.0.0 v.1.0.1 v.1.1.0 v.1.1.1)
+    (four-capped (int_le v.1.0.0 (pos (fdp_most s))) (int_le v.1.0.1 (pos s.fly_cap)) (int_le v.1.1.0 (pos s.max_duties)) (int_le v.1.1.1 (pos s.away_cap)) v.0 v.1.0.0 v.1.0.1 v.1.1.0 v.1.1.1)
     ∙ (named-cond (is_vector_within_caps s (named v)) v ∙ ap (λ z. cond (is_vector_within_caps s z) (Some z) None) (raised-grown s e d u))
 
 pub step-in : (s : Settings) (e d : Duty) (u v : PairingVector) → is_vector_within_caps s (grown s e d u) ≡ true → v ≡ grown s e d u → extends s u e d ≡ Some v

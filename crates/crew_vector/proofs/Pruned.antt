@@ -21,6 +21,7 @@ use Rattle.crew_resource.specs.Members.{Member}
 use Rattle.crew_resource.proofs.Covering.{local_of_all}
 use Rattle.crew_resource.proofs.ListOrder.{at_most_order}
 use Rattle.crew_resource.proofs.Pools.{view_in, view_out}
+use Rattle.crew_rules.specs.Settings.{fdp_most}
 use Rattle.crew_rules.specs.declared.settings.Settings.{Settings}
 use Rattle.crew_vector.specs.Machinery.Amounts.{guarantee_own, pay_own, rig_own}
 use Rattle.crew_vector.specs.Dominance.{is_at_most}
@@ -53,7 +54,7 @@ board-is : (s : Settings) (v : PairingVector) (d : Duty) → board_vector s v d 
 board-is s v d =
     let z = aboard s v d in
     let n = numbers_of z in
-    ap (option_map named) (four-capped (int_le z.fdp (pos s.fdp_cap)) (int_le z.fly (pos s.fly_cap)) (int_le z.duties (pos s.max_duties)) (int_le z.away (pos s.away_cap)) n.0 z.fdp z.fly z.duties z.away)
+    ap (option_map named) (four-capped (int_le z.fdp (pos (fdp_most s))) (int_le z.fly (pos s.fly_cap)) (int_le z.duties (pos s.max_duties)) (int_le z.away (pos s.away_cap)) n.0 z.fdp z.fly z.duties z.away)
     ∙ named-cond (is_vector_within_caps s z) n
 
 seven : (a b c f y n w a' b' c' f' y' n' w' : ℤ) → a ≤ℤ a' → b ≤ℤ b' → c ≤ℤ c' → f ≤ℤ f' → y ≤ℤ y' → n ≤ℤ n' → w ≤ℤ w'
@@ -85,7 +86,7 @@ lesser-within s u v h within =
     let time = and_parts _ _ (and_parts _ _ h).1 in
     let minutes = and_parts _ _ time.0 in
     let span = and_parts _ _ time.1 in
-    four u.fdp u.fly u.duties u.away v.fdp v.fly v.duties v.away (pos s.fdp_cap) (pos s.fly_cap) (pos s.max_duties) (pos s.away_cap)
+    four u.fdp u.fly u.duties u.away v.fdp v.fly v.duties v.away (pos (fdp_most s)) (pos s.fly_cap) (pos s.max_duties) (pos s.away_cap)
     (test-le u.fdp v.fdp minutes.0) (test-le u.fly v.fly minutes.1) (test-le u.duties v.duties span.0) (test-le u.away v.away span.1) within
 
 -- where both leave one vector, they add the same, and the key decides

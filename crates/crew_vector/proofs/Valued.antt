@@ -11,6 +11,7 @@ use Rattle.crew_pairing.specs.declared.duty.Duty.{Duty}
 use Rattle.crew_resource.specs.Machinery.Both.{both}
 use Rattle.crew_resource.specs.Machinery.Sum.{is_within, rises, sum_of, beginnings, capped_sum, first_adds, next_adds}
 use Rattle.crew_resource.proofs.SignedProducts.{joined}
+use Rattle.crew_rules.specs.Settings.{fdp_most}
 use Rattle.crew_rules.specs.declared.settings.Settings.{Settings}
 use Rattle.crew_vector.specs.Machinery.Amounts.{away_own, away_wait, guarantee_own, pay_own, rig_own, rig_wait}
 use Rattle.crew_pairing.specs.Pairings.{is_within_caps, last_duty, minutes_away}
@@ -128,11 +129,11 @@ named-cond true n = refl
 named-cond false n = refl
 
 pub caps-together : (s : Settings) (bs : List (List Duty))
-    → ((list_all (λ ds. int_le (total (λ d. d.fdp) ds) (pos s.fdp_cap)) bs && list_all (λ ds. int_le (total (λ d. d.fly) ds) (pos s.fly_cap)) bs)
+    → ((list_all (λ ds. int_le (total (λ d. d.fdp) ds) (pos (fdp_most s))) bs && list_all (λ ds. int_le (total (λ d. d.fly) ds) (pos s.fly_cap)) bs)
     && (list_all (λ ds. int_le (pos (length ds)) (pos s.max_duties)) bs && list_all (λ ds. int_le (minutes_away ds) (pos s.away_cap)) bs))
     ≡ list_all (is_within_caps s) bs
 caps-together s bs =
-    let f = λ (ds : List Duty). int_le (total (λ d. d.fdp) ds) (pos s.fdp_cap) in
+    let f = λ (ds : List Duty). int_le (total (λ d. d.fdp) ds) (pos (fdp_most s)) in
     let y = λ (ds : List Duty). int_le (total (λ d. d.fly) ds) (pos s.fly_cap) in
     let n = λ (ds : List Duty). int_le (pos (length ds)) (pos s.max_duties) in
     let a = λ (ds : List Duty). int_le (minutes_away ds) (pos s.away_cap) in
@@ -146,7 +147,7 @@ composed-value s b [] = refl
 composed-value s b (x ∷ ys) =
     let p = vector_of s b (x ∷ ys) in
     let bs = beginnings (x ∷ ys) in
-    let fdp = list_all (λ ds. int_le (total (λ d. d.fdp) ds) (pos s.fdp_cap)) bs in
+    let fdp = list_all (λ ds. int_le (total (λ d. d.fdp) ds) (pos (fdp_most s))) bs in
     let fly = list_all (λ ds. int_le (total (λ d. d.fly) ds) (pos s.fly_cap)) bs in
     let count = list_all (λ ds. int_le (pos (length ds)) (pos s.max_duties)) bs in
     let away = list_all (λ ds. int_le (minutes_away ds) (pos s.away_cap)) bs in
@@ -155,7 +156,7 @@ composed-value s b (x ∷ ys) =
     let guarantees = free (λ d. neg_ℤ b +ℤ guarantee_own s.guarantee d) (λ _ d. pos 0 +ℤ guarantee_own s.guarantee d) x ys ∙ ap Some (sum-guarantee s b x ys) in
     let money = both-is _ _ _ _ pays (both-is _ _ _ _ rigs guarantees) in
     let minutes =
-    both-is _ _ _ _ (capped (λ d. pos 0 +ℤ d.fdp) (λ _ d. pos 0 +ℤ d.fdp) (λ ds. total (λ d. d.fdp) ds) s.fdp_cap (sum-total (λ d. d.fdp)) x ys) (capped (λ d. pos 0 +ℤ d.fly) (λ _ d. pos 0 +ℤ d.fly) (λ ds. total (λ d. d.fly) ds) s.fly_cap (sum-total (λ d. d.fly)) x ys)
+    both-is _ _ _ _ (capped (λ d. pos 0 +ℤ d.fdp) (λ _ d. pos 0 +ℤ d.fdp) (λ ds. total (λ d. d.fdp) ds) (fdp_most s) (sum-total (λ d. d.fdp)) x ys) (capped (λ d. pos 0 +ℤ d.fly) (λ _ d. pos 0 +ℤ d.fly) (λ ds. total (λ d. d.fly) ds) s.fly_cap (sum-total (λ d. d.fly)) x ys)
     ∙ both-capped fdp fly p.fdp p.fly in
     let spans =
     both-is _ _ _ _ (capped (λ _. pos 1) (λ _ _. pos 1) (λ ds. pos (length ds)) s.max_duties sum-count x ys) (capped (first_adds departure_of (λ _. pos 0) away_own) (next_adds arrival_of departure_of away_wait away_own) minutes_away s.away_cap sum-away x ys)

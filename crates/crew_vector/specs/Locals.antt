@@ -7,6 +7,7 @@ use Rattle.crew_pairing.specs.Legs.{Leg}
 use Rattle.crew_flights.specs.Timetable.{Timetable}
 use Rattle.crew_resource.specs.Labels.{IsLocal}
 use Rattle.crew_resource.specs.Members.{Member}
+use Rattle.crew_rules.specs.Settings.{fdp_most}
 use Rattle.crew_rules.specs.declared.settings.Settings.{Settings}
 use Rattle.crew_vector.specs.Dominance.{is_at_most}
 use Rattle.crew_vector.specs.Fronts.{IsFrontAt}
@@ -29,7 +30,7 @@ grown s last next v = record {
 -- the caps, by the parts of a vector
 abbrev pub is_vector_within_caps : Settings → PairingVector → Bool
 is_vector_within_caps s v =
-    int_le v.fdp (pos s.fdp_cap) &&
+    int_le v.fdp (pos (fdp_most s)) &&
     (int_le v.fly (pos s.fly_cap) &&
     (int_le v.duties (pos s.max_duties) && int_le v.away (pos s.away_cap)))
 

@@ -70,7 +70,7 @@ impl VectorResource {
             base_price: base_price as i32,
             trip_rig: settings.trip_rig,
             guarantee: settings.guarantee,
-            fdp_cap: settings.fdp_cap,
+            fdp_cap: settings.fdp_cap.min(settings.fdp_total),
             fly_cap: settings.fly_cap,
             max_duties: settings.max_duties,
             away_cap: settings.away_cap,

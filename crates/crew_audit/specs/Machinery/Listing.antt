@@ -1,7 +1,7 @@
 -- The partial pairings of a base as a tree: below a list of duties stand those that go on from it,
 -- by the key of the next duty. In preorder they stand by walk. That this lists exactly the partial
 -- pairings is a theorem (proofs/Complete.antt).
-use Rattle.std.specs.Prelude.{ℕ, zero, suc, ℤ, pos, Bool, false, ◌&&◌, List, [], ◌∷◌, ◌++◌, map, if◌then◌else◌}
+use Rattle.std.specs.Prelude.{ℕ, zero, suc, ℤ, Bool, false, ◌&&◌, List, [], ◌∷◌, ◌++◌, map, if◌then◌else◌}
 use Rattle.std.specs.FinMap as fin
 use Rattle.std.specs.List.{flat_map}
 use Rattle.std.specs.Ordering.{eq_by_cmp}
@@ -25,7 +25,7 @@ may_join base s (first ∷ others) next = may_stand_after s (last_duty first oth
 
 -- the caps on totals
 abbrev pub keeps_totals : Settings → List Duty → Bool
-keeps_totals s duties = is_within_totals s (pos s.fdp_total) duties
+keeps_totals s duties = is_within_totals s duties
 
 -- a duty goes on from these, within the caps and the limits
 abbrev pub goes_on : List ℕ → Settings → List Duty → Duty → Bool

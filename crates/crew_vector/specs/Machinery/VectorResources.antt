@@ -5,6 +5,7 @@ use Rattle.crew_pairing.specs.declared.vector.PairingVector.{PairingVector}
 use Rattle.crew_resource.specs.declared.both.Both.{Both}
 use Rattle.crew_resource.specs.declared.count.Count.{Count}
 use Rattle.crew_resource.specs.declared.sum.Sum.{Sum}
+use Rattle.crew_rules.specs.Settings.{fdp_most}
 use Rattle.crew_rules.specs.declared.settings.Settings.{Settings}
 use Rattle.crew_vector.specs.declared.amounts.DutyPay.{DutyPay}
 use Rattle.crew_vector.specs.declared.amounts.TripRig.{TripRig}
@@ -19,7 +20,7 @@ vector_resource s base_price = record {
   base_price = base_price;
   trip_rig = s.trip_rig;
   guarantee = s.guarantee;
-  fdp_cap = s.fdp_cap;
+  fdp_cap = fdp_most s;
   fly_cap = s.fly_cap;
   max_duties = s.max_duties;
   away_cap = s.away_cap;

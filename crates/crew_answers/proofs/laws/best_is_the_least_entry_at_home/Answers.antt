@@ -5,7 +5,7 @@ pub returns-clause-pairing : goal.returns-clause-pairing
 returns-clause-pairing c = entry-pairing
 
 pub returns-clause-best : goal.returns-clause-best
-returns-clause-best c = λ s fdp_total t front best range sound. least-entry s fdp_total t range sound front best
+returns-clause-best c = λ s t front best range sound. least-entry s t range sound front best
 
 pub returns-clause-none : goal.returns-clause-none
-returns-clause-none c = λ s fdp_total t front range sound. no-entry s fdp_total t range sound front
+returns-clause-none c = λ s t front range sound. no-entry s t range sound front

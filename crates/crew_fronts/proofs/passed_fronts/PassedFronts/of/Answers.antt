@@ -7,7 +7,7 @@ use Rattle.crew_pairing.specs.Duties.{AreDuties}
 use Rattle.crew_pass.specs.Passes as Passes
 use Rattle.crew_fronts.specs.Fronts.{ShowsFronts}
 use Rattle.crew_fronts.specs.Machinery.Kept.{AreValued, IsPassed, fronts_of_pass}
-use Rattle.crew_fronts.proofs.Passed.{in-range, pass-right}
+use Rattle.crew_fronts.proofs.Passed.{pass-right}
 use Rattle.crew_fronts.proofs.Remembered.{valued}
 use Rattle.crew_fronts.proofs.passed_fronts.PassedFronts.of.Goals as goal
 
@@ -18,12 +18,12 @@ made c =
     let net = p.net in
     let s = net.settings in
     let ground = c.requires.ground in
-    let r = long_resource s s.fdp_total c.args.price in
+    let r = long_resource s c.args.price in
     let covered = c.requires.covered r refl in
     let values : AreValued p = valued net c.args.base c.args.price p _ _ refl covered in
     let listed = c.list.ensures in
-    let shows : (t : Timetable) → IsSound t → IsDated t → AreDuties s t net.duties → Passes.ShowsFronts s s.fdp_total t c.args.base c.args.price p = λ t sound dated are.
-    c.long_passes_show_the_fronts.ensures.fronts s s.fdp_total t c.args.base c.args.price r net p refl refl (in-range s ground.checked) sound dated are refl covered in
+    let shows : (t : Timetable) → IsSound t → IsDated t → AreDuties s t net.duties → Passes.ShowsFronts s t c.args.base c.args.price p = λ t sound dated are.
+    c.long_passes_show_the_fronts.ensures.fronts s t c.args.base c.args.price r net p refl refl ground.checked sound dated are refl covered in
     record {
       long = ground.long;
       sound = ground.sound;
