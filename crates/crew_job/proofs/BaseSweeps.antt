@@ -64,10 +64,10 @@ shows-front g is base rank b n sweep e =
     let member : Member g.plan.net.duties n.duty = Member-at g.plan.net.duties rank n.duty parts.1 in
     let legal : IsDuty b.net.settings (flights_of t) n.duty = subst (λ (z : Settings). IsDuty z (flights_of t) n.duty) (sym settings) (duty-legal g is n.duty member) in
     let both = shown n.duty legal in
-    let front : IsFrontAt g.settings g.settings.fdp_total t n.base pair.1 n.duty (front_at b n.duty) =
-    subst (λ (z : ℤ). IsFrontAt g.settings g.settings.fdp_total t n.base z n.duty (front_at b n.duty)) price
-    (subst (λ (z : List ℕ). IsFrontAt g.settings g.settings.fdp_total t z b.price n.duty (front_at b n.duty)) own
-    (subst (λ (z : Settings). IsFrontAt z z.fdp_total t b.base b.price n.duty (front_at b n.duty)) settings both.0)) in
+    let front : IsFrontAt g.settings t n.base pair.1 n.duty (front_at b n.duty) =
+    subst (λ (z : ℤ). IsFrontAt g.settings t n.base z n.duty (front_at b n.duty)) price
+    (subst (λ (z : List ℕ). IsFrontAt g.settings t z b.price n.duty (front_at b n.duty)) own
+    (subst (λ (z : Settings). IsFrontAt z t b.base b.price n.duty (front_at b n.duty)) settings both.0)) in
     record {
       own = own;
       there = subst (λ (z : Net). Member z.duties n.duty) (sym sweep.2.same) member;

@@ -29,7 +29,7 @@ some-same x y e = cc
 -- a ground with a base's sweep, and the version before with the fronts of that base; both show the
 -- same where duties leave at a departure
 module _ (g : Ground) (is : IsGround g) (base : ℕ) (b : BaseFronts) (sweep : AreFrontsIn g.plan base b)
-    (solution : Solution) (before : BaseFronts) (shown : AreFronts g.settings g.settings.fdp_total (sealed_data_of g) (front_of solution))
+    (solution : Solution) (before : BaseFronts) (shown : AreFronts g.settings (sealed_data_of g) (front_of solution))
     (network : HasNetOf g.settings (sealed_data_of g) solution) (held : before.net ≡ solution.net)
     (fronts : (d : Duty) → front_of solution b.base d ≡ front_at before d) (at : Departure)
     (same : (d : Duty) → departure_of d ≡ at → Member b.net.duties d → Member before.net.duties d → front_at b d ≡ front_at before d) where
@@ -37,7 +37,7 @@ module _ (g : Ground) (is : IsGround g) (base : ℕ) (b : BaseFronts) (sweep : A
   pair = sweep.0
 
   -- what the sweep shows is the front
-  swept : (n : DutyNode) → n.base ≡ b.base → IsNodeOf g.settings (data_of g) n → IsFrontAt g.settings g.settings.fdp_total (data_of g) n.base b.price n.duty (front_at b n.duty) × RiseByVector (front_at b n.duty)
+  swept : (n : DutyNode) → n.base ≡ b.base → IsNodeOf g.settings (data_of g) n → IsFrontAt g.settings (data_of g) n.base b.price n.duty (front_at b n.duty) × RiseByVector (front_at b n.duty)
   swept n own is-node =
       let t = data_of g in
       let settings : b.net.settings ≡ g.settings = ap (λ (z : Net). z.settings) sweep.2.same ∙ net-settings g is in
@@ -45,8 +45,8 @@ module _ (g : Ground) (is : IsGround g) (base : ℕ) (b : BaseFronts) (sweep : A
       let shows : ShowsFronts t b = sweep.2.fronts t (data-sound g is) is.planned.dated duties in
       let legal : IsDuty b.net.settings (flights_of t) n.duty = subst (λ (z : Settings). IsDuty z (flights_of t) n.duty) (sym settings) is-node.legal in
       let both = shows n.duty legal in (
-        subst (λ (z : List ℕ). IsFrontAt g.settings g.settings.fdp_total t z b.price n.duty (front_at b n.duty)) (sym own)
-            (subst (λ (z : Settings). IsFrontAt z z.fdp_total t b.base b.price n.duty (front_at b n.duty)) settings both.0),
+        subst (λ (z : List ℕ). IsFrontAt g.settings t z b.price n.duty (front_at b n.duty)) (sym own)
+            (subst (λ (z : Settings). IsFrontAt z t b.base b.price n.duty (front_at b n.duty)) settings both.0),
         both.1,
       )
 
@@ -66,10 +66,10 @@ module _ (g : Ground) (is : IsGround g) (base : ℕ) (b : BaseFronts) (sweep : A
       let u = sealed_data_of g in
       let d = n.duty in
       let by-sweep = swept n own new in
-      let by-front : IsFrontAt s s.fdp_total t n.base b.price d f = subst (λ (p : ℤ). IsFrontAt s s.fdp_total t n.base p d f) (priced n own front.price front.based) front.front in
+      let by-front : IsFrontAt s t n.base b.price d f = subst (λ (p : ℤ). IsFrontAt s t n.base p d f) (priced n own front.price front.based) front.front in
       let then : front_of solution n.base d ≡ front_at before d = ap (λ (z : List ℕ). front_of solution z d) own ∙ fronts d in
       let here : Member b.net.duties d = subst (λ (z : Net). Member z.duties d) (sym sweep.2.same) (legal-duty g is d new.legal) in
       let there : Member before.net.duties d = subst (λ (z : Net). Member z.duties d) (sym held) (net-of-node s u solution n network old).1 in
-      let one : f ≡ front_at b d = same-listed s s.fdp_total t n.base b.price d f (front_at b d) by-front by-sweep.0 front.rises by-sweep.1 in
+      let one : f ≡ front_at b d = same-listed s t n.base b.price d f (front_at b d) by-front by-sweep.0 front.rises by-sweep.1 in
       let was : front_of solution n.base d ≡ f = then ∙ (sym (same d leaves here there) ∙ sym one) in
-      record { price = old.price; based = old.based; front = subst (IsFrontAt s s.fdp_total u n.base old.price d) was (shown n.base old.price d old.based old.legal); rises = front.rises }
+      record { price = old.price; based = old.based; front = subst (IsFrontAt s u n.base old.price d) was (shown n.base old.price d old.based old.legal); rises = front.rises }

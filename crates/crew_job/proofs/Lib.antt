@@ -1,4 +1,3 @@
-pub mod Alongside
 pub mod AsBefore
 pub mod BaseSweeps
 pub mod Comparing

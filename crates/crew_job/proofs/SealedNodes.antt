@@ -32,7 +32,7 @@ module _ (s : Settings) (t : Timetable) (few : HasFew s t) where
   pub front-by-key : (n : DutyNode) (front : Entries) → IsNodeOf s t n → IsFrontByKey s t n.base n.duty.key (Some front) → IsFrontOf s t n front
   front-by-key n front is by =
       let same : by.1 ≡ n.duty = one-legal by.1 n.duty by.3 is.legal by.4 in
-      record { price = by.0; based = by.2; front = subst (λ (d : Duty). IsFrontAt s s.fdp_total t n.base by.0 d front) same by.5; rises = by.6 }
+      record { price = by.0; based = by.2; front = subst (λ (d : Duty). IsFrontAt s t n.base by.0 d front) same by.5; rises = by.6 }
 
   pub front-there : (n : DutyNode) → IsNodeOf s t n → IsFrontByKey s t n.base n.duty.key None → ⊥
   front-there n is none = none is.price n.duty is.based is.legal refl

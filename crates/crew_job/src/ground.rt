@@ -12,7 +12,7 @@ ghost use Rattle.crew_version.specs.Versions.{IsRight, timetable_of};
 ghost use Rattle.crew_version.specs.crew_plan.Plans.{AreAllIn, IsPlanOf, AreFrontsIn};
 
 use crate::fault::GroundFault;
-use crate::timetables::{are_same_settings, are_same_timetables};
+use crate::same_settings::are_same_settings;
 use crew_dirty::{Carried, carry};
 use crew_flights::{Entry, Timetable};
 use crew_net::Net;
@@ -20,7 +20,7 @@ use crew_pairing::Duties;
 use crew_rules::Settings;
 use crew_version::crew_fronts::BaseFronts;
 use crew_version::crew_plan::{Plan, Solution};
-use crew_version::{Draft, Version, VersionFault};
+use crew_version::{Draft, Version, VersionFault, are_same_timetables};
 use std::alloc::{AllocError, Global};
 use std::marker::Model;
 use std::sync::Arc;

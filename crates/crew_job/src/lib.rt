@@ -23,8 +23,8 @@ mod left;
 mod lot;
 mod own;
 mod places;
+mod same_settings;
 mod shown;
-mod timetables;
 
 pub use before::may_follow;
 // Crates below this one, which those above cite through it.

@@ -45,10 +45,10 @@ passed-in plan solution laid are is best = record {
       let built = of.network.2 in
       let over = over-of s t ds net checked sound of.network.1 built laid.over.few in
       let solved = all-solved plan bases are (keys-of net plan.prices laid) in
-      let fronts : AreFronts s s.fdp_total t (front_among bases) = subst (λ x. AreFronts x x.fdp_total t (front_among bases)) built.settings (fronts-are t plan bases over of.dated of.prices are) in
-      let least : IsBest s s.fdp_total t (least_of None (flat_map (home_of s.trip_rig) bases)) = is-best s t checked sound ds net bases solved of.network.1 built fronts in
+      let fronts : AreFronts s t (front_among bases) = subst (λ x. AreFronts x t (front_among bases)) built.settings (fronts-are t plan bases over of.dated of.prices are) in
+      let least : IsBest s t (least_of None (flat_map (home_of s.trip_rig) bases)) = is-best s t checked sound ds net bases solved of.network.1 built fronts in
       let same : solution.best ≡ least_of None (flat_map (home_of s.trip_rig) bases) = best ∙ ap (λ (x : Settings). least_of None (flat_map (home_of x.trip_rig) bases)) built.settings in
-      record { fronts = fronts; best_is = subst (IsBest s s.fdp_total t) (sym same) least };
+      record { fronts = fronts; best_is = subst (IsBest s t) (sym same) least };
 }
 
 -- ---- the first of what comes home to one base
@@ -78,14 +78,14 @@ module _ (net : Net) (bases : List BaseFronts) (best : Option PricedPairing) (x 
   pub cheapest-home : (limit : ℕ) (ps : List PricedPairing) → ps ≡ first_home limit net.settings.trip_rig bases → AnswersTo x (λ s t. AreCheapest s t limit ps)
   cheapest-home limit ps is = λ s t checked sound has fronts.
       let here : HasNetOf s t (record { net = net; bases = bases; best = best }) = subst (HasNetOf s t) same has in
-      let right : AreFronts s s.fdp_total t (front_among bases) = subst (λ (y : Solution). AreFronts s s.fdp_total t (front_of y)) same fronts in
+      let right : AreFronts s t (front_among bases) = subst (λ (y : Solution). AreFronts s t (front_of y)) same fronts in
       let all = is ∙ ap (λ (y : Settings). first_home limit y.trip_rig bases) here.2.settings in
       subst (AreCheapest s t limit) (sym all) (are-cheapest s t checked sound here.0 net bases solved here.1 here.2 right limit)
 
   pub apart-home : (limit share : ℕ) (ps : List PricedPairing) → AreFirstApart limit share (flat_map (home_of net.settings.trip_rig) bases) ps → AnswersTo x (λ s t. AreApart s t limit share ps)
   apart-home limit share ps h = λ s t checked sound has fronts.
       let here : HasNetOf s t (record { net = net; bases = bases; best = best }) = subst (HasNetOf s t) same has in
-      let right : AreFronts s s.fdp_total t (front_among bases) = subst (λ (y : Solution). AreFronts s s.fdp_total t (front_of y)) same fronts in
+      let right : AreFronts s t (front_among bases) = subst (λ (y : Solution). AreFronts s t (front_of y)) same fronts in
       let one = subst (λ (y : Settings). AreFirstApart limit share (flat_map (home_of y.trip_rig) bases) ps) here.2.settings h in
       let first = first-taken limit share (flat_map (home_of s.trip_rig) bases) ps one in
       are-apart s t checked sound here.0 net bases solved here.1 here.2 right limit share ps first

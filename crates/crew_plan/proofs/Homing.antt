@@ -29,7 +29,7 @@ use Rattle.crew_plan.specs.Solutions.{front_among}
 use Rattle.crew_plan.proofs.Among.{alone-out}
 use Rattle.crew_plan.proofs.Below.{one-below}
 use Rattle.crew_plan.proofs.Firsts.{are-first, are-taken}
-use Rattle.crew_plan.proofs.Placed.{found, last-of-each, range-of}
+use Rattle.crew_plan.proofs.Placed.{found, last-of-each}
 use Rattle.crew_plan.proofs.Reach.{vector-pay}
 use Rattle.crew_plan.proofs.Tied.{same-shown}
 use Rattle.crew_resource.proofs.Members.{Member-flat_map_in, Member-flat_map_out, Member-map_in, Member-map_out}
@@ -107,7 +107,7 @@ module _ (s : Settings) (t : Timetable) (checked : IsChecked s) (sound : IsSound
       let pay = pay-again (reduced_cost v) (pay_of s duties) (prices price duties) (pos s.trip_rig *ℤ v.away) v.trip_rig cost refl in
       λ i. record { base = base; walk = w; cost = cost i; pay = sym pay i; away = v.away }
 
-  module _ (ds : List Duty) (net : Net) (bases : List BaseFronts) (solved : IsSolved net bases) (duties : AreDuties s t ds) (built : IsNetOf s t ds net) (fronts : AreFronts s s.fdp_total t (front_among bases)) where
+  module _ (ds : List Duty) (net : Net) (bases : List BaseFronts) (solved : IsSolved net bases) (duties : AreDuties s t ds) (built : IsNetOf s t ds net) (fronts : AreFronts s t (front_among bases)) where
     net-of : (b : BaseFronts) → Member bases b → b.net ≡ net
     net-of b m = Each-member (λ (x : BaseFronts). x.net ≡ net) bases b solved.nets m
 
@@ -191,17 +191,17 @@ module _ (s : Settings) (t : Timetable) (checked : IsChecked s) (sound : IsSound
     same-parts : (p q : PricedPairing) → p.base ≡ q.base → p.walk ≡ q.walk → p.cost ≡ q.cost → p.pay ≡ q.pay → p.away ≡ q.away → p ≡ q
     same-parts p q a b c d e = λ i. record { base = a i; walk = b i; cost = c i; pay = d i; away = e i }
 
-    best-by : (o : Option PricedPairing) → least_of None All ≡ o → IsBest s s.fdp_total t o
-    best-by None e = no-entry s s.fdp_total t (range-of s checked) sound (front_among bases) fronts (λ base v w h. none-least All e (pairing_of s.trip_rig base (v, w)) (entry-in base v w h))
+    best-by : (o : Option PricedPairing) → least_of None All ≡ o → IsBest s t o
+    best-by None e = no-entry s t checked sound (front_among bases) fronts (λ base v w h. none-least All e (pairing_of s.trip_rig base (v, w)) (entry-in base v w h))
     best-by (Some best) e =
         let least = some-least All best e in
         let home = entry-out best least.0 in
-        let p = entry-pairing s s.fdp_total t (front_among bases) fronts home.base home.vector home.walk home.entry in
+        let p = entry-pairing s t (front_among bases) fronts home.base home.vector home.walk home.entry in
         let same = same-parts p.0 (pairing_of s.trip_rig home.base (home.vector, home.walk)) p.2 p.3 p.4 p.5 p.6 ∙ home.is in
-        let clean = subst (IsCleanPairing s s.fdp_total t) same p.1 in
-        least-entry s s.fdp_total t (range-of s checked) sound (front_among bases) best fronts clean (λ base v w h. least.1 (pairing_of s.trip_rig base (v, w)) (entry-in base v w h))
+        let clean = subst (IsCleanPairing s t) same p.1 in
+        least-entry s t checked sound (front_among bases) best fronts clean (λ base v w h. least.1 (pairing_of s.trip_rig base (v, w)) (entry-in base v w h))
 
-    pub is-best : IsBest s s.fdp_total t (least_of None All)
+    pub is-best : IsBest s t (least_of None All)
     is-best = best-by (least_of None All) refl
 
     -- ---- and it is what fronts show
@@ -217,7 +217,7 @@ module _ (s : Settings) (t : Timetable) (checked : IsChecked s) (sound : IsSound
         subst (IsShown s t) (sym whole ∙ h.is) (record {
           pairing = record { price = e.price; based = e.based; first = at.first; others = at.others; partial = at.partial; returns = home; walk = at.walk; cost = refl; pay = refl; away = refl };
           front = front_among bases h.base e.duty;
-          exact = subst (λ d. IsFrontAt s s.fdp_total t h.base e.price d (front_among bases h.base e.duty)) (sym at.ends) exact;
+          exact = subst (λ d. IsFrontAt s t h.base e.price d (front_among bases h.base e.duty)) (sym at.ends) exact;
           held = subst (λ v. Member (front_among bases h.base e.duty) (v, h.walk)) at.vector e.held;
         })
 
@@ -227,7 +227,7 @@ module _ (s : Settings) (t : Timetable) (checked : IsChecked s) (sound : IsSound
         let d = last_duty is.first is.others in
         let v = long_vector_of s is.price is.first is.others in
         let legal = last-of-each s t is.first is.others is.partial.legal in
-        let held = same-front s s.fdp_total t p.base is.price d h.front (front_among bases p.base d) h.exact (fronts p.base is.price d is.based legal) v p.walk h.held in
+        let held = same-front s t p.base is.price d h.front (front_among bases p.base d) h.exact (fronts p.base is.price d is.based legal) v p.walk h.held in
         let k = entry-own p.base v p.walk (record { price = is.price; based = is.based; duty = d; legal = legal; home = same-code d.to p.base is.returns; held = held }) in
         let whole : pairing_of s.trip_rig p.base (v, p.walk) ≡ p =
         of-vector is.price is.first is.others p.base p.walk ∙ (λ i. record { base = p.base; walk = p.walk; cost = sym is.cost i; pay = sym is.pay i; away = sym is.away i }) in
@@ -292,7 +292,7 @@ module _ (s : Settings) (t : Timetable) (checked : IsChecked s) (sound : IsSound
         let exact = fronts b.base priced.0 d priced.1 legal in
         let at = (exact.clean e.0 e.1 (subst (λ (l : Entries). Member l e) (sym (own-front bases rise b m d)) held)).at in
         subst (HasPay s.trip_rig) (sym (ap (λ (v : LongVector). v.sums) at.vector))
-        (vector-pay s s.fdp_total t b.base priced.0 (range-of s checked) sound (sound.bases b.base priced.0 priced.1) at.first at.others at.partial)
+        (vector-pay s t b.base priced.0 checked sound (sound.bases b.base priced.0 priced.1) at.first at.others at.partial)
 
     pub all-pay : Each (IsPayable s.trip_rig) bases
     all-pay = each-of bases (λ b m. m)

@@ -9,7 +9,6 @@ use Rattle.crew_pairing.specs.Legs.{Leg}
 use Rattle.crew_rules.specs.Settings.{IsChecked}
 use Rattle.crew_rules.specs.declared.settings.Settings.{Settings}
 use Rattle.crew_plan.proofs.Below.{first-of, shown-clean, with-least-walk}
-use Rattle.crew_plan.proofs.Placed.{range-of}
 use Rattle.crew_plan.proofs.Tied.{same-paired}
 use Rattle.crew_plan.specs.Cheapest.{AreCheapestOf, IsBestOf, IsShown, IsShownOf}
 use Rattle.crew_vector.proofs.Orders.{walk-order}
@@ -48,12 +47,12 @@ module _ (s : Settings) (t : Timetable) (sound : IsSound t) where
       ap Some (same-first best p is.0.0 shown.0 (is.1 p shown) (first-of (IsShownOf s t base) limit p ps h best is.0))
 
 module _ (s : Settings) (t : Timetable) (checked : IsChecked s) (sound : IsSound t) where
-  pub best-own : (best : PricedPairing) → IsBest s s.fdp_total t (Some best) → IsBestOf s t best.base (Some best)
+  pub best-own : (best : PricedPairing) → IsBest s t (Some best) → IsBestOf s t best.base (Some best)
   best-own best h =
       let q = with-least-walk s t checked sound best h.0 in
       let both = same-both best.cost best.walk q.0.cost q.0.walk (h.1 q.0 (shown-clean s t checked sound q.0 q.1)) (inr (q.2, q.3)) in
       let same = same-paired s t sound q.0 best q.1.pairing h.0.pairing (sym both.1) q.2 in (
         (subst (IsShown s t) same q.1, refl),
         λ p shown. h.1 p (shown-clean s t checked sound p shown.0),
-        λ p is own. best-least s s.fdp_total t (range-of s checked) sound best p h is,
+        λ p is own. best-least s t checked sound best p h is,
       )

@@ -7,7 +7,6 @@ use Rattle.std.specs.Ordering.{eq_by_cmp}
 use Rattle.crew_fronts.specs.crew_answers.Bests.{AreFronts}
 use Rattle.crew_fronts.specs.crew_answers.Fronts.{IsFrontAt}
 use Rattle.crew_fronts.specs.crew_answers.LongVectors.{LongVector}
-use Rattle.crew_fronts.specs.crew_answers.Ranges.{IsInRange}
 use Rattle.crew_fronts.specs.crew_answers.Schedules.{IsDated}
 use Rattle.crew_flights.specs.Codes.{code_cmp}
 use Rattle.crew_flights.specs.Timetable.{IsSound, Timetable}
@@ -24,7 +23,6 @@ use Rattle.crew_plan.specs.Solutions.{front_among}
 use Rattle.crew_plan.proofs.Reach.{vector-pay}
 use Rattle.crew_resource.proofs.Members.{Member-map_in, Member-map_out}
 use Rattle.crew_resource.specs.Members.{Each, Member}
-use Rattle.crew_rules.specs.Settings.{IsChecked}
 use Rattle.crew_rules.specs.declared.settings.Settings.{Settings}
 use Rattle.crew_fronts.proofs.crew_solve_lemmas.Bases.{entry-of, price-of}
 use Rattle.crew_fronts.proofs.crew_solve_lemmas.Departing.{get-by}
@@ -36,39 +34,6 @@ use Rattle.crew_vector.proofs.Orders.{code-itself, same-code}
 
 abbrev Prices : Type 0
 Prices = List (List ℕ × ℤ)
-
--- settings in their ranges are in those of long pairings
-pub range-of : (s : Settings) → IsChecked s → IsInRange s s.fdp_total
-range-of s c = record {
-  others = record {
-    lead = c.lead;
-    debrief = c.debrief;
-    connect = c.connect;
-    sit = c.sit;
-    sit_most = c.sit_most;
-    max_rest = c.max_rest;
-    max_rest_most = c.max_rest_most;
-    max_duties = c.max_duties;
-    max_duties_most = c.max_duties_most;
-    fdp_cap = c.fdp_cap;
-    fdp_cap_most = c.fdp_cap_most;
-    fly_cap = c.fly_cap;
-    fly_cap_most = c.fly_cap_most;
-    away_cap = omega arith;
-    away_cap_most = omega arith;
-    duty_rig = c.duty_rig;
-    trip_rig = c.trip_rig;
-    duty_min = c.duty_min;
-    guarantee = c.guarantee;
-    deadheads = c.deadheads;
-    fdp_total = c.fdp_total;
-    fdp_total_most = c.fdp_total_most;
-  };
-  away_cap = c.away_cap;
-  away_cap_most = c.away_cap_most;
-  total = c.fdp_total;
-  total_most = c.fdp_total_most;
-}
 
 -- the last of legal duties is one
 pub last-of-each : (s : Settings) (t : Timetable) (first : Duty) (others : List Duty) → Each (IsDuty s (flights_of t)) (first ∷ others) → IsDuty s (flights_of t) (last_duty first others)
@@ -174,29 +139,29 @@ module _ (t : Timetable) (plan : Plan) (bases : List BaseFronts) (over : IsOver 
   based-of : (b : BaseFronts) → Member bases b → fin.get t.bases b.base ≡ Some b.price
   based-of b m = price-of t (pair b) (subst (λ (es : Prices). Member es (pair b)) pairs (Member-map_in pair bases b m))
 
-  front-of : (b : BaseFronts) → Member bases b → (d : Duty) → IsDuty Here (flights_of t) d → IsFrontAt Here Here.fdp_total t b.base b.price d (front_at b d)
+  front-of : (b : BaseFronts) → Member bases b → (d : Duty) → IsDuty Here (flights_of t) d → IsFrontAt Here t b.base b.price d (front_at b d)
   front-of b m d legal =
       let n = net-of b m in
       let k = Each-member (ShowsFronts t) bases b (own-fronts t plan.net plan.prices bases over.sound dated over.duties all) m in
       let one = (k d (subst (λ (x : Net). IsDuty x.settings (flights_of t) d) (sym n) legal)).0 in
-      subst (λ (x : Net). IsFrontAt x.settings x.settings.fdp_total t b.base b.price d (front_at b d)) n one
+      subst (λ (x : Net). IsFrontAt x.settings t b.base b.price d (front_at b d)) n one
 
-  pub fronts-are : AreFronts Here Here.fdp_total t (front_among bases)
+  pub fronts-are : AreFronts Here t (front_among bases)
   fronts-are base price d h legal =
       let m = subst (λ (es : Prices). Member es (base, price)) (sym pairs) (entry-of t base price h) in
       let k = Member-map_out pair bases (base, price) m in
       let f = found bases base k.0 k.1 (ap (λ (e : List ℕ × ℤ). e.0) k.2) in
       let price-is : f.fronts.price ≡ price = (let both = sym (based-of f.fronts f.among) ∙ (ap (fin.get t.bases) f.own ∙ h) in (cc)) in
       let one = front-of f.fronts f.among d legal in
-      subst (IsFrontAt Here Here.fdp_total t base price d) (sym (f.shows d))
-      (subst (λ z. IsFrontAt Here Here.fdp_total t base z d (front_at f.fronts d)) price-is (subst (λ z. IsFrontAt Here Here.fdp_total t z f.fronts.price d (front_at f.fronts d)) f.own one))
+      subst (IsFrontAt Here t base price d) (sym (f.shows d))
+      (subst (λ z. IsFrontAt Here t base z d (front_at f.fronts d)) price-is (subst (λ z. IsFrontAt Here t z f.fronts.price d (front_at f.fronts d)) f.own one))
 
   payable : (b : BaseFronts) → Member bases b → IsPayable Here.trip_rig b
   payable b m = λ d e known held.
       let legal = over.duties.sound d (subst (λ (n : Net). Member n.duties d) (net-of b m) known) in
       let at = ((front-of b m d legal).clean e.0 e.1 held).at in
       subst (HasPay Here.trip_rig) (sym (ap (λ (v : LongVector). v.sums) at.vector))
-      (vector-pay Here Here.fdp_total t b.base b.price (range-of Here over.checked) over.sound (over.sound.bases b.base b.price (based-of b m)) at.first at.others at.partial)
+      (vector-pay Here t b.base b.price over.checked over.sound (over.sound.bases b.base b.price (based-of b m)) at.first at.others at.partial)
 
   -- the amounts of what they show fit
   pub all-payable : Each (IsPayable Here.trip_rig) bases

@@ -7,8 +7,8 @@ use Rattle.std.proofs.Math.IntN.{pos-*ℤ-negsuc}
 use Rattle.std.proofs.Math.Nat.{mul-le-mul_left}
 use Rattle.std.proofs.lemmas.Bool.{and_parts}
 use Rattle.std.proofs.lemmas.Int.{ints}
-use Rattle.crew_fronts.specs.crew_answers.Ranges.{IsInRange}
 use Rattle.crew_fronts.proofs.crew_answers_lemmas.Caps.{same-legal}
+use Rattle.crew_fronts.proofs.crew_answers_lemmas.InRange.{checked-short}
 use Rattle.crew_flights.specs.Codes.{code_cmp}
 use Rattle.crew_flights.specs.Timetable.{IsBasePrice, IsSound, Timetable}
 use Rattle.crew_fronts.specs.crew_history.LongPairings.{IsLongPartial}
@@ -22,6 +22,7 @@ use Rattle.crew_pairing.specs.Vectors.{prices, vector_of}
 use Rattle.crew_pairing.specs.declared.duty.Duty.{Duty}
 use Rattle.crew_resource.specs.Machinery.Sum.{LiesWithin}
 use Rattle.crew_resource.specs.Members.{Each}
+use Rattle.crew_rules.specs.Settings.{IsChecked}
 use Rattle.crew_rules.specs.declared.settings.Settings.{Settings}
 use Rattle.crew_fronts.specs.crew_solve.Machinery.Homes.{HasPay}
 use Rattle.crew_vector.proofs.LegalDuties.{legal-sound}
@@ -91,28 +92,28 @@ left-over : (x q : ℤ) → x -ℤ (x -ℤ q) ≡ q
 left-over x q = omega (arith, ints)
 
 -- legal duties are sound
-pub legal-sound-here : (s : Settings) (fdp_total : ℕ) (t : Timetable) → IsInRange s fdp_total → IsSound t → (d : Duty) → IsDuty s (flights_of t) d → Events.IsSound d
-legal-sound-here s fdp_total t range sound d l = subst Events.IsSound (sym l.3)
-    (legal-sound (record s { away_cap = 8_280 }) (flights_of t) l.0 l.1 range.others (flights-of-timetable t sound) (same-legal s s.fdp_cap 8_280 (flights_of t) l.0 l.1 l.2))
+pub legal-sound-here : (s : Settings) (t : Timetable) → IsChecked s → IsSound t → (d : Duty) → IsDuty s (flights_of t) d → Events.IsSound d
+legal-sound-here s t range sound d l = subst Events.IsSound (sym l.3)
+    (legal-sound (record s { away_cap = 8_280 }) (flights_of t) l.0 l.1 (checked-short s range) (flights-of-timetable t sound) (same-legal s s.fdp_cap 8_280 (flights_of t) l.0 l.1 l.2))
 
-module _ (s : Settings) (fdp_total : ℕ) (t : Timetable) (base : List ℕ) (price : ℤ) (range : IsInRange s fdp_total) (sound : IsSound t) (based : IsBasePrice price) (first : Duty) (others : List Duty)
-    (partial : IsLongPartial s (pos fdp_total) (flights_of t) base first others) where
+module _ (s : Settings) (t : Timetable) (base : List ℕ) (price : ℤ) (range : IsChecked s) (sound : IsSound t) (based : IsBasePrice price) (first : Duty) (others : List Duty)
+    (partial : IsLongPartial s (flights_of t) base first others) where
   abbrev Duties : List Duty
   Duties = first ∷ others
 
   each-sound : Each Events.IsSound Duties
-  each-sound = each-as (IsDuty s (flights_of t)) Events.IsSound Duties (legal-sound-here s fdp_total t range sound) partial.legal
+  each-sound = each-as (IsDuty s (flights_of t)) Events.IsSound Duties (legal-sound-here s t range sound) partial.legal
 
   few : length Duties ≤ 12
   few =
-      let k = last-caps (keeps_total (pos fdp_total) Duties) (int_le (total (λ d. d.fly) Duties) (pos s.fly_cap)) (int_le (pos (length Duties)) (pos s.max_duties)) (int_le (minutes_away Duties) (pos s.away_cap)) partial.capped in
+      let k = last-caps (keeps_total (pos s.fdp_total) Duties) (int_le (total (λ d. d.fly) Duties) (pos s.fly_cap)) (int_le (pos (length Duties)) (pos s.max_duties)) (int_le (minutes_away Duties) (pos s.away_cap)) partial.capped in
       let most = test-le (pos (length Duties)) (pos s.max_duties) k.0 in
-      let cap = range.others.max_duties_most in
+      let cap = range.max_duties_most in
       omega (arith, ints, most, cap)
 
   away-within : LiesWithin 14_400 (minutes_away Duties)
   away-within =
-      let k = last-caps (keeps_total (pos fdp_total) Duties) (int_le (total (λ d. d.fly) Duties) (pos s.fly_cap)) (int_le (pos (length Duties)) (pos s.max_duties)) (int_le (minutes_away Duties) (pos s.away_cap)) partial.capped in
+      let k = last-caps (keeps_total (pos s.fdp_total) Duties) (int_le (total (λ d. d.fly) Duties) (pos s.fly_cap)) (int_le (pos (length Duties)) (pos s.max_duties)) (int_le (minutes_away Duties) (pos s.away_cap)) partial.capped in
       let most = test-le (minutes_away Duties) (pos s.away_cap) k.1 in
       let cap = range.away_cap_most in
       between (minutes_away Duties) 14_400 (later s first others each-sound partial.rested) (omega (arith, ints, most, cap))
@@ -136,8 +137,8 @@ module _ (s : Settings) (fdp_total : ℕ) (t : Timetable) (base : List ℕ) (pri
   vector-pay =
       let p = prices-within in
       let pay = sum-within (λ d. d.pay) (λ d h. record { least = omega (arith, ints, h.pay); most = omega (arith, ints, h.pay_most) }) in
-      let rate = range.others.trip_rig in
-      let points = range.others.guarantee in
+      let rate = (checked-short s range).trip_rig in
+      let points = (checked-short s range).guarantee in
       let n = few in
       let count = between (pos (length Duties)) 12 (omega (arith, ints)) (omega (arith, ints, n)) in
       let rig = wider _ (s.trip_rig * 14_400 + 97_000_000_000) (2 ^ 61) (less-by (s.trip_rig * 14_400) 97_000_000_000 _ _ (product s.trip_rig 14_400 (minutes_away Duties) away-within) p) (omega (arith, rate)) in

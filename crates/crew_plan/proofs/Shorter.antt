@@ -1,9 +1,6 @@
 -- Where no pairing is long, fronts are what sweeps show, and so are the pairings that they show.
-use Rattle.std.proofs.Common.{◌≡◌, ◌∙◌, ◌≤◌, ◌++◌, ℕ, ℤ, Bool, true, false, cond, not, List, [], ◌∷◌, Option, ap, refl, sym, subst, take, arith}
-use Rattle.std.specs.Prelude.{nat_le}
+use Rattle.std.proofs.Common.{◌≡◌, ◌∙◌, ◌++◌, ℕ, ℤ, Bool, true, false, cond, not, List, [], ◌∷◌, Option, ap, refl, sym, subst, take}
 use Rattle.std.specs.Ordering.{eq_by_cmp}
-use Rattle.std.proofs.lemmas.Bool.{and_parts}
-use Rattle.std.proofs.lemmas.Bool.Decides.{nat_tests}
 use Rattle.crew_fronts.specs.crew_answers.Bests as Long
 use Rattle.crew_fronts.specs.crew_answers.Fronts as LongFronts
 use Rattle.crew_fronts.specs.crew_answers.LongVectors.{LongVector, is_long, long_vector_of, settings_of_sums}
@@ -50,15 +47,11 @@ not-true : (b : Bool) → not b ≡ true → b ≡ false
 not-true true e = cc
 not-true false e = refl
 
-le-of : (a b : ℕ) → nat_le a b ≡ true → a ≤ b
-le-of a b e = grind (arith, nat_tests)
-
 pub not-long : (s : Settings) → is_plain s ≡ true → is_long s ≡ false
-not-long s e = not-true (is_long s) (and_parts (not (is_long s)) (nat_le s.fdp_cap s.fdp_total) e).0
+not-long s e = not-true (is_long s) e
 
-pub own-settings : (s : Settings) → is_plain s ≡ true → settings_of_sums s s.fdp_total ≡ s
-own-settings s e =
-    same-settings s s.fdp_total (not-long s e) (le-of s.fdp_cap s.fdp_total (and_parts (not (is_long s)) (nat_le s.fdp_cap s.fdp_total) e).1)
+pub own-settings : (s : Settings) → is_plain s ≡ true → settings_of_sums s ≡ s
+own-settings s e = same-settings s (not-long s e)
 
 -- ---- fronts in another order
 
@@ -127,7 +120,7 @@ same-taken share taken (p ∷ ps) =
 
 module _ (s : Settings) (t : Timetable) (sound : IsSound t) (plain : is_plain s ≡ true) where
   abbrev Own : Settings
-  Own = settings_of_sums s s.fdp_total
+  Own = settings_of_sums s
 
   -- ---- pairings that are shown
 
@@ -141,7 +134,7 @@ module _ (s : Settings) (t : Timetable) (sound : IsSound t) (plain : is_plain s 
           based = is.based;
           first = is.first;
           others = is.others;
-          partial = partial-to-long s s.fdp_total t p.base is.first is.others sound short is.partial;
+          partial = partial-to-long s t p.base is.first is.others sound short is.partial;
           returns = is.returns;
           walk = is.walk;
           cost = is.cost;
@@ -149,8 +142,8 @@ module _ (s : Settings) (t : Timetable) (sound : IsSound t) (plain : is_plain s 
           away = is.away;
         };
         front = with_no_pasts h.front;
-        exact = front-to-long s s.fdp_total t p.base is.price sound short (last_duty is.first is.others) h.front h.exact;
-        held = subst (λ (v : LongVector). Member (with_no_pasts h.front) (v, p.walk)) (sym (no-past s s.fdp_total is.price is.first is.others short))
+        exact = front-to-long s t p.base is.price sound short (last_duty is.first is.others) h.front h.exact;
+        held = subst (λ (v : LongVector). Member (with_no_pasts h.front) (v, p.walk)) (sym (no-past s is.price is.first is.others short))
             (entry-in h.front (vector_of Own is.price (is.first ∷ is.others)) p.walk h.held);
       }
 
@@ -164,7 +157,7 @@ module _ (s : Settings) (t : Timetable) (sound : IsSound t) (plain : is_plain s 
           based = is.based;
           first = is.first;
           others = is.others;
-          partial = partial-from-long s s.fdp_total t p.base is.first is.others sound short is.partial;
+          partial = partial-from-long s t p.base is.first is.others sound short is.partial;
           returns = is.returns;
           walk = is.walk;
           cost = is.cost;
@@ -172,7 +165,7 @@ module _ (s : Settings) (t : Timetable) (sound : IsSound t) (plain : is_plain s 
           away = is.away;
         };
         front = sums_of h.front;
-        exact = front-from-long s s.fdp_total t p.base is.price sound short (last_duty is.first is.others) h.front h.exact;
+        exact = front-from-long s t p.base is.price sound short (last_duty is.first is.others) h.front h.exact;
         held = sums-in h.front (long_vector_of s is.price is.first is.others) p.walk h.held;
       }
 
@@ -205,16 +198,16 @@ module _ (s : Settings) (t : Timetable) (sound : IsSound t) (plain : is_plain s 
 
   -- ---- fronts of the one kind are those of the other
 
-  front-too : (base : List ℕ) (price : ℤ) (d : Duty) (old : Shown) (new : Entries) → IsShownAs old new → PlainFronts.IsFrontAt s t base price d old → LongFronts.IsFrontAt s s.fdp_total t base price d new
+  front-too : (base : List ℕ) (price : ℤ) (d : Duty) (old : Shown) (new : Entries) → IsShownAs old new → PlainFronts.IsFrontAt s t base price d old → LongFronts.IsFrontAt s t base price d new
   front-too base price d old new h f =
       let right : PlainFronts.IsFrontAt s t base price d h.entries = front-permuted _ _ _ _ old h.entries h.permuted f in
-      subst (LongFronts.IsFrontAt s s.fdp_total t base price d) (sym h.same)
-      (front-to-long s s.fdp_total t base price sound (not-long s plain) d h.entries (subst (λ x. PlainFronts.IsFrontAt x t base price d h.entries) (sym (own-settings s plain)) right))
+      subst (LongFronts.IsFrontAt s t base price d) (sym h.same)
+      (front-to-long s t base price sound (not-long s plain) d h.entries (subst (λ x. PlainFronts.IsFrontAt x t base price d h.entries) (sym (own-settings s plain)) right))
 
-  front-back : (base : List ℕ) (price : ℤ) (d : Duty) (old : Shown) (new : Entries) → IsShownAs old new → LongFronts.IsFrontAt s s.fdp_total t base price d new → PlainFronts.IsFrontAt s t base price d old
+  front-back : (base : List ℕ) (price : ℤ) (d : Duty) (old : Shown) (new : Entries) → IsShownAs old new → LongFronts.IsFrontAt s t base price d new → PlainFronts.IsFrontAt s t base price d old
   front-back base price d old new h f =
-      let long = subst (LongFronts.IsFrontAt s s.fdp_total t base price d) h.same f in
-      let sums = front-from-long s s.fdp_total t base price sound (not-long s plain) d (with_no_pasts h.entries) long in
+      let long = subst (LongFronts.IsFrontAt s t base price d) h.same f in
+      let sums = front-from-long s t base price sound (not-long s plain) d (with_no_pasts h.entries) long in
       let right : PlainFronts.IsFrontAt s t base price d h.entries =
       subst (λ x. PlainFronts.IsFrontAt x t base price d h.entries) (own-settings s plain) (subst (PlainFronts.IsFrontAt Own t base price d) (sums-again h.entries) sums) in
       front-permuted _ _ _ _ h.entries old (λ e. ((h.permuted e).1, (h.permuted e).0)) right
@@ -223,14 +216,14 @@ module _ (s : Settings) (t : Timetable) (sound : IsSound t) (plain : is_plain s 
     as-shown : (base : List ℕ) (d : Duty) → IsDuty s (flights_of t) d → IsShownAs (PlainSolutions.front_among sweeps base d) (front_among bases base d)
     as-shown base d legal = shown-as sweeps bases each base d (each-known net d (legal-known s t ds net are built d legal) bases nets)
 
-    pub fronts-too : Plain.AreFronts s t (PlainSolutions.front_among sweeps) → Long.AreFronts s s.fdp_total t (front_among bases)
+    pub fronts-too : Plain.AreFronts s t (PlainSolutions.front_among sweeps) → Long.AreFronts s t (front_among bases)
     fronts-too h = λ base price d based legal. front-too base price d _ _ (as-shown base d legal) (h base price d based legal)
 
-    pub fronts-back : Long.AreFronts s s.fdp_total t (front_among bases) → Plain.AreFronts s t (PlainSolutions.front_among sweeps)
+    pub fronts-back : Long.AreFronts s t (front_among bases) → Plain.AreFronts s t (PlainSolutions.front_among sweeps)
     fronts-back h = λ base price d based legal. front-back base price d _ _ (as-shown base d legal) (h base price d based legal)
 
-  pub best-too : (best : Option PricedPairing) → Plain.IsBest s t best → Long.IsBest s s.fdp_total t best
-  best-too best h = best-to-long s s.fdp_total t sound (not-long s plain) best (subst (λ x. Plain.IsBest x t best) (sym (own-settings s plain)) h)
+  pub best-too : (best : Option PricedPairing) → Plain.IsBest s t best → Long.IsBest s t best
+  best-too best h = best-to-long s t sound (not-long s plain) best (subst (λ x. Plain.IsBest x t best) (sym (own-settings s plain)) h)
 
 -- ---- the solution of a plan of sweeps
 
@@ -258,7 +251,7 @@ still-plain plan solution for h =
 -- ---- what it answers
 
 abbrev pub AnswersTo : Solution → (Settings → Timetable → Type 0) → Type 0
-AnswersTo x P = (s : Settings) (t : Timetable) → IsChecked s → IsSound t → HasNetOf s t x → Long.AreFronts s s.fdp_total t (front_of x) → P s t
+AnswersTo x P = (s : Settings) (t : Timetable) → IsChecked s → IsSound t → HasNetOf s t x → Long.AreFronts s t (front_of x) → P s t
 
 abbrev pub PlainlyAnswersTo : PlainSolutions.Solution → (Settings → Timetable → Type 0) → Type 0
 PlainlyAnswersTo x P = (s : Settings) (t : Timetable) → IsChecked s → IsSound t → PlainSolutions.HasNetOf s t x → Plain.AreFronts s t (PlainSolutions.front_of x) → P s t
@@ -267,6 +260,6 @@ pub answer-too : (solution : PlainSolutions.Solution) (bases : List BaseFronts) 
     → (P Q : Settings → Timetable → Type 0) → ((s : Settings) (t : Timetable) → IsSound t → is_plain s ≡ true → P s t → Q s t) → PlainlyAnswersTo solution P → AnswersTo x Q
 answer-too solution bases x solved by same P Q too h = λ s t checked sound has fronts.
     let here : HasNetOf s t (record { net = solution.net; bases = bases; best = solution.best }) = subst (HasNetOf s t) same has in
-    let right : Long.AreFronts s s.fdp_total t (front_among bases) = subst (λ (y : Solution). Long.AreFronts s s.fdp_total t (front_of y)) same fronts in
+    let right : Long.AreFronts s t (front_among bases) = subst (λ (y : Solution). Long.AreFronts s t (front_of y)) same fronts in
     let plain = subst (λ z. is_plain z ≡ true) here.2.settings by.short in
     too s t sound plain (h s t checked sound here (fronts-back s t sound plain here.0 solution.net here.1 here.2 solution.sweeps bases by.each solved.nets right))

@@ -19,9 +19,9 @@ use Rattle.crew_vector.specs.declared.priced.PricedPairing.{PricedPairing}
 -- a pairing that a front shows: its vector and its walk are an entry of the front of its base and
 -- its last duty
 pub record IsShown (s : Settings) (t : Timetable) (p : PricedPairing) : Type 0 where
-  pub pairing : IsPairing s s.fdp_total t p
+  pub pairing : IsPairing s t p
   pub front : List (LongVector × List (List Leg))
-  pub exact : IsFrontAt s s.fdp_total t p.base pairing.price
+  pub exact : IsFrontAt s t p.base pairing.price
       (last_duty pairing.first pairing.others) front
   pub held : Member front (long_vector_of s pairing.price pairing.first pairing.others, p.walk)
 
@@ -62,7 +62,7 @@ AreCheapestOf s t base limit ps = AreFirst (IsShownOf s t base) limit ps
 -- of the pairings of a base that fronts show the first by cost and walk, than which no legal pairing
 -- of the base costs less; none where the base has no legal pairing, or the code is no base
 abbrev pub IsBestOf : Settings → Timetable → List ℕ → Option PricedPairing → Type 0
-IsBestOf s t base None = (p : PricedPairing) → IsPairing s s.fdp_total t p → p.base ≡ base → ⊥
+IsBestOf s t base None = (p : PricedPairing) → IsPairing s t p → p.base ≡ base → ⊥
 IsBestOf s t base (Some best) = IsShownOf s t base best
     × ((p : PricedPairing) → IsShownOf s t base p → NoDearer best.cost best.walk p.cost p.walk)
-    × ((p : PricedPairing) → IsPairing s s.fdp_total t p → p.base ≡ base → best.cost ≤ℤ p.cost)
+    × ((p : PricedPairing) → IsPairing s t p → p.base ≡ base → best.cost ≤ℤ p.cost)

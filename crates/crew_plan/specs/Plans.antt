@@ -47,4 +47,4 @@ pub record AreAllIn (plan : Plan) (fronts : List BaseFronts) : Type 0 where
 pub record IsSolutionIn (plan : Plan) (solution : Solution) : Type 0 where
   pub network : (s : Settings) (t : Timetable) → IsPlanOf s t plan → HasNetOf s t solution
   pub scratch : (s : Settings) (t : Timetable) → IsChecked s → IsSound t → IsPlanOf s t plan
-      → IsScratch s s.fdp_total t (front_of solution) solution.best
+      → IsScratch s t (front_of solution) solution.best

@@ -19,14 +19,14 @@ pub fn cheapest_are_unique()
 pub fn first_of_the_cheapest_is_the_best()
     ensures { (s : Settings) (t : Timetable) (limit : ℕ) (pairings : List PricedPairing)
         (best : Option PricedPairing) → IsChecked s → IsSound t → 0 < limit
-        → AreCheapest s t limit pairings → IsBest s s.fdp_total t best → best ≡ slice_get pairings 0 }
+        → AreCheapest s t limit pairings → IsBest s t best → best ≡ slice_get pairings 0 }
 {}
 
 /// Each legal pairing, also one off the Pareto fronts, has one that they show with the same base
 /// and the same last duty that costs no more.
 pub fn fronts_show_one_that_costs_no_more()
     ensures { (s : Settings) (t : Timetable) (p : PricedPairing) → IsChecked s → IsSound t
-        → (legal : IsPairing s s.fdp_total t p) → (q : PricedPairing) × (shown : IsShown s t q)
+        → (legal : IsPairing s t p) → (q : PricedPairing) × (shown : IsShown s t q)
         × (q.base ≡ p.base) × (last_duty shown.pairing.first shown.pairing.others
         ≡ last_duty legal.first legal.others) × (q.cost ≤ℤ p.cost) }
 {}
@@ -79,7 +79,7 @@ pub fn first_of_the_cheapest_of_a_base_is_its_best()
 /// The best of all bases is the best of its own.
 pub fn best_is_that_of_its_base()
     ensures { (s : Settings) (t : Timetable) (best : PricedPairing) → IsChecked s → IsSound t
-        → IsBest s s.fdp_total t (Some best) → IsBestOf s t best.base (Some best) }
+        → IsBest s t (Some best) → IsBestOf s t best.base (Some best) }
 {}
 
 /// There is one list of diverse columns of a base, whatever the limit and the share.

@@ -205,7 +205,7 @@ impl LongPlan {
         requires few { length duties ≤ 200_000 }
         ensures { IfOk result (IsPlanOf settings.now timetable.now) }
     {
-        see_dates(alloc, timetable)?;
+        see_dates(timetable);
         let bases = bases_of(alloc, timetable)?;
         let (net, past) = ground_of(alloc, settings, timetable, duties, &bases, earlier)?;
         let course = Course::new(alloc, net)?;

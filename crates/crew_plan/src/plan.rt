@@ -92,7 +92,7 @@ fn plain_of(
     ensures plan { IfOk result (λ kind. IsPlanOf settings.now timetable.now (plan_of kind)) }
     ensures kind { IfOk result IsOfKind }
 {
-    see_dates(alloc, timetable)?;
+    see_dates(timetable);
     let earlier = match earlier {
         Some(earlier) => earlier.by_sweeps(),
         None => None,

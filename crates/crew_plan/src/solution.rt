@@ -222,7 +222,7 @@ impl Solution {
     /// whose network and fronts these are.
     pub fn cheapest(&self, alloc: Global, limit: usize) -> Result<Vec<PricedPairing>, AllocError>
         ensures { IfOk result (λ pairings. (s : Settings) (t : Timetable) → IsChecked s → IsSound t
-            → HasNetOf s t self.now → AreFronts s s.fdp_total t (front_of self.now)
+            → HasNetOf s t self.now → AreFronts s t (front_of self.now)
             → AreCheapest s t limit pairings.items) }
     {
         match &self.made {
@@ -244,7 +244,7 @@ impl Solution {
         share: u32,
     ) -> Result<Vec<PricedPairing>, AllocError>
         ensures { IfOk result (λ pairings. (s : Settings) (t : Timetable) → IsChecked s → IsSound t
-            → HasNetOf s t self.now → AreFronts s s.fdp_total t (front_of self.now)
+            → HasNetOf s t self.now → AreFronts s t (front_of self.now)
             → AreApart s t limit share pairings.items) }
     {
         match &self.made {
@@ -269,7 +269,7 @@ impl Solution {
     /// and the timetable are those whose network and fronts these are.
     pub fn best_of(&self, alloc: Global, base: Code) -> Result<Option<PricedPairing>, AllocError>
         ensures { IfOk result (λ best. (s : Settings) (t : Timetable) → IsChecked s → IsSound t
-            → HasNetOf s t self.now → AreFronts s s.fdp_total t (front_of self.now)
+            → HasNetOf s t self.now → AreFronts s t (front_of self.now)
             → IsBestOf s t base best) }
     {
         best_of(alloc, self.alone(base), self.net().settings().trip_rig)
@@ -284,7 +284,7 @@ impl Solution {
         limit: usize,
     ) -> Result<Vec<PricedPairing>, AllocError>
         ensures { IfOk result (λ pairings. (s : Settings) (t : Timetable) → IsChecked s → IsSound t
-            → HasNetOf s t self.now → AreFronts s s.fdp_total t (front_of self.now)
+            → HasNetOf s t self.now → AreFronts s t (front_of self.now)
             → AreCheapestOf s t base limit pairings.items) }
     {
         let trip_rig = self.net().settings().trip_rig;
@@ -300,7 +300,7 @@ impl Solution {
         share: u32,
     ) -> Result<Vec<PricedPairing>, AllocError>
         ensures { IfOk result (λ pairings. (s : Settings) (t : Timetable) → IsChecked s → IsSound t
-            → HasNetOf s t self.now → AreFronts s s.fdp_total t (front_of self.now)
+            → HasNetOf s t self.now → AreFronts s t (front_of self.now)
             → AreApartOf s t base limit share pairings.items) }
     {
         let trip_rig = self.net().settings().trip_rig;

@@ -8,9 +8,7 @@ use Rattle.std.specs.Option.{option_copied}
 use Rattle.std.specs.Ordering.{eq_by_cmp, is_eq}
 use Rattle.std.specs.Cmp.{Equal-is}
 use Rattle.std.specs.List.{list_any}
-use Rattle.std.specs.List.Sorted.{IsPermutation}
 use Rattle.std.proofs.lemmas.Cmp.{tied_itself}
-use Rattle.std.proofs.lemmas.List.Sorted.{IsPermutation-sym}
 use Rattle.crew_flights.specs.Codes.{code_cmp, code_cmp_total}
 use Rattle.crew_flights.proofs.Soundness.{changed_sound, empty_sound}
 use Rattle.crew_flights.specs.Edits.{applied, apply_of, refusal_of}
@@ -20,7 +18,6 @@ use Rattle.crew_flights.specs.declared.edit.Edit.{Edit}
 use Rattle.crew_flights.specs.declared.edit.Refusal.{Refusal}
 use Rattle.crew_flights.specs.declared.entries.Entry.{Entry}
 use Rattle.crew_pairing.specs.Legs.{Leg}
-use Rattle.crew_pairing.specs.declared.duty.Duty.{Duty}
 use Rattle.crew_resource.specs.Members.{Member}
 use Rattle.crew_rules.specs.declared.settings.Settings.{Settings}
 use Rattle.crew_version.specs.Drafts.{IsSolutionOf}
@@ -30,10 +27,9 @@ use Rattle.crew_version.specs.Machinery.Kept.{IsSolved, best_of}
 use Rattle.crew_rules.specs.Settings.{IsChecked}
 use Rattle.crew_plan.specs.Apart.{AreApart, AreApartOf, AreTaken}
 use Rattle.crew_plan.specs.Cheapest.{AreCheapest, AreCheapestOf, AreFirst, IsBestOf, IsShown, IsShownOf}
-use Rattle.crew_plan.specs.Solutions.{IsFrontOf, Solution, front_of}
+use Rattle.crew_plan.specs.Solutions.{IsFrontOf, Solution}
 use Rattle.crew_plan.specs.crew_answers.Bests.{IsBest, IsPairing}
 use Rattle.crew_plan.proofs.crew_answers_lemmas.Cheapest.{best-least}
-use Rattle.crew_plan.proofs.crew_answers_lemmas.InRange.{checked-in-range}
 use Rattle.crew_plan.specs.crew_answers.Fronts.{IsFrontAt}
 use Rattle.crew_plan.specs.crew_answers.LongVectors.{LongVector}
 use Rattle.crew_vector.specs.declared.priced.PricedPairing.{PricedPairing}
@@ -85,7 +81,7 @@ front-shown s t solution base key None h shown = λ price d based duty named.
 front-shown s t solution base key (Some entries) h shown =
     let priced = base-priced t base (rw h.network.2.bases at shown.1) in
     let duty = h.network.1.sound shown.0 (rw h.network.2.duties at shown.2) in
-    (priced.0, shown.0, priced.1, duty, shown.3, subst (IsFrontAt s s.fdp_total t base priced.0 shown.0) (sym shown.4) (h.scratch.fronts base priced.0 shown.0 priced.1 duty), shown.5)
+    (priced.0, shown.0, priced.1, duty, shown.3, subst (IsFrontAt s t base priced.0 shown.0) (sym shown.4) (h.scratch.fronts base priced.0 shown.0 priced.1 duty), shown.5)
 
 no-base : (base : List ℕ) (price : ℤ) → fin.get empty_timetable.bases base ≡ Some price → ⊥
 no-base base price h = let none : fin.get empty_timetable.bases base ≡ None = fin.get-empty code_cmp base in cc (none, h)
@@ -130,7 +126,7 @@ none-taken Shown limit share none = record {
     none-of (suc n) = refl
 
 -- before any entry there is none
-none-legal : (s : Settings) (t : Timetable) → t ≡ empty_timetable → (p : PricedPairing) → IsPairing s s.fdp_total t p → ⊥
+none-legal : (s : Settings) (t : Timetable) → t ≡ empty_timetable → (p : PricedPairing) → IsPairing s t p → ⊥
 none-legal s t e = rw e (λ p h. no-base p.base h.price h.based)
 
 pub no-pairing-at-start : (s : Settings) (t : Timetable) (limit : ℕ) → t ≡ empty_timetable → AreCheapest s t limit []
@@ -151,21 +147,21 @@ none-apart-of-at-start s t base limit share e = none-taken (IsShownOf s t base) 
 
 -- ---- the best
 
-pub best-right : (s : Settings) (t : Timetable) (solution : Option Solution) → IsSolved s t solution → IsBest s s.fdp_total t (best_of solution)
+pub best-right : (s : Settings) (t : Timetable) (solution : Option Solution) → IsSolved s t solution → IsBest s t (best_of solution)
 best-right s t None e = rw e (λ p pairing. no-base p.base pairing.price pairing.based)
 best-right s t (Some solution) h = h.scratch.best_is
 
 -- ---- what the best says, where it is lent
 
-pub best-legal : (s : Settings) (t : Timetable) (lent : Option (Bor PricedPairing)) → IsBest s s.fdp_total t (option_copied lent) → IfSome lent (λ b. IsPairing s s.fdp_total t b.now)
+pub best-legal : (s : Settings) (t : Timetable) (lent : Option (Bor PricedPairing)) → IsBest s t (option_copied lent) → IfSome lent (λ b. IsPairing s t b.now)
 best-legal s t None h = tt
 best-legal s t (Some b) h = h.0.pairing
 
-pub best-costs-least : (s : Settings) (t : Timetable) (lent : Option (Bor PricedPairing)) → IsChecked s → IsSound t → IsBest s s.fdp_total t (option_copied lent)
-    → IfSome lent (λ b. (p : PricedPairing) → IsPairing s s.fdp_total t p → b.now.cost ≤ℤ p.cost)
+pub best-costs-least : (s : Settings) (t : Timetable) (lent : Option (Bor PricedPairing)) → IsChecked s → IsSound t → IsBest s t (option_copied lent)
+    → IfSome lent (λ b. (p : PricedPairing) → IsPairing s t p → b.now.cost ≤ℤ p.cost)
 best-costs-least s t None checked sound h = tt
-best-costs-least s t (Some b) checked sound h = λ p is. best-least s s.fdp_total t (checked-in-range s checked) sound b.now p h is
+best-costs-least s t (Some b) checked sound h = λ p is. best-least s t checked sound b.now p h is
 
-pub best-none : (s : Settings) (t : Timetable) (lent : Option (Bor PricedPairing)) → IsBest s s.fdp_total t (option_copied lent) → IsNone lent ↔ ((p : PricedPairing) → IsPairing s s.fdp_total t p → ⊥)
+pub best-none : (s : Settings) (t : Timetable) (lent : Option (Bor PricedPairing)) → IsBest s t (option_copied lent) → IsNone lent ↔ ((p : PricedPairing) → IsPairing s t p → ⊥)
 best-none s t None h = (λ _. h, λ _. refl)
 best-none s t (Some b) h = (λ e. absurd (false≢true (sym e)), λ none. absurd (none b.now h.0.pairing))

@@ -34,7 +34,7 @@ IsDraftFault version Memory = Unit {0}
 -- a timetable's fronts and best pairing, over the network of its legal duties
 pub record IsSolutionOf (s : Settings) (t : Timetable) (solution : Solution) : Type 0 where
   pub network : HasNetOf s t solution
-  pub scratch : IsScratch s s.fdp_total t (front_of solution) solution.best
+  pub scratch : IsScratch s t (front_of solution) solution.best
 
 -- the version that a draft and its solution come to
 abbrev pub closed : Draft → Solution → Snapshot

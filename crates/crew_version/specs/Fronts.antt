@@ -18,4 +18,4 @@ IsFrontByKey s t base key None = (price : ℤ) (d : Duty) → map.get t.bases ba
     → IsDuty s (flights_of t) d → d.key ≡ key → ⊥
 IsFrontByKey s t base key (Some entries) = (price : ℤ) × (d : Duty)
     × (map.get t.bases base ≡ Some price) × IsDuty s (flights_of t) d × (d.key ≡ key)
-    × IsFrontAt s s.fdp_total t base price d entries × RiseByVector entries
+    × IsFrontAt s t base price d entries × RiseByVector entries

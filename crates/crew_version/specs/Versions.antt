@@ -37,4 +37,4 @@ pub record IsNext (before : Snapshot) (entries : List Entry) (after : Snapshot) 
 -- of their timetable
 pub record IsRight (v : Snapshot) : Type 0 where
   pub few : HasFew v.settings (timetable_of v.entries)
-  pub least : IsBest v.settings v.settings.fdp_total (timetable_of v.entries) v.best
+  pub least : IsBest v.settings (timetable_of v.entries) v.best

@@ -21,4 +21,5 @@ pub use crew_plan::{crew_fronts, crew_solve};
 pub use draft::Draft;
 pub use entry::is_same_entry;
 pub use fault::VersionFault;
+pub use same::are_same_timetables;
 pub use version::Version;

@@ -11,7 +11,7 @@ ghost use Rattle.crew_version.specs.Faults.{IsSearchFault};
 ghost use Rattle.crew_version.specs.Machinery.Kept.{IsRightEarlier};
 
 use crate::fault::VersionFault;
-use crate::same::are_same;
+use crate::same::are_same_timetables;
 use crew_flights::Timetable;
 use crew_pairing::Duties;
 use crew_plan::crew_duty::{DutyFault, list_duties, list_next};
@@ -127,7 +127,6 @@ fn found<R: Threads + Sync>(
 
 // An earlier solution, where it is that of this timetable too.
 fn shared(
-    alloc: Global,
     timetable: &Timetable,
     earlier: &Earlier,
 ) -> Result<Option<Arc<Solution, Global>>, AllocError>
@@ -135,8 +134,7 @@ fn shared(
         (earlier.now.timetable.now ≡ timetable.now)
         × (arc_value solution ≡ arc_value earlier.now.solution.now))) }
 {
-    let same = are_same(alloc, earlier.timetable, timetable)?;
-    if !same {
+    if !are_same_timetables(earlier.timetable, timetable) {
         return Ok(None);
     }
     Ok(Some(Arc::try_clone(earlier.solution)?))
@@ -160,7 +158,7 @@ pub(crate) fn find_solution<R: Threads + Sync>(
     ensures fault { IfErr result (IsSearchFault settings.now timetable.now) }
 {
     if let Some(earlier) = earlier
-        && let Some(solution) = shared(alloc, timetable, earlier)?
+        && let Some(solution) = shared(timetable, earlier)?
     {
         return Ok(solution);
     }

@@ -1,5 +1,5 @@
 use Rattle.std.proofs.Common.{◌≡◌, sym, subst, true}
-use Rattle.crew_fronts.proofs.Sweeps.{plain-away, plain-cap}
+use Rattle.crew_fronts.proofs.Sweeps.{plain-away}
 use Rattle.crew_fronts.specs.Fronts.{is_plain}
 use Rattle.crew_plan.proofs.plan.plain_of.Goals as goal
 
@@ -16,5 +16,4 @@ returns-clause-kind c = record {
 pub of-requires-clause-sums : goal.of-requires-clause-sums
 of-requires-clause-sums c = record {
   away = plain-away c.args.settings.now c.requires.plain;
-  total = plain-cap c.args.settings.now c.requires.plain;
 }

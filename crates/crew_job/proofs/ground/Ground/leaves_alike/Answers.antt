@@ -27,8 +27,8 @@ returns c = λ t.
     let code : b.base ≡ c.args.base = sym c.base-2.ensures ∙ c.is_same_code.ensures.0 c.if-not-is_same_code.false in
     let price : b.price ≡ before.price = c.is_same_price.ensures.0 c.if-not-is_same_price.false in
     let settings-v : v.settings ≡ g.settings = ap (λ (z : Snapshot). z.settings) e ∙ sym is.settings in
-    let scratch : AreFronts g.settings g.settings.fdp_total (sealed_data_of g) (front_of solution) =
-    subst (λ (z : Snapshot). AreFronts g.settings g.settings.fdp_total (timetable_of z.entries) (front_of solution)) e (subst (λ (s : Settings). AreFronts s s.fdp_total (timetable_of v.entries) (front_of solution)) settings-v c.in-Some.ensures.scratch.fronts) in
+    let scratch : AreFronts g.settings (sealed_data_of g) (front_of solution) =
+    subst (λ (z : Snapshot). AreFronts g.settings (timetable_of z.entries) (front_of solution)) e (subst (λ (s : Settings). AreFronts s (timetable_of v.entries) (front_of solution)) settings-v c.in-Some.ensures.scratch.fronts) in
     let network : HasNetOf g.settings (sealed_data_of g) solution =
     subst (λ (z : Snapshot). HasNetOf g.settings (timetable_of z.entries) solution) e (subst (λ (s : Settings). HasNetOf s (timetable_of v.entries) solution) settings-v c.in-Some.ensures.network) in
     let fronts : (d : Duty) → front_of solution b.base d ≡ front_at before d = λ d. ap (λ (z : List ℕ). front_of solution z d) code ∙ c.in-Some-base.ensures.fronts d in

@@ -17,7 +17,7 @@ invariant_of-result c =
     let laid : IsLaid net c.in_ok-bases.bases.items = record {
       timetable = t;
       over = over-of c.args.settings.now t c.args.duties net c.requires.checked c.bases_of.ensures.sound c.requires.duties built few;
-      dated = c.in_ok-see_dates.ensures.dated;
+      dated = c.see_dates.ensures.dated;
       priced = c.in_ok-bases.ensures.bases;
       long = subst (λ x. is_plain x ≡ false) (sym built.settings) c.requires.long;
     } in (

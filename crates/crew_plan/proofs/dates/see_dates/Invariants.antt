@@ -1,8 +1,8 @@
-use Rattle.std.proofs.Common.{take}
+use Rattle.std.proofs.Common.{Bor}
 use Rattle.crew_flights.specs.declared.flight.Flight.{Flight}
 use Rattle.crew_resource.specs.Members.{Each}
 use Rattle.crew_time.specs.Instant.{IsInstant}
-use Rattle.crew_plan.proofs.dates.pass_dates.Given as goal
+use Rattle.crew_plan.proofs.dates.see_dates.Given as goal
 
 abbrev pub invariant-loop-flight : goal.invariant-loop-flight
-invariant-loop-flight l = Each (λ (flight : Flight). IsInstant flight.dep) (take l.flight-index l.flights)
+invariant-loop-flight l = Each (λ (flight : Bor Flight). IsInstant flight.now.dep) l.yielded

@@ -2,7 +2,7 @@ use Rattle.std.proofs.Common.{ap}
 use Rattle.std.specs.FinMap as fin
 use Rattle.crew_flights.specs.Timetable.{Timetable}
 use Rattle.crew_version.proofs.SameTimetable.{same-timetable}
-use Rattle.crew_job.proofs.timetables.are_same_timetables.Goals as goal
+use Rattle.crew_version.proofs.same.are_same_timetables.Goals as goal
 
 pub returns-then-have_same_flights : goal.returns-then-have_same_flights
 returns-then-have_same_flights c = (

@@ -2,8 +2,8 @@ use Rattle.std.proofs.Common.{◌≡◌, ◌∙◌, List, ℕ, ℤ}
 use Rattle.std.specs.FinMap as fin
 use Rattle.std.specs.Map.Iter.{deref_pair}
 use Rattle.crew_version.proofs.SameTimetable.{base-decides}
-use Rattle.crew_job.proofs.Alongside.{compared}
-use Rattle.crew_job.proofs.timetables.have_same_bases.Goals as goal
+use Rattle.crew_version.proofs.Alongside.{compared}
+use Rattle.crew_version.proofs.same.have_same_bases.Goals as goal
 
 pub returns-clause-same : goal.returns-clause-same
 returns-clause-same c =

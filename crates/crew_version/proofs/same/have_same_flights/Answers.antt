@@ -3,8 +3,8 @@ use Rattle.std.specs.Map.Iter.{deref}
 use Rattle.crew_flights.specs.declared.flight.Flight.{Flight}
 use Rattle.crew_pairing.specs.Duties.{flights_of}
 use Rattle.crew_version.proofs.SameTimetable.{flight-decides}
-use Rattle.crew_job.proofs.Alongside.{compared}
-use Rattle.crew_job.proofs.timetables.have_same_flights.Goals as goal
+use Rattle.crew_version.proofs.Alongside.{compared}
+use Rattle.crew_version.proofs.same.have_same_flights.Goals as goal
 
 pub returns-clause-same : goal.returns-clause-same
 returns-clause-same c =
