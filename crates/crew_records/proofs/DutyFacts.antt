@@ -9,10 +9,10 @@ use Rattle.crew_records.specs.declared.fault.RecordFault.{RecordFault}
 use Rattle.crew_records.specs.declared.fault.RecordFault.TheVariants.{BadField}
 
 -- a field that fails does so by its form
-abbrev IsBad : {A : Type 0} → Result A RecordFault → Type 0
+abbrev pub IsBad : {A : Type 0} → Result A RecordFault → Type 0
 IsBad r = (e : RecordFault) → r ≡ Err e → e ≡ BadField
 
-bad-if : {A : Type 0} (b : Bool) (x : A) → IsBad (if b then Ok x else Err BadField)
+pub bad-if : {A : Type 0} (b : Bool) (x : A) → IsBad (if b then Ok x else Err BadField)
 bad-if true x = λ e p. cc p
 bad-if false x = λ e p. cc p
 
@@ -20,7 +20,7 @@ bad-map : {A B : Type 0} (f : A → B) (r : Result A RecordFault) → IsBad r �
 bad-map f (Ok x) h = λ e p. cc p
 bad-map f (Err x) h = λ e p. let own = h x refl in cc (p, own)
 
-bad-bind : {A B : Type 0} (r : Result A RecordFault) (f : A → Result B RecordFault) → IsBad r → ((x : A) → IsBad (f x)) → IsBad (r >>= f)
+pub bad-bind : {A B : Type 0} (r : Result A RecordFault) (f : A → Result B RecordFault) → IsBad r → ((x : A) → IsBad (f x)) → IsBad (r >>= f)
 bad-bind (Ok x) f h k = k x
 bad-bind (Err x) f h k = λ e p. let own = h x refl in cc (p, own)
 
@@ -34,7 +34,7 @@ bad-branch false x y h k = k
 bad-leg : (f : List ℕ) → IsBad (leg_field f)
 bad-leg f = bad-branch (slice_index f (length f - 1) == 100) _ _ (bad-with (take (length f - 1) f) true) (bad-with f false)
 
-bad-legs : (fs : List (List ℕ)) → IsBad (legs_field fs)
+pub bad-legs : (fs : List (List ℕ)) → IsBad (legs_field fs)
 bad-legs [] = λ e p. cc p
 bad-legs (f ∷ fs) = bad-bind (leg_field f) _ (bad-leg f) (λ leg. bad-bind (legs_field fs) _ (bad-legs fs) (λ legs e p. cc p))
 

@@ -4,11 +4,11 @@ use Rattle.std.specs.Str.{bytes_eq}
 use Rattle.crew_time.specs.Instant.{IsInYears}
 use Rattle.crew_flights.specs.Codes.{is_code}
 use Rattle.crew_flights.specs.declared.edit.Edit.TheVariants as edit
-use Rattle.crew_records.specs.Fields.{Fields, ◌>>=◌, count_field, count_up_to, field_of, code_field, duty_field, id_field, limit_field, price_field, time_field, zone_field}
+use Rattle.crew_records.specs.Fields.{Fields, ◌>>=◌, count_field, count_up_to, field_of, code_field, duty_field, id_field, limit_field, price_field, time_field, walk_field, zone_field}
 use Rattle.crew_records.specs.declared.fault.RecordFault.{RecordFault}
 use Rattle.crew_records.specs.declared.fault.RecordFault.TheVariants.{UnknownRecord}
 use Rattle.crew_records.specs.declared.command.Command.{Command}
-use Rattle.crew_records.specs.declared.command.Command.TheVariants.{AddZone, Submit, AddFlight, Retime, Settle, Best, BestOf, ShowFront, Cheapest, Apart, CheapestOf, ApartOf, Audit, Refuse}
+use Rattle.crew_records.specs.declared.command.Command.TheVariants.{AddZone, Submit, AddFlight, Retime, Settle, Best, BestOf, ShowFront, Cheapest, Apart, CheapestOf, ApartOf, Explain, Audit, Refuse}
 
 -- ---- each kind of record: its number of fields, then its fields from left to right
 
@@ -124,6 +124,14 @@ pairings_by None fields =
 abbrev pub pairings_command : Fields → Result Command RecordFault
 pairings_command fields = pairings_by (base_at fields 3) fields
 
+-- explain,CODE,WALK
+unfoldable pub explain_command : Fields → Result Command RecordFault
+explain_command fields = do
+  count ← count_field fields 3
+  base ← code_field (field_of fields 1)
+  walk ← walk_field (field_of fields 2)
+  Ok (Explain base walk)
+
 -- audit,LIMIT
 unfoldable pub audit_command : Fields → Result Command RecordFault
 audit_command fields = do
@@ -169,8 +177,9 @@ kind_of name fields =
     else (if bytes_eq name (codes "best") then best_command fields
     else (if bytes_eq name (codes "front") then front_command fields
     else (if bytes_eq name (codes "pairings") then pairings_command fields
+    else (if bytes_eq name (codes "explain") then explain_command fields
     else (if bytes_eq name (codes "audit") then audit_command fields
-    else Err UnknownRecord)))))
+    else Err UnknownRecord))))))
 
 abbrev pub edit_or : Option (Result Command RecordFault) → Result Command RecordFault
     → Result Command RecordFault
@@ -202,5 +211,6 @@ IsDated (Cheapest limit) = Unit {0}
 IsDated (Apart limit share) = Unit {0}
 IsDated (CheapestOf base limit) = Unit {0}
 IsDated (ApartOf base limit share) = Unit {0}
+IsDated (Explain base walk) = Unit {0}
 IsDated (Audit limit) = Unit {0}
 IsDated (Refuse fault) = Unit {0}

@@ -109,3 +109,20 @@ up_to_8 legs = if nat_le (length legs) 8 then Ok legs else Err BadField
 -- DUTY: 1 to 8 legs joined by `-`
 abbrev pub duty_field : List ℕ → Result (List Leg) RecordFault
 duty_field f = legs_field (slice_split is_dash f) >>= up_to_8
+
+-- a duty for each text
+abbrev pub keys_field : List (List ℕ) → Result (List (List Leg)) RecordFault
+keys_field [] = Ok []
+keys_field (f ∷ fs) = duty_field f >>= (λ key. keys_field fs >>= (λ keys. Ok (key ∷ keys)))
+
+-- the byte between two duties
+abbrev pub is_space : ℕ → Bool
+is_space b = b == 32
+
+-- up to twelve duties
+abbrev pub up_to_12 : List (List Leg) → Result (List (List Leg)) RecordFault
+up_to_12 keys = if nat_le (length keys) 12 then Ok keys else Err BadField
+
+-- WALK: 1 to 12 duties, each a space from the one before
+abbrev pub walk_field : List ℕ → Result (List (List Leg)) RecordFault
+walk_field f = keys_field (slice_split is_space f) >>= up_to_12

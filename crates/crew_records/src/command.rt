@@ -8,8 +8,9 @@ ghost use Rattle.crew_records.specs.Commands as Spec;
 use crate::fault::RecordFault;
 use crate::fields::{
     count_fields, count_fields_at, field, field_at, read_code, read_count, read_id, read_key,
-    read_limit, read_price, read_time, read_zone,
+    read_limit, read_price, read_time, read_walk, read_zone,
 };
+use crate::walk::ShortWalk;
 use crew_clocks::Zone;
 use crew_flights::{Code, Edit, FlightId};
 use crew_pairing::Key;
@@ -74,6 +75,11 @@ pub enum Command {
         base: Code,
         limit: u32,
         share: u32,
+    },
+    /// Why a walk is, or isn't, a pairing of a base in the last version.
+    Explain {
+        base: Code,
+        walk: ShortWalk,
     },
     /// The partial pairings of the last version, where there are at most so many.
     Audit {
@@ -257,6 +263,17 @@ fn pairings_command(row: &ByteRecord) -> Result<Command, RecordFault>
     cheapest_command(row)
 }
 
+#[tactic(auto, unfolding(crate::specs::Commands::explain_command))]
+fn explain_command(row: &ByteRecord) -> Result<Command, RecordFault>
+    ensures value { result ≡ Spec.explain_command (fields_of row.now) }
+    ensures dated { IfOk result IsDated }
+{
+    count_fields(row, 3)?;
+    let base = read_code(field(row, 1))?;
+    let walk = read_walk(field(row, 2))?;
+    Ok(Command::Explain { base, walk })
+}
+
 #[tactic(auto, unfolding(crate::specs::Commands::audit_command))]
 fn audit_command(row: &ByteRecord) -> Result<Command, RecordFault>
     ensures value { result ≡ Spec.audit_command (fields_of row.now) }
@@ -340,6 +357,9 @@ fn named_command(row: &ByteRecord) -> Result<Command, RecordFault>
     }
     if name == b"pairings".as_slice() {
         return pairings_command(row);
+    }
+    if name == b"explain".as_slice() {
+        return explain_command(row);
     }
     if name == b"audit".as_slice() {
         return audit_command(row);

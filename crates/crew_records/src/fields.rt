@@ -3,13 +3,14 @@
 ghost use Rattle.std.specs.Prelude.{◌≡◌, ◌<◌, ◌≤◌, ◌^◌, ◌+◌, ◌-◌, ◌*◌, ◌∷◌, IfOk, drop, length, slice_index, true};
 ghost use Rattle.std.specs.Char.{is_ascii_digit};
 ghost use Rattle.std.specs.List.{list_all, position, slice_split};
-ghost use Rattle.crew_records.specs.Machinery.Cuts.{texts_of};
+ghost use Rattle.crew_records.specs.Machinery.Cuts.{spaced_of, texts_of};
 ghost use Rattle.std.specs.Option.{option_map};
 ghost use Rattle.csv.specs.Records.{fields_of};
 ghost use Rattle.crew_time.specs.Instant.{IsInYears};
 ghost use Rattle.crew_records.specs.Fields as Spec;
 
 use crate::fault::RecordFault;
+use crate::walk::ShortWalk;
 use crew_clocks::Zone;
 use crew_flights::{Code, FlightId};
 use crew_pairing::{Key, Leg};
@@ -163,6 +164,45 @@ pub(crate) fn read_key(field: &[u8]) -> Result<Key, RecordFault>
     }
     match rest {
         None => Ok(key),
+        Some(_) => Err(RecordFault::BadField),
+    }
+}
+
+// Where the first space stands.
+fn first_space(field: &[u8]) -> Option<usize>
+    ensures { result ≡ position Spec.is_space field.now }
+{
+    field.iter().position(|b| *b == b' ')
+}
+
+// The text before the first space, and the text after it if there is one.
+fn cut_space(field: &[u8]) -> (&[u8], Option<&[u8]>)
+    ensures { slice_split Spec.is_space field.now
+        ≡ result.0.now ∷ spaced_of (option_map (λ rest. rest.now) result.1) }
+{
+    match first_space(field) {
+        None => (field, None),
+        Some(at) => (&field[..at], Some(&field[at + 1..])),
+    }
+}
+
+// A walk: at most twelve duties, each a space from the one before.
+pub(crate) fn read_walk(field: &[u8]) -> Result<ShortWalk, RecordFault>
+    ensures { result ≡ Spec.walk_field field.now }
+{
+    let (first, mut rest) = cut_space(field);
+    let first = read_key(first)?;
+    let mut walk = ShortWalk::of(&first);
+    for _ in 1..12u32 {
+        let Some(text) = rest else {
+            return Ok(walk);
+        };
+        let (next, after) = cut_space(text);
+        walk.push(read_key(next)?);
+        rest = after;
+    }
+    match rest {
+        None => Ok(walk),
         Some(_) => Err(RecordFault::BadField),
     }
 }

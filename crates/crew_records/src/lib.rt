@@ -9,7 +9,9 @@ mod command;
 mod fault;
 mod fields;
 mod schedule;
+mod walk;
 
 pub use command::{Command, read_command};
 pub use fault::RecordFault;
 pub use schedule::{PushedEdit, StepRecord, read_step};
+pub use walk::ShortWalk;

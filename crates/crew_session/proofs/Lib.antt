@@ -1,5 +1,6 @@
 pub mod AuditFacts
 pub mod BeginFacts
+pub mod ExplainFacts
 pub mod LeadFacts
 pub mod LineFacts
 pub mod OddFacts

@@ -1,5 +1,6 @@
 -- A session writes one text.
 use Rattle.std.proofs.Common.{◌≡◌, ◌+◌, ◌∙◌, ℕ, ℤ, List, [], ◌∷◌, ◌++◌, length, drop, Option, Some, None, refl, sym, ap, subst, inl, inr, arith}
+use Rattle.std.specs.Prelude.{codes}
 use Rattle.std.proofs.lemmas.Cmp.{tied_itself}
 use Rattle.std.proofs.lemmas.Int.{ints}
 use Rattle.std.specs.Cmp.{on_total, then_total}
@@ -38,10 +39,18 @@ use Rattle.crew_version.proofs.SolutionFacts.{timetable-sound}
 use Rattle.crew_records.specs.Commands.{command_of}
 use Rattle.crew_records.specs.Fields.{Fields}
 use Rattle.crew_records.specs.declared.command.Command.{Command}
-use Rattle.crew_records.specs.declared.command.Command.TheVariants.{AddZone, Submit, AddFlight, Retime, Settle, Best, BestOf, ShowFront, Cheapest, Apart, CheapestOf, ApartOf, Audit, Refuse}
+use Rattle.crew_records.specs.declared.command.Command.TheVariants.{AddZone, Submit, AddFlight, Retime, Settle, Best, BestOf, ShowFront, Cheapest, Apart, CheapestOf, ApartOf, Explain, Audit, Refuse}
 use Rattle.crew_session.specs.Audits.{Audits, Counts, PassesLimit}
 use Rattle.crew_session.specs.Fronts.{ShowsFront}
 use Rattle.crew_session.specs.Lines.{audit_line, best_line, front_lines, pairings_lines, refused_lines, version_line}
+use Rattle.crew_pairing.specs.Pairings.{minutes_away}
+use Rattle.crew_pairing.specs.Vectors.{cost_of, pay_of}
+use Rattle.crew_explain.specs.Explanations.{IsExplained, way_of}
+use Rattle.crew_explain.specs.declared.breach.Breach.{Breach}
+use Rattle.crew_explain.specs.declared.explained.Explained.{Explained}
+use Rattle.crew_explain.specs.declared.explained.Explained.TheVariants.{Broken, Legal}
+use Rattle.crew_explain.specs.declared.explained.Limits.{Limits}
+use Rattle.crew_session.specs.Explanations.{ShowsExplained, broken_text, duties_text, named, told_text, way_text}
 use Rattle.crew_session.specs.Pairings.{ShowsApart, ShowsApartOf, ShowsBestOf, ShowsCheapest, ShowsCheapestOf}
 use Rattle.crew_session.specs.Session.{Declines, Does, Obeys, Publishes, Settles, State, Writes}
 
@@ -54,10 +63,10 @@ one-version : (before v w : Snapshot) (entries : List Entry) → IsNext before e
 one-version before v w entries next right next2 right2 =
     let settings : w.settings ≡ v.settings = next2.settings ∙ sym next.settings in
     let grown : w.entries ≡ v.entries = next2.grown ∙ sym next.grown in
-    let least : IsBest v.settings v.settings.fdp_total (timetable_of v.entries) w.best =
-    subst (λ (s : Settings). IsBest s s.fdp_total (timetable_of v.entries) w.best) settings (subst (λ (es : List Entry). IsBest w.settings w.settings.fdp_total (timetable_of es) w.best) grown right2.least) in
+    let least : IsBest v.settings (timetable_of v.entries) w.best =
+    subst (λ (s : Settings). IsBest s (timetable_of v.entries) w.best) settings (subst (λ (es : List Entry). IsBest w.settings (timetable_of es) w.best) grown right2.least) in
     one-snapshot v w (next.number ∙ sym next2.number) (sym settings) (sym grown)
-    (one-best v.settings v.settings.fdp_total (timetable_of v.entries) v.best w.best (timetable-sound v.entries) right.least least)
+    (one-best v.settings (timetable_of v.entries) v.best w.best (timetable-sound v.entries) right.least least)
 
 not-both : (s : Settings) (t : Timetable) → HasFew s t → HasTooMany s t → ⊥
 not-both s t few many =
@@ -114,8 +123,8 @@ one-front s t sound base key (Some f) None h k = absurd (k h.0 h.1 h.2 h.3 h.4)
 one-front s t sound base key (Some f) (Some g) h k =
     let price : k.0 ≡ h.0 = cc (h.2, k.2) in
     let duty : k.1 ≡ h.1 = one-duty s t sound k.1 h.1 k.3 h.3 (k.4 ∙ sym h.4) in
-    let other : IsFrontAt s s.fdp_total t base h.0 h.1 g = subst (λ (d : Duty). IsFrontAt s s.fdp_total t base h.0 d g) duty (subst (λ (p : ℤ). IsFrontAt s s.fdp_total t base p k.1 g) price k.5) in
-    ap (λ (es : List (LongVector × List (List Leg))). Some es) (same-listed s s.fdp_total t base h.0 h.1 f g h.5 other h.6 k.6)
+    let other : IsFrontAt s t base h.0 h.1 g = subst (λ (d : Duty). IsFrontAt s t base h.0 d g) duty (subst (λ (p : ℤ). IsFrontAt s t base p k.1 g) price k.5) in
+    ap (λ (es : List (LongVector × List (List Leg))). Some es) (same-listed s t base h.0 h.1 f g h.5 other h.6 k.6)
 
 one-showing : (base : List ℕ) (key : List Leg) (v : Snapshot) (x y : List ℕ) → ShowsFront base key v x → ShowsFront base key v y → x ≡ y
 one-showing base key v x y h k =
@@ -184,6 +193,26 @@ one-audit limit number v x y (inl h) (inr k) = absurd (never-more limit number v
 one-audit limit number v x y (inr h) (inl k) = absurd (never-more limit number v y x k h)
 one-audit limit number v x y (inr h) (inr k) = h.written ∙ sym k.written
 
+-- a walk is explained in one way
+one-told : (s : Settings) (t : Timetable) (base : List ℕ) (walk : List (List Leg)) (a b : Explained) → IsExplained s t base walk a → IsExplained s t base walk b → told_text a ≡ told_text b
+one-told s t base walk (Broken p) (Broken q) h k = ap (λ (o : Breach). broken_text o) (let e : p ≡ q = (cc) in e)
+one-told s t base walk (Broken p) (Legal n) h k = absurd (let u = k.unbroken in let q : ⊥ = (cc) in q)
+one-told s t base walk (Legal m) (Broken q) h k = absurd (let u = h.unbroken in let q : ⊥ = (cc) in q)
+one-told s t base walk (Legal m) (Legal n) h k =
+    let read : (m.duties.items, m.limits.items) ≡ (n.duties.items, n.limits.items) = (let r = h.limits in let u = k.limits in cc) in
+    let duties : m.duties.items ≡ n.duties.items = ap (λ (r : List Duty × List Limits). r.0) read in
+    let limits : m.limits.items ≡ n.limits.items = ap (λ (r : List Duty × List Limits). r.1) read in
+    let price : h.pairing.price ≡ k.pairing.price = (let r = h.pairing.based in let u = k.pairing.based in cc) in
+    let cost = h.numbers.cost ∙ (λ i. cost_of s (price i) (duties i)) ∙ sym k.numbers.cost in
+    let pay = h.numbers.pay ∙ ap (pay_of s) duties ∙ sym k.numbers.pay in
+    let away = h.numbers.away ∙ ap minutes_away duties ∙ sym k.numbers.away in
+    let way = h.numbers.way ∙ ap (way_of s) duties ∙ sym k.numbers.way in
+    λ i. (codes " legal" ++ (named (codes " cost ") (cost i) ++ named (codes " pay ") (pay i) ++ named (codes " away ") (away i)) ++ codes " by " ++ way_text (way i) ++ codes "\n") ++ duties_text (duties i) (limits i)
+
+one-explanation : (base : List ℕ) (walk : List (List Leg)) (v : Snapshot) (x y : List ℕ) → ShowsExplained base walk v x → ShowsExplained base walk v y → x ≡ y
+one-explanation base walk v x y h k =
+    h.written ∙ ap (λ (text : List ℕ). codes "explain " ++ base ++ text) (one-told v.settings (timetable_of v.entries) base walk h.told k.told h.exact k.exact) ∙ sym k.written
+
 -- ---- a record, and all of them
 
 both : (p : State × List ℕ) (b c : State) (x y : List ℕ) → Does b x p → Does c y p → AreOne b x c y
@@ -202,6 +231,7 @@ one-record s number (Cheapest limit) a b c x y h k = (h.0 ∙ sym k.0, one-listi
 one-record s number (Apart limit share) a b c x y h k = (h.0 ∙ sym k.0, one-apart-listing limit share a.version x y h.1 k.1)
 one-record s number (CheapestOf base limit) a b c x y h k = (h.0 ∙ sym k.0, one-listing-of base limit a.version x y h.1 k.1)
 one-record s number (ApartOf base limit share) a b c x y h k = (h.0 ∙ sym k.0, one-apart-listing-of base limit share a.version x y h.1 k.1)
+one-record s number (Explain base walk) a b c x y h k = (h.0 ∙ sym k.0, one-explanation base walk a.version x y h.1 k.1)
 one-record s number (Audit limit) a b c x y h k = (h.0 ∙ sym k.0, one-audit limit number a.version x y h.1 k.1)
 one-record s number (Refuse fault) a b c x y h k = both _ b c x y h k
 

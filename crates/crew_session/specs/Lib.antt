@@ -1,6 +1,7 @@
 pub mod Audits
 pub mod Engines
 pub mod Entries
+pub mod Explanations
 pub mod Faults
 pub mod Fronts
 pub mod Lines

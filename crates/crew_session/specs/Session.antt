@@ -8,6 +8,7 @@ use Rattle.crew_flights.specs.declared.edit.Edit.TheVariants as edit
 use Rattle.crew_flights.specs.declared.entries.Entry.{Entry}
 use Rattle.crew_pairing.specs.Duties.{HasTooMany}
 use Rattle.crew_session.specs.Audits.{Audits}
+use Rattle.crew_session.specs.Explanations.{ShowsExplained}
 use Rattle.crew_session.specs.Fronts.{ShowsFront}
 use Rattle.crew_records.specs.Commands.{command_of}
 use Rattle.crew_records.specs.Faults.{record_number}
@@ -20,7 +21,7 @@ use Rattle.crew_session.specs.Writes.{BeginsBy, WritesBy}
 use Rattle.crew_session.specs.Zones.{Zones, clock_at, flight_with, zone_fault}
 use Rattle.crew_version.specs.Versions.{IsNext, IsRight, Snapshot, opening, timetable_of, verdicts_of}
 use Rattle.crew_records.specs.declared.command.Command.{Command}
-use Rattle.crew_records.specs.declared.command.Command.TheVariants.{AddZone, Submit, AddFlight, Retime, Settle, Best, BestOf, ShowFront, Cheapest, Apart, CheapestOf, ApartOf, Audit, Refuse}
+use Rattle.crew_records.specs.declared.command.Command.TheVariants.{AddZone, Submit, AddFlight, Retime, Settle, Best, BestOf, ShowFront, Cheapest, Apart, CheapestOf, ApartOf, Explain, Audit, Refuse}
 use Rattle.crew_records.specs.declared.fault.RecordFault.{RecordFault}
 
 -- where a session stands: the zones, the last version, the entries since, and the records of these
@@ -113,6 +114,7 @@ Obeys s number (CheapestOf base limit) a b text =
     (b ≡ a) × ShowsCheapestOf base limit a.version text
 Obeys s number (ApartOf base limit share) a b text =
     (b ≡ a) × ShowsApartOf base limit share a.version text
+Obeys s number (Explain base walk) a b text = (b ≡ a) × ShowsExplained base walk a.version text
 Obeys s number (Audit limit) a b text = (b ≡ a) × Audits limit number a.version text
 Obeys s number (Refuse fault) a b text = Does b text (refuse number (record_number fault) a)
 

@@ -21,6 +21,7 @@ mod ending;
 mod engine;
 mod engine_fault;
 mod entry;
+mod explain;
 mod fault;
 mod front;
 mod journal;

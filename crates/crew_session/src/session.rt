@@ -27,6 +27,7 @@ use crate::clocks::clock_at;
 use crate::ending::{Ending, RECORDS, cause, check_all};
 use crate::engine::Engine;
 use crate::engine_fault::EngineFault;
+use crate::explain::answer_explain;
 use crate::fault::{SessionFault, stop};
 use crate::front::answer_front;
 use crate::journal::Journal;
@@ -336,6 +337,9 @@ fn obey<R: Threads + Sync, W: Write, E: Engine>(
         }
         Command::ApartOf { base, limit, share } => {
             answer_apart_of(alloc, writer, base, limit, share, engine.version())
+        }
+        Command::Explain { base, walk } => {
+            answer_explain(alloc, writer, base, &walk, engine.version())
         }
         Command::Audit { limit } => answer_audit(alloc, number, limit, writer, engine.version()),
         Command::Refuse(fault) => write_refused(alloc, writer, number, fault.number()),

@@ -3,6 +3,7 @@ use Rattle.crew_session.proofs.BeginFacts.{begun-as}
 use Rattle.std.proofs.Common.{◌∙◌, None, Some, sym}
 use Rattle.crew_flights.specs.declared.edit.Edit.TheVariants as edit
 use Rattle.crew_session.specs.Machinery.Journals.{state_of, zones_of}
+use Rattle.crew_session.specs.Explanations.{ShowsExplained}
 use Rattle.crew_session.specs.Pairings.{ShowsApartOf, ShowsBestOf, ShowsCheapestOf}
 use Rattle.crew_session.specs.Zones.{clock_at, flight_with}
 use Rattle.crew_session.proofs.SessionFacts.{apart-begin, audited-begin, begun-do, cheapest-begin, fronted-begin, settled-begin}
@@ -105,3 +106,11 @@ returns-in-ApartOf-clause-obeys g c =
 pub returns-in-ApartOf-clause-begun : goal.returns-in-ApartOf-clause-begun
 returns-in-ApartOf-clause-begun g c =
     shown-begin c.answer_apart_of.result _ _ c.args.settings.now c.args.number _ _ (state_of c.args.journal.now (g.E.Engine.shown c.args.engine.now) (g.E.Engine.entries c.args.engine.now)) (ShowsApartOf c.in-ApartOf.base c.in-ApartOf.limit c.in-ApartOf.share) _ c.in-ApartOf.is c.version-in-ApartOf.ensures (λ text shows. (refl, shows)) c.answer_apart_of.ensures.begun
+
+pub returns-in-Explain-clause-obeys : goal.returns-in-Explain-clause-obeys
+returns-in-Explain-clause-obeys g c =
+    shown-of c.answer_explain.result _ _ c.args.settings.now c.args.number _ _ (state_of c.args.journal.now (g.E.Engine.shown c.args.engine.now) (g.E.Engine.entries c.args.engine.now)) (ShowsExplained c.in-Explain.base c.in-Explain.walk) _ c.in-Explain.is c.version-in-Explain.ensures (λ text shows. (refl, shows)) c.answer_explain.ensures.answered
+
+pub returns-in-Explain-clause-begun : goal.returns-in-Explain-clause-begun
+returns-in-Explain-clause-begun g c =
+    shown-begin c.answer_explain.result _ _ c.args.settings.now c.args.number _ _ (state_of c.args.journal.now (g.E.Engine.shown c.args.engine.now) (g.E.Engine.entries c.args.engine.now)) (ShowsExplained c.in-Explain.base c.in-Explain.walk) _ c.in-Explain.is c.version-in-Explain.ensures (λ text shows. (refl, shows)) c.answer_explain.ensures.begun
