@@ -1,39 +1,53 @@
-"""The pricing engine: `crewprice run`, started once, with both pipes open.
+"""The pricing engine under a plan: a session of it (`clients/python`), with prices that are sent only where they change.
 
-It is given prices and answers with pairings. Its standard error goes where this program's goes. Whatever it refuses, and
-its end before an answer, is a fault of one line.
+Whatever the engine refuses, and its end before an answer, is a fault of one line.
 """
 from __future__ import annotations
 
 import os
 import select
-import subprocess
 import time
-from collections.abc import Iterable
+from collections.abc import Iterable, Iterator
+from contextlib import contextmanager
 
+from .client import EngineEnded, NotUnderstood, Refused, Session
 from .faults import EngineFault, ScheduleFault
-from .pairing import Pairing, pairing_of
+from .pairing import Pairing
 from .prices import Prices
 from .timetable import Flight, Timetable, record_of
 
 PATIENCE = 60.0  # seconds for the first answer, which wants no work
-UNREAD = 1500  # records without an answer between them: what is refused of so many fits into a pipe
 MOST_EDITS = 900_000  # of one session, which takes 1,000,000
 
 
-REFUSALS = {'4': 'the rule of a zone is a POSIX rule of local time', '29': 'a session holds 5,000 flights',
-            '30': 'a session holds 16 bases', '75': 'a session holds 2,000 zones',
-            '40': 'there are more than 200,000 legal duties: give the engine a lesser --sit, as -- --sit 180'}
+REFUSALS = {4: 'the rule of a zone is a POSIX rule of local time', 29: 'a session holds 5,000 flights',
+            30: 'a session holds 16 bases', 75: 'a session holds 2,000 zones',
+            40: 'there are more than 200,000 legal duties: give the engine a lesser --sit, as -- --sit 180'}
+
+
+@contextmanager
+def one_line() -> Iterator[None]:
+    """What a session raises as a fault of one line."""
+    try:
+        yield
+    except Refused as refused:
+        why = REFUSALS.get(refused.reason, 'docs/sessions.md has the refusals')
+        raise ScheduleFault(f'the engine refused {refused.record!r} by {refused.reason}: {why}') from None
+    except EngineEnded as fault:
+        hint = '; `./crewprice prove` makes it, where it is not proved yet' if fault.status == EngineFault.status else ''
+        raise EngineFault(f'{fault}{hint}') from None
+    except NotUnderstood as fault:
+        raise EngineFault(str(fault)) from None
 
 
 class Engine:
-    """Flights, prices and questions. Prices are sent only where they change. Where a session has taken nearly as many
-    edits as it may, it goes on by a new one with the flights as they stand.
+    """Flights, prices and questions. Where a session has taken nearly as many edits as it may, it goes on by a new one
+    with the flights as they stand.
 
     `seconds` is the time that settles and lists took by the clock, `settles` their number."""
 
     def __init__(self, program: str, options: list[str], timetable: Timetable):
-        self.command = [program, 'run', *options]
+        self.program, self.options = program, options
         self.rules = dict(timetable.rules)
         self.flights = dict(timetable.flights)
         self.prices: dict[int, int] = dict.fromkeys(timetable.flights, 0)
@@ -47,22 +61,15 @@ class Engine:
         return self
 
     def __exit__(self, *_: object) -> None:
-        self.child.kill()
-        self.child.wait()
-        for pipe in (self.child.stdin, self.child.stdout):
-            try:
-                pipe.close()
-            except BrokenPipeError:
-                pass
+        self.session.process.kill()
+        self.session.close()
 
     def start(self) -> None:
         """Starts the program, and gives it the zones, bases and flights as they stand."""
         try:
-            self.child = subprocess.Popen(self.command, stdin=subprocess.PIPE, stdout=subprocess.PIPE, text=True)
-        except OSError as fault:
-            raise EngineFault(f'{self.command[0]}: {fault.strerror}: name the engine by --program') from None
-        self.sent, self.edits, self.unread = 0, 0, 0
-        self.unsettled: dict[int, str] = {}
+            self.session = Session(self.program, self.options)
+        except EngineEnded as fault:
+            raise EngineFault(f'{fault}: name the engine by --program') from None
         self.greet()
         self.send(f'zone,{code},"{rule}"' for code, rule in self.rules.items())
         self.send(f'base,{base},{price}' for base, price in self.base_prices.items())
@@ -70,65 +77,28 @@ class Engine:
 
     def greet(self) -> None:
         """Asks what every engine answers at once, so that one which never answers is told of."""
-        self.write('best')
-        self.flush()
-        if not select.select([self.child.stdout], [], [], PATIENCE)[0]:
-            self.child.kill()
-            raise EngineFault(f'{self.command[0]}: no answer within {PATIENCE:.0f} seconds: is it the engine?')
-        if (line := self.line()) != 'best none':
-            raise EngineFault(f'{self.command[0]}: it answers {line[:40]!r}, and not as the engine does')
-
-    def write(self, record: str) -> None:
-        try:
-            self.child.stdin.write(record + '\n')
-        except BrokenPipeError:
-            raise self.ended() from None
-        self.sent += 1
-
-    def flush(self) -> None:
-        try:
-            self.child.stdin.flush()
-        except BrokenPipeError:
-            raise self.ended() from None
-
-    def line(self) -> str:
-        line = self.child.stdout.readline()
-        if not line.endswith('\n'):
-            raise self.ended()
-        return line[:-1]
-
-    def ended(self) -> EngineFault:
-        status = self.child.wait()
-        hint = '; `./crewprice prove` makes it, where it is not proved yet' if status == EngineFault.status else ''
-        return EngineFault(f'the engine {self.command[0]} ended with status {status} before its answer, and what it said '
-                           f'is above{hint}')
+        with one_line():
+            self.session.put('best')
+            if not select.select([self.session.process.stdout], [], [], PATIENCE)[0]:
+                self.session.process.kill()
+                raise EngineFault(f'{self.program}: no answer within {PATIENCE:.0f} seconds: is it the engine?')
+            if (line := self.session.take()) != 'best none':
+                raise EngineFault(f'{self.program}: it answers {line[:40]!r}, and not as the engine does')
 
     def send(self, records: Iterable[str]) -> None:
-        """Zones and edits. Now and then a question between them reads what was refused."""
-        for record in records:
-            self.write(record)
-            self.unsettled[self.sent] = record
-            self.edits += 1
-            self.unread += 1
-            if self.unread >= UNREAD:
-                self.ask('best')
+        """Zones and edits, of which none may be refused."""
+        with one_line():
+            for record in records:
+                self.session.send(record)
+                self.see_refused()
 
-    def ask(self, question: str) -> str:
-        """The first line of an answer."""
-        self.write(question)
-        self.flush()
-        self.unread = 0
-        line = self.line()
-        if line.startswith('record '):
-            _, number, _, refusal = line.split()
-            record = self.unsettled.get(int(number), question)
-            why = REFUSALS.get(refusal, 'docs/sessions.md has the refusals')
-            raise ScheduleFault(f'the engine refused {record!r} by {refusal}: {why}')
-        return line
+    def see_refused(self) -> None:
+        if self.session.refused:
+            raise self.session.refused[0]
 
     def set_prices(self, prices: Prices) -> None:
         """Whole points, each from -10^9 to 10^9."""
-        if self.edits > MOST_EDITS:
+        if self.session.sent > MOST_EDITS:
             self.renew()
         for kind, asked, held in (('price', prices.flights, self.prices), ('baseprice', prices.bases, self.base_prices)):
             changed = {name: int(price) for name, price in asked.items() if held[name] != price}
@@ -148,10 +118,10 @@ class Engine:
         """Settles, and lists pairings with their costs, up to so many, the cheapest first; where `share` isn't 0,
         without those that fly a flight which so many listed ones fly already."""
         began = time.perf_counter()
-        self.ask('settle')
-        self.unsettled.clear()
-        answer = self.ask(f'pairings,{most},{share}' if share else f'pairings,{most}')
-        found = [pairing_of(self.line()) for _ in range(int(answer.split()[1]))]
+        with one_line():
+            for refused in self.session.settle().refused:
+                raise refused
+            found = [(Pairing(it.base, it.walk, it.pay, it.away), it.cost) for it in self.session.pairings(most, share)]
         self.seconds += time.perf_counter() - began
         self.settles += 1
         return found
@@ -165,7 +135,7 @@ class Engine:
     def processor_seconds(self) -> float:
         """What the engine's processes took so far of a processor, where the system tells."""
         try:
-            with open(f'/proc/{self.child.pid}/stat', encoding='utf-8') as file:
+            with open(f'/proc/{self.session.process.pid}/stat', encoding='utf-8') as file:
                 words = file.read().rsplit(')', 1)[1].split()
         except OSError:
             return self.processor_before

@@ -33,9 +33,3 @@ class Pairing:
     def flights(self) -> tuple[int, ...]:
         """Those that the crew flies: what the pairing covers."""
         return tuple(number for number in self.legs if number not in self.ridden) if self.ridden else self.legs
-
-
-def pairing_of(line: str) -> tuple[Pairing, int]:
-    """The pairing of a line `pairing CODE cost C pay P away A WALK`, and its cost in points."""
-    _, base, _, cost, _, pay, _, away, walk = line.rstrip('\n').split(' ', 8)
-    return Pairing(base, walk, int(pay), int(away)), int(cost)

@@ -57,16 +57,16 @@ def check(program: str, draw: random.Random, text: str, settings: dict[str, int]
         first = follow_ons.enforce(draw.sample(pairs, min(len(pairs), draw.randint(1, 5))))
         follow_ons.release(draw.sample(first, len(first) // 2))
         follow_ons.enforce(draw.sample(pairs, min(len(pairs), draw.randint(1, 5))))
-        engine.ask('settle')
-        words = engine.ask(f'audit,{AUDIT}').split()
+        engine.session.settle()
+        audit = engine.session.audit(AUDIT)
         used = sum(bool(held) for held in follow_ons.airports.values())
         kept = [pairing for pairing in listed if all(keeps(legs_of(pairing), pair) for pair in follow_ons.pairs)]
         wanted = len(kept), min((lister.cost(pairing, (flights, bases)) for pairing in kept), default=None)
-        found = int(words[4]), None if words[6] == 'none' else int(words[6])
+        found = audit.pairings, audit.cost
         count = len(follow_ons.pairs)
         follow_ons.release(follow_ons.pairs)
-        engine.ask('settle')
-        if int(engine.ask(f'audit,{AUDIT}').split()[4]) != len(listed):
+        engine.session.settle()
+        if engine.session.audit(AUDIT).pairings != len(listed):
             return 'not all pairings are back after all is undone', count, used
     return ('' if wanted == found else f'wanted {wanted}, found {found}'), count, used
 
