@@ -12,7 +12,7 @@ use Rattle.crew_pass.proofs.laws.long_passes_show_the_fronts.Goals as goal
 
 pub returns-clause-counts : goal.returns-clause-counts
 returns-clause-counts c = λ s price r is range base.
-    let most = range.others.max_duties_most in
+    let most = range.max_duties_most in
     rw is (record {
       tell = c.legal_duties_are_a_schedule.ensures.count (long_resource s price);
       limit = s.max_duties;
