@@ -108,7 +108,7 @@ pub struct Taken {
 }
 
 impl Places {
-    /// A counter of which no place is drawn.
+    /// A counter of which no place is drawn. No clause says so, since each draw tells what is drawn.
     pub fn new() -> Places {
         let (history, mut pens) = Drawings::open_row::<(), NoneLeftOut>(&(), Start::alone(), 1);
         let mut pen = pens.take();
@@ -123,7 +123,8 @@ impl Places {
         self.history.again()
     }
 
-    /// The place that is next, until somebody draws it.
+    /// The place that is next, until somebody draws it. No clause says so, since another thread may draw
+    /// it at once: `draw` tells whether it was.
     pub fn next(&self) -> usize {
         let mut history = self.history.again();
         let mut offer: Offer<usize, u64, NoneLeftOut, Nothing> = history.plain::<

@@ -43,7 +43,6 @@ rule_text The.Returns = codes "returns"
 
 -- the section of 14 CFR part 117 that a rule keeps; none of one that comes from settings or data
 abbrev pub section_text : Rule → List ℕ
-section_text The.Deadheads = codes "117.3"
 section_text The.FlightTime = codes "117.11"
 section_text The.FlightDuty = codes "117.13"
 section_text The.Rest = codes "117.25(e)"

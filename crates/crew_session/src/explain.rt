@@ -80,7 +80,6 @@ fn section_text(rule: Rule) -> &'static [u8]
     ensures { result.now ≡ Spec.section_text rule }
 {
     match rule {
-        Rule::Deadheads => b"117.3",
         Rule::FlightTime => b"117.11",
         Rule::FlightDuty => b"117.13",
         Rule::Rest => b"117.25(e)",

@@ -164,7 +164,8 @@ impl Version {
     /// Pareto fronts and best pairing of its timetable. None is there only where the timetable is
     /// empty, as it is before any entry.
     pub fn solution(&self) -> Option<&Solution>
-        ensures scratch { IfSome result (λ solution. IsScratch self.now.settings (Spec.timetable_of self.now.entries) (front_of solution.now) solution.now.best) }
+        ensures scratch { IfSome result (λ solution. IsScratch self.now.settings
+            (Spec.timetable_of self.now.entries) (front_of solution.now) solution.now.best) }
         ensures best { IfSome result (λ solution. solution.now.best ≡ self.now.best) }
         ensures network { IfSome result (λ solution. HasNetOf self.now.settings
             (Spec.timetable_of self.now.entries) solution.now) }
@@ -181,9 +182,12 @@ impl Version {
     pub fn best(&self) -> Option<&PricedPairing>
         ensures value { option_copied result ≡ self.now.best }
         ensures right { IsRight self.now }
-        ensures legal { IfSome result (λ best. IsPairing self.now.settings (Spec.timetable_of self.now.entries) best.now) }
-        ensures least { IfSome result (λ best. (p : Pairing) → IsPairing self.now.settings (Spec.timetable_of self.now.entries) p → best.now.cost ≤ℤ p.cost) }
-        ensures none { IsNone result ↔ ((p : Pairing) → IsPairing self.now.settings (Spec.timetable_of self.now.entries) p → ⊥) }
+        ensures legal { IfSome result (λ best. IsPairing self.now.settings
+            (Spec.timetable_of self.now.entries) best.now) }
+        ensures least { IfSome result (λ best. (p : Pairing) → IsPairing self.now.settings
+            (Spec.timetable_of self.now.entries) p → best.now.cost ≤ℤ p.cost) }
+        ensures none { IsNone result ↔ ((p : Pairing) → IsPairing self.now.settings
+            (Spec.timetable_of self.now.entries) p → ⊥) }
     {
         match &self.solution {
             None => None,
