@@ -33,4 +33,4 @@ schedule_of s base duties = record {
 
 -- each flight departs at an instant
 abbrev pub IsDated : Timetable → Type 0
-IsDated t = (flight : Flight) → Member (flights_of t) flight → IsInstant flight.dep
+IsDated t = (flight : Flight) → Member (flights_of t).list flight → IsInstant flight.dep

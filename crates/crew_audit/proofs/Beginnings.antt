@@ -5,9 +5,9 @@ use Rattle.std.specs.Int.{int_max, int_min}
 use Rattle.std.proofs.lemmas.Bool.{and_from, and_parts}
 use Rattle.std.proofs.lemmas.Int.{ints, clamps}
 use Rattle.crew_flights.specs.Timetable.{IsSound, Timetable}
-use Rattle.crew_flights.specs.declared.flight.Flight.{Flight}
 use Rattle.crew_rules.specs.declared.settings.Settings.{Settings}
 use Rattle.crew_pairing.specs.Duties.{flights_of}
+use Rattle.crew_pairing.specs.Flights.{Flights}
 use Rattle.crew_pairing.specs.Legality.{total}
 use Rattle.crew_pairing.specs.Pairings.{AllRested, IsDuty, last_duty}
 use Rattle.crew_pairing.specs.declared.duty.Duty.{Duty}
@@ -28,7 +28,7 @@ abbrev pub AllKeep : Settings → Duty → List Duty → Type 0
 AllKeep s first others = (before after : List Duty) → before ++ after ≡ others → keeps_limits s (first ∷ before) ≡ true
 
 -- a partial pairing, as the search tests it
-pub record IsTested (s : Settings) (flights : List Flight) (base : List ℕ) (first : Duty) (others : List Duty) : Type 0 where
+pub record IsTested (s : Settings) (flights : Flights) (base : List ℕ) (first : Duty) (others : List Duty) : Type 0 where
   pub legal : Each (IsDuty s flights) (first ∷ others)
   pub leaves : first.from ≡ base
   pub rested : AllRested s first others

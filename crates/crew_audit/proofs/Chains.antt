@@ -9,6 +9,7 @@ use Rattle.std.proofs.lemmas.Int.{ints}
 use Rattle.std.proofs.lemmas.Option.{slice_get-get_or}
 use Rattle.std.specs.Cmp.{eq_by_cmp_equiv}
 use Rattle.crew_flights.specs.Codes.{code_cmp, code_cmp_total}
+use Rattle.crew_flights.specs.Timetable.{Turns}
 use Rattle.crew_rules.specs.Settings.{IsChecked}
 use Rattle.crew_rules.specs.declared.settings.Settings.{Settings}
 use Rattle.crew_pairing.specs.Legality.{AllConnect, duty_of, flight_time, price_of, release, report, total}
@@ -62,15 +63,15 @@ away-ends (x ∷ ds) first last e f =
     rw (end, same) refl
 
 -- the facts of sound legs lie in their ranges
-pub made-in-range : (s : Settings) (first : TimedLeg) (others : List TimedLeg) → IsChecked s → AllSound (first ∷ others) → AllConnect s first others → length others ≤ 7
+pub made-in-range : (s : Settings) (turns : Turns) (first : TimedLeg) (others : List TimedLeg) → IsChecked s → AllSound (first ∷ others) → AllConnect s turns first others → length others ≤ 7
     → pos 15_000_000 ≤ℤ report s first → report s first ≤ℤ pos 70_000_000 → pos 15_000_000 ≤ℤ release s first others → release s first others ≤ℤ pos 70_000_000
     → (pos 0 -ℤ pos 9_000_000_000) ≤ℤ total price_of (first ∷ others) → total price_of (first ∷ others) ≤ℤ pos 9_000_000_000 → IsInRange (duty_of s first others)
-made-in-range s first others checked sound linked few a b d e p q =
+made-in-range s turns first others checked sound linked few a b d e p q =
     let debrief = checked.debrief in
-    let late = ends-later s first others sound linked in
+    let late = ends-later s turns first others sound linked in
     let flown = flown-total (first ∷ others) sound in
     let most : flight_time first others ≤ℤ pos 70_000_000 = omega (arith, ints, flown.1, few) in
-    let pay = legs-paid s first others checked few sound linked a e in
+    let pay = legs-paid s turns first others checked few sound linked a e in
     record {
       report = a;
       report_most = b;

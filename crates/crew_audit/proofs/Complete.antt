@@ -5,8 +5,8 @@ use Rattle.std.proofs.lemmas.Bool.{and_parts}
 use Rattle.std.proofs.lemmas.Cmp.{tied_itself}
 use Rattle.std.proofs.lemmas.Int.{ints}
 use Rattle.crew_flights.specs.Codes.{code_cmp, code_cmp_total}
-use Rattle.crew_flights.specs.declared.flight.Flight.{Flight}
 use Rattle.crew_rules.specs.declared.settings.Settings.{Settings}
+use Rattle.crew_pairing.specs.Flights.{Flights}
 use Rattle.crew_pairing.specs.Legality.{IsLegal, duty_of, total}
 use Rattle.crew_pairing.specs.Machinery.Listing.{all_duties}
 use Rattle.crew_resource.specs.Members.{Each, Member}
@@ -81,23 +81,23 @@ caps-begin s first others more sound rests h =
       away = omega (arith, ints, w.away, later, end);
     })
 
-legal-grows : (s : Settings) (flights : List Flight) (first : TimedLeg) (others : List TimedLeg) → AreFlights flights → IsLegal s flights first others → Grows (duty_of s first others)
+legal-grows : (s : Settings) (flights : Flights) (first : TimedLeg) (others : List TimedLeg) → AreFlights flights → IsLegal s flights first others → Grows (duty_of s first others)
 legal-grows s flights first others f legal =
     let sound = known-sound flights (first ∷ others) f legal.known in
-    let later = ends-later s first others sound legal.connected in
+    let later = ends-later s flights.turns first others sound legal.connected in
     let flown = flown-total (first ∷ others) sound in
     record { fdp = omega (arith, ints, later); fly = flown.0; elapsed = omega (arith, ints, later) }
 
-duty-grows : (s : Settings) (flights : List Flight) (d : Duty) → AreFlights flights → IsDuty s flights d → Grows d
+duty-grows : (s : Settings) (flights : Flights) (d : Duty) → AreFlights flights → IsDuty s flights d → Grows d
 duty-grows s flights d f legal =
     let same : d ≡ duty_of s legal.0 legal.1 = legal.3 in
     subst Grows (sym same) (legal-grows s flights legal.0 legal.1 f legal.2)
 
-all-of-them : (s : Settings) (flights : List Flight) (ds : List Duty) → AreFlights flights → Each (IsDuty s flights) ds → Each Grows ds
+all-of-them : (s : Settings) (flights : Flights) (ds : List Duty) → AreFlights flights → Each (IsDuty s flights) ds → Each Grows ds
 all-of-them s flights ds f h = Each-map (IsDuty s flights) Grows ds (λ d k. duty-grows s flights d f k) h
 
 -- each next duty of a partial goes on from those before
-goes : (s : Settings) (flights : List Flight) (base : List ℕ) (before : List Duty) (d : Duty) (more : List Duty) → AreFlights flights → IsBegun s flights base (before ++ d ∷ more)
+goes : (s : Settings) (flights : Flights) (base : List ℕ) (before : List Duty) (d : Duty) (more : List Duty) → AreFlights flights → IsBegun s flights base (before ++ d ∷ more)
     → goes_on base s before d ≡ true
 goes s flights base [] d more f b =
     let sound = all-of-them s flights more f b.legal.1 in
@@ -115,17 +115,17 @@ goes s flights base (first ∷ others) d more f b =
     both-on (may_stand_after s (last_duty first others) d) (keeps_totals s longer && keeps_limits s longer) joins.0
     (both-on (keeps_totals s longer) (keeps_limits s longer) (caps-begin s first (others ++ d ∷ []) more sound rests capped) (b.ends (others ++ d ∷ []) more joined))
 
-legal-next : (s : Settings) (flights : List Flight) (base : List ℕ) (before : List Duty) (d : Duty) (more : List Duty) → IsBegun s flights base (before ++ d ∷ more) → IsDuty s flights d
+legal-next : (s : Settings) (flights : Flights) (base : List ℕ) (before : List Duty) (d : Duty) (more : List Duty) → IsBegun s flights base (before ++ d ∷ more) → IsDuty s flights d
 legal-next s flights base [] d more b = b.legal.0
 legal-next s flights base (first ∷ others) d more b = (Each-after (IsDuty s flights) (first ∷ others) (d ∷ more) b.legal).0
 
-known : (s : Settings) (flights : List Flight) (d : Duty) → AreFlights flights → IsDuty s flights d → Member (all_duties s flights) d
+known : (s : Settings) (flights : Flights) (d : Duty) → AreFlights flights → IsDuty s flights d → Member (all_duties s flights) d
 known s flights d f legal =
     let same : d ≡ duty_of s legal.0 legal.1 = legal.3 in
     subst (Member (all_duties s flights)) (sym same) (all-every s flights legal.0 legal.1 f legal.2)
 
 -- each partial that goes on from these duties is listed
-pub after-every : (room : ℕ) (s : Settings) (flights : List Flight) (base : List ℕ) (price : ℤ) (before : List Duty) (d : Duty) (more : List Duty) → AreFlights flights
+pub after-every : (room : ℕ) (s : Settings) (flights : Flights) (base : List ℕ) (price : ℤ) (before : List Duty) (d : Duty) (more : List Duty) → AreFlights flights
     → IsBegun s flights base (before ++ d ∷ more) → length more < room → Member (after room s flights base price before) (listed s base price (before ++ d ∷ more))
 after-every zero s flights base price before d more f b h = absurd (omega arith)
 after-every (suc room) s flights base price before d [] f b h =

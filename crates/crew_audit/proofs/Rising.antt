@@ -6,9 +6,9 @@ use Rattle.std.specs.Ordering.{ordering_then}
 use Rattle.std.proofs.lemmas.Cmp.{tied_itself}
 use Rattle.std.proofs.lemmas.List.{map-append}
 use Rattle.crew_flights.specs.Codes.{code_cmp_total}
-use Rattle.crew_flights.specs.declared.flight.Flight.{Flight}
 use Rattle.crew_rules.specs.declared.settings.Settings.{Settings}
 use Rattle.crew_pairing.specs.Duties.{RiseByKey}
+use Rattle.crew_pairing.specs.Flights.{Flights}
 use Rattle.crew_pairing.specs.Keys.{key_cmp, key_total, walk_cmp}
 use Rattle.crew_pairing.specs.Machinery.Listing.{all_duties}
 use Rattle.crew_resource.specs.Members.{Each, Member}
@@ -60,7 +60,7 @@ by-key before d e xs ys less =
     ∙ common keys (d.key ∷ map (λ (x : Duty). x.key) xs) (e.key ∷ map (λ (x : Duty). x.key) ys)
     ∙ ap (λ r. ordering_then r (walk_cmp (map (λ (x : Duty). x.key) xs) (map (λ (x : Duty). x.key) ys))) less
 
-next-rises-by : (s : Settings) (flights : List Flight) (base : List ℕ) (price : ℤ) (before : List Duty) (d : Duty) (room : ℕ) (b : Bool) → Rise (after room s flights base price (before ++ d ∷ []))
+next-rises-by : (s : Settings) (flights : Flights) (base : List ℕ) (price : ℤ) (before : List Duty) (d : Duty) (room : ℕ) (b : Bool) → Rise (after room s flights base price (before ++ d ∷ []))
     → Rise (if b then listed s base price (before ++ d ∷ []) ∷ after room s flights base price (before ++ d ∷ []) else [])
 next-rises-by s flights base price before d room true r =
     (each-of (λ (q : Partial). partial_cmp (listed s base price (before ++ d ∷ [])) q ≡ Less) (after room s flights base price (before ++ d ∷ [])) (λ q m. later q m), r)
@@ -72,7 +72,7 @@ next-rises-by s flights base price before d room true r =
         ∙ same-base s base price (before ++ d ∷ []) ((before ++ d ∷ []) ++ on.next ∷ on.more) (shorter-first (before ++ d ∷ []) on.next on.more)
 next-rises-by s flights base price before d room false r = tt
 
-all-rise-by : (room : ℕ) (s : Settings) (flights : List Flight) (base : List ℕ) (price : ℤ) (before : List Duty) (ds : List Duty) → ((d : Duty) → Member ds d → Member (all_duties s flights) d) → RiseByKey ds
+all-rise-by : (room : ℕ) (s : Settings) (flights : Flights) (base : List ℕ) (price : ℤ) (before : List Duty) (ds : List Duty) → ((d : Duty) → Member ds d → Member (all_duties s flights) d) → RiseByKey ds
     → ((d : Duty) → Rise (with_next room s flights base price before d)) → Rise (flat_map (with_next room s flights base price before) ds)
 all-rise-by room s flights base price before [] among r each = tt
 all-rise-by room s flights base price before (d ∷ ds) among r each =
@@ -88,7 +88,7 @@ all-rise-by room s flights base price before (d ∷ ds) among r each =
         ap (λ (z : Partial). partial_cmp z q) x.given ∙ ap (partial_cmp (listed s base price (before ++ d ∷ x.more))) y.given
         ∙ same-base s base price (before ++ d ∷ x.more) (before ++ e ∷ y.more) (by-key before d e x.more y.more less)
 
-pub after-rises : (room : ℕ) (s : Settings) (flights : List Flight) (base : List ℕ) (price : ℤ) (before : List Duty) → Rises flights → Rise (after room s flights base price before)
+pub after-rises : (room : ℕ) (s : Settings) (flights : Flights) (base : List ℕ) (price : ℤ) (before : List Duty) → Rises flights.list → Rise (after room s flights base price before)
 after-rises zero s flights base price before h = rw (after-none s flights base price before) tt
 after-rises (suc room) s flights base price before h =
     let each : (d : Duty) → Rise (with_next room s flights base price before d) =

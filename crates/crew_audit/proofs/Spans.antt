@@ -1,8 +1,10 @@
 -- What may come next departs within a span.
-use Rattle.std.proofs.Common.{◌≡◌, ℤ, pos, ◌+ℤ◌, ◌-ℤ◌, int_le, ◌&&◌, Bool, true, false, [], refl, arith}
+use Rattle.std.proofs.Common.{◌≡◌, ℕ, ℤ, pos, ◌+ℤ◌, ◌-ℤ◌, int_le, ◌&&◌, Bool, true, false, [], refl, arith}
+use Rattle.std.proofs.lemmas.Bool.{and_from, and_parts}
 use Rattle.std.proofs.lemmas.Int.{ints}
+use Rattle.crew_flights.specs.Timetable.{Turns}
 use Rattle.crew_flights.specs.declared.flight.Flight.{Flight}
-use Rattle.crew_pairing.specs.Legality.{duty_of, may_follow}
+use Rattle.crew_pairing.specs.Legality.{duty_of, may_follow, turn_time}
 use Rattle.crew_pairing.specs.Machinery.Listing.{timed}
 use Rattle.crew_pairing.specs.Pairings.{may_stand_after}
 use Rattle.crew_pairing.specs.declared.duty.Duty.{Duty}
@@ -27,10 +29,20 @@ second : (a b c : Bool) → (b ≡ true → c ≡ true) → a && b ≡ true → 
 second true b c h e = h e
 second false b c h e = cc
 
+-- after a turn of any minutes a flight is no earlier than the arrival
+no-less : (n : ℕ) (gap most : ℤ) → int_le (pos n) gap && int_le gap most ≡ true → int_le (pos 0) gap && int_le gap most ≡ true
+no-less n gap most t =
+    let both = and_parts (int_le (pos n) gap) (int_le gap most) t in
+    and_from (int_le (pos 0) gap) (int_le gap most) (late both.0) both.1
+  where
+    late : int_le (pos n) gap ≡ true → int_le (pos 0) gap ≡ true
+    late h = grind (arith, ints)
+
 -- a leg that may follow another
-pub follows-within : (s : Settings) (last : Flight) (from end : ℤ) → from ≡ last.arr +ℤ pos s.connect → end ≡ last.arr +ℤ pos s.sit
-    → (f : Flight) → may_follow s last f ≡ true → leaves_within last.to (record { from = from; end = end }) f ≡ true
-follows-within s last from end e g f t = second _ _ _ (moved (pos s.connect) (pos s.sit) from end f.dep last.arr e g) t
+pub follows-within : (s : Settings) (turns : Turns) (last : Flight) (from end : ℤ) → from ≡ last.arr +ℤ pos 0 → end ≡ last.arr +ℤ pos s.sit
+    → (f : Flight) → may_follow s turns last f ≡ true → leaves_within last.to (record { from = from; end = end }) f ≡ true
+follows-within s turns last from end e g f t =
+    second _ _ _ (λ h. moved (pos 0) (pos s.sit) from end f.dep last.arr e g (no-less (turn_time s turns last f) (f.dep -ℤ last.arr) (pos s.sit) h)) t
 
 -- a duty that may stand after another
 pub rests-within : (s : Settings) (last : Duty) (from end : ℤ) → from ≡ last.release +ℤ pos s.lead +ℤ pos 600 → end ≡ last.release +ℤ pos s.lead +ℤ pos s.max_rest

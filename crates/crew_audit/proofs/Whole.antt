@@ -13,9 +13,9 @@ use Rattle.std.specs.FinMap.{find, is_sorted}
 use Rattle.std.specs.FinMap.Entries.{below_all}
 use Rattle.crew_flights.specs.Codes.{code_cmp, code_cmp_total}
 use Rattle.crew_flights.specs.Timetable.{IsBasePrice, IsSound, Timetable}
-use Rattle.crew_flights.specs.declared.flight.Flight.{Flight}
 use Rattle.crew_rules.specs.declared.settings.Settings.{Settings}
 use Rattle.crew_pairing.specs.Duties.{flights_of}
+use Rattle.crew_pairing.specs.Flights.{Flights}
 use Rattle.crew_pairing.specs.Keys.{walk_cmp}
 use Rattle.crew_resource.specs.Members.{Each, Member}
 use Rattle.crew_pairing.proofs.InList.{Member-flat_map, flat_map-Member}
@@ -79,7 +79,7 @@ entry [] k v e = cc
 entry (h ∷ es) k v e = entry-by k v h es (eq_by_cmp code_cmp k h.0) refl e (λ d. entry es k v d)
 
 -- base by base, in order
-bases-rise : (s : Settings) (flights : List Flight) (es : Bases) → is_sorted code_cmp es ≡ true → ((b : List ℕ × ℤ) → Rise (of_base s flights b)) → Rise (flat_map (of_base s flights) es)
+bases-rise : (s : Settings) (flights : Flights) (es : Bases) → is_sorted code_cmp es ≡ true → ((b : List ℕ × ℤ) → Rise (of_base s flights b)) → Rise (flat_map (of_base s flights) es)
 bases-rise s flights [] sorted each = tt
 bases-rise s flights (b ∷ es) sorted each =
     rise-join (of_base s flights b) (flat_map (of_base s flights) es) (each b) (bases-rise s flights es (both-second _ _ sorted) each)

@@ -1,9 +1,7 @@
 //! All partial pairings of a timetable.
 
 ghost use Rattle.std.specs.Prelude.{◌≡◌, ◌≤◌, IfOk, OnOk, Err, length};
-ghost use Rattle.crew_flights.specs.Timetable.{IsSound};
 ghost use Rattle.crew_rules.specs.Settings.{IsChecked};
-ghost use Rattle.crew_pairing.specs.Duties.{flights_of};
 ghost use Rattle.crew_audit.specs.Machinery.Listing.{all_partials};
 ghost use Rattle.crew_audit.specs.Machinery.Taking.{Took};
 ghost use Rattle.crew_audit.specs.Partials.{ArePartials, HasMoreThan};
@@ -14,29 +12,9 @@ use crate::partial::{AuditFault, Partial};
 use crate::search::{Scope, list_after};
 use crate::sink::{Running, Sink};
 use crate::tally::Tally;
-use crew_flights::{Flight, Timetable};
+use crew_flights::Timetable;
 use crew_rules::Settings;
-use std::alloc::{AllocError, Global};
-
-// The flights of a timetable, by number.
-fn held_flights(alloc: Global, timetable: &Timetable) -> Result<Vec<Flight>, AllocError>
-    ensures held { IfOk result (λ flights. flights.items ≡ flights_of timetable.now) }
-    ensures sound { IsSound timetable.now }
-{
-    timetable.flights().copied().collect(alloc)
-}
-
-// The flights of a timetable, by number and by airport.
-fn flights_at_hand(
-    alloc: Global,
-    settings: &Settings,
-    timetable: &Timetable,
-) -> Result<FlightList, AllocError>
-    ensures held { IfOk result (λ flights. flights ≡ flights_of timetable.now) }
-    ensures sound { IsSound timetable.now }
-{
-    FlightList::new(alloc, settings, held_flights(alloc, timetable)?)
-}
+use std::alloc::Global;
 
 // Finds all partials of a timetable.
 fn find<F: Sink>(
@@ -56,7 +34,7 @@ fn find<F: Sink>(
     ensures over { result ≡ Err AuditFault.OverLimit
         → HasMoreThan settings.now timetable.now limit }
 {
-    let flights = flights_at_hand(alloc, settings, timetable)?;
+    let flights = FlightList::of(alloc, settings, timetable)?;
     for (base, base_price) in timetable.bases() {
         let scope = Scope {
             settings,

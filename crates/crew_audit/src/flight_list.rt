@@ -1,13 +1,16 @@
-//! Flights by the airport that they leave, and by when.
+//! Flights by the airport that they leave, and by when, and the turns between them.
 //!
 //! Flights stand by number, and again by the airport that they leave, in blocks of time as wide as
 //! the gap between two legs may be, and as the rest between two duties: what comes next is looked
 //! for among the few flights of one block, still in order of number.
 
-ghost use Rattle.std.specs.Prelude.{◌≡◌, List, [], false, true, IfOk, IfSome, OnOk};
+ghost use Rattle.std.specs.Prelude.{◌≡◌, [], false, true, IfOk, IfSome, OnOk};
 ghost use Rattle.std.specs.List.{filter};
+ghost use Rattle.crew_flights.specs.Timetable.{IsSound};
 ghost use Rattle.crew_flights.specs.declared.flight.Flight.{Flight};
+ghost use Rattle.crew_pairing.specs.Duties.{flights_of};
 ghost use Rattle.crew_pairing.specs.Legality.{duty_of, may_follow};
+ghost use Rattle.crew_pairing.specs.Legality as Spec;
 ghost use Rattle.crew_pairing.specs.Machinery.Listing.{timed};
 ghost use Rattle.crew_pairing.specs.Pairings.{may_stand_after};
 ghost use Rattle.crew_resource.specs.Members.{Each, Member};
@@ -20,7 +23,7 @@ ghost use Rattle.crew_audit.specs.declared.flight_list.Leaving.{Leaving};
 ghost use Rattle.crew_audit.specs.declared.flight_list.Span.{Span};
 
 use crate::chain::LEAST_REST;
-use crew_flights::{Code, Flight};
+use crew_flights::{Code, Flight, Timetable};
 use crew_pairing::Duty;
 use crew_rules::Settings;
 use std::alloc::{AllocError, Global};
@@ -53,21 +56,27 @@ struct Leaving {
     days: Vec<Block>,
 }
 
-/// Flights in order, and those that leave an airport at hand.
+/// The flights of a timetable in order, with those that leave an airport at hand, and its turns.
 ///
-/// A contract sees the list of all.
+/// A contract sees the list of all, and the turns.
 #[derive(Drop)]
-pub(crate) struct FlightList {
+pub(crate) struct FlightList<'a> {
     all: Vec<Flight>,
     groups: Vec<Leaving>,
+    timetable: &'a Timetable,
 }
 
-impl Model for FlightList {
-    ghost Value = { List Flight };
+impl<'a> Model for FlightList<'a> {
+    ghost use Rattle.crew_pairing.specs.Flights.{Flights, flights_code};
+    ghost use Rattle.crew_audit.specs.Machinery.Leaving.{AreGroups};
 
-    ghost view = { λ list. list.all.items };
+    ghost Value = { Flights };
 
-    ghost invariant = { λ list. AreGroups list.all.items list.groups.items };
+    ghost coded = { flights_code };
+
+    ghost view = { λ l. record { list = l.all.items; turns = l.timetable.now.turns } };
+
+    ghost invariant = { λ l. AreGroups l.all.items l.groups.items };
 }
 
 // How far apart blocks begin, and how much further each goes on.
@@ -260,25 +269,45 @@ fn within<'a>(flights: &'a [Flight], blocks: &'a [Block], span: Span) -> &'a [Fl
     }
 }
 
-impl FlightList {
-    /// Of these flights.
-    pub(crate) fn new(
+// The flights of a timetable, by number.
+fn held_flights(alloc: Global, timetable: &Timetable) -> Result<Vec<Flight>, AllocError>
+    ensures held { IfOk result (λ flights. flights.items ≡ (flights_of timetable.now).list) }
+    ensures sound { IsSound timetable.now }
+{
+    timetable.flights().copied().collect(alloc)
+}
+
+impl<'a> FlightList<'a> {
+    /// Those of a timetable.
+    pub(crate) fn of(
         alloc: Global,
         settings: &Settings,
-        flights: Vec<Flight>,
-    ) -> Result<FlightList, AllocError>
-        ensures { IfOk result (λ list. list ≡ flights.items) }
+        timetable: &'a Timetable,
+    ) -> Result<FlightList<'a>, AllocError>
+        ensures held { IfOk result (λ flights. flights ≡ flights_of timetable.now) }
+        ensures sound { IsSound timetable.now }
     {
-        let groups = groups_of(alloc, settings, &flights)?;
+        let all = held_flights(alloc, timetable)?;
+        let groups = groups_of(alloc, settings, &all)?;
         Ok(FlightList {
-            all: flights,
+            all,
             groups,
+            timetable,
         })
+    }
+
+    /// The least minutes on the ground between two flights.
+    pub(crate) fn turn_time(&self, settings: &Settings, before: &Flight, next: &Flight) -> u32
+        ensures { result ≡ Spec.turn_time settings.now self.now.turns before.now next.now }
+    {
+        self.timetable
+            .turn(before.id, next.id)
+            .unwrap_or(settings.connect)
     }
 
     // What leaves an airport, if it is at hand.
     fn group(&self, airport: Code) -> Option<&Leaving>
-        ensures { IfSome result (λ group. IsGroup self.now group.now × ((f : Flight)
+        ensures { IfSome result (λ group. IsGroup self.now.list group.now × ((f : Flight)
             → leaves group.now.airport f ≡ leaves airport f)) }
     {
         for group in &self.groups {
@@ -291,7 +320,7 @@ impl FlightList {
 
     // All flights that leave an airport, in order, and maybe others.
     fn leaving(&self, airport: Code) -> &[Flight]
-        ensures { AreAmong (leaves airport) self.now result.now }
+        ensures { AreAmong (leaves airport) self.now.list result.now }
     {
         match self.group(airport) {
             Some(group) => &group.flights,
@@ -301,7 +330,7 @@ impl FlightList {
 
     // All flights that leave an airport within a span as wide as a gap, in order, and maybe others.
     fn legs_within(&self, airport: Code, span: Span) -> &[Flight]
-        ensures { AreAmong (leaves_within airport span) self.now result.now }
+        ensures { AreAmong (leaves_within airport span) self.now.list result.now }
     {
         match self.group(airport) {
             Some(group) => within(&group.flights, &group.legs, span),
@@ -311,7 +340,7 @@ impl FlightList {
 
     // The same of a span as wide as a rest.
     fn days_within(&self, airport: Code, span: Span) -> &[Flight]
-        ensures { AreAmong (leaves_within airport span) self.now result.now }
+        ensures { AreAmong (leaves_within airport span) self.now.list result.now }
     {
         match self.group(airport) {
             Some(group) => within(&group.flights, &group.days, span),
@@ -319,14 +348,17 @@ impl FlightList {
         }
     }
 
-    /// All flights that may come next after another, in order, and maybe others.
+    /// All flights that may come next after another, in order, and maybe others. They depart from
+    /// its arrival on: a turn may be shorter than `connect`.
     pub(crate) fn next_legs(&self, settings: &Settings, last: &Flight) -> &[Flight]
         requires { IsChecked settings.now }
-        ensures { AreAmong (may_follow settings.now last.now) self.now result.now }
+        ensures { AreAmong (may_follow settings.now self.now.turns last.now) self.now.list
+            result.now }
     {
+        let arrival = last.arr.get();
         let span = Span {
-            from: last.arr.get() + i64::from(settings.connect),
-            end: last.arr.get() + i64::from(settings.sit),
+            from: arrival,
+            end: arrival + i64::from(settings.sit),
         };
         self.legs_within(last.to, span)
     }
@@ -336,7 +368,7 @@ impl FlightList {
         requires checked { IsChecked settings.now }
         requires range { IsInRange last.now }
         ensures { AreAmong (λ f. may_stand_after settings.now last.now
-            (duty_of settings.now (timed false f) [])) self.now result.now }
+            (duty_of settings.now (timed false f) [])) self.now.list result.now }
     {
         let ready = i64::from(last.release) + i64::from(settings.lead);
         let span = Span {
@@ -352,7 +384,7 @@ impl FlightList {
         requires checked { IsChecked settings.now }
         requires ranges { Each IsInRange before.now }
         ensures { AreAmong (λ f. may_join base settings.now before.now
-            (duty_of settings.now (timed false f) [])) self.now result.now }
+            (duty_of settings.now (timed false f) [])) self.now.list result.now }
     {
         match before.last() {
             None => self.leaving(base),

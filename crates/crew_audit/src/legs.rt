@@ -1,13 +1,14 @@
 //! Lists of legs: which may go on, which can begin a duty, and the duty of such a list.
 
 ghost use Rattle.std.specs.Prelude.{◌≡◌, ◌≤◌, ◌++◌, ◌∷◌, [], length};
-ghost use Rattle.crew_flights.specs.Timetable.{IsFlight};
+ghost use Rattle.crew_flights.specs.Timetable.{IsFlight, Turns};
 ghost use Rattle.crew_rules.specs.Settings.{IsChecked};
 ghost use Rattle.crew_pairing.specs.Legality.{AllConnect, duty_of, may_follow};
 ghost use Rattle.crew_pairing.specs.Machinery.Listing.{is_hopeless, timed};
 ghost use Rattle.crew_resource.specs.Members.{Each};
 ghost use Rattle.crew_audit.specs.Machinery.Ranges.{IsInRange};
 
+use crate::flight_list::FlightList;
 use crew_flights::Flight;
 use crew_pairing::facts::{
     deadheads, flight_duty_period, flight_time, last_leg, price, release, report, segments,
@@ -20,12 +21,19 @@ use std::marker::Model;
 pub(crate) const LEGS: usize = 8;
 
 /// Whether a flight may come next after another.
-pub(crate) fn may_come_next(settings: &Settings, before: &Flight, next: &Flight) -> bool
+pub(crate) fn may_come_next(
+    settings: &Settings,
+    flights: &FlightList<'_>,
+    before: &Flight,
+    next: &Flight,
+) -> bool
     requires { IsChecked settings.now }
-    ensures { result ≡ may_follow settings.now before.now next.now }
+    ensures { result ≡ may_follow settings.now flights.now.turns before.now next.now }
 {
     let gap = next.dep.get() - before.arr.get();
-    before.to == next.from && i64::from(settings.connect) <= gap && gap <= i64::from(settings.sit)
+    before.to == next.from
+        && gap <= i64::from(settings.sit)
+        && i64::from(flights.turn_time(settings, before, next)) <= gap
 }
 
 /// Whether no duty can begin with these legs.
@@ -48,7 +56,7 @@ pub(crate) fn duty_from(settings: &Settings, first: &TimedLeg, others: &[TimedLe
     requires checked { IsChecked settings.now }
     requires few { length others.now ≤ 7 }
     requires sound { Each (λ l. IsFlight l.flight.id l.flight) (first.now ∷ others.now) }
-    requires connected { AllConnect settings.now first.now others.now }
+    requires connected { (turns : Turns) × AllConnect settings.now turns first.now others.now }
     ensures value { result ≡ duty_of settings.now first.now others.now }
     ensures range { IsInRange result }
 {

@@ -31,12 +31,12 @@ use crew_pairing::{Duty, TimedLeg};
 use crew_rules::Settings;
 use std::alloc::Global;
 
-// What the search works with: the flights by number and by airport, a base with its price, and the
-// most partials that are taken.
+// What the search works with: the flights by number and by airport, with their turns, a base with
+// its price, and the most partials that are taken.
 #[derive(Clone, Copy, Drop)]
 pub(crate) struct Scope<'a> {
     pub(crate) settings: &'a Settings,
-    pub(crate) flights: &'a FlightList,
+    pub(crate) flights: &'a FlightList<'a>,
     pub(crate) base: Code,
     pub(crate) base_price: i64,
     pub(crate) limit: usize,
@@ -115,7 +115,7 @@ fn list_from<F: Sink>(
     requires price { IsBasePrice scope.now.base_price }
     requires few { length before.now < scope.now.settings.now.max_duties }
     requires ranges { Each IsInRange before.now }
-    requires known { Member scope.now.flights.now flight.now }
+    requires known { Member scope.now.flights.now.list flight.now }
     requires joins { may_join scope.now.base scope.now.settings.now before.now
         (duty_of scope.now.settings.now (timed false flight.now) []) ≡ true }
     requires room { F.count found.old ≤ scope.now.limit }
@@ -184,7 +184,7 @@ fn list_legs<F: Sink>(
     list_own(alloc, found, scope, &longer, last.deadhead)?;
     let leaving = scope.flights.next_legs(scope.settings, &last.flight);
     for flight in leaving {
-        if may_come_next(scope.settings, &last.flight, flight) {
+        if may_come_next(scope.settings, scope.flights, &last.flight, flight) {
             list_below(alloc, found, scope, before, first, others, flight)?;
         }
     }
@@ -246,9 +246,9 @@ fn list_below<F: Sink>(
     requires beginning { IsBeginning scope.now.settings.now scope.now.flights.now first.now
         others.now }
     requires legs { length others.now < 8 }
-    requires known { Member scope.now.flights.now flight.now }
-    requires follows { may_follow scope.now.settings.now (last_of first.now others.now).flight
-        flight.now ≡ true }
+    requires known { Member scope.now.flights.now.list flight.now }
+    requires follows { may_follow scope.now.settings.now scope.now.flights.now.turns
+        (last_of first.now others.now).flight flight.now ≡ true }
     requires room { F.count found.old ≤ scope.now.limit }
     ensures ok { OnOk result (Took F.count F.holds found.old found.new
         (flat_map (with_next (scope.now.settings.now.max_duties - (length before.now + 1))

@@ -6,6 +6,7 @@ use Rattle.std.proofs.lemmas.List.{get_or-drop, get_or_default, length-drop, tak
 use Rattle.crew_flights.specs.declared.flight.Flight.{Flight}
 use Rattle.crew_rules.specs.declared.settings.Settings.{Settings}
 use Rattle.crew_resource.specs.Members.{Member}
+use Rattle.crew_pairing.specs.Flights.{Flights}
 use Rattle.crew_pairing.specs.Machinery.Blocks.{part_of}
 use Rattle.crew_pairing.specs.Machinery.Listing.{from_flight, from_place}
 use Rattle.crew_pairing.specs.declared.duty.Duty.{Duty}
@@ -102,25 +103,25 @@ starts-apart duties n from to h a b =
     not-more x o = grind (arith, nat_tests)
 
 -- what is known of the flights of a list
-pub AreKept-push : (s : Settings) (flights : List Flight) (duties : List Duty) (fs : List Flight) (blocks : List (Option Block)) (f : Flight) (block : Option Block) → AreKept s flights duties fs blocks → MayBeKept s flights duties f block
+pub AreKept-push : (s : Settings) (flights : Flights) (duties : List Duty) (fs : List Flight) (blocks : List (Option Block)) (f : Flight) (block : Option Block) → AreKept s flights duties fs blocks → MayBeKept s flights duties f block
     → AreKept s flights duties (fs ++ f ∷ []) (blocks ++ block ∷ [])
 AreKept-push s flights duties [] [] f block h e = (e, tt)
 AreKept-push s flights duties [] (b ∷ blocks) f block h e = absurd h
 AreKept-push s flights duties (g ∷ fs) [] f block h e = absurd h
 AreKept-push s flights duties (g ∷ fs) (b ∷ blocks) f block h e = (h.0, AreKept-push s flights duties fs blocks f block h.1 e)
 
-pub AreKept-more : (s : Settings) (flights : List Flight) (duties : List Duty) (blocks : List (Option Block)) (block : Option Block) (i : ℕ) (d : Flight) → i < length flights
-    → AreKept s flights duties (take i flights) blocks → MayBeKept s flights duties (get_or flights i d) block → AreKept s flights duties (take (i + 1) flights) (blocks ++ block ∷ [])
+pub AreKept-more : (s : Settings) (flights : Flights) (duties : List Duty) (blocks : List (Option Block)) (block : Option Block) (i : ℕ) (d : Flight) → i < length flights.list
+    → AreKept s flights duties (take i flights.list) blocks → MayBeKept s flights duties (get_or flights.list i d) block → AreKept s flights duties (take (i + 1) flights.list) (blocks ++ block ∷ [])
 AreKept-more s flights duties blocks block i d h n e =
-    rw (take_more flights i d h) (AreKept-push s flights duties (take i flights) blocks (get_or flights i d) block n e)
+    rw (take_more flights.list i d h) (AreKept-push s flights duties (take i flights.list) blocks (get_or flights.list i d) block n e)
 
-pub AreKept-length : (s : Settings) (flights : List Flight) (duties : List Duty) (fs : List Flight) (blocks : List (Option Block)) → AreKept s flights duties fs blocks → length blocks ≡ length fs
+pub AreKept-length : (s : Settings) (flights : Flights) (duties : List Duty) (fs : List Flight) (blocks : List (Option Block)) → AreKept s flights duties fs blocks → length blocks ≡ length fs
 AreKept-length s flights duties [] [] h = refl
 AreKept-length s flights duties [] (b ∷ blocks) h = absurd h
 AreKept-length s flights duties (f ∷ fs) [] h = absurd h
 AreKept-length s flights duties (f ∷ fs) (b ∷ blocks) h = ap suc (AreKept-length s flights duties fs blocks h.1)
 
-AreKept-at : (s : Settings) (flights : List Flight) (duties : List Duty) (fs : List Flight) (blocks : List (Option Block)) (i : ℕ) (f : Flight) (block : Block) → AreKept s flights duties fs blocks → slice_get fs i ≡ Some f → slice_get blocks i ≡ Some (Some block)
+AreKept-at : (s : Settings) (flights : Flights) (duties : List Duty) (fs : List Flight) (blocks : List (Option Block)) (i : ℕ) (f : Flight) (block : Block) → AreKept s flights duties fs blocks → slice_get fs i ≡ Some f → slice_get blocks i ≡ Some (Some block)
     → IsKept s flights duties f block
 AreKept-at s flights duties [] [] i f block h e k = cc
 AreKept-at s flights duties [] (b ∷ blocks) i f block h e k = absurd h
@@ -133,15 +134,15 @@ AreKept-at s flights duties (g ∷ fs) (b ∷ blocks) zero f block h e k =
 AreKept-at s flights duties (g ∷ fs) (b ∷ blocks) (suc i) f block h e k = AreKept-at s flights duties fs blocks i f block h.1 e k
 
 -- a kept block at a place
-pub kept-at : (s : Settings) (flights : List Flight) (duties : List Duty) (blocks : List (Option Block)) (place : ℕ) (block : Block) → AreKept s flights duties flights blocks → place < length flights → slice_get blocks place ≡ Some (Some block)
+pub kept-at : (s : Settings) (flights : Flights) (duties : List Duty) (blocks : List (Option Block)) (place : ℕ) (block : Block) → AreKept s flights duties flights.list blocks → place < length flights.list → slice_get blocks place ≡ Some (Some block)
     → (block.from ≤ block.to) × (block.to ≤ length duties) × (part_of duties block.from block.to ≡ from_place s flights place)
 kept-at s flights duties blocks place block h within k =
-    let f = (there flights place within).0 in
-    let e = (there flights place within).1 in
-    let is = AreKept-at s flights duties flights blocks place f block h e k in
-    (is.ordered, is.within, is.same ∙ sym (place-gives (from_flight s flights) flights place f e))
+    let f = (there flights.list place within).0 in
+    let e = (there flights.list place within).1 in
+    let is = AreKept-at s flights duties flights.list blocks place f block h e k in
+    (is.ordered, is.within, is.same ∙ sym (place-gives (from_flight s flights) flights.list place f e))
 
-pub may-be-kept : (s : Settings) (flights : List Flight) (duties : List Duty) (minutes : List ℤ) (f : Flight) (o : Option Block) → IsPast s flights duties minutes → Member flights f
-    → IfSome o (λ b. (fs : List Flight) → IsPast s fs duties minutes → Member fs f → IsKept s fs duties f b) → MayBeKept s flights duties f o
+pub may-be-kept : (s : Settings) (flights : Flights) (duties : List Duty) (minutes : List ℤ) (f : Flight) (o : Option Block) → IsPast s flights duties minutes → Member flights.list f
+    → IfSome o (λ b. (fs : Flights) → IsPast s fs duties minutes → Member fs.list f → IsKept s fs duties f b) → MayBeKept s flights duties f o
 may-be-kept s flights duties minutes f None past m h = tt
 may-be-kept s flights duties minutes f (Some b) past m h = h flights past m

@@ -8,6 +8,7 @@ use Rattle.std.specs.Prelude.{slice_get}
 use Rattle.crew_flights.specs.declared.flight.Flight.{Flight}
 use Rattle.crew_rules.specs.declared.settings.Settings.{Settings}
 use Rattle.crew_duty.specs.Machinery.Counts.{AreCounts, AreExact}
+use Rattle.crew_pairing.specs.Flights.{Flights}
 use Rattle.crew_pairing.specs.Machinery.Listing.{all_duties, from_flight, from_place}
 use Rattle.crew_pairing.specs.declared.duty.Duty.{Duty}
 use Rattle.crew_duty.proofs.Parts.{all-places}
@@ -123,15 +124,15 @@ total-more F from i total longer m l =
     omega (arith, m, l, ap length (all-more F from i), length-append (flat_map F (range_with_len from i)) (F (from + i)))
 
 -- the counts of all flights
-pub all-listed : (s : Settings) (flights : List Flight) → flat_map (from_place s flights) (range_with_len 0 (length flights)) ≡ all_duties s flights
-all-listed s flights = all-places (from_flight s flights) flights flights 0 (λ k f e. subst (λ (m : ℕ). slice_get flights m ≡ Some f) (omega arith) e)
+pub all-listed : (s : Settings) (flights : Flights) → flat_map (from_place s flights) (range_with_len 0 (length flights.list)) ≡ all_duties s flights
+all-listed s flights = all-places (from_flight s flights) flights.list flights.list 0 (λ k f e. subst (λ (m : ℕ). slice_get flights.list m ≡ Some f) (omega arith) e)
 
 -- too many are counted only where there are
-pub counts-over : (s : Settings) (flights : List Flight) (counts : List ℕ) → AreCounts (from_place s flights) 0 (length flights) counts → 200_000 < sum counts → 200_000 < length (all_duties s flights)
+pub counts-over : (s : Settings) (flights : Flights) (counts : List ℕ) → AreCounts (from_place s flights) 0 (length flights.list) counts → 200_000 < sum counts → 200_000 < length (all_duties s flights)
 counts-over s flights counts are more = rw (← all-listed s flights) (are.over more)
 
 -- and few only where there are few
-pub counts-few : (s : Settings) (flights : List Flight) (counts : List ℕ) → AreCounts (from_place s flights) 0 (length flights) counts → sum counts ≤ 200_000 → length (all_duties s flights) ≡ sum counts
+pub counts-few : (s : Settings) (flights : Flights) (counts : List ℕ) → AreCounts (from_place s flights) 0 (length flights.list) counts → sum counts ≤ 200_000 → length (all_duties s flights) ≡ sum counts
 counts-few s flights counts are few =
     let total = exact-total (from_place s flights) 0 counts (are.exact few) in
     let all = are.all in

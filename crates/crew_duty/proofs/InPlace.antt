@@ -12,7 +12,7 @@ use Rattle.crew_time.specs.Instant.{IsInstant}
 use Rattle.crew_flights.specs.Codes.{is_code}
 use Rattle.crew_rules.specs.Settings.{IsChecked}
 use Rattle.crew_rules.specs.declared.settings.Settings.{Settings}
-use Rattle.crew_duty.specs.Machinery.Slots.{IsIndex, earlier, follows_by, is_between, moment, slot_of, slots_from}
+use Rattle.crew_duty.specs.Machinery.Slots.{IsIndex, earlier, is_after_by, is_between, moment, slot_of, slots_from}
 use Rattle.crew_duty.specs.declared.departures.Slot.{Slot}
 use Rattle.crew_pairing.proofs.InList.{Each-filter, Member-filter, filter-Member}
 use Rattle.crew_pairing.proofs.Shuffled.{AreApart, Climb, Member-shuffled, climb-sorted, climb-unique}
@@ -120,19 +120,12 @@ in-place p q flights slots sorted agree all perm up =
     (λ n m. kept-places q slots home n (IsPermutation-sym home slots all) (Member-shuffled sorted (places (filter q slots)) n (IsPermutation-sym (places (filter q slots)) sorted perm) m)) in
     subst (λ (l : List ℕ). StandAt flights l (filter p flights)) same (stand p q flights flights 0 (λ k g e. subst (λ (n : ℕ). slice_get flights n ≡ Some g) (omega arith) e) agree)
 
--- the flights that may follow one and depart by a minute, by their slots
-pub by-slots : (s : Settings) (before : Flight) (latest : ℤ) (slots window : List Slot) (places : List ℕ) → IsChecked s → is_code before.to ≡ true → IsInstant before.arr → latest ≤ℤ pos 100_000_000
-    → window ≡ filter (is_between (moment before.to (before.arr +ℤ pos s.connect)) (moment before.to (earlier (before.arr +ℤ pos s.sit) latest))) slots
+-- the flights that leave where one arrives, after a gap, and depart by a minute, by their slots
+pub by-slots : (s : Settings) (gap : ℕ) (before : Flight) (latest : ℤ) (slots window : List Slot) (places : List ℕ) → IsChecked s → gap ≤ s.connect → is_code before.to ≡ true → IsInstant before.arr → latest ≤ℤ pos 100_000_000
+    → window ≡ filter (is_between (moment before.to (before.arr +ℤ pos gap)) (moment before.to (earlier (before.arr +ℤ pos s.sit) latest))) slots
     → IsPermutation (map (λ (t : Slot). t.place) window) places → IsSorted nat_cmp places
-    → (flights : List Flight) → IsIndex flights slots → StandAt flights places (filter (follows_by s latest before) flights)
-by-slots s before latest slots window places checked code time far same p q flights index =
-    let test = is_between (moment before.to (before.arr +ℤ pos s.connect)) (moment before.to (earlier (before.arr +ℤ pos s.sit) latest)) in
+    → (flights : List Flight) → IsIndex flights slots → StandAt flights places (filter (is_after_by s gap latest before) flights)
+by-slots s gap before latest slots window places checked soon code time far same p q flights index =
+    let test = is_between (moment before.to (before.arr +ℤ pos gap)) (moment before.to (earlier (before.arr +ℤ pos s.sit) latest)) in
     let shuffled = subst (λ (l : List Slot). IsPermutation (map (λ (t : Slot). t.place) l) places) same p in
-    in-place (follows_by s latest before) test flights slots places (λ place. each-follows s before flights place latest checked index.named code time far) index.all shuffled q
-
-pub in-time : {E : Type 0} (s : Settings) (before : Flight) (latest : ℤ) (slots window : List Slot) (r : Result (Vec ℕ Global) E) → IsChecked s → is_code before.to ≡ true → IsInstant before.arr → latest ≤ℤ pos 100_000_000
-    → window ≡ filter (is_between (moment before.to (before.arr +ℤ pos s.connect)) (moment before.to (earlier (before.arr +ℤ pos s.sit) latest))) slots
-    → IfOk r (λ places. IsPermutation (map (λ (t : Slot). t.place) window) places.items) → IfOk r (λ places. IsSorted nat_cmp places.items)
-    → IfOk r (λ places. (flights : List Flight) → IsIndex flights slots → StandAt flights places.items (filter (follows_by s latest before) flights))
-in-time s before latest slots window (Err x) checked code time far same p q = tt
-in-time s before latest slots window (Ok places) checked code time far same p q = by-slots s before latest slots window places.items checked code time far same p q
+    in-place (is_after_by s gap latest before) test flights slots places (λ place. each-follows s gap before flights place latest checked soon index.named code time far) index.all shuffled q

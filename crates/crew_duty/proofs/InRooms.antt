@@ -7,8 +7,8 @@ use Rattle.std.proofs.lemmas.Grind.{flat_map-append}
 use Rattle.std.proofs.lemmas.List.Elements.{All-cons, All-drop, All-take}
 use Rattle.std.proofs.lemmas.List.Folds.{flat_map-map}
 use Rattle.std.proofs.lemmas.Simd.{map-map}
-use Rattle.crew_flights.specs.declared.flight.Flight.{Flight}
 use Rattle.crew_rules.specs.declared.settings.Settings.{Settings}
+use Rattle.crew_pairing.specs.Flights.{Flights}
 use Rattle.crew_pairing.specs.Machinery.Listing.{from_place}
 use Rattle.crew_pairing.specs.declared.duty.Duty.{Duty}
 use Rattle.crew_duty.specs.Machinery.Counts.{AreExact}
@@ -17,8 +17,8 @@ use Rattle.crew_duty.specs.declared.rooms.Room.{Room}
 use Rattle.crew_duty.proofs.Counts.{sum-cons}
 
 -- rooms for the duties of flights from a place on
-pub are-rooms : (s : Settings) (flights : List Flight) (from : ℕ) (counts : List ℕ) (rooms : List Room) → map (λ (r : Room). r.place) rooms ≡ range_with_len from (length counts) → map (λ (r : Room). r.count) rooms ≡ counts
-    → AreExact (from_place s flights) from counts → from + length counts ≤ length flights → sum counts ≤ 200_000 → All (IsRoom s flights) rooms
+pub are-rooms : (s : Settings) (flights : Flights) (from : ℕ) (counts : List ℕ) (rooms : List Room) → map (λ (r : Room). r.place) rooms ≡ range_with_len from (length counts) → map (λ (r : Room). r.count) rooms ≡ counts
+    → AreExact (from_place s flights) from counts → from + length counts ≤ length flights.list → sum counts ≤ 200_000 → All (IsRoom s flights) rooms
 are-rooms s flights from counts [] p c e h f = λ k d within. absurd (omega (arith, within))
 are-rooms s flights from [] (r ∷ rooms) p c e h f = absurd (omega (arith, ap length c))
 are-rooms s flights from (n ∷ counts) (r ∷ rooms) p c e h f =
@@ -74,10 +74,10 @@ filled-append F xs ys front back all e f b =
     map-append D xs ys ∙ (ap₂ ◌++◌ f b ∙ (sym (map-append G front back) ∙ ap (map G) (sym e)))
 
 -- and parts of a list of rooms are rooms
-pub rooms-front : (s : Settings) (flights : List Flight) (front back all : List Room) → all ≡ front ++ back → All (IsRoom s flights) all → All (IsRoom s flights) front
+pub rooms-front : (s : Settings) (flights : Flights) (front back all : List Room) → all ≡ front ++ back → All (IsRoom s flights) all → All (IsRoom s flights) front
 rooms-front s flights front back all e are =
     subst (All (IsRoom s flights)) (take_at front back (length front) refl) (All-take (IsRoom s flights) (length front) (front ++ back) (subst (All (IsRoom s flights)) e are))
 
-pub rooms-back : (s : Settings) (flights : List Flight) (front back all : List Room) → all ≡ front ++ back → All (IsRoom s flights) all → All (IsRoom s flights) back
+pub rooms-back : (s : Settings) (flights : Flights) (front back all : List Room) → all ≡ front ++ back → All (IsRoom s flights) all → All (IsRoom s flights) back
 rooms-back s flights front back all e are =
     subst (All (IsRoom s flights)) (drop_at front back (length front) refl) (All-drop (IsRoom s flights) (length front) (front ++ back) (subst (All (IsRoom s flights)) e are))

@@ -1,18 +1,21 @@
 -- The duties that begin where nothing has changed are those of before.
-use Rattle.std.proofs.Common.{◌≡◌, ◌≤◌, ◌<◌, ◌≤ℤ◌, ◌+ℤ◌, ℕ, zero, suc, ℤ, pos, List, [], ◌∷◌, ◌++◌, ◌&&◌, Bool, true, false, cond, int_le, nat_le, nat_lt, nat_eq, length, max, refl, sym, ap, ◌∙◌, ◌⊎◌, subst, arith, filter, get_or, inl, inr, append-nil, if◌then◌else◌}
+use Rattle.std.proofs.Common.{◌≡◌, ◌≤◌, ◌<◌, ◌≤ℤ◌, ◌+ℤ◌, ◌-ℤ◌, Option, ℕ, zero, suc, ℤ, pos, List, [], ◌∷◌, ◌++◌, ◌&&◌, Bool, true, false, cond, int_le, nat_le, nat_lt, nat_eq, length, max, refl, sym, ap, ◌∙◌, ◌⊎◌, subst, arith, filter, get_or, inl, inr, append-nil, if◌then◌else◌}
 use Rattle.std.specs.Prelude.{int_lt}
 use Rattle.std.specs.List.{flat_map}
 use Rattle.std.specs.List.Sorted.{IsPartitionedBy, IsPartitionPoint}
 use Rattle.std.specs.declared.cmp.Ordering.{Ordering}
 use Rattle.std.specs.declared.cmp.Ordering.TheVariants.{Less, Equal, Greater}
-use Rattle.std.specs.Ordering.{bool_cmp, int_cmp, is_lt, nat_cmp, ordering_then}
+use Rattle.std.specs.Ordering.{bool_cmp, eq_by_cmp, int_cmp, is_lt, nat_cmp, ordering_then}
 use Rattle.std.specs.Cmp.{nat_cmp_total, on_total}
+use Rattle.std.specs.FinMap as map
+use Rattle.std.specs.Option.{unwrap_or}
 use Rattle.std.proofs.lemmas.Bool.{and_from, and_parts}
 use Rattle.std.proofs.lemmas.Bool.Decides.{nat_tests}
 use Rattle.std.proofs.lemmas.Cmp.{int_ranked, ranked}
 use Rattle.std.proofs.lemmas.Int.{ints}
 use Rattle.std.proofs.lemmas.List.Elements.{filter-append}
-use Rattle.crew_flights.specs.Timetable.{IsFlight, IsSound, Timetable}
+use Rattle.crew_flights.specs.Codes.{code_cmp}
+use Rattle.crew_flights.specs.Timetable.{IsFlight, IsSound, Timetable, Turns}
 use Rattle.crew_flights.specs.declared.flight.Flight.{Flight}
 use Rattle.crew_rules.specs.Tables.{Row, in_force, rows_b, table_b}
 use Rattle.crew_rules.specs.Settings.{IsChecked}
@@ -20,6 +23,7 @@ use Rattle.crew_rules.specs.declared.settings.Settings.{Settings}
 use Rattle.crew_resource.specs.Members.{Each, Member}
 use Rattle.crew_resource.proofs.Rising.{Rising, same-rising}
 use Rattle.crew_pairing.specs.Duties.{AreDuties, RiseByKey, flights_of}
+use Rattle.crew_pairing.specs.Flights.{Flights}
 use Rattle.crew_pairing.specs.Keys.{key_cmp, leg_cmp}
 use Rattle.crew_pairing.specs.Legality.{last_of, leg_of, may_follow, segments}
 use Rattle.crew_pairing.specs.Legs.{Leg}
@@ -34,23 +38,13 @@ use Rattle.crew_pairing.proofs.Sums.{last_of-push}
 use Rattle.crew_pairing.proofs.Times.{no-earlier}
 use Rattle.crew_pairing.proofs.Timetables.{flights-of-timetable}
 use Rattle.crew_pairing.proofs.Tree.{Each-map, Each-member, listing-closed, listing-none, listing-open}
-use Rattle.crew_duty.specs.Machinery.Kept.{AreApart, AreChanges, ClimbByFirst, ClimbInTime, IsPast, TellChanges, begins_with, departs_within, first_of, is_within, reach_of}
+use Rattle.crew_duty.specs.Machinery.Kept.{AreApart, AreChanges, ClimbByFirst, ClimbInTime, IsPast, TellChanges, TellTurns, begins_with, departs_within, first_of, is_within, reach_of}
 use Rattle.crew_duty.specs.Machinery.Limits.{latest_departure}
+use Rattle.crew_duty.specs.Machinery.Turns.{minutes_to, turns_from}
 use Rattle.crew_pairing.proofs.Shuffled.{each-of}
 use Rattle.crew_duty.proofs.Leads.{fewer-give, le-fails, nothing-below, second-fails}
+use Rattle.crew_duty.proofs.Turned.{filter-alike, filter-both, turn-among}
 use Rattle.crew_duty.proofs.Unique.{unique}
-
--- one filter after another
-filter-both : {X : Type 0} (p q : X → Bool) (xs : List X) → filter (λ x. p x && q x) xs ≡ filter p (filter q xs)
-filter-both p q [] = refl
-filter-both {X} p q (x ∷ xs) = by (p x) (q x) refl (filter-both p q xs)
-  where
-    by : (a b : Bool) → p x ≡ a → filter (λ y. p y && q y) xs ≡ filter p (filter q xs)
-        → cond (a && b) (x ∷ filter (λ y. p y && q y) xs) (filter (λ y. p y && q y) xs) ≡ filter p (cond b (x ∷ filter q xs) (filter q xs))
-    by true true e h = rw e (ap (λ (l : List X). x ∷ l) h)
-    by true false e h = h
-    by false true e h = rw e h
-    by false false e h = h
 
 -- lists that give the same of each
 give-same : (F G : Flight → List Duty) (fs : List Flight) → Each (λ f. F f ≡ G f) fs → flat_map F fs ≡ flat_map G fs
@@ -84,66 +78,86 @@ abbrev AreSound : List Flight → Type 0
 AreSound fs = Each (λ f. IsFlight f.id f) fs
 
 -- what departs out of reach of the first leg gives nothing
-out-of-reach : (s : Settings) (fs : List Flight) (first : TimedLeg) (others : List TimedLeg) (room : ℕ) (g : Flight) → IsFlight g.id g → first.flight.dep ≤ℤ (last_of first others).flight.arr
-    → may_follow s (last_of first others).flight g ≡ true → departs_within first.flight.dep (latest_departure s first []) g ≡ false → below room s fs first others g ≡ []
+out-of-reach : (s : Settings) (fs : Flights) (first : TimedLeg) (others : List TimedLeg) (room : ℕ) (g : Flight) → IsFlight g.id g → first.flight.dep ≤ℤ (last_of first others).flight.arr
+    → may_follow s fs.turns (last_of first others).flight g ≡ true → departs_within first.flight.dep (latest_departure s first []) g ≡ false → below room s fs first others g ≡ []
 out-of-reach s fs first others room g sound after follows far =
-    let gap = no-earlier s (last_of first others).flight g follows in
+    let gap = no-earlier s fs.turns (last_of first others).flight g follows in
     let here : int_le first.flight.dep g.dep ≡ true = of-le first.flight.dep g.dep (omega (arith, ints, gap, after)) in
     let late = le-fails g.dep (latest_departure s first []) (second-fails (int_le first.flight.dep g.dep) (int_le g.dep (latest_departure s first [])) far here) in
     let least = reach-least s first (first ∷ others) in
     nothing-below s fs first others room g sound (over-le g.dep (latest_departure s first (first ∷ others)) (omega (arith, ints, late, least)))
 
-all-out-of-reach : (s : Settings) (all : List Flight) (first : TimedLeg) (others : List TimedLeg) (room : ℕ) (fs : List Flight) → AreSound fs → first.flight.dep ≤ℤ (last_of first others).flight.arr
-    → Each (λ g. (may_follow s (last_of first others).flight g && departs_within first.flight.dep (latest_departure s first []) g) ≡ false → may_follow s (last_of first others).flight g ≡ true → below room s all first others g ≡ []) fs
+all-out-of-reach : (s : Settings) (all : Flights) (first : TimedLeg) (others : List TimedLeg) (room : ℕ) (fs : List Flight) → AreSound fs → first.flight.dep ≤ℤ (last_of first others).flight.arr
+    → Each (λ g. (may_follow s all.turns (last_of first others).flight g && departs_within first.flight.dep (latest_departure s first []) g) ≡ false → may_follow s all.turns (last_of first others).flight g ≡ true → below room s all first others g ≡ []) fs
 all-out-of-reach s all first others room [] h after = tt
 all-out-of-reach s all first others room (g ∷ fs) h after = (
-  λ e k. out-of-reach s all first others room g h.0 after k (second-fails (may_follow s (last_of first others).flight g) (departs_within first.flight.dep (latest_departure s first []) g) e k),
+  λ e k. out-of-reach s all first others room g h.0 after k (second-fails (may_follow s all.turns (last_of first others).flight g) (departs_within first.flight.dep (latest_departure s first []) g) e k),
   all-out-of-reach s all first others room fs h.1 after,
 )
 
--- a listing is the same over flights that are the same within reach of the first leg
-same-listing : (room : ℕ) (s : Settings) (fs gs : List Flight) (first : TimedLeg) (others : List TimedLeg) → AreSound fs → AreSound gs
-    → filter (departs_within first.flight.dep (latest_departure s first [])) fs ≡ filter (departs_within first.flight.dep (latest_departure s first [])) gs
-    → first.flight.dep ≤ℤ (last_of first others).flight.arr → listing room s fs first others ≡ listing room s gs first others
-same-listing zero s fs gs first others a b same after = listing-none s fs first others ∙ sym (listing-none s gs first others)
-same-listing (suc room) s fs gs first others a b same after =
+-- sound flights, each of which stands in the list
+sound-members : (fs : List Flight) → AreSound fs → Each (λ f. IsFlight f.id f × Member fs f) fs
+sound-members fs a = each fs a (λ f m. m)
+  where
+    each : (gs : List Flight) → AreSound gs → ((f : Flight) → Member gs f → Member fs f) → Each (λ f. IsFlight f.id f × Member fs f) gs
+    each [] h among = tt
+    each (g ∷ gs) h among = ((h.0, among g (inl refl)), each gs h.1 (λ f m. among f (inr m)))
+
+-- what may follow one flight may follow it under the same turns to next legs
+abbrev pub GoOnAlike : Settings → Turns → Turns → Flight → Type 0
+GoOnAlike s turns others f = (g : Flight) → may_follow s turns f g ≡ may_follow s others f g
+
+-- a listing is the same over flights that are the same within reach of the first leg, with the same
+-- turns to next legs
+same-listing : (room : ℕ) (s : Settings) (fs gs : Flights) (first : TimedLeg) (others : List TimedLeg) → AreSound fs.list → AreSound gs.list
+    → filter (departs_within first.flight.dep (latest_departure s first [])) fs.list ≡ filter (departs_within first.flight.dep (latest_departure s first [])) gs.list
+    → ((f : Flight) → Member fs.list f → departs_within first.flight.dep (latest_departure s first []) f ≡ true → GoOnAlike s fs.turns gs.turns f)
+    → first.flight.dep ≤ℤ (last_of first others).flight.arr → GoOnAlike s fs.turns gs.turns (last_of first others).flight → listing room s fs first others ≡ listing room s gs first others
+same-listing zero s fs gs first others a b same alike after here = listing-none s fs first others ∙ sym (listing-none s gs first others)
+same-listing (suc room) s fs gs first others a b same alike after here =
     by (is_hopeless s first others) refl
-    (λ g sound dead follows.
+    (λ g sound member within dead follows.
     let longer = others ++ timed dead g ∷ [] in
-    let gap = no-earlier s (last_of first others).flight g follows in
+    let gap = no-earlier s fs.turns (last_of first others).flight g follows in
     let block = sound.least_block in
-    let last : (last_of first longer).flight.arr ≡ g.arr = ap (λ (x : TimedLeg). x.flight.arr) (last_of-push first others (timed dead g)) in
-    same-listing room s fs gs first longer a b same (omega (arith, ints, gap, block, last, after)))
+    let end = last_of-push first others (timed dead g) in
+    let last : (last_of first longer).flight.arr ≡ g.arr = ap (λ (x : TimedLeg). x.flight.arr) end in
+    same-listing room s fs gs first longer a b same alike (omega (arith, ints, gap, block, last, after))
+    (subst (λ (x : TimedLeg). GoOnAlike s fs.turns gs.turns x.flight) (sym end) (alike g member within)))
   where
     by : (hope : Bool) → is_hopeless s first others ≡ hope
-        → ((g : Flight) → IsFlight g.id g → (dead : Bool) → may_follow s (last_of first others).flight g ≡ true → listing room s fs first (others ++ timed dead g ∷ []) ≡ listing room s gs first (others ++ timed dead g ∷ []))
+        → ((g : Flight) → IsFlight g.id g → Member fs.list g → departs_within first.flight.dep (latest_departure s first []) g ≡ true → (dead : Bool) → may_follow s fs.turns (last_of first others).flight g ≡ true
+        → listing room s fs first (others ++ timed dead g ∷ []) ≡ listing room s gs first (others ++ timed dead g ∷ []))
         → listing (suc room) s fs first others ≡ listing (suc room) s gs first others
     by true e deeper = listing-closed (suc room) s fs first others e ∙ sym (listing-closed (suc room) s gs first others e)
     by false e deeper =
-        let p = may_follow s (last_of first others).flight in
+        let p = may_follow s fs.turns (last_of first others).flight in
+        let p' = may_follow s gs.turns (last_of first others).flight in
         let q = departs_within first.flight.dep (latest_departure s first []) in
         let F = below room s fs first others in
         let G = below room s gs first others in
-        let front : flat_map F (filter (λ f. p f && q f) fs) ≡ flat_map F (filter p fs) = fewer-give F p q fs (all-out-of-reach s fs first others room fs a after) in
-        let back : flat_map G (filter (λ f. p f && q f) gs) ≡ flat_map G (filter p gs) = fewer-give G p q gs (all-out-of-reach s gs first others room gs b after) in
-        let middle : filter (λ f. p f && q f) fs ≡ filter (λ f. p f && q f) gs = filter-both p q fs ∙ ap (filter p) same ∙ sym (filter-both p q gs) in
-        let each : Each (λ f. F f ≡ G f) (filter (λ f. p f && q f) fs) = each-kept-of (λ f. p f && q f) (λ f. IsFlight f.id f) (λ f. F f ≡ G f) fs a
-        (λ f sound k.
-        let follows = (and_parts (p f) (q f) k).0 in
-        let flown = deeper f sound false follows in
-        let ridden = deeper f sound true follows in
+        let front : flat_map F (filter (λ f. p f && q f) fs.list) ≡ flat_map F (filter p fs.list) = fewer-give F p q fs.list (all-out-of-reach s fs first others room fs.list a after) in
+        let back : flat_map G (filter (λ f. p' f && q f) gs.list) ≡ flat_map G (filter p' gs.list) = fewer-give G p' q gs.list (all-out-of-reach s gs first others room gs.list b after) in
+        let middle : filter (λ f. p f && q f) fs.list ≡ filter (λ f. p' f && q f) gs.list =
+        filter-both p q fs.list ∙ ap (filter p) same ∙ sym (filter-both p q gs.list) ∙ filter-alike (λ f. p f && q f) (λ f. p' f && q f) gs.list (λ f. ap (λ (t : Bool). t && q f) (here f)) in
+        let each : Each (λ f. F f ≡ G f) (filter (λ f. p f && q f) fs.list) = each-kept-of (λ f. p f && q f) (λ f. IsFlight f.id f × Member fs.list f) (λ f. F f ≡ G f) fs.list (sound-members fs.list a)
+        (λ f known k.
+        let tests = and_parts (p f) (q f) k in
+        let flown = deeper f known.0 known.1 tests.1 false tests.0 in
+        let ridden = deeper f known.0 known.1 tests.1 true tests.0 in
         λ i. flown i ++ ridden i) in
         listing-open room s fs first others e
-        ∙ ap (λ (l : List Duty). own s first others ++ l) (sym front ∙ give-same F G (filter (λ f. p f && q f) fs) each ∙ ap (flat_map G) middle ∙ back)
+        ∙ ap (λ (l : List Duty). own s first others ++ l) (sym front ∙ give-same F G (filter (λ f. p f && q f) fs.list) each ∙ ap (flat_map G) middle ∙ back)
         ∙ sym (listing-open room s gs first others e)
 
-same-from : (s : Settings) (fs gs : List Flight) (f : Flight) → AreSound fs → AreSound gs → IsFlight f.id f
-    → filter (departs_within f.dep (reach_of s f)) fs ≡ filter (departs_within f.dep (reach_of s f)) gs → from_flight s fs f ≡ from_flight s gs f
-same-from s fs gs f a b sound same =
+same-from : (s : Settings) (fs gs : Flights) (f : Flight) → AreSound fs.list → AreSound gs.list → IsFlight f.id f
+    → filter (departs_within f.dep (reach_of s f)) fs.list ≡ filter (departs_within f.dep (reach_of s f)) gs.list
+    → ((g : Flight) → Member fs.list g → departs_within f.dep (reach_of s f) g ≡ true → GoOnAlike s fs.turns gs.turns g) → GoOnAlike s fs.turns gs.turns f → from_flight s fs f ≡ from_flight s gs f
+same-from s fs gs f a b sound same alike here =
     let block = sound.least_block in
     let after : f.dep ≤ℤ f.arr = omega (arith, ints, block) in
-    let flown = same-listing 8 s fs gs (timed false f) [] a b same after in
-    let ridden = same-listing 8 s fs gs (timed true f) [] a b same after in
+    let flown = same-listing 8 s fs gs (timed false f) [] a b same alike after here in
+    let ridden = same-listing 8 s fs gs (timed true f) [] a b same alike after here in
     λ i. flown i ++ ridden i
 
 -- flights that depart where nothing has changed
@@ -171,12 +185,32 @@ across fs gs minutes from to told apart f m =
     false-true true e h = absurd (cc)
     false-true false e h = absurd (cc)
 
-same-within : (fs gs : List Flight) (minutes : List ℤ) (from to : ℤ) → Rises fs → Rises gs → AreChanges fs gs minutes → AreApart from to minutes → filter (departs_within from to) fs ≡ filter (departs_within from to) gs
-same-within fs gs minutes from to h k told apart =
+same-within : (fs gs : List Flight) (minutes : List ℤ) (from to : ℤ) → Rises fs → Rises gs → TellChanges fs gs minutes → TellChanges gs fs minutes → AreApart from to minutes → filter (departs_within from to) fs ≡ filter (departs_within from to) gs
+same-within fs gs minutes from to h k come gone apart =
     let p = departs_within from to in
     same-rising (λ (f g : Flight). nat_cmp f.id g.id) (on_total (λ (f : Flight). f.id) nat_cmp_total) (filter p fs) (filter p gs)
     (by-number (filter p fs) (rises-filter p fs h)) (by-number (filter p gs) (rises-filter p gs k))
-    (across fs gs minutes from to told.come apart) (across gs fs minutes from to told.gone apart)
+    (across fs gs minutes from to come apart) (across gs fs minutes from to gone apart)
+
+-- the same turns to next legs let the same follow
+go-on : (s : Settings) (turns others : Turns) (f : Flight) → turns_from turns f.id ≡ turns_from others f.id → GoOnAlike s turns others f
+go-on s turns others f e g =
+    let same : map.get turns (f.id, g.id) ≡ map.get others (f.id, g.id) = turn-among turns f.id g.id ∙ ap (minutes_to g.id) e ∙ sym (turn-among others f.id g.id) in
+    ap (λ (o : Option ℕ). eq_by_cmp code_cmp f.to g.from && (int_le (pos (unwrap_or o s.connect)) (g.dep -ℤ f.arr) && int_le (g.dep -ℤ f.arr) (pos s.sit))) same
+
+-- the same turns have not changed
+pub none-turned : (fs : List Flight) (turns others : Turns) (minutes : List ℤ) → turns ≡ others → TellTurns fs turns others minutes
+none-turned [] turns others minutes e = tt
+none-turned (f ∷ fs) turns others minutes e = (inl (ap (λ (t : Turns). turns_from t f.id) e), none-turned fs turns others minutes e)
+
+-- where nothing has changed, turns let the same follow
+turns-within : (s : Settings) (fs : List Flight) (turns others : Turns) (minutes : List ℤ) (from to : ℤ) → TellTurns fs turns others minutes → AreApart from to minutes
+    → (f : Flight) → Member fs f → departs_within from to f ≡ true → GoOnAlike s turns others f
+turns-within s fs turns others minutes from to told apart f m within =
+    elim (Each-member (λ (g : Flight). (turns_from turns g.id ≡ turns_from others g.id) ⊎ Member minutes g.dep) fs f told m) [
+      | inl e ↦ go-on s turns others f e
+      | inr h ↦ absurd (let no : is_within from to f.dep ≡ false = Each-member (λ (n : ℤ). is_within from to n ≡ false) minutes f.dep apart h in let q : true ≡ false = sym within ∙ no in cc)
+    ]
 
 -- a flight departs within its own reach
 abbrev at_least : ℕ → List Row → Bool
@@ -229,11 +263,11 @@ none-pass p (d ∷ ds) h = rw h.0 (none-pass p ds h.1)
 abbrev AllFirst : ℕ → List Duty → Type 0
 AllFirst n ds = Each (λ d. first_of d.key ≡ n) ds
 
-listing-first : (s : Settings) (fs : List Flight) (dead : Bool) (f : Flight) → Rises fs → AllFirst f.id (listing 8 s fs (timed dead f) [])
+listing-first : (s : Settings) (fs : Flights) (dead : Bool) (f : Flight) → Rises fs.list → AllFirst f.id (listing 8 s fs (timed dead f) [])
 listing-first s fs dead f h =
     Each-map (λ (d : Duty). (rest : List Leg) × (d.key ≡ (leg_of (timed dead f) ∷ []) ++ rest)) (λ (d : Duty). first_of d.key ≡ f.id) (listing 8 s fs (timed dead f) []) (λ d k. ap first_of k.1) (listing-in-order 8 s fs (timed dead f) [] h).begin
 
-from-first : (s : Settings) (fs : List Flight) (f : Flight) → Rises fs → AllFirst f.id (from_flight s fs f)
+from-first : (s : Settings) (fs : Flights) (f : Flight) → Rises fs.list → AllFirst f.id (from_flight s fs f)
 from-first s fs f h =
     Each-join (λ (d : Duty). first_of d.key ≡ f.id) (listing 8 s fs (timed false f) []) (listing 8 s fs (timed true f) []) (listing-first s fs false f h) (listing-first s fs true f h)
 
@@ -304,23 +338,24 @@ climb-by-first (x ∷ ds) h (suc i) zero d a b = absurd (omega (arith, a))
 climb-by-first (x ∷ ds) h (suc i) (suc j) d a b = climb-by-first ds h.1 i j d (omega (arith, a)) (omega (arith, b))
 
 -- what all duties over earlier flights tell of those over later ones
-pub is-past : (s : Settings) (flights others : List Flight) (minutes : List ℤ) → IsChecked s → AreFlights flights → AreFlights others → AreChanges flights others minutes → IsPast s flights (all_duties s others) minutes
+pub is-past : (s : Settings) (flights others : Flights) (minutes : List ℤ) → IsChecked s → AreFlights flights → AreFlights others → AreChanges flights others minutes → IsPast s flights (all_duties s others) minutes
 is-past s flights others minutes checked now before told = record {
   duties_climb = climb-by-first (all_duties s others) (all-rise s others before.rising);
   minutes_climb = told.climb;
-  same = each flights (λ f m. m);
+  same = each flights.list (λ f m. m);
 }
   where
-    one : (f : Flight) → Member flights f → AreApart f.dep (reach_of s f) minutes → filter (begins_with f.id) (all_duties s others) ≡ from_flight s flights f
+    one : (f : Flight) → Member flights.list f → AreApart f.dep (reach_of s f) minutes → filter (begins_with f.id) (all_duties s others) ≡ from_flight s flights f
     one f m apart =
         let p = departs_within f.dep (reach_of s f) in
-        let same = same-within flights others minutes f.dep (reach_of s f) now.rising before.rising told apart in
+        let same = same-within flights.list others.list minutes f.dep (reach_of s f) now.rising before.rising told.come told.gone apart in
+        let alike = turns-within s flights.list flights.turns others.turns minutes f.dep (reach_of s f) told.turned apart in
         let here : p f ≡ true = and_from (int_le f.dep f.dep) (int_le f.dep (reach_of s f)) (of-le f.dep f.dep (omega (arith, ints))) (of-le f.dep (reach_of s f) (own-reach s f checked)) in
-        let stood : Member others f = (filter-Member p others f (subst (λ (l : List Flight). Member l f) same (Member-filter p flights f here m))).1 in
-        let sound = Each-member (λ (g : Flight). IsFlight g.id g) flights f now.each m in
-        one-block (from_flight s others) (λ g. from-first s others g before.rising) f others before.rising stood ∙ sym (same-from s flights others f now.each before.each sound same)
+        let stood : Member others.list f = (filter-Member p others.list f (subst (λ (l : List Flight). Member l f) same (Member-filter p flights.list f here m))).1 in
+        let sound = Each-member (λ (g : Flight). IsFlight g.id g) flights.list f now.each m in
+        one-block (from_flight s others) (λ g. from-first s others g before.rising) f others.list before.rising stood ∙ sym (same-from s flights others f now.each before.each sound same alike (alike f m here))
 
-    each : (fs : List Flight) → ((f : Flight) → Member fs f → Member flights f) → Each (λ f. AreApart f.dep (reach_of s f) minutes → filter (begins_with f.id) (all_duties s others) ≡ from_flight s flights f) fs
+    each : (fs : List Flight) → ((f : Flight) → Member fs f → Member flights.list f) → Each (λ f. AreApart f.dep (reach_of s f) minutes → filter (begins_with f.id) (all_duties s others) ≡ from_flight s flights f) fs
     each [] among = tt
     each (f ∷ fs) among = (one f (among f (inl refl)), each fs (λ g m. among g (inr m)))
 

@@ -9,6 +9,7 @@ use Rattle.crew_flights.specs.Timetable.{IsFlight}
 use Rattle.crew_flights.specs.declared.flight.Flight.{Flight}
 use Rattle.crew_rules.specs.Tables.{table_a, table_b}
 use Rattle.crew_rules.specs.declared.settings.Settings.{Settings}
+use Rattle.crew_pairing.specs.Flights.{Flights}
 use Rattle.crew_pairing.specs.Legality.{deadheads, flight_duty_period, flight_time, last_of, may_follow, segments}
 use Rattle.crew_duty.specs.Machinery.Limits.{latest_departure}
 use Rattle.crew_pairing.specs.Machinery.Listing.{below, is_hopeless, timed}
@@ -111,7 +112,7 @@ ridden-closed s first others g full =
     (int_lt (pos (table_a first.flight.report_clock)) (flight_time first longer) || int_lt (pos (table_b first.flight.report_clock (max (segments (first ∷ longer)) 1))) (flight_duty_period s first longer))
     (more-lt s.deadheads (deadheads (first ∷ longer)) (omega (arith, full, more)))
 
-pub nothing-below : (s : Settings) (flights : List Flight) (first : TimedLeg) (others : List TimedLeg) (room : ℕ) (g : Flight) → IsFlight g.id g → int_le g.dep (latest_departure s first (first ∷ others)) ≡ false → below room s flights first others g ≡ []
+pub nothing-below : (s : Settings) (flights : Flights) (first : TimedLeg) (others : List TimedLeg) (room : ℕ) (g : Flight) → IsFlight g.id g → int_le g.dep (latest_departure s first (first ∷ others)) ≡ false → below room s flights first others g ≡ []
 nothing-below s flights first others room g sound late =
     rw (
       listing-closed room s flights first (others ++ timed false g ∷ []) (late-closed s first others false g sound late),
@@ -122,32 +123,32 @@ pub second-fails : (a b : Bool) → (a && b) ≡ false → a ≡ true → b ≡ 
 second-fails true b h e = h
 second-fails false b h e = cc
 
-late-ones : (s : Settings) (flights : List Flight) (first : TimedLeg) (others : List TimedLeg) (room : ℕ) (fs : List Flight) → Each (λ f. IsFlight f.id f) fs
-    → Each (λ f. (may_follow s (last_of first others).flight f && int_le f.dep (latest_departure s first (first ∷ others))) ≡ false → may_follow s (last_of first others).flight f ≡ true → below room s flights first others f ≡ []) fs
+late-ones : (s : Settings) (flights : Flights) (first : TimedLeg) (others : List TimedLeg) (room : ℕ) (fs : List Flight) → Each (λ f. IsFlight f.id f) fs
+    → Each (λ f. (may_follow s flights.turns (last_of first others).flight f && int_le f.dep (latest_departure s first (first ∷ others))) ≡ false → may_follow s flights.turns (last_of first others).flight f ≡ true → below room s flights first others f ≡ []) fs
 late-ones s flights first others room [] h = tt
 late-ones s flights first others room (f ∷ fs) h =
-    (λ e k. nothing-below s flights first others room f h.0 (second-fails (may_follow s (last_of first others).flight f) (int_le f.dep (latest_departure s first (first ∷ others))) e k), late-ones s flights first others room fs h.1)
+    (λ e k. nothing-below s flights first others room f h.0 (second-fails (may_follow s flights.turns (last_of first others).flight f) (int_le f.dep (latest_departure s first (first ∷ others))) e k), late-ones s flights first others room fs h.1)
 
 -- all flights that may follow lead on
-pub leads-all : (s : Settings) (flights : List Flight) (first : TimedLeg) (others : List TimedLeg) (places : List ℕ) → StandAt flights places (filter (may_follow s (last_of first others).flight) flights) → LeadOn s flights first others places
+pub leads-all : (s : Settings) (flights : Flights) (first : TimedLeg) (others : List TimedLeg) (places : List ℕ) → StandAt flights.list places (filter (may_follow s flights.turns (last_of first others).flight) flights.list) → LeadOn s flights first others places
 leads-all s flights first others places h =
-    let test = may_follow s (last_of first others).flight in record {
-      follow = each-passes flights (λ g. test g ≡ true) places (filter test flights) h (each-kept test (λ g. test g ≡ true) flights (λ f e. e));
-      all = λ room. places-give (below room s flights first others) flights places (filter test flights) h;
+    let test = may_follow s flights.turns (last_of first others).flight in record {
+      follow = each-passes flights.list (λ g. test g ≡ true) places (filter test flights.list) h (each-kept test (λ g. test g ≡ true) flights.list (λ f e. e));
+      all = λ room. places-give (below room s flights first others) flights.list places (filter test flights.list) h;
     }
 
 -- and so do those that don't depart too late
-pub leads-early : (s : Settings) (flights : List Flight) (first : TimedLeg) (others : List TimedLeg) (places : List ℕ) (latest : ℤ) → AreFlights flights → latest ≡ latest_departure s first (first ∷ others)
-    → StandAt flights places (filter (follows_by s latest (last_of first others).flight) flights) → LeadOn s flights first others places
+pub leads-early : (s : Settings) (flights : Flights) (first : TimedLeg) (others : List TimedLeg) (places : List ℕ) (latest : ℤ) → AreFlights flights → latest ≡ latest_departure s first (first ∷ others)
+    → StandAt flights.list places (filter (follows_by s flights.turns latest (last_of first others).flight) flights.list) → LeadOn s flights first others places
 leads-early s flights first others places latest are e h =
     let last = (last_of first others).flight in
     let end = latest_departure s first (first ∷ others) in
-    let test = follows_by s end last in
-    let stands : StandAt flights places (filter test flights) = subst (λ (t : ℤ). StandAt flights places (filter (follows_by s t last) flights)) e h in record {
-      follow = each-passes flights (λ g. may_follow s last g ≡ true) places (filter test flights) stands
-          (each-kept test (λ g. may_follow s last g ≡ true) flights (λ f k. (and_parts (may_follow s last f) (int_le f.dep end) k).0));
-      all = λ room. places-give (below room s flights first others) flights places (filter test flights) stands
-          ∙ fewer-give (below room s flights first others) (may_follow s last) (λ f. int_le f.dep end) flights (late-ones s flights first others room flights are.each);
+    let test = follows_by s flights.turns end last in
+    let stands : StandAt flights.list places (filter test flights.list) = subst (λ (t : ℤ). StandAt flights.list places (filter (follows_by s flights.turns t last) flights.list)) e h in record {
+      follow = each-passes flights.list (λ g. may_follow s flights.turns last g ≡ true) places (filter test flights.list) stands
+          (each-kept test (λ g. may_follow s flights.turns last g ≡ true) flights.list (λ f k. (and_parts (may_follow s flights.turns last f) (int_le f.dep end) k).0));
+      all = λ room. places-give (below room s flights first others) flights.list places (filter test flights.list) stands
+          ∙ fewer-give (below room s flights first others) (may_follow s flights.turns last) (λ f. int_le f.dep end) flights.list (late-ones s flights first others room flights.list are.each);
     }
 
 -- a place that leads on
@@ -157,7 +158,7 @@ leads-at P (y ∷ xs) zero x h e = let same : y ≡ x = cc in subst P same h.0
 leads-at P (y ∷ xs) (suc i) x h e = leads-at P xs i x h.1 e
 
 -- where every flight that may follow arrives too late, nothing goes on
-none-below : (s : Settings) (flights : List Flight) (first : TimedLeg) (others : List TimedLeg) (room : ℕ) (gs : List Flight) → Each (λ g. latest_departure s first (first ∷ others) <ℤ g.arr) gs
+none-below : (s : Settings) (flights : Flights) (first : TimedLeg) (others : List TimedLeg) (room : ℕ) (gs : List Flight) → Each (λ g. latest_departure s first (first ∷ others) <ℤ g.arr) gs
     → flat_map (below room s flights first others) gs ≡ []
 none-below s flights first others room [] h = refl
 none-below s flights first others room (g ∷ gs) h =
@@ -165,10 +166,10 @@ none-below s flights first others room (g ∷ gs) h =
     let ridden = listing-closed room s flights first (others ++ timed true g ∷ []) (soon-closed s first others true g h.0) in
     rw (flown, ridden) (none-below s flights first others room gs h.1)
 
-pub leads-nowhere : (s : Settings) (flights : List Flight) (first : TimedLeg) (others : List TimedLeg) (room : ℕ) (next : Next) (latest : ℤ) → IsNext s flights (last_of first others).flight next → latest ≡ latest_departure s first (first ∷ others)
+pub leads-nowhere : (s : Settings) (flights : Flights) (first : TimedLeg) (others : List TimedLeg) (room : ℕ) (next : Next) (latest : ℤ) → IsNext s flights (last_of first others).flight next → latest ≡ latest_departure s first (first ∷ others)
     → pos 0 ≤ℤ latest → latest <ℤ next.soonest → onward room s flights first others ≡ []
 leads-nowhere s flights first others room next latest is e least soon =
-    let gs = filter (may_follow s (last_of first others).flight) flights in
+    let gs = filter (may_follow s flights.turns (last_of first others).flight) flights.list in
     none-below s flights first others room gs (subst (λ (t : ℤ). Each (λ g. t <ℤ g.arr) gs) e (is.soonest latest least soon))
 
 -- no leg is ridden first where none may be

@@ -2,6 +2,7 @@ pub mod Blocks
 pub mod Counts
 pub mod Facts
 pub mod Filling
+pub mod Gaps
 pub mod InPlace
 pub mod InRooms
 pub mod Kept
@@ -10,8 +11,11 @@ pub mod NewPrices
 pub mod Parts
 pub mod Paths
 pub mod Places
+pub mod Planned
 pub mod ReadNumbers
 pub mod Running
 pub mod Slots
 pub mod Steps
+pub mod TurnRange
+pub mod Turned
 pub mod Unique

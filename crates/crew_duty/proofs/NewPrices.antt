@@ -8,12 +8,13 @@ use Rattle.std.proofs.lemmas.Bool.Decides.{nat_tests}
 use Rattle.std.specs.declared.cmp.Ordering.TheVariants.{Less}
 use Rattle.std.specs.Ordering.{nat_cmp}
 use Rattle.std.proofs.lemmas.Cmp.{ranked}
-use Rattle.crew_flights.specs.Timetable.{IsFlight}
+use Rattle.crew_flights.specs.Timetable.{IsFlight, Turns}
 use Rattle.crew_flights.specs.declared.flight.Flight.{Flight}
 use Rattle.crew_rules.specs.declared.settings.Settings.{Settings}
 use Rattle.crew_resource.specs.Members.{Each, Member}
 use Rattle.crew_resource.proofs.Members.{Member-get, Member-map_in, Member-map_out}
 use Rattle.crew_pairing.specs.Duties.{AreDutiesOver, RiseByKey}
+use Rattle.crew_pairing.specs.Flights.{Flights}
 use Rattle.crew_pairing.specs.Keys.{key_cmp}
 use Rattle.crew_pairing.specs.Legality.{AllConnect, IsLegal, deadheads, duty_of, last_of, leg_of, minutes_flown, price_of, segments, total}
 use Rattle.crew_pairing.specs.Legs.{Leg}
@@ -83,42 +84,46 @@ duty-priced s prices first others =
     rw (last-priced prices first others, minutes-priced prices (first ∷ others), key-priced prices (first ∷ others), price-priced prices (first ∷ others)) refl
 
 -- legality, both ways
-connect-priced : (s : Settings) (prices : List ℤ) (first : TimedLeg) (others : List TimedLeg) → AllConnect s first others → AllConnect s (leg_priced prices first) (map (leg_priced prices) others)
-connect-priced s prices first [] h = tt
-connect-priced s prices first (next ∷ others) h = (h.0, connect-priced s prices next others h.1)
+connect-priced : (s : Settings) (turns : Turns) (prices : List ℤ) (first : TimedLeg) (others : List TimedLeg) → AllConnect s turns first others → AllConnect s turns (leg_priced prices first) (map (leg_priced prices) others)
+connect-priced s turns prices first [] h = tt
+connect-priced s turns prices first (next ∷ others) h = (h.0, connect-priced s turns prices next others h.1)
 
-connect-back : (s : Settings) (prices : List ℤ) (first : TimedLeg) (others : List TimedLeg) → AllConnect s (leg_priced prices first) (map (leg_priced prices) others) → AllConnect s first others
-connect-back s prices first [] h = tt
-connect-back s prices first (next ∷ others) h = (h.0, connect-back s prices next others h.1)
+connect-back : (s : Settings) (turns : Turns) (prices : List ℤ) (first : TimedLeg) (others : List TimedLeg) → AllConnect s turns (leg_priced prices first) (map (leg_priced prices) others) → AllConnect s turns first others
+connect-back s turns prices first [] h = tt
+connect-back s turns prices first (next ∷ others) h = (h.0, connect-back s turns prices next others h.1)
 
 known-priced : (prices : List ℤ) (fs : List Flight) (legs : List TimedLeg) → Each (λ l. Member fs l.flight) legs → Each (λ l. Member (map (priced prices) fs) l.flight) (map (leg_priced prices) legs)
 known-priced prices fs [] h = tt
 known-priced prices fs (l ∷ legs) h = (Member-map_in (priced prices) fs l.flight h.0, known-priced prices fs legs h.1)
 
-legal-priced : (s : Settings) (prices : List ℤ) (fs : List Flight) (first : TimedLeg) (others : List TimedLeg) → IsLegal s fs first others
-    → IsLegal s (map (priced prices) fs) (leg_priced prices first) (map (leg_priced prices) others)
+-- flights at new prices, with the same turns
+abbrev pub all-priced : List ℤ → Flights → Flights
+all-priced prices fs = record { list = map (priced prices) fs.list; turns = fs.turns }
+
+legal-priced : (s : Settings) (prices : List ℤ) (fs : Flights) (first : TimedLeg) (others : List TimedLeg) → IsLegal s fs first others
+    → IsLegal s (all-priced prices fs) (leg_priced prices first) (map (leg_priced prices) others)
 legal-priced s prices fs first others h =
     let last = last-priced prices first others in
     let legs = first ∷ others in
     record {
-      known = known-priced prices fs legs h.known;
+      known = known-priced prices fs.list legs h.known;
       legs = rw (length-map others (leg_priced prices)) h.legs;
-      connected = connect-priced s prices first others h.connected;
+      connected = connect-priced s fs.turns prices first others h.connected;
       deadheaded = rw (deadheads-priced prices legs) h.deadheaded;
       flown_last = rw last h.flown_last;
       table_a = rw (minutes-priced prices legs) h.table_a;
       table_b = rw (last, segments-priced prices legs) h.table_b;
     }
 
-legal-back : (s : Settings) (prices : List ℤ) (fs gs : List Flight) (first : TimedLeg) (others : List TimedLeg) → Each (λ l. Member fs l.flight) (first ∷ others)
-    → IsLegal s gs (leg_priced prices first) (map (leg_priced prices) others) → IsLegal s fs first others
-legal-back s prices fs gs first others known h =
+legal-back : (s : Settings) (prices : List ℤ) (fs : Flights) (first : TimedLeg) (others : List TimedLeg) → Each (λ l. Member fs.list l.flight) (first ∷ others)
+    → IsLegal s (all-priced prices fs) (leg_priced prices first) (map (leg_priced prices) others) → IsLegal s fs first others
+legal-back s prices fs first others known h =
     let last = last-priced prices first others in
     let legs = first ∷ others in
     record {
       known = known;
       legs = rw (length-map others (leg_priced prices)) at h.legs;
-      connected = connect-back s prices first others h.connected;
+      connected = connect-back s fs.turns prices first others h.connected;
       deadheaded = rw (deadheads-priced prices legs) at h.deadheaded;
       flown_last = rw last at h.flown_last;
       table_a = rw (minutes-priced prices legs) at h.table_a;
@@ -145,8 +150,8 @@ rise-priced : (prices : List ℤ) (ds : List Duty) → RiseByKey ds → RiseByKe
 rise-priced prices [] h = tt
 rise-priced prices (d ∷ ds) h = (each-priced prices d ds h.0, rise-priced prices ds h.1)
 
-sound-priced : (s : Settings) (prices : List ℤ) (fs : List Flight) (ds : List Duty) → AreDutiesOver s fs ds → (d : Duty) → Member (map (under_prices prices) ds) d
-    → (first : TimedLeg) × (others : List TimedLeg) × IsLegal s (map (priced prices) fs) first others × (d ≡ duty_of s first others)
+sound-priced : (s : Settings) (prices : List ℤ) (fs : Flights) (ds : List Duty) → AreDutiesOver s fs ds → (d : Duty) → Member (map (under_prices prices) ds) d
+    → (first : TimedLeg) × (others : List TimedLeg) × IsLegal s (all-priced prices fs) first others × (d ≡ duty_of s first others)
 sound-priced s prices fs ds all d m =
     let e = Member-map_out (under_prices prices) ds d m in
     let legal = all.sound e.0 e.1 in
@@ -158,39 +163,39 @@ sound-priced s prices fs ds all d m =
       sym e.2 ∙ ap (under_prices prices) legal.3 ∙ sym (duty-priced s prices first others),
     )
 
-every-priced : (s : Settings) (prices : List ℤ) (fs : List Flight) (ds : List Duty) → AreDutiesOver s fs ds → (first : TimedLeg) (others : List TimedLeg)
-    → IsLegal s (map (priced prices) fs) first others → Member (map (under_prices prices) ds) (duty_of s first others)
+every-priced : (s : Settings) (prices : List ℤ) (fs : Flights) (ds : List Duty) → AreDutiesOver s fs ds → (first : TimedLeg) (others : List TimedLeg)
+    → IsLegal s (all-priced prices fs) first others → Member (map (under_prices prices) ds) (duty_of s first others)
 every-priced s prices fs ds all first others legal =
-    let one = before-of prices fs (first ∷ []) (legal.known.0, tt) in
-    let f = Member-map_out (priced prices) fs first.flight legal.known.0 in
-    let rest = before-of prices fs others legal.known.1 in
+    let f = Member-map_out (priced prices) fs.list first.flight legal.known.0 in
+    let rest = before-of prices fs.list others legal.known.1 in
     let old : TimedLeg = record { flight = f.0; deadhead = first.deadhead } in
     let same-first : leg_priced prices old ≡ first = ap (λ (g : Flight). record { flight = g; deadhead = first.deadhead }) f.2 in
-    let before = legal-back s prices fs (map (priced prices) fs) old rest.0 (f.1, rest.1) (rw (same-first, rest.2) legal) in
+    let before = legal-back s prices fs old rest.0 (f.1, rest.1) (rw (same-first, rest.2) legal) in
     let found = Member-map_in (under_prices prices) ds (duty_of s old rest.0) (all.every old rest.0 before) in
     let same : under_prices prices (duty_of s old rest.0) ≡ duty_of s first others =
     sym (duty-priced s prices old rest.0) ∙ ap (λ (l : TimedLeg). duty_of s l (map (leg_priced prices) rest.0)) same-first ∙ ap (duty_of s first) rest.2 in
     subst (Member (map (under_prices prices) ds)) same found
 
-pub duties-priced : (s : Settings) (prices : List ℤ) (flights before : List Flight) (ds : List Duty) → AreSameButPrices flights before → HavePrices prices flights
+pub duties-priced : (s : Settings) (prices : List ℤ) (flights before : Flights) (ds : List Duty) → AreSameButPrices flights before → HavePrices prices flights.list
     → AreDutiesOver s before ds → AreDutiesOver s flights (map (under_prices prices) ds)
 duties-priced s prices flights before ds same held all =
-    let now : flights ≡ map (priced prices) before = same-flights prices flights before same.count same.each held in
-    subst (λ (fs : List Flight). AreDutiesOver s fs (map (under_prices prices) ds)) (sym now) (record {
+    let list : flights.list ≡ map (priced prices) before.list = same-flights prices flights.list before.list same.count same.each held in
+    let now : flights ≡ all-priced prices before = λ i. record { list = list i; turns = same.turns i } in
+    subst (λ (fs : Flights). AreDutiesOver s fs (map (under_prices prices) ds)) (sym now) (record {
       sound = sound-priced s prices before ds all;
       every = every-priced s prices before ds all;
       rising = rise-priced prices ds all.rising;
     })
 
 -- legal duties have few legs
-few-legs-of : (s : Settings) (fs : List Flight) (ds : List Duty) → ((d : Duty) → Member ds d → (first : TimedLeg) × (others : List TimedLeg) × IsLegal s fs first others × (d ≡ duty_of s first others)) → HaveFewLegs ds
+few-legs-of : (s : Settings) (fs : Flights) (ds : List Duty) → ((d : Duty) → Member ds d → (first : TimedLeg) × (others : List TimedLeg) × IsLegal s fs first others × (d ≡ duty_of s first others)) → HaveFewLegs ds
 few-legs-of s fs [] sound = tt
 few-legs-of s fs (d ∷ ds) sound =
     let legal = sound d (inl refl) in
     let long : length (duty_of s legal.0 legal.1).key ≤ 8 = rw (length-map legal.1 leg_of) legal.2.legs in
     (subst (λ (e : Duty). length e.key ≤ 8) (sym legal.3) long, few-legs-of s fs ds (λ e m. sound e (inr m)))
 
-pub few-legs : (s : Settings) (fs : List Flight) (ds : List Duty) → AreDutiesOver s fs ds → HaveFewLegs ds
+pub few-legs : (s : Settings) (fs : Flights) (ds : List Duty) → AreDutiesOver s fs ds → HaveFewLegs ds
 few-legs s fs ds all = few-legs-of s fs ds all.sound
 
 -- numbers climb from place to place

@@ -4,24 +4,25 @@ use Rattle.std.specs.Prelude.{slice_get}
 use Rattle.std.proofs.lemmas.List.{take_more}
 use Rattle.crew_flights.specs.declared.flight.Flight.{Flight}
 use Rattle.crew_rules.specs.declared.settings.Settings.{Settings}
+use Rattle.crew_pairing.specs.Flights.{Flights}
 use Rattle.crew_duty.specs.declared.plan.Next.{Next}
 use Rattle.crew_duty.specs.Machinery.Plans.{AreNext, IsNext, StandAt}
 
 -- the places of the followers of one flight more
-pub AreNext-push : (s : Settings) (flights fs : List Flight) (others : List Next) (f : Flight) (known : Next) → AreNext s flights fs others
+pub AreNext-push : (s : Settings) (flights : Flights) (fs : List Flight) (others : List Next) (f : Flight) (known : Next) → AreNext s flights fs others
     → IsNext s flights f known → AreNext s flights (fs ++ f ∷ []) (others ++ known ∷ [])
 AreNext-push s flights [] [] f known h e = (e, tt)
 AreNext-push s flights [] (o ∷ others) f known h e = absurd h
 AreNext-push s flights (g ∷ fs) [] f known h e = absurd h
 AreNext-push s flights (g ∷ fs) (o ∷ others) f known h e = (h.0, AreNext-push s flights fs others f known h.1 e)
 
-pub AreNext-more : (s : Settings) (flights : List Flight) (next : List Next) (known : Next) (i : ℕ) (d : Flight) → i < length flights
-    → AreNext s flights (take i flights) next → IsNext s flights (get_or flights i d) known → AreNext s flights (take (i + 1) flights) (next ++ known ∷ [])
+pub AreNext-more : (s : Settings) (flights : Flights) (next : List Next) (known : Next) (i : ℕ) (d : Flight) → i < length flights.list
+    → AreNext s flights (take i flights.list) next → IsNext s flights (get_or flights.list i d) known → AreNext s flights (take (i + 1) flights.list) (next ++ known ∷ [])
 AreNext-more s flights next known i d h n e =
-    rw (take_more flights i d h) (AreNext-push s flights (take i flights) next (get_or flights i d) known n e)
+    rw (take_more flights.list i d h) (AreNext-push s flights (take i flights.list) next (get_or flights.list i d) known n e)
 
 -- what is known of the flight at a place
-pub AreNext-at : (s : Settings) (flights fs : List Flight) (next : List Next) (i : ℕ) (f : Flight) (known : Next) → AreNext s flights fs next → slice_get fs i ≡ Some f → slice_get next i ≡ Some known
+pub AreNext-at : (s : Settings) (flights : Flights) (fs : List Flight) (next : List Next) (i : ℕ) (f : Flight) (known : Next) → AreNext s flights fs next → slice_get fs i ≡ Some f → slice_get next i ≡ Some known
     → IsNext s flights f known
 AreNext-at s flights [] [] i f known n e k = cc
 AreNext-at s flights [] (o ∷ next) i f known n e k = absurd n
@@ -32,7 +33,7 @@ AreNext-at s flights (g ∷ fs) (o ∷ next) zero f known n e k =
     rw (← same, ← row) n.0
 AreNext-at s flights (g ∷ fs) (o ∷ next) (suc i) f known n e k = AreNext-at s flights fs next i f known n.1 e k
 
-pub AreNext-length : (s : Settings) (flights fs : List Flight) (next : List Next) → AreNext s flights fs next → length next ≡ length fs
+pub AreNext-length : (s : Settings) (flights : Flights) (fs : List Flight) (next : List Next) → AreNext s flights fs next → length next ≡ length fs
 AreNext-length s flights [] [] n = refl
 AreNext-length s flights [] (o ∷ next) n = absurd n
 AreNext-length s flights (g ∷ fs) [] n = absurd n

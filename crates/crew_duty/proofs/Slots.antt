@@ -17,12 +17,13 @@ use Rattle.std.proofs.lemmas.Int.{ints}
 use Rattle.crew_resource.specs.Members.{Each}
 use Rattle.crew_time.specs.Instant.{IsInstant}
 use Rattle.crew_flights.specs.Codes.{code_cmp, code_cmp_total, is_code, is_letter}
+use Rattle.crew_flights.specs.Timetable.{Turns}
 use Rattle.crew_flights.specs.declared.flight.Flight.{Flight}
 use Rattle.crew_rules.specs.Settings.{IsChecked}
 use Rattle.crew_rules.specs.declared.settings.Settings.{Settings}
 use Rattle.crew_pairing.specs.Legality.{may_follow}
 use Rattle.crew_pairing.proofs.Windows.{window}
-use Rattle.crew_duty.specs.Machinery.Slots.{Ascend, IsNamed, earlier, follows_by, is_between, code_number, moment, slot_of, slots_from}
+use Rattle.crew_duty.specs.Machinery.Slots.{Ascend, IsNamed, earlier, follows_by, is_after, is_after_by, is_between, code_number, moment, slot_of, slots_from}
 use Rattle.crew_duty.specs.declared.departures.Slot.{Slot}
 
 letter-within : (x : ℕ) → is_letter x ≡ true → (65 ≤ x) × (x ≤ 90)
@@ -111,13 +112,13 @@ earlier-by a b c false h k = k
 pub earlier-least : (a b c : ℤ) → c ≤ℤ a → c ≤ℤ b → c ≤ℤ earlier a b
 earlier-least a b c h k = earlier-by a b c (int_lt a b) h k
 
-pub between-follows : (s : Settings) (before f : Flight) (place : ℕ) (latest : ℤ) → IsChecked s → IsNamed f → is_code before.to ≡ true → IsInstant before.arr → latest ≤ℤ pos 100_000_000
-    → is_between (moment before.to (before.arr +ℤ pos s.connect)) (moment before.to (earlier (before.arr +ℤ pos s.sit) latest)) (slot_of place f) ≡ follows_by s latest before f
-between-follows s before f place latest checked named code time far =
-    both-ways (is_between low high (slot_of place f)) (follows_by s latest before f) forth back
+pub between-follows : (s : Settings) (gap : ℕ) (before f : Flight) (place : ℕ) (latest : ℤ) → IsChecked s → gap ≤ s.connect → IsNamed f → is_code before.to ≡ true → IsInstant before.arr → latest ≤ℤ pos 100_000_000
+    → is_between (moment before.to (before.arr +ℤ pos gap)) (moment before.to (earlier (before.arr +ℤ pos s.sit) latest)) (slot_of place f) ≡ is_after_by s gap latest before f
+between-follows s gap before f place latest checked soon named code time far =
+    both-ways (is_between low high (slot_of place f)) (is_after_by s gap latest before f) forth back
   where
     low : ℤ
-    low = moment before.to (before.arr +ℤ pos s.connect)
+    low = moment before.to (before.arr +ℤ pos gap)
 
     last : ℤ
     last = earlier (before.arr +ℤ pos s.sit) latest
@@ -125,45 +126,45 @@ between-follows s before f place latest checked named code time far =
     high : ℤ
     high = moment before.to last
 
-    forth : is_between low high (slot_of place f) ≡ true → follows_by s latest before f ≡ true
+    forth : is_between low high (slot_of place f) ≡ true → is_after_by s gap latest before f ≡ true
     forth h =
         let p = and_parts (int_le low (moment f.from f.dep)) (int_le (moment f.from f.dep) high) h in
         let a : low ≤ℤ moment f.from f.dep = int-le-of low (moment f.from f.dep) p.0 in
         let b : moment f.from f.dep ≤ℤ high = int-le-of (moment f.from f.dep) high p.1 in
         let lo = time.from in
         let most = earlier-most (before.arr +ℤ pos s.sit) latest in
-        let q = moments-in (code_number before.to) (code_number f.from) f.dep (before.arr +ℤ pos s.connect) last named.time (omega (arith, ints, lo)) (omega (arith, ints, most.1, far)) a b in
+        let q = moments-in (code_number before.to) (code_number f.from) f.dep (before.arr +ℤ pos gap) last named.time (omega (arith, ints, lo)) (omega (arith, ints, most.1, far)) a b in
         let same : before.to ≡ f.from = sym (code-same f.from before.to named.code code q.0) in
         let equal : eq_by_cmp code_cmp before.to f.from ≡ true = subst (λ (x : List ℕ). eq_by_cmp code_cmp before.to x ≡ true) same ((eq_by_cmp_equiv code_cmp_total).refl before.to) in
-        let least : int_le (pos s.connect) (f.dep -ℤ before.arr) ≡ true = of-int-le (pos s.connect) (f.dep -ℤ before.arr) (omega (arith, ints, q.1)) in
+        let least : int_le (pos gap) (f.dep -ℤ before.arr) ≡ true = of-int-le (pos gap) (f.dep -ℤ before.arr) (omega (arith, ints, q.1)) in
         let sat : f.dep ≤ℤ (before.arr +ℤ pos s.sit) = omega (arith, ints, q.2, most.0) in
         let most-gap : int_le (f.dep -ℤ before.arr) (pos s.sit) ≡ true = of-int-le (f.dep -ℤ before.arr) (pos s.sit) (omega (arith, ints, sat)) in
         let by : f.dep ≤ℤ latest = omega (arith, ints, q.2, most.1) in
         let by-latest : int_le f.dep latest ≡ true = of-int-le f.dep latest by in
         and_from _ _ (and_from _ _ equal (and_from _ _ least most-gap)) by-latest
 
-    back : follows_by s latest before f ≡ true → is_between low high (slot_of place f) ≡ true
+    back : is_after_by s gap latest before f ≡ true → is_between low high (slot_of place f) ≡ true
     back h =
-        let gap = f.dep -ℤ before.arr in
-        let r = and_parts (may_follow s before f) (int_le f.dep latest) h in
-        let p = and_parts (eq_by_cmp code_cmp before.to f.from) (int_le (pos s.connect) gap && int_le gap (pos s.sit)) r.0 in
-        let q = and_parts (int_le (pos s.connect) gap) (int_le gap (pos s.sit)) p.1 in
+        let apart = f.dep -ℤ before.arr in
+        let r = and_parts (is_after s gap before f) (int_le f.dep latest) h in
+        let p = and_parts (eq_by_cmp code_cmp before.to f.from) (int_le (pos gap) apart && int_le apart (pos s.sit)) r.0 in
+        let q = and_parts (int_le (pos gap) apart) (int_le apart (pos s.sit)) p.1 in
         let same : before.to ≡ f.from = code-equal before.to f.from p.0 in
-        let gap-least = int-le-of (pos s.connect) gap q.0 in
-        let gap-most = int-le-of gap (pos s.sit) q.1 in
-        let least : int_le (moment f.from (before.arr +ℤ pos s.connect)) (moment f.from f.dep) ≡ true = of-int-le (moment f.from (before.arr +ℤ pos s.connect)) (moment f.from f.dep) (omega (arith, ints, gap-least)) in
+        let gap-least = int-le-of (pos gap) apart q.0 in
+        let gap-most = int-le-of apart (pos s.sit) q.1 in
+        let least : int_le (moment f.from (before.arr +ℤ pos gap)) (moment f.from f.dep) ≡ true = of-int-le (moment f.from (before.arr +ℤ pos gap)) (moment f.from f.dep) (omega (arith, ints, gap-least)) in
         let sat : f.dep ≤ℤ (before.arr +ℤ pos s.sit) = omega (arith, ints, gap-most) in
         let by : f.dep ≤ℤ latest = int-le-of f.dep latest r.1 in
         let end : f.dep ≤ℤ last = earlier-least (before.arr +ℤ pos s.sit) latest f.dep sat by in
         let most : int_le (moment f.from f.dep) (moment f.from last) ≡ true = of-int-le (moment f.from f.dep) (moment f.from last) (omega (arith, ints, end)) in
-        subst (λ (x : List ℕ). is_between (moment x (before.arr +ℤ pos s.connect)) (moment x last) (slot_of place f) ≡ true) (sym same) (and_from _ _ least most)
+        subst (λ (x : List ℕ). is_between (moment x (before.arr +ℤ pos gap)) (moment x last) (slot_of place f) ≡ true) (sym same) (and_from _ _ least most)
 
 -- no flight departs so late
-pub follows-ever : (s : Settings) (before f : Flight) → IsNamed f → follows_by s (pos 100_000_000) before f ≡ may_follow s before f
-follows-ever s before f named =
+pub follows-ever : (s : Settings) (turns : Turns) (before f : Flight) → IsNamed f → follows_by s turns (pos 100_000_000) before f ≡ may_follow s turns before f
+follows-ever s turns before f named =
     let end = named.time.to in
     let never : int_le f.dep (pos 100_000_000) ≡ true = grind (arith, ints, end) in
-    by (may_follow s before f) (int_le f.dep (pos 100_000_000)) never
+    by (may_follow s turns before f) (int_le f.dep (pos 100_000_000)) never
   where
     by : (a b : Bool) → b ≡ true → (a && b) ≡ a
     by true b e = e
@@ -193,15 +194,15 @@ later-at x y h = by (int_cmp y.at x.at) (nat_cmp y.place x.place) refl h
     by Equal s e h = let r = int_ranked y.at x.at Equal (sym e) in omega (arith, ints, r)
     by Greater s e h = let r = int_ranked y.at x.at Greater (sym e) in omega (arith, ints, r)
 
-pub each-follows : (s : Settings) (before : Flight) (fs : List Flight) (place : ℕ) (latest : ℤ) → IsChecked s → Each IsNamed fs → is_code before.to ≡ true → IsInstant before.arr → latest ≤ℤ pos 100_000_000
-    → Each (λ f. is_between (moment before.to (before.arr +ℤ pos s.connect)) (moment before.to (earlier (before.arr +ℤ pos s.sit) latest)) (slot_of place f) ≡ follows_by s latest before f) fs
-each-follows s before [] place latest c n code time far = tt
-each-follows s before (f ∷ fs) place latest c n code time far = (between-follows s before f place latest c n.0 code time far, each-follows s before fs place latest c n.1 code time far)
+pub each-follows : (s : Settings) (gap : ℕ) (before : Flight) (fs : List Flight) (place : ℕ) (latest : ℤ) → IsChecked s → gap ≤ s.connect → Each IsNamed fs → is_code before.to ≡ true → IsInstant before.arr → latest ≤ℤ pos 100_000_000
+    → Each (λ f. is_between (moment before.to (before.arr +ℤ pos gap)) (moment before.to (earlier (before.arr +ℤ pos s.sit) latest)) (slot_of place f) ≡ is_after_by s gap latest before f) fs
+each-follows s gap before [] place latest c soon n code time far = tt
+each-follows s gap before (f ∷ fs) place latest c soon n code time far = (between-follows s gap before f place latest c soon n.0 code time far, each-follows s gap before fs place latest c soon n.1 code time far)
 
 -- with no end in time, they are all that may follow
-pub each-ever : (s : Settings) (before : Flight) (fs : List Flight) → Each IsNamed fs → filter (follows_by s (pos 100_000_000) before) fs ≡ filter (may_follow s before) fs
-each-ever s before [] n = refl
-each-ever s before (f ∷ fs) n = rw (follows-ever s before f n.0, each-ever s before fs n.1) refl
+pub each-ever : (s : Settings) (turns : Turns) (before : Flight) (fs : List Flight) → Each IsNamed fs → filter (follows_by s turns (pos 100_000_000) before) fs ≡ filter (may_follow s turns before) fs
+each-ever s turns before [] n = refl
+each-ever s turns before (f ∷ fs) n = rw (follows-ever s turns before f n.0, each-ever s turns before fs n.1) refl
 
 pub early-parted : (slots : List Slot) (m : ℤ) → Ascend slots → IsPartitionedBy (λ s. int_lt s.at m) slots
 early-parted slots m up i j d a b h = let k = up i j d a b in grind (arith, ints)

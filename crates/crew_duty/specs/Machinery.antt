@@ -2,6 +2,7 @@
 pub mod Counts
 pub mod Filling
 pub mod Followers
+pub mod Held
 pub mod Kept
 pub mod Limits
 pub mod Paths
@@ -10,3 +11,4 @@ pub mod Prices
 pub mod Rooms
 pub mod Running
 pub mod Slots
+pub mod Turns

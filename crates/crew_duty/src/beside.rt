@@ -2,7 +2,7 @@
 
 ghost use Rattle.std.specs.Prelude.{◌≡◌, ◌+◌, ◌++◌, ◌≤◌, ◌<◌, List, IfOk, IfSome, OnOk, length, min, sum};
 ghost use Rattle.std.specs.List.{flat_map, range_with_len};
-ghost use Rattle.crew_flights.specs.declared.flight.Flight.{Flight};
+ghost use Rattle.crew_pairing.specs.Flights.{Flights};
 ghost use Rattle.crew_rules.specs.declared.settings.Settings.{Settings};
 ghost use Rattle.crew_duty.specs.Machinery.Counts.{AreCounts, AreExact};
 ghost use Rattle.std.specs.Arc.{arc_value};
@@ -10,6 +10,7 @@ ghost use Rattle.crew_pairing.specs.Machinery.Blocks.{part_of};
 ghost use Rattle.crew_pairing.specs.Machinery.Listing.{from_place};
 ghost use Rattle.crew_rules.specs.Settings.{IsChecked};
 ghost use Rattle.crew_duty.specs.Machinery.Kept.{AreKept, ClimbInTime};
+ghost use Rattle.crew_duty.specs.Machinery.Held.{held, over};
 ghost use Rattle.crew_duty.specs.Machinery.Plans.{AreNext, IsNext, IsPlan};
 ghost use Rattle.crew_duty.specs.Machinery.Slots.{IsIndex};
 
@@ -19,6 +20,7 @@ use crate::past::Block;
 use crate::pieces::block_at;
 use crate::plan::{Next, Plan, next_of};
 use crate::search::{DUTIES, walk_from};
+use crate::turns::HeldTurns;
 use crew_flights::Flight;
 use crew_pairing::{Duties, Duty};
 use crew_rules::Settings;
@@ -38,10 +40,10 @@ pub(crate) struct EarlierDuties<'a> {
 impl<'a> EarlierDuties<'a> {
     // The duties that begin with the flight at a place, where they stand among these.
     fn at(&self, place: usize) -> Option<Block>
-        requires { (s : Settings) × (flights : List Flight) × AreKept s flights
-            self.now.duties.now flights self.now.stands.now × (place < length flights) }
-        ensures { IfSome result (λ block. (s : Settings) (flights : List Flight) → AreKept s flights
-            self.now.duties.now flights self.now.stands.now → place < length flights
+        requires { (s : Settings) × (flights : Flights) × AreKept s flights
+            self.now.duties.now flights.list self.now.stands.now × (place < length flights.list) }
+        ensures { IfSome result (λ block. (s : Settings) (flights : Flights) → AreKept s flights
+            self.now.duties.now flights.list self.now.stands.now → place < length flights.list
             → (block.from ≤ block.to) × (block.to ≤ length self.now.duties.now)
             × (part_of self.now.duties.now block.from block.to ≡ from_place s flights place)) }
     {
@@ -58,6 +60,7 @@ fn next_beside(
     alloc: Global,
     settings: &Settings,
     flights: &[Flight],
+    turns: &HeldTurns,
     slots: &[Slot],
     minutes: &[i64],
     before: &Flight,
@@ -65,7 +68,7 @@ fn next_beside(
     requires checked { IsChecked settings.now }
     requires index { IsIndex flights.now slots.now }
     requires minutes { ClimbInTime minutes.now }
-    ensures { IfOk result (IsNext settings.now flights.now before.now) }
+    ensures { IfOk result (IsNext settings.now (over flights.now turns.now) before.now) }
 {
     let departs = before.dep.get();
     let apart = are_apart(minutes, departs - SPAN, departs + SPAN);
@@ -75,7 +78,7 @@ fn next_beside(
             soonest: 0,
         });
     }
-    next_of(alloc, settings, flights, slots, before)
+    next_of(alloc, settings, flights, turns, slots, before)
 }
 
 /// What may follow each flight that may be a leg of a duty that is listed anew. Such a flight
@@ -84,17 +87,19 @@ pub(crate) fn all_next_beside(
     alloc: Global,
     settings: &Settings,
     flights: &[Flight],
+    turns: &HeldTurns,
     slots: &[Slot],
     minutes: &[i64],
 ) -> Result<Vec<Next>, AllocError>
     requires checked { IsChecked settings.now }
     requires index { IsIndex flights.now slots.now }
     requires minutes { ClimbInTime minutes.now }
-    ensures { IfOk result (λ next. AreNext settings.now flights.now flights.now next.items) }
+    ensures { IfOk result (λ next. AreNext settings.now (over flights.now turns.now) flights.now
+        next.items) }
 {
     let mut next = Vec::with_capacity(alloc, flights.len())?;
     for flight in flights {
-        next.push(next_beside(alloc, settings, flights, slots, minutes, flight)?)?;
+        next.push(next_beside(alloc, settings, flights, turns, slots, minutes, flight)?)?;
     }
     Ok(next)
 }
@@ -108,14 +113,14 @@ fn count_from(
     place: usize,
     so_far: usize,
 ) -> Result<usize, AllocError>
-    requires plan { IsPlan plan.now.settings.now plan.now.flights.now plan.now.slots.now
+    requires plan { IsPlan plan.now.settings.now (held plan.now) plan.now.slots.now
         plan.now.next.now }
-    requires kept { AreKept plan.now.settings.now plan.now.flights.now kept.now.duties.now
+    requires kept { AreKept plan.now.settings.now (held plan.now) kept.now.duties.now
         plan.now.flights.now kept.now.stands.now }
     requires place { place < length plan.now.flights.now }
     requires so_far { so_far ≤ 200_001 }
     ensures { IfOk result (λ n. n ≡ min (so_far
-        + length (from_place plan.now.settings.now plan.now.flights.now place)) 200_001) }
+        + length (from_place plan.now.settings.now (held plan.now) place)) 200_001) }
 {
     if let Some(block) = kept.at(place) {
         return Ok(so_far.saturating_add(block.to - block.from).min(DUTIES + 1));
@@ -129,12 +134,12 @@ pub(crate) fn count_beside(
     plan: &Plan<'_>,
     kept: &EarlierDuties<'_>,
 ) -> Result<Vec<usize>, AllocError>
-    requires plan { IsPlan plan.now.settings.now plan.now.flights.now plan.now.slots.now
+    requires plan { IsPlan plan.now.settings.now (held plan.now) plan.now.slots.now
         plan.now.next.now }
-    requires kept { AreKept plan.now.settings.now plan.now.flights.now kept.now.duties.now
+    requires kept { AreKept plan.now.settings.now (held plan.now) kept.now.duties.now
         plan.now.flights.now kept.now.stands.now }
     ensures { IfOk result (λ counts. AreCounts
-        (from_place plan.now.settings.now plan.now.flights.now) 0 (length plan.now.flights.now)
+        (from_place plan.now.settings.now (held plan.now)) 0 (length plan.now.flights.now)
         counts.items) }
 {
     let mut counts = Vec::with_capacity(alloc, plan.flights.len())?;
@@ -156,16 +161,16 @@ fn block_beside(
     place: usize,
     count: usize,
 ) -> Result<Arc<Vec<Duty>, Global>, AllocError>
-    requires plan { IsPlan plan.now.settings.now plan.now.flights.now plan.now.slots.now
+    requires plan { IsPlan plan.now.settings.now (held plan.now) plan.now.slots.now
         plan.now.next.now }
-    requires kept { AreKept plan.now.settings.now plan.now.flights.now kept.now.duties.now
+    requires kept { AreKept plan.now.settings.now (held plan.now) kept.now.duties.now
         plan.now.flights.now kept.now.stands.now }
     requires place { place < length plan.now.flights.now }
     requires count { count
-        ≡ length (from_place plan.now.settings.now plan.now.flights.now place) }
+        ≡ length (from_place plan.now.settings.now (held plan.now) place) }
     requires room { count ≤ 200_000 }
     ensures { IfOk result (λ block. (arc_value block).items
-        ≡ from_place plan.now.settings.now plan.now.flights.now place) }
+        ≡ from_place plan.now.settings.now (held plan.now) place) }
 {
     if let Some(block) = kept.at(place) {
         return kept.duties.part(alloc, block.from, block.to);
@@ -181,16 +186,16 @@ pub(crate) fn fill_beside(
     counts: &[usize],
     total: usize,
 ) -> Result<Duties, AllocError>
-    requires plan { IsPlan plan.now.settings.now plan.now.flights.now plan.now.slots.now
+    requires plan { IsPlan plan.now.settings.now (held plan.now) plan.now.slots.now
         plan.now.next.now }
-    requires kept { AreKept plan.now.settings.now plan.now.flights.now kept.now.duties.now
+    requires kept { AreKept plan.now.settings.now (held plan.now) kept.now.duties.now
         plan.now.flights.now kept.now.stands.now }
     requires all { length counts.now ≡ length plan.now.flights.now }
-    requires counts { AreExact (from_place plan.now.settings.now plan.now.flights.now) 0
+    requires counts { AreExact (from_place plan.now.settings.now (held plan.now)) 0
         counts.now }
     requires few { sum counts.now ≤ 200_000 }
     ensures { IfOk result (λ found. found
-        ≡ flat_map (from_place plan.now.settings.now plan.now.flights.now)
+        ≡ flat_map (from_place plan.now.settings.now (held plan.now))
         (range_with_len 0 (length counts.now))) }
 {
     let mut list = Duties::new(alloc);

@@ -1,9 +1,12 @@
-//! When flights depart that two timetables don't have alike.
+//! When flights depart that two timetables don't have alike, or whose turns to next legs they don't.
 
 ghost use Rattle.std.specs.Prelude.{◌≡◌, ◌⊎◌, ℤ, List, IsTrue, IfOk, OnOk};
 ghost use Rattle.crew_resource.specs.Members.{Member};
-ghost use Rattle.crew_duty.specs.Machinery.Kept.{AreApart, AreChanges, ClimbInTime, TellChanges};
+ghost use Rattle.crew_duty.specs.Machinery.Held.{over};
+ghost use Rattle.crew_duty.specs.Machinery.Kept.{AreApart, AreChanges, ClimbInTime, TellChanges, TellTurns};
+ghost use Rattle.crew_duty.specs.Machinery.Turns.{turns_from};
 
+use crate::turns::{HeldTurns, are_same_turns};
 use crew_flights::Flight;
 use std::alloc::{AllocError, Global};
 
@@ -65,18 +68,61 @@ fn add_changes(
     Ok(())
 }
 
-/// When flights depart that stand in one of two lists and not in the other with the same facts, in
-/// order. Both lists go by number.
+// Appends when a flight departs, unless its turns to next legs are those of before.
+fn add_unless_same(
+    minutes: &mut Vec<i64>,
+    flight: &Flight,
+    turns: &HeldTurns,
+    earlier: &HeldTurns,
+) -> Result<(), AllocError>
+    ensures told { OnOk result ((turns_from turns.now flight.now.id
+        ≡ turns_from earlier.now flight.now.id) ⊎ Member minutes.new.items flight.now.dep) }
+    ensures kept { OnOk result ((m : ℤ) → Member minutes.old.items m
+        → Member minutes.new.items m) }
+{
+    let same = are_same_turns(turns.after(flight.id), earlier.after(flight.id));
+    if !same {
+        minutes.push(flight.dep.get())?;
+    }
+    Ok(())
+}
+
+// Appends when those of some flights depart whose turns to next legs have changed.
+fn add_turned(
+    minutes: &mut Vec<i64>,
+    flights: &[Flight],
+    turns: &HeldTurns,
+    earlier: &HeldTurns,
+) -> Result<(), AllocError>
+    ensures told { OnOk result (TellTurns flights.now turns.now earlier.now minutes.new.items) }
+    ensures kept { OnOk result ((m : ℤ) → Member minutes.old.items m
+        → Member minutes.new.items m) }
+{
+    if turns.are(earlier) {
+        return Ok(());
+    }
+    for flight in flights {
+        add_unless_same(minutes, flight, turns, earlier)?;
+    }
+    Ok(())
+}
+
+/// When flights depart that stand in one of two lists and not in the other with the same facts, or
+/// whose turns to next legs have changed, in order. Both lists go by number.
 pub(crate) fn changes_between(
     alloc: Global,
     flights: &[Flight],
+    turns: &HeldTurns,
     others: &[Flight],
+    earlier: &HeldTurns,
 ) -> Result<Vec<i64>, AllocError>
-    ensures { IfOk result (λ minutes. AreChanges flights.now others.now minutes.items) }
+    ensures { IfOk result (λ minutes. AreChanges (over flights.now turns.now)
+        (over others.now earlier.now) minutes.items) }
 {
     let mut minutes = Vec::new(alloc);
     add_changes(&mut minutes, flights, others)?;
     add_changes(&mut minutes, others, flights)?;
+    add_turned(&mut minutes, flights, turns, earlier)?;
     minutes.sort_unstable();
     Ok(minutes)
 }

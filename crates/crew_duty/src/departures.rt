@@ -4,17 +4,22 @@
 //! airports lie further apart than any two minutes, so the flights that may follow one are one
 //! range. Up to 32 of them are put in order once, before the search. Where they are more nothing is
 //! stored, and each beginning takes those that don't depart too late for Table B: so a dense
-//! timetable is refused quickly.
+//! timetable is refused quickly. Of a flight that has turns, all that leave after it has arrived are
+//! looked through, each by its own turn.
 
-ghost use Rattle.std.specs.Prelude.{◌≡◌, ◌≤◌, ◌<◌, ◌≤ℤ◌, ◌+ℤ◌, ℤ, pos, true, IfOk, List, IsPermutation, IsSorted, filter, length, map};
+ghost use Rattle.std.specs.Prelude.{◌≡◌, ◌≤◌, ◌<◌, ◌≤ℤ◌, ◌+ℤ◌, ◌++◌, ◌∷◌, [], ℤ, pos, true, IfOk, OnOk, if◌then◌else◌, List, IsPermutation, IsSorted, filter, length, map};
 ghost use Rattle.std.specs.Ordering.{nat_cmp};
 ghost use Rattle.crew_flights.specs.Codes.{is_code};
 ghost use Rattle.crew_flights.specs.declared.flight.Flight.{Flight};
 ghost use Rattle.crew_rules.specs.Settings.{IsChecked};
+ghost use Rattle.crew_flights.specs.Timetable.{Turns};
+ghost use Rattle.crew_duty.specs.Machinery.Held.{over};
 ghost use Rattle.crew_duty.specs.Machinery.Plans.{Knows, StandAt};
 ghost use Rattle.crew_duty.specs.Machinery.Slots as Spec;
 ghost use Rattle.crew_duty.specs.Machinery.Slots.{Ascend, IsIndex, IsNamed, earlier, follows_by, is_between};
+ghost use Rattle.crew_duty.specs.Machinery.Turns.{is_late_enough as late_enough, least_gap as least_minutes, turns_from};
 
+use crate::turns::{HeldTurns, Turn, minutes_to};
 use crew_flights::{Code, Flight};
 use crew_rules::Settings;
 use std::alloc::{AllocError, Global};
@@ -102,26 +107,29 @@ pub(crate) fn earlier_of(first: i64, second: i64) -> i64
     if first < second { first } else { second }
 }
 
-// The slots of the flights that may follow this one and depart by a minute, by time.
+// The slots of the flights that leave where this one arrives, after a gap from so many minutes to
+// `sit`, and depart by a minute, by time.
 fn slots_after<'a>(
     slots: &'a [Slot],
     settings: &Settings,
     before: &Flight,
+    gap: u32,
     latest: i64,
 ) -> &'a [Slot]
     requires checked { IsChecked settings.now }
     requires index { Ascend slots.now }
+    requires soon { gap ≤ settings.now.connect }
     requires least { pos 0 ≤ℤ latest }
     requires most { latest ≤ℤ pos 100_000_000 }
     ensures slots { result.now ≡ filter
-        (is_between (Spec.moment before.now.to (before.now.arr +ℤ pos settings.now.connect))
+        (is_between (Spec.moment before.now.to (before.now.arr +ℤ pos gap))
         (Spec.moment before.now.to (earlier (before.now.arr +ℤ pos settings.now.sit) latest)))
         slots.now }
     ensures code { is_code before.now.to ≡ true }
     ensures time { Spec.IsTime before.now.arr }
 {
     let arrival = before.arr.get();
-    let earliest = moment(before.to, arrival + i64::from(settings.connect));
+    let earliest = moment(before.to, arrival + i64::from(gap));
     let last = earlier_of(arrival + i64::from(settings.sit), latest);
     slots_between(slots, earliest, moment(before.to, last))
 }
@@ -137,41 +145,131 @@ fn places_in_order(alloc: Global, slots: &[Slot]) -> Result<Vec<u32>, AllocError
     Ok(places)
 }
 
+// No flight follows after fewer minutes than these, where the one before has these turns.
+fn least_gap(settings: &Settings, own: &[Turn]) -> u32
+    ensures value { result ≡ least_minutes settings.now own.now }
+    ensures most { result ≤ settings.now.connect }
+{
+    if own.is_empty() { settings.connect } else { 0 }
+}
+
+// Whether a flight departs no sooner after another than the turns of that one let it.
+fn is_late_enough(settings: &Settings, own: &[Turn], before: &Flight, next: &Flight) -> bool
+    ensures { result ≡ late_enough settings.now own.now before.now next.now }
+{
+    let least = minutes_to(own, next.id).unwrap_or(settings.connect);
+    i64::from(least) <= next.dep.get() - before.arr.get()
+}
+
+// Appends a place, where something holds.
+fn add_where(kept: &mut Vec<u32>, place: u32, holds: bool) -> Result<(), AllocError>
+    ensures { OnOk result (kept.new.items
+        ≡ kept.old.items ++ (if holds then place ∷ [] else [])) }
+{
+    if holds {
+        kept.push(place)?;
+    }
+    Ok(())
+}
+
+// Of the flights at these places, those that depart no sooner than the turns of the one before let
+// them.
+fn without_early(
+    alloc: Global,
+    settings: &Settings,
+    flights: &[Flight],
+    own: &[Turn],
+    before: &Flight,
+    places: &[u32],
+) -> Result<Vec<u32>, AllocError>
+    requires { (gs : List Flight) × StandAt flights.now places.now gs }
+    ensures { IfOk result (λ kept. (gs : List Flight) → StandAt flights.now places.now gs
+        → StandAt flights.now kept.items
+        (filter (late_enough settings.now own.now before.now) gs)) }
+{
+    let mut kept = Vec::new(alloc);
+    for place in places {
+        let next = &flights[*place as usize];
+        let late = is_late_enough(settings, own, before, next);
+        add_where(&mut kept, *place, late)?;
+    }
+    Ok(kept)
+}
+
+// The places of those of these slots' flights that may follow one: the slots of those that leave
+// where it arrives, after a gap that its turns may let be, by a minute.
+fn places_among(
+    alloc: Global,
+    settings: &Settings,
+    flights: &[Flight],
+    slots: &[Slot],
+    own: &[Turn],
+    before: &Flight,
+    latest: i64,
+    after: &[Slot],
+) -> Result<Vec<u32>, AllocError>
+    requires checked { IsChecked settings.now }
+    requires index { IsIndex flights.now slots.now }
+    requires most { latest ≤ℤ pos 100_000_000 }
+    requires after { after.now ≡ filter
+        (is_between (Spec.moment before.now.to
+        (before.now.arr +ℤ pos (least_minutes settings.now own.now)))
+        (Spec.moment before.now.to (earlier (before.now.arr +ℤ pos settings.now.sit) latest)))
+        slots.now }
+    requires code { is_code before.now.to ≡ true }
+    requires time { Spec.IsTime before.now.arr }
+    ensures { IfOk result (λ places. (turns : Turns) → own.now ≡ turns_from turns before.now.id
+        → StandAt flights.now places.items
+        (filter (follows_by settings.now turns latest before.now) flights.now)) }
+{
+    let places = places_in_order(alloc, after)?;
+    if own.is_empty() {
+        return Ok(places);
+    }
+    without_early(alloc, settings, flights, own, before, &places)
+}
+
 /// The places of the flights that may follow this one, and `None` where they are many.
 pub(crate) fn few_after(
     alloc: Global,
-    slots: &[Slot],
     settings: &Settings,
+    flights: &[Flight],
+    turns: &HeldTurns,
+    slots: &[Slot],
     before: &Flight,
 ) -> Result<Option<Vec<u32>>, AllocError>
     requires checked { IsChecked settings.now }
-    requires index { Ascend slots.now }
-    ensures { IfOk result (λ known. (flights : List Flight) → IsIndex flights slots.now
-        → Knows settings.now flights before.now known) }
+    requires index { IsIndex flights.now slots.now }
+    ensures { IfOk result (Knows settings.now (over flights.now turns.now) before.now) }
 {
-    let after = slots_after(slots, settings, before, NEVER);
+    let own = turns.after(before.id);
+    let after = slots_after(slots, settings, before, least_gap(settings, own), NEVER);
     if after.len() > FEW {
         return Ok(None);
     }
-    Ok(Some(places_in_order(alloc, after)?))
+    let places = places_among(alloc, settings, flights, slots, own, before, NEVER, after)?;
+    Ok(Some(places))
 }
 
 /// The places of the flights that may follow this one and depart by a minute.
 #[inline(never)]
 pub(crate) fn places_by(
     alloc: Global,
-    slots: &[Slot],
     settings: &Settings,
+    flights: &[Flight],
+    turns: &HeldTurns,
+    slots: &[Slot],
     before: &Flight,
     latest: i64,
 ) -> Result<Vec<u32>, AllocError>
     requires checked { IsChecked settings.now }
-    requires index { Ascend slots.now }
+    requires index { IsIndex flights.now slots.now }
     requires least { pos 0 ≤ℤ latest }
     requires most { latest ≤ℤ pos 100_000_000 }
-    ensures { IfOk result (λ places. (flights : List Flight) → IsIndex flights slots.now
-        → StandAt flights places.items
-        (filter (follows_by settings.now latest before.now) flights)) }
+    ensures { IfOk result (λ places. StandAt flights.now places.items
+        (filter (follows_by settings.now turns.now latest before.now) flights.now)) }
 {
-    places_in_order(alloc, slots_after(slots, settings, before, latest))
+    let own = turns.after(before.id);
+    let after = slots_after(slots, settings, before, least_gap(settings, own), latest);
+    places_among(alloc, settings, flights, slots, own, before, latest, after)
 }

@@ -10,6 +10,7 @@ use crate::fault::DutyFault;
 use crate::pieces::{count_all, list_all, total_of};
 use crate::plan::{Plan, next_flights};
 use crate::search::DUTIES;
+use crate::turns::HeldTurns;
 use crew_flights::{Flight, Timetable};
 use crew_pairing::Duties;
 use crew_rules::Settings;
@@ -18,7 +19,7 @@ use std::thread::Threads;
 
 /// The flights of a timetable, by number.
 pub(crate) fn held_flights(alloc: Global, timetable: &Timetable) -> Result<Vec<Flight>, AllocError>
-    ensures held { IfOk result (λ flights. flights.items ≡ flights_of timetable.now) }
+    ensures held { IfOk result (λ flights. flights.items ≡ (flights_of timetable.now).list) }
     ensures sound { IsSound timetable.now }
 {
     timetable.flights().copied().collect(alloc)
@@ -42,11 +43,13 @@ pub fn list_duties<R: Threads + Sync>(
         → HasTooMany settings.now timetable.now }
 {
     let flights = held_flights(alloc, timetable)?;
+    let turns = HeldTurns::of(alloc, timetable)?;
     let slots = index_of(alloc, &flights)?;
-    let next = next_flights(alloc, settings, &flights, &slots)?;
+    let next = next_flights(alloc, settings, &flights, &turns, &slots)?;
     let plan = Plan {
         settings,
         flights: &flights,
+        turns: &turns,
         slots: &slots,
         next: &next,
     };

@@ -18,6 +18,7 @@ mod priced;
 mod rooms;
 mod search;
 mod totals;
+mod turns;
 
 pub use duties::list_duties;
 pub use fault::DutyFault;

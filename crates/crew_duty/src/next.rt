@@ -5,6 +5,7 @@ ghost use Rattle.crew_rules.specs.Settings.{IsChecked};
 ghost use Rattle.crew_pairing.specs.Duties.{AreDuties, AreDutiesOver, HasTooMany};
 ghost use Rattle.crew_pairing.specs.Machinery.Beginnings.{AreFlights};
 ghost use Rattle.crew_pairing.specs.Machinery.Listing.{all_duties};
+ghost use Rattle.crew_duty.specs.Machinery.Held.{over};
 ghost use Rattle.crew_duty.specs.Machinery.Kept.{AreKept, ClimbInTime};
 
 use crate::beside::{EarlierDuties, all_next_beside, count_beside, fill_beside};
@@ -17,6 +18,7 @@ use crate::pieces::total_of;
 use crate::plan::Plan;
 use crate::priced::{can_reprice, list_priced};
 use crate::search::DUTIES;
+use crate::turns::HeldTurns;
 use crew_flights::{Flight, Timetable};
 use crew_pairing::Duties;
 use crew_rules::Settings;
@@ -33,25 +35,28 @@ fn list_beside(
     alloc: Global,
     settings: &Settings,
     flights: &[Flight],
+    turns: &HeldTurns,
     minutes: &[i64],
     kept: &EarlierDuties<'_>,
 ) -> Result<Duties, DutyFault>
     requires checked { IsChecked settings.now }
-    requires flights { AreFlights flights.now }
+    requires flights { AreFlights (over flights.now turns.now) }
     requires few { length flights.now ≤ 5_000 }
     requires minutes { ClimbInTime minutes.now }
-    requires kept { AreKept settings.now flights.now kept.now.duties.now flights.now
-        kept.now.stands.now }
-    ensures listed { IfOk result (λ duties. AreDutiesOver settings.now flights.now duties) }
+    requires kept { AreKept settings.now (over flights.now turns.now) kept.now.duties.now
+        flights.now kept.now.stands.now }
+    ensures listed { IfOk result (λ duties. AreDutiesOver settings.now
+        (over flights.now turns.now) duties) }
     ensures few { IfOk result (λ duties. length duties ≤ 200_000) }
     ensures too_many { result ≡ Err DutyFault.TooManyDuties
-        → 200_000 < length (all_duties settings.now flights.now) }
+        → 200_000 < length (all_duties settings.now (over flights.now turns.now)) }
 {
     let slots = index_of(alloc, flights)?;
-    let next = all_next_beside(alloc, settings, flights, &slots, minutes)?;
+    let next = all_next_beside(alloc, settings, flights, turns, &slots, minutes)?;
     let plan = Plan {
         settings,
         flights,
+        turns,
         slots: &slots,
         next: &next,
     };
@@ -68,7 +73,8 @@ fn list_beside(
 ///
 /// Where the flights differ in their dual prices alone, all duties are taken over, at their new prices.
 /// Otherwise the duties that begin with a flight are taken over where no flight that has come, gone
-/// or changed departs while one of them may last, and listed anew elsewhere. Where most would be
+/// or changed, or whose turns to next legs have, departs while one of them may last, and listed anew
+/// elsewhere. Where most would be
 /// listed anew, all are, by `list_duties`.
 pub fn list_next<R: Threads + Sync>(
     rt: &R,
@@ -86,11 +92,13 @@ pub fn list_next<R: Threads + Sync>(
         → HasTooMany settings.now timetable.now }
 {
     let before = held_flights(alloc, earlier)?;
+    let turns_before = HeldTurns::of(alloc, earlier)?;
     let flights = held_flights(alloc, timetable)?;
-    if can_reprice(duties, &flights, &before) {
+    let turns = HeldTurns::of(alloc, timetable)?;
+    if can_reprice(duties, &flights, &turns, &before, &turns_before) {
         return Ok(list_priced(alloc, &flights, duties)?);
     }
-    let minutes = changes_between(alloc, &flights, &before)?;
+    let minutes = changes_between(alloc, &flights, &turns, &before, &turns_before)?;
     let past = Past {
         duties,
         minutes: &minutes,
@@ -103,5 +111,5 @@ pub fn list_next<R: Threads + Sync>(
         duties: past.duties,
         stands: &blocks,
     };
-    list_beside(alloc, settings, &flights, &minutes, &kept)
+    list_beside(alloc, settings, &flights, &turns, &minutes, &kept)
 }

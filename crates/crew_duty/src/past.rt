@@ -1,15 +1,17 @@
 //! The duties of an earlier timetable, of which those are kept that can't have changed.
 //!
 //! The legs of a duty depart from its first departure on, and no later than its report and the most
-//! that Table B allows: where no flight that has come, gone or changed departs in that time, the
-//! duties that begin with the flight are those of before. By time alone: a test by what can be
+//! that Table B allows: where no flight that has come, gone or changed departs in that time, and none
+//! whose turns to next legs have changed, the duties that begin with the flight are those of before. By time alone: a test by what can be
 //! reached would keep more, and cost more than listing does, which is a few hundredths of a settle.
 
 ghost use Rattle.std.specs.Prelude.{◌≡◌, ◌≤◌, ◌<◌, ◌≤ℤ◌, ℕ, pos, List, IfOk, IfSome, IsTrue, get_or, length};
-ghost use Rattle.crew_flights.specs.declared.flight.Flight.{Flight};
+ghost use Rattle.crew_flights.specs.Timetable.{Turns};
+ghost use Rattle.crew_pairing.specs.Flights.{Flights};
 ghost use Rattle.crew_pairing.specs.declared.duty.Duty.{Duty};
 ghost use Rattle.crew_resource.specs.Members.{Member};
 ghost use Rattle.crew_rules.specs.Settings.{IsChecked};
+ghost use Rattle.crew_duty.specs.Machinery.Held.{over};
 ghost use Rattle.crew_duty.specs.Machinery.Kept.{AreKept, ClimbByFirst, IsKept, IsPast, IsStart, first_of, reach_of};
 
 use crate::changes::are_apart;
@@ -31,7 +33,7 @@ pub(crate) struct Block {
 }
 
 /// The duties of an earlier timetable, by key, and when flights depart that have come, gone or
-/// changed since, in order.
+/// changed since, or their turns to next legs, in order.
 #[derive(Drop)]
 pub(crate) struct Past<'a> {
     pub(crate) duties: &'a Duties,
@@ -140,11 +142,11 @@ impl Past<'_> {
     // looked for from a place on.
     fn kept(&self, settings: &Settings, flight: &Flight, guess: usize) -> Option<Block>
         requires checked { IsChecked settings.now }
-        requires past { (flights : List Flight) × IsPast settings.now flights
+        requires past { (flights : Flights) × IsPast settings.now flights
             self.now.duties.now self.now.minutes.now }
-        ensures { IfSome result (λ block. (flights : List Flight)
+        ensures { IfSome result (λ block. (flights : Flights)
             → IsPast settings.now flights self.now.duties.now self.now.minutes.now
-            → Member flights flight.now
+            → Member flights.list flight.now
             → IsKept settings.now flights self.now.duties.now flight.now block) }
     {
         let apart = are_apart(self.minutes, flight.dep.get(), reach(settings, flight));
@@ -165,10 +167,11 @@ impl Past<'_> {
         flights: &[Flight],
     ) -> Result<Vec<Option<Block>>, AllocError>
         requires checked { IsChecked settings.now }
-        requires past { IsPast settings.now flights.now self.now.duties.now
-            self.now.minutes.now }
-        ensures { IfOk result (λ blocks. AreKept settings.now flights.now self.now.duties.now
-            flights.now blocks.items) }
+        requires past { (turns : Turns) × IsPast settings.now (over flights.now turns)
+            self.now.duties.now self.now.minutes.now }
+        ensures { IfOk result (λ blocks. (turns : Turns) → IsPast settings.now
+            (over flights.now turns) self.now.duties.now self.now.minutes.now → AreKept
+            settings.now (over flights.now turns) self.now.duties.now flights.now blocks.items) }
     {
         let mut blocks = Vec::with_capacity(alloc, flights.len())?;
         let mut guess = 0;

@@ -8,6 +8,7 @@ ghost use Rattle.std.specs.Thread.{IsSync};
 ghost use Rattle.std.specs.Arc.{arc_value};
 ghost use Rattle.crew_duty.specs.Machinery.Counts.{AreCounts, AreExact};
 ghost use Rattle.crew_pairing.specs.Machinery.Listing.{all_duties, from_place};
+ghost use Rattle.crew_duty.specs.Machinery.Held.{held};
 ghost use Rattle.crew_duty.specs.Machinery.Plans.{IsPlan};
 ghost use Rattle.crew_duty.specs.Machinery.Rooms.{IsRoom};
 
@@ -43,10 +44,10 @@ fn count_piece(
     from: usize,
     counts: &mut [usize],
 ) -> Result<(), AllocError>
-    requires plan { IsPlan plan.now.settings.now plan.now.flights.now plan.now.slots.now
+    requires plan { IsPlan plan.now.settings.now (held plan.now) plan.now.slots.now
         plan.now.next.now }
     requires within { from + length counts.old ≤ length plan.now.flights.now }
-    ensures { OnOk result (AreCounts (from_place plan.now.settings.now plan.now.flights.now) from
+    ensures { OnOk result (AreCounts (from_place plan.now.settings.now (held plan.now)) from
         (length counts.old) counts.new) }
 {
     let mut total = 0;
@@ -69,10 +70,10 @@ fn count_in<R: Threads + Sync>(
     pieces: usize,
     counts: &mut [usize],
 ) -> Result<(), AllocError>
-    requires plan { IsPlan plan.now.settings.now plan.now.flights.now plan.now.slots.now
+    requires plan { IsPlan plan.now.settings.now (held plan.now) plan.now.slots.now
         plan.now.next.now }
     requires within { from + length counts.old ≤ length plan.now.flights.now }
-    ensures { OnOk result (AreCounts (from_place plan.now.settings.now plan.now.flights.now) from
+    ensures { OnOk result (AreCounts (from_place plan.now.settings.now (held plan.now)) from
         (length counts.old) counts.new) }
 {
     if pieces < 2 || counts.len() < 2 {
@@ -84,18 +85,18 @@ fn count_in<R: Threads + Sync>(
     let (these, those) = join_mut(
         rt,
         &mut || -> Result<(), AllocError>
-            requires { IsPlan plan.now.settings.now plan.now.flights.now plan.now.slots.now
+            requires { IsPlan plan.now.settings.now (held plan.now) plan.now.slots.now
                 plan.now.next.now × (from + length front.now ≤ length plan.now.flights.now) }
             ensures { OnOk result (AreCounts
-                (from_place plan.entry.now.settings.now plan.entry.now.flights.now) from
+                (from_place plan.entry.now.settings.now (held plan.entry.now)) from
                 (length front.entry.now) front.exit.now) }
         { count_piece(alloc, plan, from, front) },
         &mut || -> Result<(), AllocError>
-            requires { IsSync R.row × IsPlan plan.now.settings.now plan.now.flights.now
+            requires { IsSync R.row × IsPlan plan.now.settings.now (held plan.now)
                 plan.now.slots.now plan.now.next.now
                 × (from + middle + length back.now ≤ length plan.now.flights.now) }
             ensures { OnOk result (AreCounts
-                (from_place plan.entry.now.settings.now plan.entry.now.flights.now)
+                (from_place plan.entry.now.settings.now (held plan.entry.now))
                 (from + middle) (length back.entry.now) back.exit.now) }
         { count_in(rt, alloc, plan, from + middle, others, back) },
     );
@@ -111,10 +112,10 @@ pub(crate) fn count_all<R: Threads + Sync>(
     alloc: Global,
     plan: &Plan<'_>,
 ) -> Result<Vec<usize>, AllocError>
-    requires { IsPlan plan.now.settings.now plan.now.flights.now plan.now.slots.now
+    requires { IsPlan plan.now.settings.now (held plan.now) plan.now.slots.now
         plan.now.next.now }
     ensures { IfOk result (λ counts. AreCounts
-        (from_place plan.now.settings.now plan.now.flights.now) 0 (length plan.now.flights.now)
+        (from_place plan.now.settings.now (held plan.now)) 0 (length plan.now.flights.now)
         counts.items) }
 {
     let mut counts = vec![in alloc; 0usize; plan.flights.len()]?;
@@ -141,14 +142,14 @@ pub(crate) fn block_at(
     place: usize,
     count: usize,
 ) -> Result<Arc<Vec<Duty>, Global>, AllocError>
-    requires plan { IsPlan plan.now.settings.now plan.now.flights.now plan.now.slots.now
+    requires plan { IsPlan plan.now.settings.now (held plan.now) plan.now.slots.now
         plan.now.next.now }
     requires place { place < length plan.now.flights.now }
     requires count { count
-        ≡ length (from_place plan.now.settings.now plan.now.flights.now place) }
+        ≡ length (from_place plan.now.settings.now (held plan.now) place) }
     requires room { count ≤ 200_000 }
     ensures { IfOk result (λ block. (arc_value block).items
-        ≡ from_place plan.now.settings.now plan.now.flights.now place) }
+        ≡ from_place plan.now.settings.now (held plan.now) place) }
 {
     let mut room = Room::new(alloc, place, count)?;
     room.fill(alloc, plan)?;
@@ -165,11 +166,11 @@ fn fill_in<R: Threads + Sync>(
     share: usize,
     rooms: &mut [Room],
 ) -> Result<(), AllocError>
-    requires plan { IsPlan plan.now.settings.now plan.now.flights.now plan.now.slots.now
+    requires plan { IsPlan plan.now.settings.now (held plan.now) plan.now.slots.now
         plan.now.next.now }
-    requires rooms { All (IsRoom plan.now.settings.now plan.now.flights.now) rooms.old }
+    requires rooms { All (IsRoom plan.now.settings.now (held plan.now)) rooms.old }
     ensures { OnOk result (map (λ room. room.duties.items) rooms.new ≡ map
-        (λ room. from_place plan.now.settings.now plan.now.flights.now room.place) rooms.old) }
+        (λ room. from_place plan.now.settings.now (held plan.now) room.place) rooms.old) }
 {
     if pieces < 2 {
         return fill_each(alloc, plan, rooms);
@@ -180,19 +181,19 @@ fn fill_in<R: Threads + Sync>(
     let (these, those) = join_mut(
         rt,
         &mut || -> Result<(), AllocError>
-            requires { IsPlan plan.now.settings.now plan.now.flights.now plan.now.slots.now
+            requires { IsPlan plan.now.settings.now (held plan.now) plan.now.slots.now
                 plan.now.next.now
-                × All (IsRoom plan.now.settings.now plan.now.flights.now) front.now }
+                × All (IsRoom plan.now.settings.now (held plan.now)) front.now }
             ensures { OnOk result (map (λ room. room.duties.items) front.exit.now ≡ map
-                (λ room. from_place plan.entry.now.settings.now plan.entry.now.flights.now
+                (λ room. from_place plan.entry.now.settings.now (held plan.entry.now)
                 room.place) front.entry.now) }
         { fill_each(alloc, plan, front) },
         &mut || -> Result<(), AllocError>
-            requires { IsSync R.row × IsPlan plan.now.settings.now plan.now.flights.now
+            requires { IsSync R.row × IsPlan plan.now.settings.now (held plan.now)
                 plan.now.slots.now plan.now.next.now
-                × All (IsRoom plan.now.settings.now plan.now.flights.now) back.now }
+                × All (IsRoom plan.now.settings.now (held plan.now)) back.now }
             ensures { OnOk result (map (λ room. room.duties.items) back.exit.now ≡ map
-                (λ room. from_place plan.entry.now.settings.now plan.entry.now.flights.now
+                (λ room. from_place plan.entry.now.settings.now (held plan.entry.now)
                 room.place) back.entry.now) }
         { fill_in(rt, alloc, plan, others, share, back) },
     );
@@ -209,14 +210,14 @@ pub(crate) fn list_all<R: Threads + Sync>(
     counts: &[usize],
     total: usize,
 ) -> Result<Duties, AllocError>
-    requires plan { IsPlan plan.now.settings.now plan.now.flights.now plan.now.slots.now
+    requires plan { IsPlan plan.now.settings.now (held plan.now) plan.now.slots.now
         plan.now.next.now }
-    requires counts { AreCounts (from_place plan.now.settings.now plan.now.flights.now) 0
+    requires counts { AreCounts (from_place plan.now.settings.now (held plan.now)) 0
         (length plan.now.flights.now) counts.now }
     requires total { total ≡ sum counts.now }
     requires few { total ≤ 200_000 }
     ensures { IfOk result (λ found. found
-        ≡ all_duties plan.now.settings.now plan.now.flights.now) }
+        ≡ all_duties plan.now.settings.now (held plan.now)) }
 {
     let pieces = pieces_of(rt, total, LISTED).max(1);
     let mut rooms = rooms_for(alloc, counts)?;

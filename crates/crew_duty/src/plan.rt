@@ -7,6 +7,7 @@ ghost use Rattle.crew_rules.specs.Settings.{IsChecked};
 ghost use Rattle.crew_duty.specs.Machinery.Followers.{places_of};
 ghost use Rattle.crew_pairing.specs.Legality.{last_of};
 ghost use Rattle.crew_duty.specs.Machinery.Limits.{AreLimits};
+ghost use Rattle.crew_duty.specs.Machinery.Held.{held, over};
 ghost use Rattle.crew_duty.specs.Machinery.Plans.{AreNext, IsNext, IsPlan, LeadOn, StandAt};
 ghost use Rattle.crew_duty.specs.Machinery.Running.{AreTotals};
 ghost use Rattle.crew_duty.specs.Machinery.Slots.{IsIndex};
@@ -14,6 +15,7 @@ ghost use Rattle.crew_duty.specs.Machinery.Slots.{IsIndex};
 use crate::departures::{NEVER, Slot, earlier_of, few_after, places_by};
 use crate::limits::Limits;
 use crate::totals::Totals;
+use crate::turns::HeldTurns;
 use crew_flights::Flight;
 use crew_pairing::TimedLeg;
 use crew_rules::Settings;
@@ -28,11 +30,13 @@ pub(crate) struct Next {
     pub(crate) soonest: i64,
 }
 
-/// The flights by number, their departures by airport and time, and what may follow each flight.
+/// The flights by number, the turns between them, their departures by airport and time, and what may
+/// follow each flight.
 #[derive(Drop)]
 pub(crate) struct Plan<'a> {
     pub(crate) settings: &'a Settings,
     pub(crate) flights: &'a [Flight],
+    pub(crate) turns: &'a HeldTurns,
     pub(crate) slots: &'a [Slot],
     pub(crate) next: &'a [Next],
 }
@@ -57,14 +61,15 @@ pub(crate) fn next_of(
     alloc: Global,
     settings: &Settings,
     flights: &[Flight],
+    turns: &HeldTurns,
     slots: &[Slot],
     before: &Flight,
 ) -> Result<Next, AllocError>
     requires checked { IsChecked settings.now }
     requires index { IsIndex flights.now slots.now }
-    ensures { IfOk result (IsNext settings.now flights.now before.now) }
+    ensures { IfOk result (IsNext settings.now (over flights.now turns.now) before.now) }
 {
-    let Some(places) = few_after(alloc, slots, settings, before)? else {
+    let Some(places) = few_after(alloc, settings, flights, turns, slots, before)? else {
         return Ok(Next {
             places: None,
             soonest: 0,
@@ -82,15 +87,17 @@ pub(crate) fn next_flights(
     alloc: Global,
     settings: &Settings,
     flights: &[Flight],
+    turns: &HeldTurns,
     slots: &[Slot],
 ) -> Result<Vec<Next>, AllocError>
     requires checked { IsChecked settings.now }
     requires index { IsIndex flights.now slots.now }
-    ensures { IfOk result (λ next. AreNext settings.now flights.now flights.now next.items) }
+    ensures { IfOk result (λ next. AreNext settings.now (over flights.now turns.now) flights.now
+        next.items) }
 {
     let mut next = Vec::with_capacity(alloc, flights.len())?;
     for flight in flights {
-        next.push(next_of(alloc, settings, flights, slots, flight)?)?;
+        next.push(next_of(alloc, settings, flights, turns, slots, flight)?)?;
     }
     Ok(next)
 }
@@ -126,7 +133,7 @@ pub(crate) fn follow_on<'a>(
     last: usize,
     totals: Totals,
 ) -> Result<Followers<'a>, AllocError>
-    requires plan { IsPlan plan.now.settings.now plan.now.flights.now plan.now.slots.now
+    requires plan { IsPlan plan.now.settings.now (held plan.now) plan.now.slots.now
         plan.now.next.now }
     requires limits { (first : TimedLeg) × AreLimits plan.now.settings.now first limits.now }
     requires last { last < length plan.now.flights.now }
@@ -134,7 +141,7 @@ pub(crate) fn follow_on<'a>(
         → AreLimits plan.now.settings.now first limits.now
         → slice_get plan.now.flights.now last ≡ Some (last_of first others).flight
         → AreTotals (first ∷ others) totals
-        → LeadOn plan.now.settings.now plan.now.flights.now first others (places_of found)) }
+        → LeadOn plan.now.settings.now (held plan.now) first others (places_of found)) }
 {
     if let Some(places) = &plan.next[last].places {
         return Ok(Followers::Known(places));
@@ -142,8 +149,10 @@ pub(crate) fn follow_on<'a>(
     let latest = limits.latest(totals);
     let found = places_by(
         alloc,
-        plan.slots,
         plan.settings,
+        plan.flights,
+        plan.turns,
+        plan.slots,
         &plan.flights[last],
         latest,
     )?;

@@ -3,17 +3,21 @@
 //! order, each at its new price.
 
 ghost use Rattle.std.specs.Prelude.{◌≡◌, ◌≤◌, ◌<◌, ◌≤ℤ◌, ℕ, List, IsTrue, IfOk, get_or, length, map, negsuc, pos};
+ghost use Rattle.crew_flights.specs.Timetable.{Turns};
 ghost use Rattle.crew_flights.specs.declared.flight.Flight.{Flight};
+ghost use Rattle.crew_pairing.specs.Flights.{Flights};
 ghost use Rattle.crew_rules.specs.declared.settings.Settings.{Settings};
 ghost use Rattle.std.specs.Arc.{arc_value};
 ghost use Rattle.crew_pairing.specs.Duties.{AreDutiesOver};
 ghost use Rattle.crew_pairing.specs.Machinery.Blocks.{part_of};
 ghost use Rattle.crew_pairing.specs.Legality.{total};
 ghost use Rattle.crew_pairing.specs.Machinery.Beginnings.{AreFlights};
+ghost use Rattle.crew_duty.specs.Machinery.Held.{over};
 ghost use Rattle.crew_duty.specs.Machinery.Prices as Spec;
 ghost use Rattle.crew_duty.specs.Machinery.Prices.{AreInLimits, AreSameButPrices, HaveFewLegs, HavePrices, at_price, under_prices};
 
 use crate::search::DUTIES;
+use crate::turns::HeldTurns;
 use crew_flights::Flight;
 use crew_pairing::{Duties, Duty, Leg};
 use std::alloc::{AllocError, Global};
@@ -30,11 +34,20 @@ fn is_same_but_price(flight: &Flight, before: &Flight) -> bool
     again == *flight
 }
 
-// Whether two lists have the same flights, one by one, but for their prices.
-fn are_same_but_prices(flights: &[Flight], before: &[Flight]) -> bool
-    ensures { IsTrue result → AreSameButPrices flights.now before.now }
+// Whether two lists have the same flights, one by one, but for their prices, and the same turns.
+fn are_same_but_prices(
+    flights: &[Flight],
+    turns: &HeldTurns,
+    before: &[Flight],
+    earlier: &HeldTurns,
+) -> bool
+    ensures { IsTrue result → AreSameButPrices (over flights.now turns.now)
+        (over before.now earlier.now) }
 {
     if flights.len() != before.len() {
+        return false;
+    }
+    if !turns.are(earlier) {
         return false;
     }
     for place in 0..flights.len() {
@@ -45,18 +58,25 @@ fn are_same_but_prices(flights: &[Flight], before: &[Flight]) -> bool
     true
 }
 
-/// Whether flights are those of before, one by one, but for their prices, and the duties of before
-/// are no more than may be listed.
-pub(crate) fn can_reprice(duties: &Duties, flights: &[Flight], before: &[Flight]) -> bool
-    ensures same { IsTrue result → AreSameButPrices flights.now before.now }
+/// Whether flights are those of before, one by one, but for their prices, with the same turns, and
+/// the duties of before are no more than may be listed.
+pub(crate) fn can_reprice(
+    duties: &Duties,
+    flights: &[Flight],
+    turns: &HeldTurns,
+    before: &[Flight],
+    earlier: &HeldTurns,
+) -> bool
+    ensures same { IsTrue result → AreSameButPrices (over flights.now turns.now)
+        (over before.now earlier.now) }
     ensures few { IsTrue result → length duties.now ≤ 200_000 }
 {
-    duties.len() <= DUTIES && are_same_but_prices(flights, before)
+    duties.len() <= DUTIES && are_same_but_prices(flights, turns, before, earlier)
 }
 
 // How many numbers there are up to that of the last flight, with 0.
 fn numbers_of(flights: &[Flight]) -> usize
-    requires { AreFlights flights.now }
+    requires { (turns : Turns) × AreFlights (over flights.now turns) }
     ensures { (i : ℕ) (d : Flight) → i < length flights.now
         → (get_or flights.now i d).id < result }
 {
@@ -68,7 +88,7 @@ fn numbers_of(flights: &[Flight]) -> usize
 
 // The prices of flights by their numbers, so that a leg's price is found at once.
 fn prices_by_number(alloc: Global, flights: &[Flight]) -> Result<Vec<i64>, AllocError>
-    requires { AreFlights flights.now }
+    requires { (turns : Turns) × AreFlights (over flights.now turns) }
     ensures held { IfOk result (λ prices. HavePrices prices.items flights.now) }
     ensures limits { IfOk result (λ prices. AreInLimits prices.items) }
 {
@@ -172,12 +192,12 @@ pub(crate) fn list_priced(
     flights: &[Flight],
     duties: &Duties,
 ) -> Result<Duties, AllocError>
-    requires flights { AreFlights flights.now }
+    requires flights { (turns : Turns) × AreFlights (over flights.now turns) }
     requires few { HaveFewLegs duties.now }
     requires room { length duties.now ≤ 200_000 }
-    ensures listed { IfOk result (λ list. (s : Settings) (before : List Flight)
-        → AreSameButPrices flights.now before → AreDutiesOver s before duties.now
-        → AreDutiesOver s flights.now list) }
+    ensures listed { IfOk result (λ list. (s : Settings) (turns : Turns) (before : Flights)
+        → AreSameButPrices (over flights.now turns) before → AreDutiesOver s before duties.now
+        → AreDutiesOver s (over flights.now turns) list) }
     ensures count { IfOk result (λ list. length list ≡ length duties.now) }
 {
     let prices = prices_by_number(alloc, flights)?;

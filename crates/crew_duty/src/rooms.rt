@@ -9,6 +9,7 @@ ghost use Rattle.std.specs.Prelude.{◌≡◌, ◌≤◌, ◌+◌, All, IfOk, On
 ghost use Rattle.std.specs.Arc.{arc_value};
 ghost use Rattle.std.specs.List.{flat_map, range_with_len};
 ghost use Rattle.crew_pairing.specs.Machinery.Listing.{from_place};
+ghost use Rattle.crew_duty.specs.Machinery.Held.{held};
 ghost use Rattle.crew_duty.specs.Machinery.Plans.{IsPlan};
 ghost use Rattle.crew_duty.specs.Machinery.Rooms.{IsRoom};
 
@@ -44,11 +45,11 @@ impl Room {
 
     /// Finds the duties, in place of those that stand here.
     pub(crate) fn fill(&mut self, alloc: Global, plan: &Plan<'_>) -> Result<(), AllocError>
-        requires plan { IsPlan plan.now.settings.now plan.now.flights.now plan.now.slots.now
+        requires plan { IsPlan plan.now.settings.now (held plan.now) plan.now.slots.now
             plan.now.next.now }
-        requires room { IsRoom plan.now.settings.now plan.now.flights.now self.old }
+        requires room { IsRoom plan.now.settings.now (held plan.now) self.old }
         ensures { OnOk result (self.new.duties.items
-            ≡ from_place plan.now.settings.now plan.now.flights.now self.old.place) }
+            ≡ from_place plan.now.settings.now (held plan.now) self.old.place) }
     {
         self.duties.clear();
         put_blanks(&mut self.duties, &plan.flights[self.place], self.count)?;
@@ -104,11 +105,11 @@ pub(crate) fn fill_each(
     plan: &Plan<'_>,
     rooms: &mut [Room],
 ) -> Result<(), AllocError>
-    requires plan { IsPlan plan.now.settings.now plan.now.flights.now plan.now.slots.now
+    requires plan { IsPlan plan.now.settings.now (held plan.now) plan.now.slots.now
         plan.now.next.now }
-    requires rooms { All (IsRoom plan.now.settings.now plan.now.flights.now) rooms.old }
+    requires rooms { All (IsRoom plan.now.settings.now (held plan.now)) rooms.old }
     ensures { OnOk result (map (λ room. room.duties.items) rooms.new ≡ map
-        (λ room. from_place plan.now.settings.now plan.now.flights.now room.place) rooms.old) }
+        (λ room. from_place plan.now.settings.now (held plan.now) room.place) rooms.old) }
 {
     for room in rooms.iter_mut() {
         room.fill(alloc, plan)?;

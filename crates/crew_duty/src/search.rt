@@ -18,6 +18,7 @@ ghost use Rattle.crew_duty.specs.Machinery.Limits.{AreLimits};
 ghost use Rattle.crew_pairing.specs.Machinery.Listing.{from_place, listing, own, timed};
 ghost use Rattle.crew_pairing.specs.declared.leg.TimedLeg.{TimedLeg};
 ghost use Rattle.crew_duty.specs.Machinery.Paths.{EndsAt, GoesOn, IsPath, LastAt, onward};
+ghost use Rattle.crew_duty.specs.Machinery.Held.{held};
 ghost use Rattle.crew_duty.specs.Machinery.Plans.{IsPlan};
 
 use crate::limits::Limits;
@@ -44,12 +45,12 @@ fn duty_from(
     last: usize,
     totals: Totals,
 ) -> Duty
-    requires plan { IsPlan plan.now.settings.now plan.now.flights.now plan.now.slots.now
+    requires plan { IsPlan plan.now.settings.now (held plan.now) plan.now.slots.now
         plan.now.next.now }
     requires limits { AreLimits plan.now.settings.now first.now limits.now }
-    requires path { (others : List TimedLeg) × IsPath plan.now.settings.now plan.now.flights.now
+    requires path { (others : List TimedLeg) × IsPath plan.now.settings.now (held plan.now)
         first.now others key.now totals × EndsAt plan.now.flights.now first.now others last false }
-    ensures { (others : List TimedLeg) → IsPath plan.now.settings.now plan.now.flights.now
+    ensures { (others : List TimedLeg) → IsPath plan.now.settings.now (held plan.now)
         first.now others key.now totals → EndsAt plan.now.flights.now first.now others last false
         → result ≡ duty_of plan.now.settings.now first.now others }
 {
@@ -83,13 +84,13 @@ fn put_own(
     totals: Totals,
     so_far: usize,
 ) -> usize
-    requires plan { IsPlan plan.now.settings.now plan.now.flights.now plan.now.slots.now
+    requires plan { IsPlan plan.now.settings.now (held plan.now) plan.now.slots.now
         plan.now.next.now }
     requires limits { AreLimits plan.now.settings.now first.now limits.now }
-    requires path { (others : List TimedLeg) × IsPath plan.now.settings.now plan.now.flights.now
+    requires path { (others : List TimedLeg) × IsPath plan.now.settings.now (held plan.now)
         first.now others key.now totals × EndsAt plan.now.flights.now first.now others last ridden }
     requires so_far { so_far ≤ 200_000 }
-    ensures { (others : List TimedLeg) → IsPath plan.now.settings.now plan.now.flights.now
+    ensures { (others : List TimedLeg) → IsPath plan.now.settings.now (held plan.now)
         first.now others key.now totals → EndsAt plan.now.flights.now first.now others last ridden
         → Goes so_far (own plan.now.settings.now first.now others) found.old result found.new }
 {
@@ -117,18 +118,18 @@ fn walk(
     totals: Totals,
     so_far: usize,
 ) -> Result<usize, AllocError>
-    requires plan { IsPlan plan.now.settings.now plan.now.flights.now plan.now.slots.now
+    requires plan { IsPlan plan.now.settings.now (held plan.now) plan.now.slots.now
         plan.now.next.now }
     requires limits { AreLimits plan.now.settings.now first.now limits.now }
     requires few { length key.old ≤ 7 }
-    requires path { (others : List TimedLeg) × IsPath plan.now.settings.now plan.now.flights.now
+    requires path { (others : List TimedLeg) × IsPath plan.now.settings.now (held plan.now)
         first.now others key.old totals × LastAt plan.now.flights.now first.now others last }
     requires so_far { so_far ≤ 200_001 }
     requires room { length found.old ≤ 200_000 }
     ensures goes { IfOk result (λ n. (others : List TimedLeg)
-        → IsPath plan.now.settings.now plan.now.flights.now first.now others key.old totals
+        → IsPath plan.now.settings.now (held plan.now) first.now others key.old totals
         → LastAt plan.now.flights.now first.now others last
-        → Goes so_far (onward (7 - length others) plan.now.settings.now plan.now.flights.now
+        → Goes so_far (onward (7 - length others) plan.now.settings.now (held plan.now)
         first.now others) found.old n found.new) }
     ensures kept { OnOk result (key.new ≡ key.old) }
 {
@@ -161,19 +162,19 @@ fn step(
     totals: Totals,
     so_far: usize,
 ) -> Result<usize, AllocError>
-    requires plan { IsPlan plan.now.settings.now plan.now.flights.now plan.now.slots.now
+    requires plan { IsPlan plan.now.settings.now (held plan.now) plan.now.slots.now
         plan.now.next.now }
     requires limits { AreLimits plan.now.settings.now first.now limits.now }
     requires few { length key.old ≤ 7 }
     requires path { (others : List TimedLeg) × (g : Flight) × IsPath plan.now.settings.now
-        plan.now.flights.now first.now others key.old totals × GoesOn plan.now.settings.now
-        plan.now.flights.now first.now others place g }
+        (held plan.now) first.now others key.old totals × GoesOn plan.now.settings.now
+        (held plan.now) first.now others place g }
     requires so_far { so_far ≤ 200_001 }
     requires room { length found.old ≤ 200_000 }
     ensures goes { IfOk result (λ n. (others : List TimedLeg) (g : Flight)
-        → IsPath plan.now.settings.now plan.now.flights.now first.now others key.old totals
-        → GoesOn plan.now.settings.now plan.now.flights.now first.now others place g
-        → Goes so_far (listing (7 - length others) plan.now.settings.now plan.now.flights.now
+        → IsPath plan.now.settings.now (held plan.now) first.now others key.old totals
+        → GoesOn plan.now.settings.now (held plan.now) first.now others place g
+        → Goes so_far (listing (7 - length others) plan.now.settings.now (held plan.now)
         first.now (others ++ timed deadhead g ∷ [])) found.old n found.new) }
     ensures kept { OnOk result (key.new ≡ key.old) }
 {
@@ -209,17 +210,17 @@ fn enter(
     totals: Totals,
     so_far: usize,
 ) -> Result<usize, AllocError>
-    requires plan { IsPlan plan.now.settings.now plan.now.flights.now plan.now.slots.now
+    requires plan { IsPlan plan.now.settings.now (held plan.now) plan.now.slots.now
         plan.now.next.now }
     requires limits { AreLimits plan.now.settings.now first.now limits.now }
-    requires path { (others : List TimedLeg) × IsPath plan.now.settings.now plan.now.flights.now
+    requires path { (others : List TimedLeg) × IsPath plan.now.settings.now (held plan.now)
         first.now others key.old totals × EndsAt plan.now.flights.now first.now others last ridden }
     requires so_far { so_far ≤ 200_001 }
     requires room { length found.old ≤ 200_000 }
     ensures goes { IfOk result (λ n. (others : List TimedLeg)
-        → IsPath plan.now.settings.now plan.now.flights.now first.now others key.old totals
+        → IsPath plan.now.settings.now (held plan.now) first.now others key.old totals
         → EndsAt plan.now.flights.now first.now others last ridden
-        → Goes so_far (listing (8 - length others) plan.now.settings.now plan.now.flights.now
+        → Goes so_far (listing (8 - length others) plan.now.settings.now (held plan.now)
         first.now others) found.old n found.new) }
     ensures kept { OnOk result (key.new ≡ key.old) }
 {
@@ -259,14 +260,14 @@ fn walk_first(
     deadhead: bool,
     so_far: usize,
 ) -> Result<usize, AllocError>
-    requires plan { IsPlan plan.now.settings.now plan.now.flights.now plan.now.slots.now
+    requires plan { IsPlan plan.now.settings.now (held plan.now) plan.now.slots.now
         plan.now.next.now }
     requires place { place < length plan.now.flights.now }
     requires so_far { so_far ≤ 200_001 }
     requires room { length found.old ≤ 200_000 }
     ensures { IfOk result (λ n. (flight : Flight)
         → slice_get plan.now.flights.now place ≡ Some flight
-        → Goes so_far (listing 8 plan.now.settings.now plan.now.flights.now
+        → Goes so_far (listing 8 plan.now.settings.now (held plan.now)
         (timed deadhead flight) []) found.old n found.new) }
 {
     if deadhead && plan.settings.deadheads == 0 {
@@ -294,13 +295,13 @@ pub(crate) fn walk_from(
     place: usize,
     so_far: usize,
 ) -> Result<usize, AllocError>
-    requires plan { IsPlan plan.now.settings.now plan.now.flights.now plan.now.slots.now
+    requires plan { IsPlan plan.now.settings.now (held plan.now) plan.now.slots.now
         plan.now.next.now }
     requires place { place < length plan.now.flights.now }
     requires so_far { so_far ≤ 200_001 }
     requires room { length found.old ≤ 200_000 }
     ensures { IfOk result (λ n. Goes so_far
-        (from_place plan.now.settings.now plan.now.flights.now place) found.old n found.new) }
+        (from_place plan.now.settings.now (held plan.now) place) found.old n found.new) }
 {
     let flown = walk_first(alloc, found, plan, place, false, so_far)?;
     walk_first(alloc, found, plan, place, true, flown)

@@ -1,26 +1,22 @@
 -- Lists of duties: their last, their caps, and their sums.
-use Rattle.std.proofs.Common.{◌≡◌, ◌≤◌, ◌<◌, ◌+◌, ◌-◌, ◌*◌, ◌&&◌, ℕ, suc, ℤ, pos, negsuc, ◌+ℤ◌, ◌-ℤ◌, ◌*ℤ◌, ◌≤ℤ◌, ◌<ℤ◌, int_le, Bool, true, false, List, [], ◌∷◌, ◌++◌, Some, None, length, refl, sym, ap, subst, ◌∙◌, arith, get_or, length-append, of_z, take, to_z, w32, w64, add-one}
+use Rattle.std.proofs.Common.{◌≡◌, ◌≤◌, ◌<◌, ◌+◌, ◌-◌, ◌*◌, ℕ, suc, ℤ, pos, negsuc, ◌+ℤ◌, ◌-ℤ◌, ◌*ℤ◌, ◌≤ℤ◌, List, [], ◌∷◌, Some, length, refl, sym, ap, subst, arith, get_or, of_z, take, to_z, w32, w64, add-one}
 use Rattle.std.specs.Prelude.{slice_get}
 use mir.Val.{SFits}
-use Rattle.std.specs.Ordering.{eq_by_cmp}
 use Rattle.std.proofs.Math.Nat.{mul-le-mul_left, mul-suc}
-use Rattle.std.proofs.lemmas.Bool.{and_parts}
 use Rattle.std.proofs.lemmas.Int.{ints}
 use Rattle.std.proofs.lemmas.Option.{slice_get-get_or}
-use Rattle.std.specs.Cmp.{eq_by_cmp_equiv}
-use Rattle.crew_flights.specs.Codes.{code_cmp, code_cmp_total}
+use Rattle.crew_flights.specs.Timetable.{Turns}
 use Rattle.crew_rules.specs.Settings.{IsChecked}
 use Rattle.crew_rules.specs.declared.settings.Settings.{Settings}
 use Rattle.crew_pairing.specs.Legality.{AllConnect, duty_of, flight_time, price_of, release, report, total}
-use Rattle.crew_pairing.specs.Pairings.{last_duty, may_stand_after, minutes_away}
+use Rattle.crew_pairing.specs.Pairings.{last_duty, minutes_away}
 use Rattle.crew_pairing.specs.declared.duty.Duty.{Duty}
 use Rattle.crew_pairing.specs.declared.leg.TimedLeg.{TimedLeg}
 use Rattle.crew_resource.specs.Members.{Each}
-use Rattle.crew_pairing.proofs.Sums.{total-push, total-take}
+use Rattle.crew_pairing.proofs.Sums.{total-take}
 use Rattle.crew_pairing.proofs.Tree.{Each-member, slice_get-Member}
 use Rattle.crew_pairing.proofs.Paid.{legs-paid}
 use Rattle.crew_pairing.proofs.Times.{AllSound, ends-later, flown-total}
-use Rattle.crew_history.specs.Limits.{arrival}
 use Rattle.crew_explain.specs.Machinery.Ranges.{IsInRange}
 
 pub last_duty-get : (first : Duty) (others : List Duty) (d : Duty) → slice_get (first ∷ others) (length (first ∷ others) - 1) ≡ Some d → last_duty first others ≡ d
@@ -38,15 +34,15 @@ away-ends (x ∷ ds) first last e f =
     rw (end, same) refl
 
 -- the facts of sound legs lie in their ranges
-pub made-in-range : (s : Settings) (first : TimedLeg) (others : List TimedLeg) → IsChecked s → AllSound (first ∷ others) → AllConnect s first others → length others ≤ 7
+pub made-in-range : (s : Settings) (turns : Turns) (first : TimedLeg) (others : List TimedLeg) → IsChecked s → AllSound (first ∷ others) → AllConnect s turns first others → length others ≤ 7
     → pos 15_000_000 ≤ℤ report s first → report s first ≤ℤ pos 70_000_000 → pos 15_000_000 ≤ℤ release s first others → release s first others ≤ℤ pos 70_000_000
     → (pos 0 -ℤ pos 9_000_000_000) ≤ℤ total price_of (first ∷ others) → total price_of (first ∷ others) ≤ℤ pos 9_000_000_000 → IsInRange (duty_of s first others)
-made-in-range s first others checked sound linked few a b d e p q =
+made-in-range s turns first others checked sound linked few a b d e p q =
     let debrief = checked.debrief in
-    let late = ends-later s first others sound linked in
+    let late = ends-later s turns first others sound linked in
     let flown = flown-total (first ∷ others) sound in
     let most : flight_time first others ≤ℤ pos 70_000_000 = omega (arith, ints, flown.1, few) in
-    let pay = legs-paid s first others checked few sound linked a e in
+    let pay = legs-paid s turns first others checked few sound linked a e in
     record {
       report = a;
       report_most = b;

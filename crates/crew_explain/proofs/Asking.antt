@@ -1,10 +1,9 @@
 -- Lists of rules, put together and taken apart.
-use Rattle.std.proofs.Common.{◌≡◌, ◌+◌, ◌<◌, ◌-ℤ◌, ◌<ℤ◌, ◌≤ℤ◌, ℕ, suc, ℤ, pos, int_le, Bool, true, false, cond, List, [], ◌∷◌, ◌++◌, Option, Some, None, refl, sym, ap, subst, ◌∙◌, arith, drop, get_or, length}
+use Rattle.std.proofs.Common.{◌≡◌, ◌+◌, ◌<◌, ◌-ℤ◌, ◌<ℤ◌, ◌≤ℤ◌, ℕ, ℤ, pos, int_le, Bool, true, false, cond, List, [], ◌∷◌, ◌++◌, Option, Some, None, refl, sym, ap, subst, ◌∙◌, arith, drop, get_or, length}
 use Rattle.std.proofs.lemmas.Int.{ints}
 use Rattle.std.proofs.lemmas.List.{at_drop_more}
-use Rattle.crew_rules.specs.declared.settings.Settings.{Settings}
 use Rattle.crew_pairing.specs.declared.duty.Duty.{Duty}
-use Rattle.crew_explain.specs.Rules.{Asked, at_least, at_most, between, first_of, free_times, rest_end, rests}
+use Rattle.crew_explain.specs.Rules.{Asked, at_most, first_of, free_times, rest_end}
 use Rattle.crew_explain.specs.Machinery.Firsts.{earliest, or_else}
 use Rattle.crew_explain.specs.declared.breach.Breach.{Breach}
 use Rattle.crew_explain.specs.declared.breach.Rule.{Rule}
@@ -12,9 +11,6 @@ use Rattle.crew_explain.specs.declared.breach.Rule.TheVariants as The
 
 pub asked : (rule : Rule) (duty leg : ℕ) (f l x y : ℤ) → f ≡ x → l ≡ y → at_most rule duty leg f l ≡ at_most rule duty leg x y
 asked rule duty leg f l x y h k = λ i. at_most rule duty leg (h i) (k i)
-
-pub asked-least : (rule : Rule) (duty leg : ℕ) (f l x y : ℤ) → f ≡ x → l ≡ y → at_least rule duty leg f l ≡ at_least rule duty leg x y
-asked-least rule duty leg f l x y h k = λ i. at_least rule duty leg (h i) (k i)
 
 pub first-append : (xs ys : List Asked) → first_of (xs ++ ys) ≡ or_else (first_of xs) (first_of ys)
 first-append [] ys = refl

@@ -1,5 +1,5 @@
 -- What is read of a walk: legs with their flights, duties, and the list of them.
-use Rattle.std.proofs.Common.{◌≡◌, ◌≤◌, ◌+◌, ℕ, suc, pos, Bool, true, false, cond, nat_le, List, [], ◌∷◌, ◌++◌, map, Option, Some, None, Result, Ok, Err, inl, inr, refl, sym, ap, subst, ◌∙◌, arith, length, append-nil, append_assoc, length-append}
+use Rattle.std.proofs.Common.{◌≡◌, ◌≤◌, ◌+◌, ℕ, suc, pos, Bool, true, false, cond, nat_le, List, [], ◌∷◌, ◌++◌, map, Option, Some, None, Result, Ok, Err, inl, inr, refl, sym, ap, subst, ◌∙◌, arith, length, append-nil, append_assoc}
 use Rattle.std.specs.Prelude.{slice_get}
 use Rattle.std.specs.FinMap as fin
 use Rattle.std.proofs.lemmas.Bool.Decides.{nat_tests}
@@ -9,14 +9,14 @@ use Rattle.crew_flights.specs.declared.flight.Flight.{Flight}
 use Rattle.crew_rules.specs.declared.settings.Settings.{Settings}
 use Rattle.crew_pairing.specs.Duties.{flights_of}
 use Rattle.crew_pairing.specs.Legs.{Leg}
-use Rattle.crew_pairing.specs.Legality.{IsLegal, duty_of, leg_of}
+use Rattle.crew_pairing.specs.Legality.{duty_of, leg_of}
 use Rattle.crew_pairing.specs.Pairings.{IsDuty}
 use Rattle.crew_pairing.specs.declared.duty.Duty.{Duty}
 use Rattle.crew_pairing.specs.declared.leg.TimedLeg.{TimedLeg}
 use Rattle.crew_pairing.proofs.Times.{AllSound}
 use Rattle.crew_pairing.proofs.Tree.{slice_get-Member}
 use Rattle.crew_resource.specs.Members.{Each, Member}
-use Rattle.crew_explain.specs.Rules.{◌>>=◌, checked, duty_rules, first_of, held, limits_of, read_after, read_duty, timed_after, timed_leg, unless}
+use Rattle.crew_explain.specs.Rules.{◌>>=◌, checked, duty_rules, first_of, held, limits_of, read_after, read_duty, timed_after, unless}
 use Rattle.crew_explain.specs.declared.breach.Breach.{Breach}
 use Rattle.crew_explain.specs.declared.breach.Rule.TheVariants as The
 use Rattle.crew_explain.specs.declared.explained.Limits.{Limits}
@@ -51,22 +51,22 @@ timed-sound t duty legs (l ∷ ls) out s k e =
     go (Some f) g on h = on f g h
 
 -- flights that are held are those of the list
-held-member : (t : Timetable) (n : ℕ) (f : Flight) → fin.get t.flights n ≡ Some f → Member (flights_of t) f
-held-member t n f g = let p = held_is_listed t n f g in slice_get-Member (flights_of t) p.0 f p.1
+held-member : (t : Timetable) (n : ℕ) (f : Flight) → fin.get t.flights n ≡ Some f → Member (flights_of t).list f
+held-member t n f g = let p = held_is_listed t n f g in slice_get-Member (flights_of t).list p.0 f p.1
 
 place-of : {X : Type 0} (xs : List X) (x : X) → Member xs x → (k : ℕ) × (slice_get xs k ≡ Some x)
 place-of [] x m = absurd m
 place-of (y ∷ xs) x (inl e) = (0, ap Some e)
 place-of (y ∷ xs) x (inr m) = let p = place-of xs x m in (suc p.0, p.1)
 
-member-held : (t : Timetable) (f : Flight) → IsSound t → Member (flights_of t) f → fin.get t.flights f.id ≡ Some f
-member-held t f s m = let p = place-of (flights_of t) f m in listed_is_held t s p.0 f p.1
+member-held : (t : Timetable) (f : Flight) → IsSound t → Member (flights_of t).list f → fin.get t.flights f.id ≡ Some f
+member-held t f s m = let p = place-of (flights_of t).list f m in listed_is_held t s p.0 f p.1
 
 -- the legs read are those of the key, over flights of the timetable
 record Timed (t : Timetable) (legs : List TimedLeg) (ls : List Leg) (out : List TimedLeg) : Type 0 where
   pub more : List TimedLeg
   pub joined : out ≡ legs ++ more
-  pub known : Each (λ l. Member (flights_of t) l.flight) more
+  pub known : Each (λ l. Member (flights_of t).list l.flight) more
   pub keyed : map leg_of more ≡ ls
 
 timed-known : (t : Timetable) (duty : ℕ) (legs : List TimedLeg) (ls : List Leg) (out : List TimedLeg) → IsSound t → timed_after t duty legs ls ≡ Ok out → Timed t legs ls out
@@ -87,7 +87,7 @@ timed-known t duty legs (l ∷ ls) out s e = go (fin.get t.flights l.flight) ref
           keyed = λ i. named i ∷ k.keyed i;
         }
 
-timed-read : (t : Timetable) (duty : ℕ) (legs more : List TimedLeg) → IsSound t → Each (λ l. Member (flights_of t) l.flight) more → timed_after t duty legs (map leg_of more) ≡ Ok (legs ++ more)
+timed-read : (t : Timetable) (duty : ℕ) (legs more : List TimedLeg) → IsSound t → Each (λ l. Member (flights_of t).list l.flight) more → timed_after t duty legs (map leg_of more) ≡ Ok (legs ++ more)
 timed-read t duty legs [] s k = ap Ok (sym (append-nil legs))
 timed-read t duty legs (l ∷ more) s k =
     ap (λ (o : Option Flight). (held duty (length legs + 1) o >>= (λ f. Ok (record { flight = f; deadhead = l.deadhead }))) >>= (λ leg. timed_after t duty (legs ++ leg ∷ []) (map leg_of more))) (member-held t l.flight s k.0)
@@ -102,28 +102,28 @@ counted (x ∷ xs) = ap suc (counted xs)
 abbrev IsOwn : Settings → Timetable → List Leg → Duty × Limits → Type 0
 IsOwn s t key d = IsDuty s (flights_of t) d.0 × (d.0.key ≡ key)
 
-legal-by : (s : Settings) (t : Timetable) (duty : ℕ) (key : List Leg) (d : Duty × Limits) (first : TimedLeg) (others : List TimedLeg) → Each (λ l. Member (flights_of t) l.flight) (first ∷ others) → map leg_of (first ∷ others) ≡ key
-    → length (first ∷ others) ≤ 8 → (o : Option Breach) → first_of (duty_rules s duty first others) ≡ o → unless o (duty_of s first others, limits_of first others) ≡ Ok d → IsOwn s t key d
+legal-by : (s : Settings) (t : Timetable) (duty : ℕ) (key : List Leg) (d : Duty × Limits) (first : TimedLeg) (others : List TimedLeg) → Each (λ l. Member (flights_of t).list l.flight) (first ∷ others) → map leg_of (first ∷ others) ≡ key
+    → length (first ∷ others) ≤ 8 → (o : Option Breach) → first_of (duty_rules s t.turns duty first others) ≡ o → unless o (duty_of s first others, limits_of first others) ≡ Ok d → IsOwn s t key d
 legal-by s t duty key d first others known keyed short (Some b) g h = no-ok _ _ h
 legal-by s t duty key d first others known keyed short None g h =
     let same = ok-same (duty_of s first others, limits_of first others) d h in
     ((first, others, legal-of s (flights_of t) duty first others known short g, ap (λ (x : Duty × Limits). x.0) (sym same)), ap (λ (x : Duty × Limits). x.0.key) (sym same) ∙ keyed)
 
-legal-made : (s : Settings) (t : Timetable) (duty : ℕ) (key : List Leg) (d : Duty × Limits) (legs : List TimedLeg) → length key ≤ 8 → Timed t [] key legs → checked s duty legs ≡ Ok d → IsOwn s t key d
+legal-made : (s : Settings) (t : Timetable) (duty : ℕ) (key : List Leg) (d : Duty × Limits) (legs : List TimedLeg) → length key ≤ 8 → Timed t [] key legs → checked s t.turns duty legs ≡ Ok d → IsOwn s t key d
 legal-made s t duty key d [] few k h = no-ok _ _ h
 legal-made s t duty key d (first ∷ others) few k h =
     let keyed : map leg_of (first ∷ others) ≡ key = ap (map leg_of) k.joined ∙ k.keyed in
-    legal-by s t duty key d first others (subst (Each (λ (l : TimedLeg). Member (flights_of t) l.flight)) (sym k.joined) k.known) keyed
-    (subst (λ (n : ℕ). n ≤ 8) (sym (ap length keyed) ∙ counted (first ∷ others)) few) (first_of (duty_rules s duty first others)) refl h
+    legal-by s t duty key d first others (subst (Each (λ (l : TimedLeg). Member (flights_of t).list l.flight)) (sym k.joined) k.known) keyed
+    (subst (λ (n : ℕ). n ≤ 8) (sym (ap length keyed) ∙ counted (first ∷ others)) few) (first_of (duty_rules s t.turns duty first others)) refl h
 
-legal-read : (s : Settings) (t : Timetable) (duty : ℕ) (key : List Leg) (d : Duty × Limits) → IsSound t → (r : Result (List TimedLeg) Breach) → timed_after t duty [] key ≡ r → length key ≤ 8 → (r >>= checked s duty) ≡ Ok d → IsOwn s t key d
+legal-read : (s : Settings) (t : Timetable) (duty : ℕ) (key : List Leg) (d : Duty × Limits) → IsSound t → (r : Result (List TimedLeg) Breach) → timed_after t duty [] key ≡ r → length key ≤ 8 → (r >>= checked s t.turns duty) ≡ Ok d → IsOwn s t key d
 legal-read s t duty key d sound (Err b) g few h = no-ok _ _ h
 legal-read s t duty key d sound (Ok legs) g few h = legal-made s t duty key d legs few (timed-known t duty [] key legs sound g) h
 
 within : (n : ℕ) → nat_le n 8 ≡ true → n ≤ 8
 within n h = grind (arith, nat_tests)
 
-legal-long : (s : Settings) (t : Timetable) (duty : ℕ) (key : List Leg) (d : Duty × Limits) (e : Breach) → IsSound t → (b : Bool) → nat_le (length key) 8 ≡ b → cond b (timed_after t duty [] key >>= checked s duty) (Err e) ≡ Ok d → IsOwn s t key d
+legal-long : (s : Settings) (t : Timetable) (duty : ℕ) (key : List Leg) (d : Duty × Limits) (e : Breach) → IsSound t → (b : Bool) → nat_le (length key) 8 ≡ b → cond b (timed_after t duty [] key >>= checked s t.turns duty) (Err e) ≡ Ok d → IsOwn s t key d
 legal-long s t duty key d e sound true g h = legal-read s t duty key d sound (timed_after t duty [] key) refl (within (length key) g) h
 legal-long s t duty key d e sound false g h = no-ok _ _ h
 
@@ -138,8 +138,8 @@ pub duty-read : (s : Settings) (t : Timetable) (duty : ℕ) (d : Duty) → IsSou
 duty-read s t duty d sound (first, others, legal, is) =
     let few : nat_le (length (map leg_of (first ∷ others))) 8 ≡ true = short-test (length (map leg_of (first ∷ others))) (subst (λ (n : ℕ). n ≤ 8) (sym (counted (first ∷ others))) legal.legs) in
     let whole : read_duty s t duty (map leg_of (first ∷ others)) ≡ Ok (duty_of s first others, limits_of first others) =
-    ap (λ (b : Bool). cond b (timed_after t duty [] (map leg_of (first ∷ others)) >>= checked s duty) (Err (record { rule = The.Legs; duty = duty; leg = 0; found = pos (length (map leg_of (first ∷ others))); limit = pos 8 }))) few
-    ∙ ap (λ (r : Result (List TimedLeg) Breach). r >>= checked s duty) (timed-read t duty [] (first ∷ others) sound legal.known)
+    ap (λ (b : Bool). cond b (timed_after t duty [] (map leg_of (first ∷ others)) >>= checked s t.turns duty) (Err (record { rule = The.Legs; duty = duty; leg = 0; found = pos (length (map leg_of (first ∷ others))); limit = pos 8 }))) few
+    ∙ ap (λ (r : Result (List TimedLeg) Breach). r >>= checked s t.turns duty) (timed-read t duty [] (first ∷ others) sound legal.known)
     ∙ ap (λ (o : Option Breach). unless o (duty_of s first others, limits_of first others)) (unbroken-of s (flights_of t) duty first others legal) in
     (limits_of first others, subst (λ (x : Duty). read_duty s t duty x.key ≡ Ok (x, limits_of first others)) (sym is) whole)
 

@@ -2,11 +2,11 @@
 -- doesn't hold: 14 CFR 117.3 (deadhead transportation), 117.11 with Table A, 117.13 with Table B,
 -- 117.23(b)(1) and (c), 117.25(b) and (e). The order is that of the definitions of a legal duty and of
 -- a partial pairing: the base; duty by duty its legs, then its limits; then all duties together.
-use Rattle.std.specs.Prelude.{◌≡◌, ◌+◌, ◌-ℤ◌, ℕ, ℤ, pos, int_le, nat_le, not, Bool, false, cond, List, [], ◌∷◌, ◌++◌, Option, Some, None, Result, Ok, Err, length}
+use Rattle.std.specs.Prelude.{◌+◌, ◌-ℤ◌, ℕ, ℤ, pos, int_le, nat_le, not, Bool, false, cond, List, [], ◌∷◌, ◌++◌, Option, Some, None, Result, Ok, Err, length}
 use Rattle.std.specs.Ordering.{eq_by_cmp}
 use Rattle.std.specs.FinMap as map
 use Rattle.crew_flights.specs.Codes.{code_cmp}
-use Rattle.crew_flights.specs.Timetable.{Timetable}
+use Rattle.crew_flights.specs.Timetable.{Timetable, Turns}
 use Rattle.crew_flights.specs.declared.flight.Flight.{Flight}
 use Rattle.crew_rules.specs.Tables.{table_a, table_b}
 use Rattle.crew_rules.specs.declared.settings.Settings.{Settings}
@@ -79,18 +79,27 @@ timed_after t duty legs [] = Ok legs
 timed_after t duty legs (l ∷ ls) = timed_leg t duty (length legs + 1) l
     >>= (λ leg. timed_after t duty (legs ++ leg ∷ []) ls)
 
--- a leg and the next: the airport, and the minutes between them
-abbrev pub connection : Settings → ℕ → ℕ → Flight → Flight → List Asked
-connection s duty leg before next =
+-- the least minutes between two legs, with the rule that asks for them: their turn, where there is
+-- one, and else `connect`
+abbrev pub least_gap : Settings → Option ℕ → Rule × ℤ
+least_gap s None = (The.Connect, pos s.connect)
+least_gap s (Some minutes) = (The.Turn, pos minutes)
+
+-- a leg and the next: the airport, and the minutes between them. Where their turn is more than
+-- `sit`, no minutes keep both rules
+abbrev pub connection : Settings → Turns → ℕ → ℕ → Flight → Flight → List Asked
+connection s turns duty leg before next =
+    let least = least_gap s (map.get turns (before.id, next.id)) in
     same The.Airport duty leg before.to next.from
-    ∷ at_least The.Connect duty leg (next.dep -ℤ before.arr) (pos s.connect)
+    ∷ at_least least.0 duty leg (next.dep -ℤ before.arr) least.1
     ∷ at_most The.Sit duty leg (next.dep -ℤ before.arr) (pos s.sit)
     ∷ []
 
-abbrev pub connections : Settings → ℕ → ℕ → TimedLeg → List TimedLeg → List Asked
-connections s duty leg first [] = []
-connections s duty leg first (next ∷ others) =
-    connection s duty leg first.flight next.flight ++ connections s duty (leg + 1) next others
+abbrev pub connections : Settings → Turns → ℕ → ℕ → TimedLeg → List TimedLeg → List Asked
+connections s turns duty leg first [] = []
+connections s turns duty leg first (next ∷ others) =
+    connection s turns duty leg first.flight next.flight
+    ++ connections s turns duty (leg + 1) next others
 
 -- the deadheads, Table A and Table B
 abbrev pub duty_limits : Settings → ℕ → TimedLeg → List TimedLeg → List Asked
@@ -103,9 +112,9 @@ duty_limits s duty first others =
     (pos (table_b first.flight.report_clock (segments (first ∷ others))))
     ∷ []
 
-abbrev pub duty_rules : Settings → ℕ → TimedLeg → List TimedLeg → List Asked
-duty_rules s duty first others =
-    connections s duty 2 first others ++ duty_limits s duty first others
+abbrev pub duty_rules : Settings → Turns → ℕ → TimedLeg → List TimedLeg → List Asked
+duty_rules s turns duty first others =
+    connections s turns duty 2 first others ++ duty_limits s duty first others
 
 -- what a duty of these legs may have
 abbrev pub limits_of : TimedLeg → List TimedLeg → Limits
@@ -116,14 +125,14 @@ limits_of first others = record {
 }
 
 -- the duty of these legs, where it breaks no rule
-abbrev pub checked : Settings → ℕ → List TimedLeg → Result (Duty × Limits) Breach
-checked s duty [] = Err (told The.LastLeg duty 0)
-checked s duty (first ∷ others) = unless (first_of (duty_rules s duty first others))
+abbrev pub checked : Settings → Turns → ℕ → List TimedLeg → Result (Duty × Limits) Breach
+checked s turns duty [] = Err (told The.LastLeg duty 0)
+checked s turns duty (first ∷ others) = unless (first_of (duty_rules s turns duty first others))
     (duty_of s first others, limits_of first others)
 
 abbrev pub read_duty : Settings → Timetable → ℕ → List Leg → Result (Duty × Limits) Breach
 read_duty s t duty key =
-    cond (nat_le (length key) 8) (timed_after t duty [] key >>= checked s duty)
+    cond (nat_le (length key) 8) (timed_after t duty [] key >>= checked s t.turns duty)
     (Err (record { rule = The.Legs; duty = duty; leg = 0; found = pos (length key); limit = pos 8 }))
 
 -- the duties of a walk with their limits, after those that are read already

@@ -15,8 +15,10 @@ pub enum Rule {
     Flight,
     /// A leg leaves the airport that the one before reached.
     Airport,
-    /// The least minutes between two legs.
+    /// The least minutes between two legs that have no turn.
     Connect,
+    /// The turn between two legs: the least minutes between them.
+    Turn,
     /// The most minutes between two legs.
     Sit,
     /// The most legs of a duty that are ridden.

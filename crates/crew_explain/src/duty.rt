@@ -61,32 +61,39 @@ fn limits_breach(
 // What a duty of these legs breaks first.
 fn duty_breach(
     settings: &Settings,
+    timetable: &Timetable,
     duty: usize,
     first: &TimedLeg,
     others: &[TimedLeg],
 ) -> Option<Breach>
     requires checked { IsChecked settings.now }
     requires few { length others.now ≤ 7 }
-    ensures { result ≡ first_of (duty_rules settings.now duty first.now others.now) }
+    ensures { result ≡ first_of
+        (duty_rules settings.now timetable.now.turns duty first.now others.now) }
 {
     earliest(&[
-        connections_breach(settings, duty, first, others),
+        connections_breach(settings, timetable, duty, first, others),
         limits_breach(settings, duty, first, others),
     ])
 }
 
 // The duty of these legs with what it may have, or the first rule that they break.
-fn checked(settings: &Settings, duty: usize, legs: &[TimedLeg]) -> Result<(Duty, Limits), Breach>
+fn checked(
+    settings: &Settings,
+    timetable: &Timetable,
+    duty: usize,
+    legs: &[TimedLeg],
+) -> Result<(Duty, Limits), Breach>
     requires checked { IsChecked settings.now }
     requires few { length legs.now ≤ 8 }
     requires sound { Each (λ l. IsFlight l.flight.id l.flight) legs.now }
-    ensures value { result ≡ checked settings.now duty legs.now }
+    ensures value { result ≡ checked settings.now timetable.now.turns duty legs.now }
     ensures range { IfOk result (λ read. IsInRange read.0) }
 {
     let Some((first, others)) = legs.split_first() else {
         return Err(Breach::of(Rule::LastLeg, duty, 0));
     };
-    match duty_breach(settings, duty, first, others) {
+    match duty_breach(settings, timetable, duty, first, others) {
         Some(breach) => Err(breach),
         None => Ok((duty_from(settings, first, others), limits_of(first, others))),
     }
@@ -116,5 +123,5 @@ pub(crate) fn read_duty(
         return Err(Breach::of(Rule::LastLeg, duty, 0));
     };
     let legs = read_legs(timetable, duty, *first, others)?;
-    checked(settings, duty, legs.as_slice())
+    checked(settings, timetable, duty, legs.as_slice())
 }

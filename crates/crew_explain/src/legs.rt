@@ -2,7 +2,7 @@
 
 ghost use Rattle.std.specs.Prelude.{◌≡◌, ◌≤◌, ◌+◌, ◌++◌, ◌∷◌, [], length};
 ghost use Rattle.std.specs.FinMap as map;
-ghost use Rattle.crew_flights.specs.Timetable.{IsFlight, IsSound};
+ghost use Rattle.crew_flights.specs.Timetable.{IsFlight, IsSound, Turns};
 ghost use Rattle.crew_rules.specs.Settings.{IsChecked};
 ghost use Rattle.crew_pairing.specs.Legality.{AllConnect, duty_of};
 ghost use Rattle.crew_resource.specs.Members.{Each};
@@ -24,7 +24,7 @@ pub(crate) fn duty_from(settings: &Settings, first: &TimedLeg, others: &[TimedLe
     requires checked { IsChecked settings.now }
     requires few { length others.now ≤ 7 }
     requires sound { Each (λ l. IsFlight l.flight.id l.flight) (first.now ∷ others.now) }
-    requires connected { AllConnect settings.now first.now others.now }
+    requires connected { (turns : Turns) × AllConnect settings.now turns first.now others.now }
     ensures value { result ≡ duty_of settings.now first.now others.now }
     ensures range { IsInRange result }
 {

@@ -3,7 +3,7 @@
 //!
 //! The crate promises that a walk breaks no rule exactly where it is a pairing by the definition, and
 //! that the rule told is the first that is broken, in the order of `specs/Rules`. It looks up the
-//! walk's own flights alone, so its time depends on the walk and not on the timetable.
+//! walk's own flights and their turns alone, so its time depends on the walk and not on the timetable.
 #![tactic(auto)]
 
 mod breach;

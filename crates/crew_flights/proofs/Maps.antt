@@ -1,17 +1,19 @@
 -- A map in memory, seen as a finite map.
 use Rattle.std.proofs.Common.{◌≡◌, Bool, true, false, cond, List, [], ◌∷◌, length, refl, sym, ◌∙◌, ap, subst, Some, None}
-use Rattle.std.specs.Prelude.{T, ◌&&◌}
+use Rattle.std.specs.Prelude.{T, ◌&&◌, filter}
 use Rattle.std.specs.declared.cmp.Ordering.{Ordering}
-use Rattle.std.specs.declared.cmp.Ordering.TheVariants.{Less}
-use Rattle.std.specs.Ordering.{eq_by_cmp, is_lt}
+use Rattle.std.specs.declared.cmp.Ordering.TheVariants.{Less, Equal}
+use Rattle.std.specs.Ordering.{eq_by_cmp, is_lt, nat_cmp}
 use Rattle.std.specs.Cmp.{IsTotalOrder, eq_by_cmp_equiv}
 use Rattle.std.specs.List.{AllByRecursion}
 use Rattle.std.specs.List.Sorted.{IsStrictlySortedBy}
 use Rattle.std.specs.Map.{keys_of, lookup}
 use Rattle.std.specs.BTreeMap.{is_at}
 use Rattle.std.specs.FinMap as map
-use Rattle.std.specs.FinMap.Entries.{find, is_sorted, below_all}
+use Rattle.std.specs.FinMap.Entries.{find, find-where_key, is_sorted, is_sorted-where_key, below_all, where_key}
 use Rattle.std.proofs.lemmas.Map.Keys.{sorted_head, sorted_tail}
+use Rattle.std.proofs.lemmas.Map.Lookups.{exact_pairs, exact_unsigned}
+use Rattle.crew_flights.specs.Codes.{pair_cmp}
 
 both : (a b : Bool) → T a → T b → T (a && b)
 both true b p q = q
@@ -54,3 +56,20 @@ module _ {K X : Type 0} (R : K → K → Ordering) where
         map.same_map o same _ _ (λ q. get_seen fs q t ∙ u q
         ∙ ap (λ b. cond b None (lookup (is_at (R q)) es)) ((eq_by_cmp_equiv o).symm k q)
         ∙ sym (map.get-remove o (map.from_sorted es) k q ∙ ap (cond (eq_by_cmp R q k) None) (get_seen es q s)))
+
+    -- the entries whose keys pass a test, as a list
+    pub retained : (m : map.FinMap R X) (p : K → Bool) → map.retain_keys m p ≡ map.from_sorted {R = R} (where_key R p (map.entries m))
+    retained m p =
+        map.same_map o same _ _ (λ q.
+        let alike : (x : K) → R q x ≡ Equal → p x ≡ p q = λ x e. ap p (sym (same q x e)) in
+        map.get-retain_keys m p q alike
+        ∙ ap (λ found. cond (p q) found None) (map.get-entries m q)
+        ∙ sym (find-where_key R p q alike (map.entries m))
+        ∙ sym (map.get-from_sorted R (where_key R p (map.entries m)) q (is_sorted-where_key R p (map.entries m) (map.entries_sorted m))))
+
+    pub seen_retain : (es : List (K × X)) (p : K → Bool) → IsStrictlySortedBy R (keys_of es) → map.from_sorted {R = R} (filter (λ e. p e.0) es) ≡ map.retain_keys (map.from_sorted es) p
+    seen_retain es p s = sym (retained (map.from_sorted es) p ∙ ap (λ xs. map.from_sorted {R = R} (where_key R p xs)) (entries_seen es s))
+
+-- only equal pairs of flights tie
+pub exact_flights : map.IsAntisymmetric pair_cmp
+exact_flights = exact_pairs nat_cmp nat_cmp exact_unsigned exact_unsigned

@@ -2,8 +2,8 @@
 use Rattle.std.specs.Prelude.{◌≤◌, ◌&&◌, ◌==◌, ℕ, nat_le, Bool, List, length}
 use Rattle.std.specs.List.{list_all}
 use Rattle.std.specs.declared.cmp.Ordering.{Ordering}
-use Rattle.std.specs.Ordering.{nat_cmp}
-use Rattle.std.specs.Cmp.{IsTotalOrder, nat_cmp_total}
+use Rattle.std.specs.Ordering.{nat_cmp, then_cmp}
+use Rattle.std.specs.Cmp.{IsTotalOrder, nat_cmp_total, on_total, then_total}
 use Rattle.std.specs.Cmp.Lexicographic.{slice_cmp, lists_total}
 
 -- one to six digits, with no zero in front
@@ -25,3 +25,10 @@ code_cmp = slice_cmp nat_cmp
 
 pub code_cmp_total : IsTotalOrder code_cmp
 code_cmp_total = lists_total nat_cmp_total
+
+-- two flights stand in the order of the first's number, and then of the second's
+abbrev pub pair_cmp : ℕ × ℕ → ℕ × ℕ → Ordering
+pair_cmp = then_cmp (λ a b. nat_cmp a.0 b.0) (λ a b. nat_cmp a.1 b.1)
+
+pub pair_cmp_total : IsTotalOrder pair_cmp
+pair_cmp_total = then_total (on_total (λ p. p.0) nat_cmp_total) (on_total (λ p. p.1) nat_cmp_total)

@@ -1,14 +1,14 @@
 -- What an edit does to a timetable: the first refusal that applies, or the change.
-use Rattle.std.specs.Prelude.{◌∷◌, ◌&&◌, ◌-ℤ◌, ℕ, nat_le, ℤ, pos, negsuc, int_le, Bool, not, false, cond, List, [], Option, Some, None}
-use Rattle.std.specs.Ordering.{eq_by_cmp}
+use Rattle.std.specs.Prelude.{◌∷◌, ◌&&◌, ◌||◌, ◌-ℤ◌, ℕ, nat_le, ℤ, pos, negsuc, int_le, Bool, not, false, cond, List, [], Option, Some, None}
+use Rattle.std.specs.Ordering.{eq_by_cmp, nat_cmp}
 use Rattle.std.specs.FinMap as map
 use Rattle.crew_flights.specs.Codes.{code_cmp}
 use Rattle.crew_flights.specs.Timetable.{Timetable}
 use Rattle.crew_flights.specs.declared.flight.Flight.{Flight}
 use Rattle.crew_flights.specs.declared.edit.Edit.{Edit}
-use Rattle.crew_flights.specs.declared.edit.Edit.TheVariants.{AddBase, BasePrice, AddFlight, Cancel, Retime, Price}
+use Rattle.crew_flights.specs.declared.edit.Edit.TheVariants.{AddBase, BasePrice, AddFlight, Cancel, Retime, Price, Turn, TakeTurn}
 use Rattle.crew_flights.specs.declared.edit.Refusal.{Refusal}
-use Rattle.crew_flights.specs.declared.edit.Refusal.TheVariants.{BaseExists, NoBase, FlightExists, NoFlight, BadTimes, SameAirport, WrongOrigin, PriceRange, TooManyFlights, TooManyBases}
+use Rattle.crew_flights.specs.declared.edit.Refusal.TheVariants.{BaseExists, NoBase, FlightExists, NoFlight, BadTimes, SameAirport, WrongOrigin, PriceRange, TooManyFlights, TooManyBases, NoConnection, NoTurn, TurnRange, TooManyTurns}
 use Rattle.crew_flights.specs.declared.edit.Verdict.{Verdict}
 use Rattle.crew_flights.specs.declared.edit.Verdict.TheVariants.{Accepted, Refused}
 
@@ -19,6 +19,12 @@ has_base t code = map.contains_key t.bases code
 
 abbrev pub has_flight : Timetable → ℕ → Bool
 has_flight t number = map.contains_key t.flights number
+
+abbrev pub has_turn : Timetable → ℕ → ℕ → Bool
+has_turn t before after = map.contains_key t.turns (before, after)
+
+abbrev pub has_both : Timetable → ℕ → ℕ → Bool
+has_both t before after = has_flight t before && has_flight t after
 
 -- at most a billion points from zero
 abbrev pub is_price : ℤ → Bool
@@ -35,6 +41,13 @@ is_same_code = eq_by_cmp code_cmp
 abbrev pub leaves_elsewhere : Option Flight → List ℕ → Bool
 leaves_elsewhere None from = false
 leaves_elsewhere (Some flight) from = not (is_same_code flight.from from)
+
+-- of two flights that are held, the second leaves where the first arrives, and no earlier
+abbrev pub connects : Option Flight → Option Flight → Bool
+connects None after = false
+connects (Some before) None = false
+connects (Some before) (Some after) = is_same_code before.to after.from
+    && int_le before.arr after.dep
 
 -- ---- the refusals that an edit can meet, in the order of their numbers, each where its test holds
 
@@ -53,6 +66,12 @@ refusals t (Retime id from dep arr report_clock) = (not (has_flight t id), NoFli
     (leaves_elsewhere (map.get t.flights id) from, WrongOrigin) ∷ []
 refusals t (Price id price) = (not (has_flight t id), NoFlight) ∷
     (not (is_price price), PriceRange) ∷ []
+refusals t (Turn before after minutes) = (not (has_both t before after), NoFlight) ∷
+    (not (connects (map.get t.flights before) (map.get t.flights after)), NoConnection) ∷
+    (not (nat_le minutes 1_441), TurnRange)
+    ∷ (not (has_turn t before after) && nat_le 10_000 (map.len t.turns), TooManyTurns) ∷ []
+refusals t (TakeTurn before after) = (not (has_both t before after), NoFlight) ∷
+    (not (has_turn t before after), NoTurn) ∷ []
 
 abbrev pub first_of : List (Bool × Refusal) → Option Refusal
 first_of [] = None
@@ -70,8 +89,21 @@ with_base t code price = record t { bases = map.insert t.bases code price }
 abbrev pub with_flight : Timetable → ℕ → Flight → Timetable
 with_flight t number flight = record t { flights = map.insert t.flights number flight }
 
+-- the turns before and after a flight go with it
+abbrev pub is_turn_of : ℕ → ℕ × ℕ → Bool
+is_turn_of number pair = eq_by_cmp nat_cmp pair.0 number || eq_by_cmp nat_cmp pair.1 number
+
 abbrev pub without_flight : Timetable → ℕ → Timetable
-without_flight t number = record t { flights = map.remove t.flights number }
+without_flight t number = record t {
+  flights = map.remove t.flights number;
+  turns = map.retain_keys t.turns (λ pair. not (is_turn_of number pair));
+}
+
+abbrev pub with_turn : Timetable → ℕ → ℕ → ℕ → Timetable
+with_turn t before after minutes = record t { turns = map.insert t.turns (before, after) minutes }
+
+abbrev pub without_turn : Timetable → ℕ → ℕ → Timetable
+without_turn t before after = record t { turns = map.remove t.turns (before, after) }
 
 -- a flight, where it is held, stands changed under its number
 abbrev pub with_changed : Timetable → ℕ → Option Flight → (Flight → Flight) → Timetable
@@ -93,6 +125,8 @@ changed t (Cancel id) = without_flight t id
 changed t (Retime id from dep arr report_clock) = with_changed t id (map.get t.flights id)
     (retimed dep arr report_clock)
 changed t (Price id price) = with_changed t id (map.get t.flights id) (repriced price)
+changed t (Turn before after minutes) = with_turn t before after minutes
+changed t (TakeTurn before after) = without_turn t before after
 
 -- ---- an edit: refused with no change, or accepted
 

@@ -1,7 +1,7 @@
 -- The numbers of refusals.
 use Rattle.std.specs.Prelude.{ℕ}
 use Rattle.crew_flights.specs.declared.edit.Refusal.{Refusal}
-use Rattle.crew_flights.specs.declared.edit.Refusal.TheVariants.{BaseExists, NoBase, FlightExists, NoFlight, BadTimes, SameAirport, WrongOrigin, PriceRange, TooManyFlights, TooManyBases, OutOfTurn}
+use Rattle.crew_flights.specs.declared.edit.Refusal.TheVariants.{BaseExists, NoBase, FlightExists, NoFlight, BadTimes, SameAirport, WrongOrigin, PriceRange, TooManyFlights, TooManyBases, OutOfTurn, NoConnection, NoTurn, TurnRange, TooManyTurns}
 
 abbrev pub number_of : Refusal → ℕ
 number_of BaseExists = 21
@@ -15,3 +15,7 @@ number_of PriceRange = 28
 number_of TooManyFlights = 29
 number_of TooManyBases = 30
 number_of OutOfTurn = 31
+number_of NoConnection = 32
+number_of NoTurn = 33
+number_of TurnRange = 34
+number_of TooManyTurns = 35

@@ -1,20 +1,26 @@
--- A timetable: the flights that are held, and the bases with their prices.
-use Rattle.std.specs.Prelude.{◌≡◌, ◌≢◌, ◌≤◌, ◌≤ℤ◌, ◌-ℤ◌, ℕ, ℤ, pos, negsuc, refl, List, Some}
+-- A timetable: the flights that are held, the bases with their prices, and the turns between flights.
+use Rattle.std.specs.Prelude.{◌≡◌, ◌≢◌, ◌≤◌, ◌≤ℤ◌, ◌-ℤ◌, ℕ, ℤ, pos, negsuc, refl, List, Some, true}
 use Rattle.std.specs.Ordering.{nat_cmp}
 use Rattle.std.specs.Coded.{Coded, code_by, coded×, coded_ℕ, coded_ℤ, coded_list}
 use Rattle.std.specs.FinMap as map
 use Rattle.std.specs.BTreeMap.{BTreeMap, IsOrdered}
-use Rattle.crew_flights.specs.Codes.{code_cmp}
+use Rattle.crew_flights.specs.Codes.{code_cmp, pair_cmp}
 use Rattle.crew_flights.specs.declared.flight.Flight.{Flight}
 
--- flights by number, and prices by the code of a base
+-- turns: of two flights, by their numbers, the least minutes on the ground between the arrival of the
+-- first and the departure of the second, where the second is the next leg of a duty
+abbrev pub Turns : Type 0
+Turns = map.FinMap pair_cmp ℕ
+
+-- flights by number, prices by the code of a base, and turns
 pub record Timetable : Type 0 where
   pub flights : map.FinMap nat_cmp Flight
   pub bases : map.FinMap code_cmp ℤ
+  pub turns : Turns
 
 -- before any edit
 abbrev pub empty_timetable : Timetable
-empty_timetable = record { flights = map.empty; bases = map.empty }
+empty_timetable = record { flights = map.empty; bases = map.empty; turns = map.empty }
 
 -- a flight that may stand under a number: it flies for 1 to 1,440 minutes between two airports
 pub record IsFlight (number : ℕ) (flight : Flight) : Type 0 where
@@ -30,24 +36,39 @@ pub record IsBasePrice (price : ℤ) : Type 0 where
   pub least : negsuc 999_999_999 ≤ℤ price
   pub most : price ≤ℤ pos 1_000_000_000
 
+-- a turn that may stand between two flights: both are held, and it is at most 1,441 minutes
+pub record IsTurn (flights : map.FinMap nat_cmp Flight) (pair : ℕ × ℕ)
+    (minutes : ℕ) : Type 0 where
+  pub before : map.contains_key flights pair.0 ≡ true
+  pub after : map.contains_key flights pair.1 ≡ true
+  pub most : minutes ≤ 1_441
+
 -- what edits keep
 pub record IsSound (t : Timetable) : Type 0 where
   pub flights : (number : ℕ) (flight : Flight) → map.get t.flights number ≡ Some flight
       → IsFlight number flight
   pub bases : (code : List ℕ) (price : ℤ) → map.get t.bases code ≡ Some price → IsBasePrice price
+  pub turns : (pair : ℕ × ℕ) (minutes : ℕ) → map.get t.turns pair ≡ Some minutes
+      → IsTurn t.flights pair minutes
   pub few_flights : map.len t.flights ≤ 5_000
   pub few_bases : map.len t.bases ≤ 16
+  pub few_turns : map.len t.turns ≤ 10_000
 
--- what two maps in memory hold
-abbrev pub timetable_of : BTreeMap ℕ Flight → BTreeMap (List ℕ) ℤ → Timetable
-timetable_of flights bases = record
-    { flights = map.from_sorted flights.entries; bases = map.from_sorted bases.entries }
+-- what three maps in memory hold
+abbrev pub timetable_of : BTreeMap ℕ Flight → BTreeMap (List ℕ) ℤ → BTreeMap (ℕ × ℕ) ℕ → Timetable
+timetable_of flights bases turns = record {
+  flights = map.from_sorted flights.entries;
+  bases = map.from_sorted bases.entries;
+  turns = map.from_sorted turns.entries;
+}
 
 -- what a type keeps of them
-pub record IsKept (flights : BTreeMap ℕ Flight) (bases : BTreeMap (List ℕ) ℤ) : Type 0 where
+pub record IsKept (flights : BTreeMap ℕ Flight) (bases : BTreeMap (List ℕ) ℤ)
+    (turns : BTreeMap (ℕ × ℕ) ℕ) : Type 0 where
   pub flights_ordered : IsOrdered nat_cmp flights
   pub bases_ordered : IsOrdered code_cmp bases
-  pub sound : IsSound (timetable_of flights bases)
+  pub turns_ordered : IsOrdered pair_cmp turns
+  pub sound : IsSound (timetable_of flights bases turns)
 
 -- a flight is stored as its fields
 abbrev pub flight_code : Coded Flight
@@ -67,9 +88,15 @@ flight_code =
     })
     (λ _. refl)
 
--- a timetable is stored as its two maps
+-- turns are stored as their entries
+abbrev pub turns_code : Coded Turns
+turns_code = map.code (coded× coded_ℕ coded_ℕ) coded_ℕ
+
+-- a timetable is stored as its three maps
 abbrev pub timetable_code : Coded Timetable
 timetable_code =
-    code_by (map.FinMap nat_cmp Flight × map.FinMap code_cmp ℤ)
-    (coded× (map.code coded_ℕ flight_code) (map.code (coded_list coded_ℕ) coded_ℤ))
-    (λ t. (t.flights, t.bases)) (λ p. record { flights = p.0; bases = p.1 }) (λ _. refl)
+    code_by ((map.FinMap nat_cmp Flight × map.FinMap code_cmp ℤ) × Turns)
+    (coded× (coded× (map.code coded_ℕ flight_code) (map.code (coded_list coded_ℕ) coded_ℤ))
+    turns_code)
+    (λ t. ((t.flights, t.bases), t.turns))
+    (λ p. record { flights = p.0.0; bases = p.0.1; turns = p.1 }) (λ _. refl)

@@ -35,6 +35,19 @@ pub enum Edit {
         id: FlightId,
         price: i64,
     },
+    /// A turn: the least minutes on the ground between the arrival of one flight and the departure
+    /// of another, where this is the next leg after that one in a duty, in place of those that the
+    /// settings ask for. Another turn of the two goes.
+    Turn {
+        before: FlightId,
+        after: FlightId,
+        minutes: u32,
+    },
+    /// The turn between two flights goes.
+    TakeTurn {
+        before: FlightId,
+        after: FlightId,
+    },
 }
 
 /// Why an entry is refused.
@@ -62,12 +75,21 @@ pub enum Refusal {
     TooManyBases = 30,
     /// The entry's number isn't its seat's next.
     OutOfTurn = 31,
+    /// The later flight of a turn leaves another airport than the earlier one reaches, or departs
+    /// before that arrives.
+    NoConnection = 32,
+    /// There is no such turn.
+    NoTurn = 33,
+    /// The turn is more than 1,441 minutes.
+    TurnRange = 34,
+    /// 10,000 turns are there.
+    TooManyTurns = 35,
 }
 
 impl Refusal {
     ghost use Rattle.crew_flights.specs.Refusals.{number_of};
 
-    /// The number of this refusal, from 21 to 31.
+    /// The number of this refusal, from 21 to 35.
     pub fn number(self) -> u8
         ensures { result ≡ number_of self }
     {

@@ -1,9 +1,11 @@
 //! A timetable in memory.
 
-ghost use Rattle.std.specs.Prelude.{◌≡◌, ℕ, ℤ, List, IfOk, OnOk, OnErr};
+ghost use Rattle.std.specs.Prelude.{◌≡◌, ℕ, ℤ, List, IfOk, OnOk, OnErr, filter, not};
 ghost use Rattle.std.specs.FinMap as map;
-ghost use Rattle.std.specs.BTreeMap.{IsFromIterResult};
+ghost use Rattle.std.specs.BTreeMap.{IsFromIterResult, IsOrdered};
+ghost use Rattle.crew_flights.specs.Codes.{pair_cmp};
 ghost use Rattle.crew_flights.specs.Edits.{is_price, is_block, first_of};
+ghost use Rattle.crew_flights.specs.Edits as Spec;
 ghost use Rattle.std.specs.Map.Iter.{ShowsInOrder, deref, deref_pair};
 
 use crate::edit::{Edit, Refusal, Verdict};
@@ -14,18 +16,24 @@ use std::collections::BTreeMap;
 use std::collections::btree_map::{Iter, Values};
 use std::marker::Model;
 
-// The most flights and bases that a timetable holds.
+// The most flights, bases and turns that a timetable holds.
 const FLIGHTS: usize = 5_000;
 
 const BASES: usize = 16;
 
-/// The flights that are held, and the bases with their prices.
+const TURNS: usize = 10_000;
+
+// The most minutes of a turn: one more than a day.
+const MINUTES: u32 = 1_441;
+
+/// The flights that are held, the bases with their prices, and the turns between flights.
 ///
-/// A contract sees two finite maps.
+/// A contract sees three finite maps.
 #[derive(Drop)]
 pub struct Timetable {
     flights: BTreeMap<FlightId, Flight>,
     bases: BTreeMap<Code, i64>,
+    turns: BTreeMap<(FlightId, FlightId), u32>,
 }
 
 impl Model for Timetable {
@@ -35,22 +43,23 @@ impl Model for Timetable {
 
     ghost coded = { timetable_code };
 
-    ghost view = { λ d. timetable_of d.flights d.bases };
+    ghost view = { λ d. timetable_of d.flights d.bases d.turns };
 
-    ghost invariant = { λ d. IsKept d.flights d.bases };
+    ghost invariant = { λ d. IsKept d.flights d.bases d.turns };
 }
 
 impl Timetable {
     ghost use Rattle.crew_flights.specs.Timetable.{empty_timetable, IsSound};
     ghost use Rattle.crew_flights.specs.declared.flight.Flight.{Flight};
 
-    /// No flights and no bases.
+    /// No flights, no bases and no turns.
     pub fn new(alloc: Global) -> Self
         ensures { result ≡ empty_timetable }
     {
         Timetable {
             flights: BTreeMap::new(alloc),
             bases: BTreeMap::new(alloc),
+            turns: BTreeMap::new(alloc),
         }
     }
 
@@ -70,6 +79,14 @@ impl Timetable {
         self.bases.get(&code).copied()
     }
 
+    /// The turn between two flights, in minutes.
+    pub fn turn(&self, before: FlightId, after: FlightId) -> Option<u32>
+        ensures held { result ≡ map.get self.now.turns (before, after) }
+        ensures sound { IsSound self.now }
+    {
+        self.turns.get(&(before, after)).copied()
+    }
+
     /// How many flights are held.
     pub fn flight_count(&self) -> usize
         ensures held { result ≡ map.len self.now.flights }
@@ -84,6 +101,14 @@ impl Timetable {
         ensures sound { IsSound self.now }
     {
         self.bases.len()
+    }
+
+    /// How many turns there are.
+    pub fn turn_count(&self) -> usize
+        ensures held { result ≡ map.len self.now.turns }
+        ensures sound { IsSound self.now }
+    {
+        self.turns.len()
     }
 
     /// The flights, by number.
@@ -104,6 +129,15 @@ impl Timetable {
         self.bases.iter()
     }
 
+    /// The turns in minutes, by the numbers of their flights.
+    pub fn turns(&self) -> Iter<'_, (FlightId, FlightId), u32>
+        ensures held { result ≡ map.entries self.now.turns }
+        ensures runs { ShowsInOrder (deref_pair {K = ℕ × ℕ} {X = ℕ}) }
+        ensures sound { IsSound self.now }
+    {
+        self.turns.iter()
+    }
+
     /// The same timetable again.
     pub fn copy(&self, alloc: Global) -> Result<Timetable, AllocError>
         ensures { IfOk result (λ copied. copied ≡ self.now) }
@@ -111,6 +145,7 @@ impl Timetable {
         Ok(Timetable {
             flights: entries_again(alloc, &self.flights)?,
             bases: entries_again(alloc, &self.bases)?,
+            turns: entries_again(alloc, &self.turns)?,
         })
     }
 }
@@ -128,6 +163,15 @@ fn entries_again<K: Copy + Ord, V: Copy>(
         .collect(alloc)
 }
 
+// Takes the turns before and after a flight out.
+fn drop_turns(turns: &mut BTreeMap<(FlightId, FlightId), u32>, id: FlightId)
+    ensures left { turns.new.entries ≡ filter (λ e. not (Spec.is_turn_of id e.0))
+        turns.old.entries }
+    ensures ordered { IsOrdered pair_cmp turns.new }
+{
+    turns.retain(|pair, _| !(pair.0 == id || pair.1 == id));
+}
+
 // A price of at most a billion points from zero.
 fn price_fits(price: i64) -> bool
     ensures { result ≡ is_price price }
@@ -140,6 +184,16 @@ fn times_fit(dep: Minute, arr: Minute) -> bool
     ensures { result ≡ is_block dep arr }
 {
     (1..=1_440).contains(&(arr.get() - dep.get()))
+}
+
+// Of two flights that are held, whether the second leaves where the first arrives, and no earlier.
+fn connects(before: Option<Flight>, after: Option<Flight>) -> bool
+    ensures { result ≡ Spec.connects before after }
+{
+    match (before, after) {
+        (Some(before), Some(after)) => before.to == after.from && before.arr <= after.dep,
+        _ => false,
+    }
 }
 
 // The first refusal whose test holds.
@@ -157,7 +211,7 @@ fn first_refusal(tests: &[(bool, Refusal)]) -> Option<Refusal>
 impl Timetable {
     ghost use Rattle.std.specs.Prelude.{None};
     ghost use Rattle.crew_flights.specs.Timetable.{IsSound};
-    ghost use Rattle.crew_flights.specs.Edits.{refusal_of, changed, apply_of, with_base, with_flight, without_flight};
+    ghost use Rattle.crew_flights.specs.Edits.{refusal_of, changed, apply_of, with_base, with_flight, with_turn, without_flight, without_turn};
 
     /// Applies an edit: the verdict is `Accepted`, or the first refusal that applies, and then
     /// nothing changes. On want of memory nothing changes either.
@@ -216,7 +270,34 @@ impl Timetable {
                 (self.flight(id).is_none(), Refusal::NoFlight),
                 (!price_fits(price), Refusal::PriceRange),
             ]),
+            Edit::Turn {
+                before,
+                after,
+                minutes,
+            } => first_refusal(&[
+                (!self.has_both(before, after), Refusal::NoFlight),
+                (
+                    !connects(self.flight(before), self.flight(after)),
+                    Refusal::NoConnection,
+                ),
+                (minutes > MINUTES, Refusal::TurnRange),
+                (
+                    self.turn(before, after).is_none() && self.turn_count() >= TURNS,
+                    Refusal::TooManyTurns,
+                ),
+            ]),
+            Edit::TakeTurn { before, after } => first_refusal(&[
+                (!self.has_both(before, after), Refusal::NoFlight),
+                (self.turn(before, after).is_none(), Refusal::NoTurn),
+            ]),
         }
+    }
+
+    // Whether two flights are held.
+    fn has_both(&self, before: FlightId, after: FlightId) -> bool
+        ensures { result ≡ Spec.has_both self.now before after }
+    {
+        self.flight(before).is_some() && self.flight(after).is_some()
     }
 
     // Makes the change of an edit that no refusal meets.
@@ -256,6 +337,15 @@ impl Timetable {
                 Some(flight) => self.put_flight(id, Flight { price, ..flight }),
                 None => Ok(()),
             },
+            Edit::Turn {
+                before,
+                after,
+                minutes,
+            } => self.put_turn(before, after, minutes),
+            Edit::TakeTurn { before, after } => {
+                self.remove_turn(before, after);
+                Ok(())
+            }
         }
     }
 
@@ -282,5 +372,27 @@ impl Timetable {
         ensures { self.new ≡ without_flight self.old id }
     {
         self.flights.remove(&id);
+        drop_turns(&mut self.turns, id);
+    }
+
+    fn put_turn(
+        &mut self,
+        before: FlightId,
+        after: FlightId,
+        minutes: u32,
+    ) -> Result<(), AllocError>
+        requires { IsSound (with_turn self.old before after minutes) }
+        ensures ok { OnOk result (self.new ≡ with_turn self.old before after minutes) }
+        ensures err { OnErr result (self.new ≡ self.old) }
+    {
+        self.turns.insert((before, after), minutes)?;
+        Ok(())
+    }
+
+    fn remove_turn(&mut self, before: FlightId, after: FlightId)
+        requires { IsSound (without_turn self.old before after) }
+        ensures { self.new ≡ without_turn self.old before after }
+    {
+        self.turns.remove(&(before, after));
     }
 }

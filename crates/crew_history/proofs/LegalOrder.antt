@@ -5,7 +5,7 @@ use Rattle.std.specs.Ordering.{eq_by_cmp}
 use Rattle.std.proofs.lemmas.Bool.{and_parts}
 use Rattle.std.proofs.lemmas.Int.{ints}
 use Rattle.crew_pairing.specs.crew_flights.Codes.{code_cmp}
-use Rattle.crew_pairing.specs.crew_flights.Timetable.{IsSound, Timetable}
+use Rattle.crew_pairing.specs.crew_flights.Timetable.{IsSound, Timetable, Turns}
 use Rattle.crew_pairing.specs.crew_rules.declared.settings.Settings.{Settings}
 use Rattle.crew_pairing.specs.Duties.{flights_of}
 use Rattle.crew_pairing.specs.Legality.{AllConnect, IsLegal, duty_of, last_of}
@@ -19,11 +19,11 @@ use Rattle.crew_resource.specs.Members.{Each}
 use Rattle.crew_history.specs.Limits.{AreInOrder, IsTimed}
 
 -- the last leg arrives after the first departs
-arrives_after : (s : Settings) (first : TimedLeg) (others : List TimedLeg) → AllSound (first ∷ others) → AllConnect s first others
+arrives_after : (s : Settings) (turns : Turns) (first : TimedLeg) (others : List TimedLeg) → AllSound (first ∷ others) → AllConnect s turns first others
     → first.flight.dep <ℤ (last_of first others).flight.arr
-arrives_after s first [] sound linked = omega (arith, ints, sound.0.least_block)
-arrives_after s first (next ∷ others) sound linked =
-    omega (arith, ints, sound.0.least_block, no-earlier s first.flight next.flight linked.0, ends-later s next others sound.1 linked.1)
+arrives_after s turns first [] sound linked = omega (arith, ints, sound.0.least_block)
+arrives_after s turns first (next ∷ others) sound linked =
+    omega (arith, ints, sound.0.least_block, no-earlier s turns first.flight next.flight linked.0, ends-later s turns next others sound.1 linked.1)
 
 -- the numbers of its period
 minutes_are : (dep arr : ℤ) (lead debrief : ℕ) → dep <ℤ arr → (pos 0 <ℤ (arr -ℤ (dep -ℤ pos lead))) × (((dep -ℤ pos lead) +ℤ (arr -ℤ (dep -ℤ pos lead))) ≤ℤ (arr +ℤ pos debrief))
@@ -31,7 +31,7 @@ minutes_are dep arr lead debrief h = (omega (arith, ints), omega (arith, ints))
 
 timed_of : (s : Settings) (t : Timetable) (first : TimedLeg) (others : List TimedLeg) → IsSound t → IsLegal s (flights_of t) first others → IsTimed (duty_of s first others)
 timed_of s t first others sound legal =
-    let later = arrives_after s first others (known-sound (flights_of t) (first ∷ others) (flights-of-timetable t sound) legal.known) legal.connected in
+    let later = arrives_after s (flights_of t).turns first others (known-sound (flights_of t) (first ∷ others) (flights-of-timetable t sound) legal.known) legal.connected in
     let k = minutes_are first.flight.dep (last_of first others).flight.arr s.lead s.debrief later in
     record { nonempty = k.0; arrives = k.1 }
 

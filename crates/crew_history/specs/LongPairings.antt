@@ -1,8 +1,8 @@
 -- Partial pairings of up to 240 hours: 14 CFR 117.23(c) and 117.25(b) hold of every window, and
 -- what else a partial pairing has to keep stays.
 use Rattle.std.specs.Prelude.{◌≡◌, ℕ, Bool, true, ◌&&◌, int_le, pos, List, ◌∷◌, length}
-use Rattle.crew_pairing.specs.crew_flights.declared.flight.Flight.{Flight}
 use Rattle.crew_pairing.specs.crew_rules.declared.settings.Settings.{Settings}
+use Rattle.crew_pairing.specs.Flights.{Flights}
 use Rattle.crew_pairing.specs.Legality.{total}
 use Rattle.crew_pairing.specs.Pairings.{AllRested, IsDuty, minutes_away}
 use Rattle.crew_pairing.specs.declared.duty.Duty.{Duty}
@@ -18,7 +18,7 @@ is_within_totals s duties = keeps_total (pos s.fdp_total) duties
 
 -- a partial pairing of a base over these flights; `fdp_cap` is the cap of each window, `fdp_total`
 -- that of all flight duty
-pub record IsLongPartial (s : Settings) (flights : List Flight) (base : List ℕ) (first : Duty)
+pub record IsLongPartial (s : Settings) (flights : Flights) (base : List ℕ) (first : Duty)
     (others : List Duty) : Type 0 where
   pub legal : Each (IsDuty s flights) (first ∷ others)
   pub leaves : first.from ≡ base

@@ -281,10 +281,10 @@ module _ (s : Settings) (checked : IsChecked s) where
   no-entries [] e = refl
   no-entries (x ∷ es) e = absurd (omega (arith, e))
 
-  no-flights : flights_of empty_timetable ≡ []
+  no-flights : (flights_of empty_timetable).list ≡ []
   no-flights = ap (map (λ (e : ℕ × Flight). e.1)) (no-entries (fin.entries empty_timetable.flights) (sym (fin.len-entries empty_timetable.flights) ∙ fin.len-empty nat_cmp Flight))
 
-  none-known : {A : Type 0} (flight : Flight) → Member (flights_of empty_timetable) flight → A
+  none-known : {A : Type 0} (flight : Flight) → Member (flights_of empty_timetable).list flight → A
   none-known flight m = absurd (subst (λ (fs : List Flight). Member fs flight) no-flights m)
 
   pub no-duty : {A : Type 0} (d : Duty) → IsDuty s (flights_of empty_timetable) d → A

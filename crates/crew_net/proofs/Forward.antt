@@ -17,7 +17,7 @@ ends-no-earlier s t duties sound are d m =
     let first = legal.0 in
     let others = legal.1 in
     let fair = known-sound (flights_of t) (first ∷ others) (flights-of-timetable t sound) legal.2.known in
-    let later = ends-later s first others fair legal.2.connected in
+    let later = ends-later s t.turns first others fair legal.2.connected in
     let report = ap (λ (d : Duty). d.report) legal.3 in
     let release = ap (λ (d : Duty). d.release) legal.3 in
     omega (arith, ints, later, report, release)

@@ -9,6 +9,7 @@ use Rattle.std.proofs.lemmas.List.{map-append}
 use Rattle.crew_flights.specs.declared.flight.Flight.{Flight}
 use Rattle.crew_rules.specs.declared.settings.Settings.{Settings}
 use Rattle.crew_pairing.specs.Duties.{AreDutiesOver, RiseByKey}
+use Rattle.crew_pairing.specs.Flights.{Flights}
 use Rattle.crew_pairing.specs.Keys.{key_cmp, leg_cmp}
 use Rattle.crew_pairing.specs.Legality.{duty_of, last_of, leg_of, may_follow}
 use Rattle.crew_pairing.specs.Machinery.Listing.{all_duties, is_hopeless, listing, timed}
@@ -111,7 +112,7 @@ node-in-order legs flown ridden fan d gs h k false = record {
   rise = (fan-after legs flown ridden fan d gs k, fan-rises legs flown ridden fan gs h);
 }
 
-pub listing-in-order : (room : ℕ) (s : Settings) (flights : List Flight) (first : TimedLeg) (others : List TimedLeg) → Rises flights
+pub listing-in-order : (room : ℕ) (s : Settings) (flights : Flights) (first : TimedLeg) (others : List TimedLeg) → Rises flights.list
     → InOrder (map leg_of (first ∷ others)) (listing room s flights first others)
 listing-in-order zero s flights first others h = none-in-order _ _ (listing-none s flights first others)
 listing-in-order (suc room) s flights first others h =
@@ -134,20 +135,20 @@ listing-in-order (suc room) s flights first others h =
           ridden_begin = λ g. subst (λ (ls : List Leg). AllBegin ls (ridden g)) (longer true g) (deeper true g).begin;
         } in
         rw (listing-open room s flights first others e)
-        (node-in-order legs flown ridden fan (duty_of s first others) (filter (may_follow s (last_of first others).flight) flights) (filter-rises (may_follow s (last_of first others).flight) flights h) refl
+        (node-in-order legs flown ridden fan (duty_of s first others) (filter (may_follow s flights.turns (last_of first others).flight) flights.list) (filter-rises (may_follow s flights.turns (last_of first others).flight) flights.list h) refl
         (last_of first others).deadhead)
 
-pub all-rise : (s : Settings) (flights : List Flight) → Rises flights → RiseByKey (all_duties s flights)
+pub all-rise : (s : Settings) (flights : Flights) → Rises flights.list → RiseByKey (all_duties s flights)
 all-rise s flights h =
     fan-rises [] (λ f. listing 8 s flights (timed false f) []) (λ f. listing 8 s flights (timed true f) []) (record {
       flown_rise = λ f. (listing-in-order 8 s flights (timed false f) [] h).rise;
       ridden_rise = λ f. (listing-in-order 8 s flights (timed true f) [] h).rise;
       flown_begin = λ f. (listing-in-order 8 s flights (timed false f) [] h).begin;
       ridden_begin = λ f. (listing-in-order 8 s flights (timed true f) [] h).begin;
-    }) flights h
+    }) flights.list h
 
 -- the tree has exactly the legal duties, by key
-pub all-duties : (s : Settings) (flights : List Flight) → AreFlights flights → AreDutiesOver s flights (all_duties s flights)
+pub all-duties : (s : Settings) (flights : Flights) → AreFlights flights → AreDutiesOver s flights (all_duties s flights)
 all-duties s flights f = record {
   sound = λ d m. all-sound s flights d m;
   every = λ first others legal. all-every s flights first others f legal;

@@ -4,10 +4,11 @@ use Rattle.std.specs.Prelude.{count_by}
 use Rattle.std.proofs.lemmas.List.Sums.{sum_by-append, sum_by-cons}
 use Rattle.std.proofs.lemmas.Bool.Decides.{nat_tests}
 use Rattle.std.proofs.lemmas.Int.{ints}
-use Rattle.crew_flights.specs.Timetable.{IsFlight}
+use Rattle.crew_flights.specs.Timetable.{IsFlight, Turns}
 use Rattle.crew_flights.specs.declared.flight.Flight.{Flight}
 use Rattle.crew_rules.specs.Tables.{table_a, table_b}
 use Rattle.crew_rules.specs.declared.settings.Settings.{Settings}
+use Rattle.crew_pairing.specs.Flights.{Flights}
 use Rattle.crew_pairing.specs.Legality.{AllConnect, IsLegal, deadheads, flight_duty_period, flight_time, last_of, minutes_flown, segments}
 use Rattle.crew_pairing.specs.Machinery.Listing.{is_hopeless}
 use Rattle.crew_resource.specs.Members.{Each, Member}
@@ -36,27 +37,27 @@ pub last_of-append : (first : TimedLeg) (others more : List TimedLeg) → last_o
 last_of-append first [] more = refl
 last_of-append first (next ∷ others) more = last_of-append next others more
 
-pub AllConnect-after : (s : Settings) (first : TimedLeg) (others more : List TimedLeg) → AllConnect s first (others ++ more) → AllConnect s (last_of first others) more
-AllConnect-after s first [] more h = h
-AllConnect-after s first (next ∷ others) more h = AllConnect-after s next others more h.1
+pub AllConnect-after : (s : Settings) (turns : Turns) (first : TimedLeg) (others more : List TimedLeg) → AllConnect s turns first (others ++ more) → AllConnect s turns (last_of first others) more
+AllConnect-after s turns first [] more h = h
+AllConnect-after s turns first (next ∷ others) more h = AllConnect-after s turns next others more h.1
 
-pub AllConnect-before : (s : Settings) (first : TimedLeg) (others more : List TimedLeg) → AllConnect s first (others ++ more) → AllConnect s first others
-AllConnect-before s first [] more h = tt
-AllConnect-before s first (next ∷ others) more h = (h.0, AllConnect-before s next others more h.1)
+pub AllConnect-before : (s : Settings) (turns : Turns) (first : TimedLeg) (others more : List TimedLeg) → AllConnect s turns first (others ++ more) → AllConnect s turns first others
+AllConnect-before s turns first [] more h = tt
+AllConnect-before s turns first (next ∷ others) more h = (h.0, AllConnect-before s turns next others more h.1)
 
 pub Each-after : {X : Type 0} (P : X → Type 0) (xs ys : List X) → Each P (xs ++ ys) → Each P ys
 Each-after P [] ys h = h
 Each-after P (x ∷ xs) ys h = Each-after P xs ys h.1
 
-last-later-by : (s : Settings) (last : TimedLeg) (more : List TimedLeg) → AllSound more → AllConnect s last more → last.flight.arr ≤ℤ (last_of last more).flight.arr
-last-later-by s last [] sound linked = omega (arith, ints)
-last-later-by s last (next ∷ more) sound linked =
-    omega (arith, ints, no-earlier s last.flight next.flight linked.0, ends-later s next more sound linked.1, sound.0.least_block)
+last-later-by : (s : Settings) (turns : Turns) (last : TimedLeg) (more : List TimedLeg) → AllSound more → AllConnect s turns last more → last.flight.arr ≤ℤ (last_of last more).flight.arr
+last-later-by s turns last [] sound linked = omega (arith, ints)
+last-later-by s turns last (next ∷ more) sound linked =
+    omega (arith, ints, no-earlier s turns last.flight next.flight linked.0, ends-later s turns next more sound linked.1, sound.0.least_block)
 
 -- known legs are sound
-pub known-sound : (flights : List Flight) (legs : List TimedLeg) → AreFlights flights → Each (λ l. Member flights l.flight) legs → AllSound legs
+pub known-sound : (flights : Flights) (legs : List TimedLeg) → AreFlights flights → Each (λ l. Member flights.list l.flight) legs → AllSound legs
 known-sound flights legs f h =
-    Each-map (λ (l : TimedLeg). Member flights l.flight) (λ (l : TimedLeg). IsFlight l.flight.id l.flight) legs (λ l m. Each-member (λ (g : Flight). IsFlight g.id g) flights l.flight f.each m) h
+    Each-map (λ (l : TimedLeg). Member flights.list l.flight) (λ (l : TimedLeg). IsFlight l.flight.id l.flight) legs (λ l m. Each-member (λ (g : Flight). IsFlight g.id g) flights.list l.flight f.each m) h
 
 three-false : (a b c : Bool) → a ≡ false → b ≡ false → c ≡ false → (a || (b || c)) ≡ false
 three-false true b c e f g = e
@@ -72,7 +73,7 @@ second-false true b e = cc
 second-false false b e = e
 
 -- a legal duty leaves hope to each of its beginnings
-pub not-hopeless : (s : Settings) (flights : List Flight) (first : TimedLeg) (others more : List TimedLeg) → AreFlights flights → IsLegal s flights first (others ++ more)
+pub not-hopeless : (s : Settings) (flights : Flights) (first : TimedLeg) (others more : List TimedLeg) → AreFlights flights → IsLegal s flights first (others ++ more)
     → is_hopeless s first others ≡ false
 not-hopeless s flights first others more f h =
     let sound = known-sound flights (first ∷ (others ++ more)) f h.known in
@@ -82,7 +83,7 @@ not-hopeless s flights first others more f h =
     let some = segments-some first (others ++ more) h.flown_last in
     let time = total-append minutes_flown (first ∷ others) more in
     let rest = flown-total more after in
-    let later = last-later-by s (last_of first others) more after (AllConnect-after s first others more h.connected) in
+    let later = last-later-by s flights.turns (last_of first others) more after (AllConnect-after s flights.turns first others more h.connected) in
     let same = ap (λ (l : TimedLeg). l.flight.arr) (last_of-append first others more) in
     let limit = table_b-falls first.flight.report_clock (max (segments (first ∷ others)) 1) (segments (first ∷ (others ++ more))) (omega arith) in
     let a : deadheads (first ∷ others) ≤ s.deadheads = omega (arith, few, h.deadheaded) in
@@ -97,7 +98,7 @@ not-hopeless s flights first others more f h =
     int-test h = grind (arith, ints)
 
 -- a beginning with hope that ends with a flown leg is a legal duty
-pub own-legal : (s : Settings) (flights : List Flight) (first : TimedLeg) (others : List TimedLeg) → IsBeginning s flights first others → length others < 8
+pub own-legal : (s : Settings) (flights : Flights) (first : TimedLeg) (others : List TimedLeg) → IsBeginning s flights first others → length others < 8
     → is_hopeless s first others ≡ false → (last_of first others).deadhead ≡ false → IsLegal s flights first others
 own-legal s flights first others b few hope flown =
     let some = segments-some first others flown in

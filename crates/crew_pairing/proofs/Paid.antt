@@ -3,6 +3,7 @@ use Rattle.std.proofs.Common.{◌≤◌, ◌*◌, ℕ, ℤ, pos, negsuc, ◌-ℤ
 use Rattle.std.specs.Int.{int_max}
 use Rattle.std.proofs.Math.Nat.{mul-le-mul_left}
 use Rattle.std.proofs.lemmas.Int.{ints}
+use Rattle.crew_flights.specs.Timetable.{Turns}
 use Rattle.crew_rules.specs.Pay.{duty_pay}
 use Rattle.crew_rules.specs.Settings.{IsChecked}
 use Rattle.crew_rules.specs.declared.settings.Settings.{Settings}
@@ -29,10 +30,10 @@ paid-between s elapsed fly checked a b c d =
     greatest-between (pos 14 *ℤ fly) (pos s.duty_rig *ℤ elapsed) s.duty_min 1_400_000_000 flown rig (omega (arith, checked.duty_min))
 
 -- the pay of sound legs that connect
-pub legs-paid : (s : Settings) (first : TimedLeg) (others : List TimedLeg) → IsChecked s → length others ≤ 7 → AllSound (first ∷ others) → AllConnect s first others
+pub legs-paid : (s : Settings) (turns : Turns) (first : TimedLeg) (others : List TimedLeg) → IsChecked s → length others ≤ 7 → AllSound (first ∷ others) → AllConnect s turns first others
     → pos 15_000_000 ≤ℤ report s first → release s first others ≤ℤ pos 70_000_000
     → (pos 0 ≤ℤ duty_pay s (release s first others -ℤ report s first) (flight_time first others)) × (duty_pay s (release s first others -ℤ report s first) (flight_time first others) ≤ℤ pos 1_400_000_000)
-legs-paid s first others checked few sound linked a b =
-    let late = ends-later s first others sound linked in
+legs-paid s turns first others checked few sound linked a b =
+    let late = ends-later s turns first others sound linked in
     let flown = flown-total (first ∷ others) sound in
     paid-between s (release s first others -ℤ report s first) (flight_time first others) checked (omega (arith, ints, late)) (omega (arith, ints, a, b)) flown.0 (omega (arith, ints, flown.1, few))

@@ -75,5 +75,5 @@ flights-of-timetable t sound =
       rising = values-rise es sorted (λ e m. (at e m).own);
     }
 
-pub flights-few : (t : Timetable) → IsSound t → length (flights_of t) ≤ 5_000
+pub flights-few : (t : Timetable) → IsSound t → length (flights_of t).list ≤ 5_000
 flights-few t sound = omega (arith, sound.few_flights, fin.len-entries t.flights, length-map (fin.entries t.flights) (λ (e : ℕ × Flight). e.1))

@@ -5,8 +5,10 @@ use Rattle.std.specs.List.{flat_map}
 use Rattle.std.proofs.lemmas.List.{flat_map_more, take_more}
 use Rattle.std.proofs.Math.Seq.{take-append_seam}
 use Rattle.std.proofs.lemmas.Option.{get_or_from_slice_get}
+use Rattle.crew_flights.specs.Timetable.{Turns}
 use Rattle.crew_flights.specs.declared.flight.Flight.{Flight}
 use Rattle.crew_rules.specs.declared.settings.Settings.{Settings}
+use Rattle.crew_pairing.specs.Flights.{Flights}
 use Rattle.crew_pairing.specs.Legality.{AllConnect, duty_of, last_of, may_follow}
 use Rattle.crew_pairing.specs.Machinery.Listing.{below, is_hopeless, listing, own, timed}
 use Rattle.crew_resource.specs.Members.{Each, Member}
@@ -15,11 +17,11 @@ use Rattle.crew_pairing.specs.declared.leg.TimedLeg.{TimedLeg}
 use Rattle.crew_pairing.specs.declared.duty.Duty.{Duty}
 
 -- no room, or no hope: nothing is listed
-pub listing-none : (s : Settings) (flights : List Flight) (first : TimedLeg) (others : List TimedLeg) → listing 0 s flights first others ≡ []
+pub listing-none : (s : Settings) (flights : Flights) (first : TimedLeg) (others : List TimedLeg) → listing 0 s flights first others ≡ []
 unfolding listing
 listing-none s flights first others = refl
 
-pub listing-closed : (room : ℕ) (s : Settings) (flights : List Flight) (first : TimedLeg) (others : List TimedLeg) → is_hopeless s first others ≡ true
+pub listing-closed : (room : ℕ) (s : Settings) (flights : Flights) (first : TimedLeg) (others : List TimedLeg) → is_hopeless s first others ≡ true
     → listing room s flights first others ≡ []
 unfolding listing
 listing-closed zero s flights first others e = refl
@@ -29,8 +31,8 @@ listing-closed (suc room) s flights first others e = by _ _ e
     by true rest e = refl
     by false rest e = cc
 
-pub listing-open : (room : ℕ) (s : Settings) (flights : List Flight) (first : TimedLeg) (others : List TimedLeg) → is_hopeless s first others ≡ false
-    → listing (suc room) s flights first others ≡ own s first others ++ flat_map (below room s flights first others) (filter (may_follow s (last_of first others).flight) flights)
+pub listing-open : (room : ℕ) (s : Settings) (flights : Flights) (first : TimedLeg) (others : List TimedLeg) → is_hopeless s first others ≡ false
+    → listing (suc room) s flights first others ≡ own s first others ++ flat_map (below room s flights first others) (filter (may_follow s flights.turns (last_of first others).flight) flights.list)
 unfolding listing
 listing-open room s flights first others e = by _ _ e
   where
@@ -55,10 +57,10 @@ pub Each-map : {X : Type 0} (P Q : X → Type 0) (xs : List X) → ((x : X) → 
 Each-map P Q [] f h = tt
 Each-map P Q (x ∷ xs) f h = (f x h.0, Each-map P Q xs f h.1)
 
-pub AllConnect-push : (s : Settings) (first : TimedLeg) (others : List TimedLeg) (l : TimedLeg) → AllConnect s first others → may_follow s (last_of first others).flight l.flight ≡ true
-    → AllConnect s first (others ++ l ∷ [])
-AllConnect-push s first [] l h e = (e, tt)
-AllConnect-push s first (x ∷ others) l h e = (h.0, AllConnect-push s x others l h.1 e)
+pub AllConnect-push : (s : Settings) (turns : Turns) (first : TimedLeg) (others : List TimedLeg) (l : TimedLeg) → AllConnect s turns first others → may_follow s turns (last_of first others).flight l.flight ≡ true
+    → AllConnect s turns first (others ++ l ∷ [])
+AllConnect-push s turns first [] l h e = (e, tt)
+AllConnect-push s turns first (x ∷ others) l h e = (h.0, AllConnect-push s turns x others l h.1 e)
 
 -- what a filter keeps stands in the list and passes
 filter-member-by : {X : Type 0} (p : X → Bool) (x y : X) (xs : List X) (i : ℕ) (b : Bool) → p x ≡ b
@@ -72,11 +74,11 @@ filter-member p [] i y e = cc
 filter-member p (x ∷ xs) i y e = filter-member-by p x y xs i (p x) refl (λ j h. filter-member p xs j y h) e
 
 -- a beginning with one leg more
-pub IsBeginning-more : (s : Settings) (flights : List Flight) (first : TimedLeg) (others : List TimedLeg) (deadhead : Bool) (g : Flight) → IsBeginning s flights first others
-    → may_follow s (last_of first others).flight g ≡ true → Member flights g → IsBeginning s flights first (others ++ timed deadhead g ∷ [])
+pub IsBeginning-more : (s : Settings) (flights : Flights) (first : TimedLeg) (others : List TimedLeg) (deadhead : Bool) (g : Flight) → IsBeginning s flights first others
+    → may_follow s flights.turns (last_of first others).flight g ≡ true → Member flights.list g → IsBeginning s flights first (others ++ timed deadhead g ∷ [])
 IsBeginning-more s flights first others deadhead g b e m = record {
-  known = (b.known.0, Each-push (λ (l : TimedLeg). Member flights l.flight) others (timed deadhead g) b.known.1 m);
-  connected = AllConnect-push s first others (timed deadhead g) b.connected e;
+  known = (b.known.0, Each-push (λ (l : TimedLeg). Member flights.list l.flight) others (timed deadhead g) b.known.1 m);
+  connected = AllConnect-push s flights.turns first others (timed deadhead g) b.connected e;
 }
 
 -- what stands before a place and at it is no longer than all
@@ -95,9 +97,9 @@ slice_get-within (y ∷ xs) zero x e = omega arith
 slice_get-within (y ∷ xs) (suc i) x e = omega (arith, slice_get-within xs i x e)
 
 -- the list below legs that leave room, where not all is lost
-pub listing-at : (s : Settings) (flights : List Flight) (first : TimedLeg) (others : List TimedLeg) → length others < 8 → is_hopeless s first others ≡ false
+pub listing-at : (s : Settings) (flights : Flights) (first : TimedLeg) (others : List TimedLeg) → length others < 8 → is_hopeless s first others ≡ false
     → listing (8 - length others) s flights first others
-    ≡ own s first others ++ flat_map (below (7 - length others) s flights first others) (filter (may_follow s (last_of first others).flight) flights)
+    ≡ own s first others ++ flat_map (below (7 - length others) s flights first others) (filter (may_follow s flights.turns (last_of first others).flight) flights.list)
 listing-at s flights first others few hope =
     let room : 8 - length others ≡ suc (7 - length others) = omega arith in
     rw room (listing-open (7 - length others) s flights first others hope)
@@ -107,13 +109,13 @@ flat_map-empty : {X Y : Type 0} (f : X → List Y) (xs : List X) → ((x : X) �
 flat_map-empty f [] h = refl
 flat_map-empty f (x ∷ xs) h = rw (h x) (flat_map-empty f xs h)
 
-below-none : (s : Settings) (flights : List Flight) (first : TimedLeg) (others : List TimedLeg) (g : Flight) → below 0 s flights first others g ≡ []
+below-none : (s : Settings) (flights : Flights) (first : TimedLeg) (others : List TimedLeg) (g : Flight) → below 0 s flights first others g ≡ []
 below-none s flights first others g = rw (listing-none s flights first (others ++ timed false g ∷ []), listing-none s flights first (others ++ timed true g ∷ [])) refl
 
-pub listing-last : (s : Settings) (flights : List Flight) (first : TimedLeg) (others : List TimedLeg) → length others ≡ 7 → is_hopeless s first others ≡ false
+pub listing-last : (s : Settings) (flights : Flights) (first : TimedLeg) (others : List TimedLeg) → length others ≡ 7 → is_hopeless s first others ≡ false
     → listing (8 - length others) s flights first others ≡ own s first others
 listing-last s flights first others full hope =
-    let gs = filter (may_follow s (last_of first others).flight) flights in
+    let gs = filter (may_follow s flights.turns (last_of first others).flight) flights.list in
     let room : 7 - length others ≡ 0 = omega arith in
     let none : flat_map (below (7 - length others) s flights first others) gs ≡ [] = rw room (flat_map-empty (below 0 s flights first others) gs (below-none s flights first others)) in
     listing-at s flights first others (omega arith) hope ∙ rw none (append-nil (own s first others))
@@ -127,14 +129,14 @@ own-few s first others = by (last_of first others).deadhead (duty_of s first oth
     by false d = omega arith
 
 -- the list below one leg more
-pub listing-longer : (s : Settings) (flights : List Flight) (first : TimedLeg) (others longer : List TimedLeg) (l : TimedLeg) → longer ≡ others ++ l ∷ []
+pub listing-longer : (s : Settings) (flights : Flights) (first : TimedLeg) (others longer : List TimedLeg) (l : TimedLeg) → longer ≡ others ++ l ∷ []
     → listing (8 - length longer) s flights first longer ≡ listing (7 - length others) s flights first (others ++ l ∷ [])
 listing-longer s flights first others longer l e =
     let room : 8 - length (others ++ l ∷ []) ≡ 7 - length others = omega (arith, length-append others (l ∷ [])) in
     rw (e, room) refl
 
 -- one flight more, flown and then deadheaded
-pub below-more : (s : Settings) (flights : List Flight) (first : TimedLeg) (others flown ridden : List TimedLeg) (gs : List Flight) (i : ℕ) (g : Flight) (base before between after : List Duty)
+pub below-more : (s : Settings) (flights : Flights) (first : TimedLeg) (others flown ridden : List TimedLeg) (gs : List Flight) (i : ℕ) (g : Flight) (base before between after : List Duty)
     → slice_get gs i ≡ Some g → flown ≡ others ++ timed false g ∷ [] → ridden ≡ others ++ timed true g ∷ []
     → before ≡ base ++ flat_map (below (7 - length others) s flights first others) (take i gs)
     → between ≡ before ++ listing (8 - length flown) s flights first flown
@@ -164,7 +166,7 @@ pop-back others old new x n long e k =
     k ∙ rw (short, e) (take-append_seam others (x ∷ []))
 
 -- the same, counted up to a limit
-pub count-more : (s : Settings) (flights : List Flight) (first : TimedLeg) (others flown ridden : List TimedLeg) (gs : List Flight) (i : ℕ) (g : Flight) (base before between after : ℕ)
+pub count-more : (s : Settings) (flights : Flights) (first : TimedLeg) (others flown ridden : List TimedLeg) (gs : List Flight) (i : ℕ) (g : Flight) (base before between after : ℕ)
     → slice_get gs i ≡ Some g → flown ≡ others ++ timed false g ∷ [] → ridden ≡ others ++ timed true g ∷ []
     → before ≡ min (base + length (flat_map (below (7 - length others) s flights first others) (take i gs))) 200_001
     → between ≡ min (before + length (listing (8 - length flown) s flights first flown)) 200_001

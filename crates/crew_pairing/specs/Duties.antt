@@ -3,17 +3,17 @@ use Rattle.std.specs.Prelude.{◌≡◌, ◌<◌, ◌≤◌, List, [], ◌∷◌
 use Rattle.std.specs.declared.cmp.Ordering.TheVariants.{Less}
 use Rattle.std.specs.FinMap as map
 use Rattle.crew_flights.specs.Timetable.{Timetable}
-use Rattle.crew_flights.specs.declared.flight.Flight.{Flight}
 use Rattle.crew_rules.specs.declared.settings.Settings.{Settings}
+use Rattle.crew_pairing.specs.Flights.{Flights}
 use Rattle.crew_pairing.specs.Keys.{key_cmp}
 use Rattle.crew_pairing.specs.Legality.{IsLegal, duty_of}
 use Rattle.crew_resource.specs.Members.{Each, Member}
 use Rattle.crew_pairing.specs.declared.leg.TimedLeg.{TimedLeg}
 use Rattle.crew_pairing.specs.declared.duty.Duty.{Duty}
 
--- the flights of a timetable, by number
-abbrev pub flights_of : Timetable → List Flight
-flights_of t = map.values t.flights
+-- the flights of a timetable, by number, and its turns
+abbrev pub flights_of : Timetable → Flights
+flights_of t = record { list = map.values t.flights; turns = t.turns }
 
 -- each stands before all later ones by its key
 abbrev pub RiseByKey : List Duty → Type 0
@@ -21,7 +21,7 @@ RiseByKey [] = Unit {0}
 RiseByKey (d ∷ ds) = Each (λ e. key_cmp d.key e.key ≡ Less) ds × RiseByKey ds
 
 -- exactly the legal duties over some flights, by key
-pub record AreDutiesOver (s : Settings) (flights : List Flight) (ds : List Duty) : Type 0 where
+pub record AreDutiesOver (s : Settings) (flights : Flights) (ds : List Duty) : Type 0 where
   pub sound : (d : Duty) → Member ds d → (first : TimedLeg) × (others : List TimedLeg)
       × IsLegal s flights first others × (d ≡ duty_of s first others)
   pub every : (first : TimedLeg) (others : List TimedLeg) → IsLegal s flights first others

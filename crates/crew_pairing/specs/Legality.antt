@@ -1,14 +1,18 @@
 -- Legal duties of unaugmented crews: 14 CFR 117.3 (flight duty period, deadhead transportation),
 -- 117.11 with Table A and 117.13 with Table B. A duty is a nonempty list of legs; here it stands as
 -- its first leg and the list of the others.
-use Rattle.std.specs.Prelude.{◌≡◌, ◌≤◌, ℕ, ℤ, pos, ◌+ℤ◌, ◌-ℤ◌, ◌≤ℤ◌, ◌&&◌, int_le, not, Bool, true, false, List, [], ◌∷◌, length, map, count_by, if◌then◌else◌}
+use Rattle.std.specs.Prelude.{◌≡◌, ◌≤◌, ℕ, ℤ, pos, ◌+ℤ◌, ◌-ℤ◌, ◌≤ℤ◌, ◌&&◌, int_le, not, Bool, true, false, List, [], ◌∷◌, length, map as list_map, count_by, if◌then◌else◌}
+use Rattle.std.specs.FinMap as map
+use Rattle.std.specs.Option.{unwrap_or}
 use Rattle.std.specs.Ordering.{eq_by_cmp}
 use Rattle.crew_flights.specs.Codes.{code_cmp}
+use Rattle.crew_flights.specs.Timetable.{Turns}
 use Rattle.crew_flights.specs.declared.flight.Flight.{Flight}
 use Rattle.crew_rules.specs.Pay.{duty_pay}
 use Rattle.crew_rules.specs.Tables.{table_a, table_b}
 use Rattle.crew_rules.specs.declared.settings.Settings.{Settings}
 use Rattle.crew_resource.specs.Members.{Each, Member}
+use Rattle.crew_pairing.specs.Flights.{Flights}
 use Rattle.crew_pairing.specs.Legs.{Leg}
 use Rattle.crew_pairing.specs.declared.leg.TimedLeg.{TimedLeg}
 use Rattle.crew_pairing.specs.declared.duty.Duty.{Duty}
@@ -55,26 +59,32 @@ flight_duty_period s first others = (last_of first others).flight.arr -ℤ repor
 abbrev pub flight_time : TimedLeg → List TimedLeg → ℤ
 flight_time first others = total minutes_flown (first ∷ others)
 
--- the next flight departs where the one before arrived, after a gap from `connect` to `sit`
-abbrev pub may_follow : Settings → Flight → Flight → Bool
-may_follow s before next =
-    eq_by_cmp code_cmp before.to next.from
-    && (int_le (pos s.connect) (next.dep -ℤ before.arr) && int_le (next.dep -ℤ before.arr)
-    (pos s.sit))
+-- the least minutes on the ground between two flights: their turn, where there is one, and else
+-- `connect`
+abbrev pub turn_time : Settings → Turns → Flight → Flight → ℕ
+turn_time s turns before next = unwrap_or (map.get turns (before.id, next.id)) s.connect
 
--- of each two neighbours the second may follow the first
-abbrev pub AllConnect : Settings → TimedLeg → List TimedLeg → Type 0
-AllConnect s first [] = Unit {0}
-AllConnect s first (next ∷ others) = (may_follow s first.flight next.flight ≡ true)
-    × AllConnect s next others
+-- the next flight departs where the one before arrived, after a gap from their least minutes on the
+-- ground to `sit`. A turn that is more than `sit` forbids it
+abbrev pub may_follow : Settings → Turns → Flight → Flight → Bool
+may_follow s turns before next =
+    eq_by_cmp code_cmp before.to next.from
+    && (int_le (pos (turn_time s turns before next)) (next.dep -ℤ before.arr)
+    && int_le (next.dep -ℤ before.arr) (pos s.sit))
+
+-- of each two neighbours the second may follow the first, flown or ridden
+abbrev pub AllConnect : Settings → Turns → TimedLeg → List TimedLeg → Type 0
+AllConnect s turns first [] = Unit {0}
+AllConnect s turns first (next ∷ others) = (may_follow s turns first.flight next.flight ≡ true)
+    × AllConnect s turns next others
 
 -- a legal duty over these flights
-pub record IsLegal (s : Settings) (flights : List Flight) (first : TimedLeg)
+pub record IsLegal (s : Settings) (flights : Flights) (first : TimedLeg)
     (others : List TimedLeg) : Type 0 where
   -- each leg is a flight of the timetable
-  pub known : Each (λ l. Member flights l.flight) (first ∷ others)
+  pub known : Each (λ l. Member flights.list l.flight) (first ∷ others)
   pub legs : length (first ∷ others) ≤ 8
-  pub connected : AllConnect s first others
+  pub connected : AllConnect s flights.turns first others
   -- at most so many legs are deadheaded, the last one never
   pub deadheaded : deadheads (first ∷ others) ≤ s.deadheads
   pub flown_last : (last_of first others).deadhead ≡ false
@@ -90,7 +100,7 @@ leg_of l = record { flight = l.flight.id; deadhead = l.deadhead }
 -- the facts of a duty, as functions of its legs
 abbrev pub duty_of : Settings → TimedLeg → List TimedLeg → Duty
 duty_of s first others = record {
-  key = map leg_of (first ∷ others);
+  key = list_map leg_of (first ∷ others);
   from = first.flight.from;
   to = (last_of first others).flight.to;
   report = report s first;

@@ -1,3 +1,4 @@
+pub mod Flights
 pub mod Legs
 pub mod Keys
 pub mod Legality

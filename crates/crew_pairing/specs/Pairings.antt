@@ -6,16 +6,16 @@
 use Rattle.std.specs.Prelude.{◌≡◌, ℕ, Bool, true, ◌&&◌, int_le, ℤ, pos, ◌-ℤ◌, List, [], ◌∷◌, length}
 use Rattle.std.specs.Ordering.{eq_by_cmp}
 use Rattle.crew_flights.specs.Codes.{code_cmp}
-use Rattle.crew_flights.specs.declared.flight.Flight.{Flight}
 use Rattle.crew_rules.specs.Settings.{fdp_most}
 use Rattle.crew_rules.specs.declared.settings.Settings.{Settings}
+use Rattle.crew_pairing.specs.Flights.{Flights}
 use Rattle.crew_pairing.specs.Legality.{IsLegal, duty_of, total}
 use Rattle.crew_resource.specs.Members.{Each}
 use Rattle.crew_pairing.specs.declared.leg.TimedLeg.{TimedLeg}
 use Rattle.crew_pairing.specs.declared.duty.Duty.{Duty}
 
 -- the duty of a legal list of legs over these flights
-abbrev pub IsDuty : Settings → List Flight → Duty → Type 0
+abbrev pub IsDuty : Settings → Flights → Duty → Type 0
 IsDuty s flights d = (first : TimedLeg) × (others : List TimedLeg)
     × IsLegal s flights first others × (d ≡ duty_of s first others)
 
@@ -47,12 +47,12 @@ minutes_away (first ∷ others) = (last_duty first others).release -ℤ first.re
 
 -- the caps on totals. Where a pairing spans at most 138 hours, one window of 168 consecutive hours
 -- covers it, and one of 672. For a crew that has done no other work in these windows, 117.23(c)
--- caps its flight duty minutes, by the lesser of both caps, and 117.23(b)(1) its flight minutes. 117.25(b) wants 30 consecutive
--- hours free from all duty within the 168 hours before each report. It holds for a crew that comes
--- to the pairing off 30 such hours which end at its first report: they lie within the 168 hours
--- before a report that is at most 138 hours later. That premise is the planner's, and no clause
--- tests it. A longer pairing has to keep the cap in each of its windows, and free hours before each
--- report, which totals don't tell
+-- caps its flight duty minutes, by the lesser of both caps, and 117.23(b)(1) its flight minutes.
+-- 117.25(b) wants 30 consecutive hours free from all duty within the 168 hours before each report.
+-- It holds for a crew that comes to the pairing off 30 such hours which end at its first report:
+-- they lie within the 168 hours before a report that is at most 138 hours later. That premise is the
+-- planner's, and no clause tests it. A longer pairing has to keep the cap in each of its windows, and
+-- free hours before each report, which totals don't tell
 abbrev pub is_within_caps : Settings → List Duty → Bool
 is_within_caps s duties =
     int_le (total (λ d. d.fdp) duties) (pos (fdp_most s))
@@ -61,7 +61,7 @@ is_within_caps s duties =
     && int_le (minutes_away duties) (pos s.away_cap)))
 
 -- a partial pairing of a base over these flights
-pub record IsPartial (s : Settings) (flights : List Flight) (base : List ℕ) (first : Duty)
+pub record IsPartial (s : Settings) (flights : Flights) (base : List ℕ) (first : Duty)
     (others : List Duty) : Type 0 where
   -- each is a legal duty
   pub legal : Each (IsDuty s flights) (first ∷ others)

@@ -73,6 +73,28 @@ price_command fields = do
   price ← price_field (field_of fields 2)
   Ok (Submit (edit.Price id price))
 
+-- turn,ID,ID,MINUTES
+unfoldable pub put_turn_command : Fields → Result Command RecordFault
+put_turn_command fields = do
+  count ← count_field fields 4
+  before ← id_field (field_of fields 1)
+  after ← id_field (field_of fields 2)
+  minutes ← count_up_to 6 999_999 (field_of fields 3)
+  Ok (Submit (edit.Turn before after minutes))
+
+-- turn,ID,ID
+unfoldable pub take_turn_command : Fields → Result Command RecordFault
+take_turn_command fields = do
+  count ← count_field fields 3
+  before ← id_field (field_of fields 1)
+  after ← id_field (field_of fields 2)
+  Ok (Submit (edit.TakeTurn before after))
+
+-- a record of three fields takes a turn back
+abbrev pub turn_command : Fields → Result Command RecordFault
+turn_command fields =
+    if nat_eq (length fields) 3 then take_turn_command fields else put_turn_command fields
+
 -- front,CODE,DUTY
 unfoldable pub front_command : Fields → Result Command RecordFault
 front_command fields = do
@@ -165,7 +187,8 @@ edit_named name fields =
     else (if bytes_eq name (codes "cancel") then Some (cancel_command fields)
     else (if bytes_eq name (codes "retime") then Some (retime_command fields)
     else (if bytes_eq name (codes "price") then Some (price_command fields)
-    else None)))))
+    else (if bytes_eq name (codes "turn") then Some (turn_command fields)
+    else None))))))
 
 abbrev pub edit_command : Fields → Option (Result Command RecordFault)
 edit_command fields = edit_named (field_of fields 0) fields

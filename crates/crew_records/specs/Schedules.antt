@@ -1,5 +1,5 @@
 -- What a record of a schedule asks for.
-use Rattle.std.specs.Prelude.{ℕ, nat_le, drop, List, Option, Some, None, Result, Ok, Err, length, codes, if◌then◌else◌}
+use Rattle.std.specs.Prelude.{ℕ, nat_eq, nat_le, drop, List, Option, Some, None, Result, Ok, Err, length, codes, if◌then◌else◌}
 use Rattle.std.specs.Str.{bytes_eq}
 use Rattle.crew_time.specs.Instant.{IsInYears}
 use Rattle.crew_records.specs.Commands.{edit_named, zone_command}
@@ -25,16 +25,18 @@ number_in_seat f = count_up_to 6 999_999 f
 abbrev pub job_field : List ℕ → Result ℕ RecordFault
 job_field f = count_up_to 9 999_999_999 f
 
--- how many fields the record of an edit has; none where no edit has the name
-abbrev pub edit_width : List ℕ → Option ℕ
-edit_width name =
+-- how many fields the record of an edit has, of which so many are there; none where no edit has the
+-- name. That of a turn may be without its minutes
+abbrev pub edit_width : List ℕ → ℕ → Option ℕ
+edit_width name count =
     if bytes_eq name (codes "base") then Some 3
     else (if bytes_eq name (codes "baseprice") then Some 3
     else (if bytes_eq name (codes "flight") then Some 7
     else (if bytes_eq name (codes "cancel") then Some 2
     else (if bytes_eq name (codes "retime") then Some 5
     else (if bytes_eq name (codes "price") then Some 3
-    else None)))))
+    else (if bytes_eq name (codes "turn") then Some (if nat_eq count 3 then 3 else 4)
+    else None))))))
 
 -- an edit has its own number of fields
 abbrev pub has_width : Option ℕ → Fields → Result (Unit {0}) RecordFault
@@ -62,7 +64,7 @@ at_least fields n = if nat_le n (length fields) then Ok tt else Err FieldCount
 unfoldable pub push_step : Fields → Result StepRecord RecordFault
 push_step fields = do
   long ← at_least fields 4
-  whole ← has_width (edit_width (field_of fields 3)) (drop 3 fields)
+  whole ← has_width (edit_width (field_of fields 3) (length (drop 3 fields))) (drop 3 fields)
   seat ← seat_field (field_of fields 1)
   number ← number_in_seat (field_of fields 2)
   edit ← pushed (edit_named (field_of (drop 3 fields) 0) (drop 3 fields))

@@ -8,7 +8,7 @@ ghost use Rattle.crew_records.specs.Commands as Spec;
 use crate::fault::RecordFault;
 use crate::fields::{
     count_fields, count_fields_at, field, field_at, read_code, read_count, read_id, read_key,
-    read_limit, read_price, read_time, read_walk, read_zone,
+    read_limit, read_price, read_time, read_walk, read_zone, width_at,
 };
 use crate::walk::ShortWalk;
 use crew_clocks::Zone;
@@ -184,6 +184,47 @@ fn price_command(row: &ByteRecord, at: usize) -> Result<Command, RecordFault>
     Ok(Command::Submit(Edit::Price { id, price }))
 }
 
+#[tactic(auto, unfolding(crate::specs::Commands::put_turn_command))]
+fn put_turn_command(row: &ByteRecord, at: usize) -> Result<Command, RecordFault>
+    requires { at ≤ 3 }
+    ensures value { result ≡ Spec.put_turn_command (drop at (fields_of row.now)) }
+    ensures dated { IfOk result IsDated }
+{
+    count_fields_at(row, at, 4)?;
+    let before = read_id(field_at(row, at, 1))?;
+    let after = read_id(field_at(row, at, 2))?;
+    let minutes = read_count(field_at(row, at, 3), 6, 999_999)?;
+    Ok(Command::Submit(Edit::Turn {
+        before,
+        after,
+        minutes,
+    }))
+}
+
+#[tactic(auto, unfolding(crate::specs::Commands::take_turn_command))]
+fn take_turn_command(row: &ByteRecord, at: usize) -> Result<Command, RecordFault>
+    requires { at ≤ 3 }
+    ensures value { result ≡ Spec.take_turn_command (drop at (fields_of row.now)) }
+    ensures dated { IfOk result IsDated }
+{
+    count_fields_at(row, at, 3)?;
+    let before = read_id(field_at(row, at, 1))?;
+    let after = read_id(field_at(row, at, 2))?;
+    Ok(Command::Submit(Edit::TakeTurn { before, after }))
+}
+
+// A record of three fields takes a turn back.
+fn turn_command(row: &ByteRecord, at: usize) -> Result<Command, RecordFault>
+    requires { at ≤ 3 }
+    ensures value { result ≡ Spec.turn_command (drop at (fields_of row.now)) }
+    ensures dated { IfOk result IsDated }
+{
+    if width_at(row, at) == 3 {
+        return take_turn_command(row, at);
+    }
+    put_turn_command(row, at)
+}
+
 #[tactic(auto, unfolding(crate::specs::Commands::front_command))]
 fn front_command(row: &ByteRecord) -> Result<Command, RecordFault>
     ensures value { result ≡ Spec.front_command (fields_of row.now) }
@@ -330,6 +371,9 @@ pub(crate) fn edit_command(row: &ByteRecord, at: usize) -> Option<Result<Command
     }
     if name == b"price".as_slice() {
         return Some(price_command(row, at));
+    }
+    if name == b"turn".as_slice() {
+        return Some(turn_command(row, at));
     }
     None
 }

@@ -48,12 +48,20 @@ pub(crate) fn field_at(row: &ByteRecord, at: usize, i: usize) -> &[u8]
     field(row, at + i)
 }
 
+// How many fields a record has from a place on.
+#[tactic(auto, using(crate::proofs::DropFacts::count_of_drop))]
+pub(crate) fn width_at(row: &ByteRecord, at: usize) -> usize
+    ensures { result ≡ length (drop at (fields_of row.now)) }
+{
+    row.len().saturating_sub(at)
+}
+
 // That a record has so many fields from a place on.
 #[tactic(auto, using(crate::proofs::DropFacts::count_of_drop))]
 pub(crate) fn count_fields_at(row: &ByteRecord, at: usize, n: usize) -> Result<(), RecordFault>
     ensures { result ≡ Spec.count_field (drop at (fields_of row.now)) n }
 {
-    if row.len().saturating_sub(at) == n {
+    if width_at(row, at) == n {
         Ok(())
     } else {
         Err(RecordFault::FieldCount)

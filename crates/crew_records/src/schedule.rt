@@ -1,7 +1,7 @@
 //! What a record of a schedule asks for: one step of the engine, in the order in which a schedule
 //! plays them.
 
-ghost use Rattle.std.specs.Prelude.{◌≡◌, ◌≤◌, IfOk, IfSome, drop};
+ghost use Rattle.std.specs.Prelude.{◌≡◌, ◌≤◌, IfOk, IfSome, drop, length};
 ghost use Rattle.csv.specs.Records.{fields_of};
 ghost use Rattle.crew_records.specs.Commands.{IsDated, edit_named, zone_command};
 ghost use Rattle.crew_records.specs.Fields.{field_of};
@@ -10,7 +10,7 @@ ghost use Rattle.crew_records.specs.Schedules as Spec;
 
 use crate::command::{Command, edit_command, zone_command};
 use crate::fault::RecordFault;
-use crate::fields::{count_fields, count_fields_at, field, read_count};
+use crate::fields::{count_fields, count_fields_at, field, read_count, width_at};
 use crew_clocks::Zone;
 use crew_flights::{Code, Edit, FlightId};
 use crew_time::Minute;
@@ -97,9 +97,9 @@ fn read_seat(field: &[u8]) -> Result<u8, RecordFault>
     Ok(read_count(field, 2, 63)? as u8)
 }
 
-// How many fields the record of an edit has, if an edit has the name.
-fn edit_width(name: &[u8]) -> Option<usize>
-    ensures { result ≡ Spec.edit_width name.now }
+// How many fields the record of an edit has, of which so many are there, if an edit has the name.
+fn edit_width(name: &[u8], count: usize) -> Option<usize>
+    ensures { result ≡ Spec.edit_width name.now count }
 {
     if name == b"base".as_slice() {
         return Some(3);
@@ -119,14 +119,18 @@ fn edit_width(name: &[u8]) -> Option<usize>
     if name == b"price".as_slice() {
         return Some(3);
     }
+    if name == b"turn".as_slice() {
+        return Some(if count == 3 { 3 } else { 4 });
+    }
     None
 }
 
 // That a record has an edit of its own number of fields behind the first three.
 fn has_edit(row: &ByteRecord) -> Result<(), RecordFault>
-    ensures { result ≡ Spec.has_width (Spec.edit_width (field_of (fields_of row.now) 3)) (drop 3 (fields_of row.now)) }
+    ensures { result ≡ Spec.has_width (Spec.edit_width (field_of (fields_of row.now) 3)
+        (length (drop 3 (fields_of row.now)))) (drop 3 (fields_of row.now)) }
 {
-    match edit_width(field(row, 3)) {
+    match edit_width(field(row, 3), width_at(row, 3)) {
         None => Err(RecordFault::UnknownRecord),
         Some(width) => count_fields_at(row, 3, width),
     }

@@ -56,6 +56,7 @@ fn rule_text(rule: Rule) -> &'static [u8]
         Rule::Flight => b"flight",
         Rule::Airport => b"airport",
         Rule::Connect => b"connect",
+        Rule::Turn => b"turn",
         Rule::Sit => b"sit",
         Rule::Deadheads => b"deadheads",
         Rule::LastLeg => b"last-leg",

@@ -7,13 +7,13 @@ use Rattle.std.proofs.lemmas.Bool.{and_parts}
 use Rattle.std.proofs.lemmas.Bool.Decides.{nat_tests}
 use Rattle.std.proofs.lemmas.Int.{ints}
 use Rattle.crew_flights.specs.Timetable.{IsSound, Timetable}
-use Rattle.crew_flights.specs.declared.flight.Flight.{Flight}
 use Rattle.crew_rules.specs.Pay.{duty_pay}
 use Rattle.crew_rules.specs.Settings.{IsChecked}
 use Rattle.crew_rules.specs.Tables.{Row, in_force, rows_a, rows_b, table_a, table_b}
 use Rattle.crew_rules.specs.declared.settings.Settings.{Settings}
 use Rattle.crew_pairing.specs.Duties.{AreDuties, flights_of}
 use Rattle.crew_pairing.specs.Events as Events
+use Rattle.crew_pairing.specs.Flights.{Flights}
 use Rattle.crew_pairing.specs.Legality.{IsLegal, duty_of, flight_duty_period, flight_time, price_of, release, report, segments, total}
 use Rattle.crew_resource.specs.Members.{Member}
 use Rattle.crew_pairing.specs.Machinery.Beginnings.{AreFlights}
@@ -74,10 +74,10 @@ pay-between s elapsed fly checked a b c d =
     let f : (pos 14 *ℤ fly) ≤ℤ pos 20_000 = omega (arith, ints, flown.1) in
     greatest-between (pos 14 *ℤ fly) (pos s.duty_rig *ℤ elapsed) s.duty_min 20_000 f r checked.duty_min
 
-pub legal-sound : (s : Settings) (flights : List Flight) (first : TimedLeg) (others : List TimedLeg) → IsChecked s → AreFlights flights → IsLegal s flights first others → Events.IsSound (duty_of s first others)
+pub legal-sound : (s : Settings) (flights : Flights) (first : TimedLeg) (others : List TimedLeg) → IsChecked s → AreFlights flights → IsLegal s flights first others → Events.IsSound (duty_of s first others)
 legal-sound s flights first others checked f h =
     let sound = known-sound flights (first ∷ others) f h.known in
-    let later = ends-later s first others sound h.connected in
+    let later = ends-later s flights.turns first others sound h.connected in
     let flown = flown-total (first ∷ others) sound in
     let a = table_a-most first.flight.report_clock in
     let b = table_b-most first.flight.report_clock (segments (first ∷ others)) in

@@ -1,4 +1,4 @@
--- Two timetables with the same flights and bases are one.
+-- Two timetables with the same flights, bases and turns are one.
 use Rattle.std.proofs.Common.{◌≡◌, ℕ, ℤ, Bool, true, List, [], ◌∷◌, ◌&&◌, refl, sym, ◌∙◌, ap, Some, suc, nat_eq}
 use Rattle.std.specs.Bool.{Decides}
 use Rattle.std.specs.Ordering.{eq_by_cmp, int_eq}
@@ -16,7 +16,6 @@ use Rattle.crew_flights.specs.Timetable.{Timetable, IsSound}
 use Rattle.crew_flights.specs.declared.flight.Flight.{Flight}
 use Rattle.crew_flights.proofs.Listed.{keys_rise}
 use Rattle.crew_flights.proofs.Maps.{find_lookup}
-use Rattle.crew_pairing.specs.Duties.{flights_of}
 
 -- each flight stands under its own number
 numbered : (t : Timetable) → IsSound t → (k n : ℕ) (f : Flight) → slice_get (map.entries t.flights) k ≡ Some (n, f) → f.id ≡ n
@@ -31,16 +30,17 @@ again (e ∷ es) h =
     ap (λ (n : ℕ). (n, e.1) ∷ es) (sym own) ∙ ap (λ (l : List (ℕ × Flight)). (e.1.id, e.1) ∷ l) (again es (λ k n f at. h (suc k) n f at))
 
 -- flights by number tell the map that holds them
-pub same-flights : (a b : Timetable) → IsSound a → IsSound b → flights_of a ≡ flights_of b → a.flights ≡ b.flights
+pub same-flights : (a b : Timetable) → IsSound a → IsSound b → map.values a.flights ≡ map.values b.flights → a.flights ≡ b.flights
 same-flights a b s t h =
     map.same_entries_map a.flights b.flights
     (again (map.entries a.flights) (numbered a s) ∙ ap (list_map (λ (f : Flight). (f.id, f))) h ∙ sym (again (map.entries b.flights) (numbered b t)))
 
--- flights by number and bases by code tell a timetable
-pub same-timetable : (a b : Timetable) → IsSound a → IsSound b → flights_of a ≡ flights_of b → map.entries a.bases ≡ map.entries b.bases → a ≡ b
-same-timetable a b s t h k =
-    ap (λ x. record { flights = x; bases = a.bases }) (same-flights a b s t h)
-    ∙ ap (λ x. record { flights = b.flights; bases = x }) (map.same_entries_map a.bases b.bases k)
+-- flights by number, bases by code and turns tell a timetable
+pub same-timetable : (a b : Timetable) → IsSound a → IsSound b → map.values a.flights ≡ map.values b.flights → map.entries a.bases ≡ map.entries b.bases → map.entries a.turns ≡ map.entries b.turns → a ≡ b
+same-timetable a b s t h k l =
+    ap (λ x. record { flights = x; bases = a.bases; turns = a.turns }) (same-flights a b s t h)
+    ∙ (ap (λ x. record { flights = b.flights; bases = x; turns = a.turns }) (map.same_entries_map a.bases b.bases k)
+    ∙ ap (λ x. record { flights = b.flights; bases = b.bases; turns = x }) (map.same_entries_map a.turns b.turns l))
 
 -- ---- comparisons
 
@@ -94,4 +94,16 @@ pub base-decides : (x y : List ℕ × ℤ) → Decides (eq_by_cmp code_cmp x.0 y
 base-decides x y = (
   λ t. let a = and_parts _ _ t in ap (λ c. (c, x.1)) ((code-decides x.0 y.0).0 a.0) ∙ ap (λ p. (y.0, p)) ((Decides-int_eq x.1 y.1).0 a.1),
   λ e. and_from _ _ ((code-decides x.0 y.0).1 (ap (λ z. z.0) e)) ((Decides-int_eq x.1 y.1).1 (ap (λ z. z.1) e)),
+)
+
+pub turn-decides : (x y : (ℕ × ℕ) × ℕ) → Decides ((eq_by_cmp nat_cmp x.0.0 y.0.0 && eq_by_cmp nat_cmp x.0.1 y.0.1) && nat_eq x.1 y.1) (x ≡ y)
+turn-decides x y = (
+  λ t.
+      let a = and_parts _ _ t in
+      let b = and_parts _ _ a.0 in
+      ap (λ z. ((z, x.0.1), x.1)) ((id-decides x.0.0 y.0.0).0 b.0)
+      ∙ (ap (λ z. ((y.0.0, z), x.1)) ((id-decides x.0.1 y.0.1).0 b.1) ∙ ap (λ z. (y.0, z)) ((Decides-eqb x.1 y.1).0 a.1)),
+  λ e.
+      and_from _ _ (and_from _ _ ((id-decides x.0.0 y.0.0).1 (ap (λ z. z.0.0) e)) ((id-decides x.0.1 y.0.1).1 (ap (λ z. z.0.1) e)))
+      ((Decides-eqb x.1 y.1).1 (ap (λ z. z.1) e)),
 )

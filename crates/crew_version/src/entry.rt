@@ -46,6 +46,13 @@ fn is_same_price(one: &i64, other: &i64) -> bool
     one == other
 }
 
+// Whether two numbers of minutes are one.
+fn is_same_span(one: &u32, other: &u32) -> bool
+    ensures { IsTrue result ↔ (one.now ≡ other.now) }
+{
+    one == other
+}
+
 // Whether two edits are one.
 fn is_same_edit(one: &Edit, other: &Edit) -> bool
     ensures { IsTrue result ↔ (one.now ≡ other.now) }
@@ -84,6 +91,25 @@ fn is_same_edit(one: &Edit, other: &Edit) -> bool
         (Edit::Price { id, price }, Edit::Price { id: i, price: p }) => {
             is_same_id(id, i) && is_same_price(price, p)
         }
+        (
+            Edit::Turn {
+                before,
+                after,
+                minutes,
+            },
+            Edit::Turn {
+                before: b,
+                after: a,
+                minutes: m,
+            },
+        ) => is_same_id(before, b) && is_same_id(after, a) && is_same_span(minutes, m),
+        (
+            Edit::TakeTurn { before, after },
+            Edit::TakeTurn {
+                before: b,
+                after: a,
+            },
+        ) => is_same_id(before, b) && is_same_id(after, a),
         _ => false,
     }
 }

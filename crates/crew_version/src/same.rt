@@ -2,13 +2,12 @@
 ghost use Rattle.std.specs.Prelude.{◌≡◌, ◌↔◌, IsTrue};
 ghost use Rattle.std.specs.FinMap as fin;
 ghost use Rattle.crew_flights.specs.Timetable.{IsSound};
-ghost use Rattle.crew_pairing.specs.Duties.{flights_of};
 
 use crew_flights::Timetable;
 
 // Whether two timetables hold the same flights.
 fn have_same_flights(one: &Timetable, other: &Timetable) -> bool
-    ensures same { IsTrue result ↔ (flights_of one.now ≡ flights_of other.now) }
+    ensures same { IsTrue result ↔ (fin.values one.now.flights ≡ fin.values other.now.flights) }
     ensures sound { IsSound one.now }
 {
     one.flights().eq(other.flights())
@@ -22,10 +21,17 @@ fn have_same_bases(one: &Timetable, other: &Timetable) -> bool
     one.bases().eq(other.bases())
 }
 
-/// Whether two timetables hold the same flights, and the same bases at the same prices. It takes no
-/// memory.
+// Whether two timetables hold the same turns.
+fn have_same_turns(one: &Timetable, other: &Timetable) -> bool
+    ensures { IsTrue result ↔ (fin.entries one.now.turns ≡ fin.entries other.now.turns) }
+{
+    one.turns().eq(other.turns())
+}
+
+/// Whether two timetables hold the same flights, the same bases at the same prices, and the same
+/// turns. It takes no memory.
 pub fn are_same_timetables(one: &Timetable, other: &Timetable) -> bool
     ensures { IsTrue result ↔ (one.now ≡ other.now) }
 {
-    have_same_flights(one, other) && have_same_bases(one, other)
+    have_same_flights(one, other) && have_same_bases(one, other) && have_same_turns(one, other)
 }

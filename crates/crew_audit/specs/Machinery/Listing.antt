@@ -7,9 +7,9 @@ use Rattle.std.specs.List.{flat_map}
 use Rattle.std.specs.Ordering.{eq_by_cmp}
 use Rattle.crew_flights.specs.Codes.{code_cmp}
 use Rattle.crew_flights.specs.Timetable.{Timetable}
-use Rattle.crew_flights.specs.declared.flight.Flight.{Flight}
 use Rattle.crew_rules.specs.declared.settings.Settings.{Settings}
 use Rattle.crew_pairing.specs.Duties.{flights_of}
+use Rattle.crew_pairing.specs.Flights.{Flights}
 use Rattle.crew_pairing.specs.Machinery.Listing.{all_duties}
 use Rattle.crew_pairing.specs.Pairings.{is_pairing, last_duty, may_stand_after}
 use Rattle.crew_pairing.specs.declared.duty.Duty.{Duty}
@@ -46,7 +46,7 @@ listed s base price duties = record {
 }
 
 -- the partials that go on from these duties, with at most `room` duties more
-unfoldable pub after : ℕ → Settings → List Flight → List ℕ → ℤ → List Duty → List Partial
+unfoldable pub after : ℕ → Settings → Flights → List ℕ → ℤ → List Duty → List Partial
 after zero s flights base price before = []
 after (suc room) s flights base price before =
     flat_map
@@ -55,19 +55,19 @@ after (suc room) s flights base price before =
     (all_duties s flights)
 
 -- these duties and the partials that go on from them, where they keep the limits
-abbrev pub begun_by : ℕ → Settings → List Flight → List ℕ → ℤ → List Duty → List Partial
+abbrev pub begun_by : ℕ → Settings → Flights → List ℕ → ℤ → List Duty → List Partial
 begun_by room s flights base price duties =
     if keeps_limits s duties then listed s base price duties ∷ after room s flights base price
     duties else []
 
 -- those that go on with this duty
-abbrev pub with_next : ℕ → Settings → List Flight → List ℕ → ℤ → List Duty → Duty → List Partial
+abbrev pub with_next : ℕ → Settings → Flights → List ℕ → ℤ → List Duty → Duty → List Partial
 with_next room s flights base price before next =
     if goes_on base s before next then listed s base price (before ++ next ∷ []) ∷ after room s
     flights base price (before ++ next ∷ []) else []
 
 -- all partials of a base with its price
-abbrev pub of_base : Settings → List Flight → List ℕ × ℤ → List Partial
+abbrev pub of_base : Settings → Flights → List ℕ × ℤ → List Partial
 of_base s flights b = after s.max_duties s flights b.0 b.1 []
 
 -- all partials

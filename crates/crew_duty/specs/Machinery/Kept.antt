@@ -1,13 +1,16 @@
 -- What the duties of an earlier timetable tell of those of a later one.
 use Rattle.std.specs.Prelude.{◌≡◌, ◌⊎◌, ◌≤◌, ◌<◌, ◌≤ℤ◌, ◌&&◌, int_le, nat_eq, Bool, false, ℕ, ℤ, List, [], ◌∷◌, None, Option, Some, filter, get_or, length}
+use Rattle.crew_flights.specs.Timetable.{Turns}
 use Rattle.crew_flights.specs.declared.flight.Flight.{Flight}
 use Rattle.crew_rules.specs.declared.settings.Settings.{Settings}
 use Rattle.crew_resource.specs.Members.{Each, Member}
+use Rattle.crew_pairing.specs.Flights.{Flights}
 use Rattle.crew_pairing.specs.Legs.{Leg}
 use Rattle.crew_pairing.specs.Machinery.Blocks.{part_of}
 use Rattle.crew_pairing.specs.Machinery.Listing.{from_flight, timed}
 use Rattle.crew_pairing.specs.declared.duty.Duty.{Duty}
 use Rattle.crew_duty.specs.Machinery.Limits.{latest_departure}
+use Rattle.crew_duty.specs.Machinery.Turns.{turns_from}
 use Rattle.crew_duty.specs.declared.past.Block.{Block}
 
 -- a minute from one to another, both included
@@ -35,10 +38,17 @@ ClimbInTime minutes = (i j : ℕ) (d : ℤ) → i ≤ j → j < length minutes
 abbrev pub TellChanges : List Flight → List Flight → List ℤ → Type 0
 TellChanges flights others minutes = Each (λ f. Member others f ⊎ Member minutes f.dep) flights
 
--- when flights depart that stand in one of two lists alone, in order
-pub record AreChanges (flights others : List Flight) (minutes : List ℤ) : Type 0 where
-  pub come : TellChanges flights others minutes
-  pub gone : TellChanges others flights minutes
+-- each of some flights has the same turns to next legs as before, or departs in one of some minutes
+abbrev pub TellTurns : List Flight → Turns → Turns → List ℤ → Type 0
+TellTurns flights turns others minutes = Each
+    (λ f. (turns_from turns f.id ≡ turns_from others f.id) ⊎ Member minutes f.dep) flights
+
+-- when flights depart that stand in one of two lists alone, or whose turns to next legs have changed,
+-- in order
+pub record AreChanges (flights others : Flights) (minutes : List ℤ) : Type 0 where
+  pub come : TellChanges flights.list others.list minutes
+  pub gone : TellChanges others.list flights.list minutes
+  pub turned : TellTurns flights.list flights.turns others.turns minutes
   pub climb : ClimbInTime minutes
 
 -- the number of the flight that a key begins with
@@ -55,14 +65,14 @@ abbrev pub ClimbByFirst : List Duty → Type 0
 ClimbByFirst duties = (i j : ℕ) (d : Duty) → i ≤ j → j < length duties
     → first_of (get_or duties i d).key ≤ first_of (get_or duties j d).key
 
--- earlier duties, and when flights depart that have come, gone or changed since: where none of
+-- earlier duties, and when flights depart that have come, gone or changed since, or their turns: where none of
 -- these departs while a duty of a flight may last, the flight's duties are those of before
-pub record IsPast (s : Settings) (flights : List Flight) (duties : List Duty)
+pub record IsPast (s : Settings) (flights : Flights) (duties : List Duty)
     (minutes : List ℤ) : Type 0 where
   pub duties_climb : ClimbByFirst duties
   pub minutes_climb : ClimbInTime minutes
   pub same : Each (λ f. AreApart f.dep (reach_of s f) minutes
-      → filter (begins_with f.id) duties ≡ from_flight s flights f) flights
+      → filter (begins_with f.id) duties ≡ from_flight s flights f) flights.list
 
 -- the first place of a duty that begins with a flight of no lesser number
 pub record IsStart (duties : List Duty) (number place : ℕ) : Type 0 where
@@ -72,19 +82,19 @@ pub record IsStart (duties : List Duty) (number place : ℕ) : Type 0 where
       → number ≤ first_of (get_or duties k d).key
 
 -- earlier duties, between two places, that are those of a flight still
-pub record IsKept (s : Settings) (flights : List Flight) (duties : List Duty) (f : Flight)
+pub record IsKept (s : Settings) (flights : Flights) (duties : List Duty) (f : Flight)
     (block : Block) : Type 0 where
   pub ordered : block.from ≤ block.to
   pub within : block.to ≤ length duties
   pub same : part_of duties block.from block.to ≡ from_flight s flights f
 
 -- the same, where they are known to be
-abbrev pub MayBeKept : Settings → List Flight → List Duty → Flight → Option Block → Type 0
+abbrev pub MayBeKept : Settings → Flights → List Duty → Flight → Option Block → Type 0
 MayBeKept s flights duties f None = Unit {0}
 MayBeKept s flights duties f (Some block) = IsKept s flights duties f block
 
 -- of each flight, what is known of its duties
-abbrev pub AreKept : Settings → List Flight → List Duty → List Flight → List (Option Block)
+abbrev pub AreKept : Settings → Flights → List Duty → List Flight → List (Option Block)
     → Type 0
 AreKept s flights duties [] [] = Unit {0}
 AreKept s flights duties [] (block ∷ blocks) = ⊥

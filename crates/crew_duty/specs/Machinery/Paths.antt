@@ -3,6 +3,7 @@ use Rattle.std.specs.Prelude.{◌≡◌, ◌≤◌, ℕ, Bool, length, List, ◌
 use Rattle.std.specs.List.{flat_map}
 use Rattle.crew_flights.specs.declared.flight.Flight.{Flight}
 use Rattle.crew_rules.specs.declared.settings.Settings.{Settings}
+use Rattle.crew_pairing.specs.Flights.{Flights}
 use Rattle.crew_pairing.specs.Legality.{last_of, leg_of, may_follow}
 use Rattle.crew_pairing.specs.Legs.{Leg}
 use Rattle.crew_pairing.specs.Machinery.Beginnings.{IsBeginning}
@@ -13,7 +14,7 @@ use Rattle.crew_duty.specs.Machinery.Running.{AreTotals}
 use Rattle.crew_duty.specs.declared.totals.Totals.{Totals}
 
 -- legs that may begin a duty, by their key and by what they come to
-pub record IsPath (s : Settings) (flights : List Flight) (first : TimedLeg)
+pub record IsPath (s : Settings) (flights : Flights) (first : TimedLeg)
     (others : List TimedLeg) (key : List Leg) (totals : Totals) : Type 0 where
   pub few : length others ≤ 7
   pub beginning : IsBeginning s flights first others
@@ -32,12 +33,12 @@ pub record EndsAt (flights : List Flight) (first : TimedLeg) (others : List Time
   pub is_ridden : ridden ≡ (last_of first others).deadhead
 
 -- a flight at a place may follow the last of some legs
-pub record GoesOn (s : Settings) (flights : List Flight) (first : TimedLeg)
+pub record GoesOn (s : Settings) (flights : Flights) (first : TimedLeg)
     (others : List TimedLeg) (place : ℕ) (g : Flight) : Type 0 where
-  pub flight : slice_get flights place ≡ Some g
-  pub follows : may_follow s (last_of first others).flight g ≡ true
+  pub flight : slice_get flights.list place ≡ Some g
+  pub follows : may_follow s flights.turns (last_of first others).flight g ≡ true
 
 -- the duties that begin with these legs and go on, with fewer than `room` legs more
-abbrev pub onward : ℕ → Settings → List Flight → TimedLeg → List TimedLeg → List Duty
+abbrev pub onward : ℕ → Settings → Flights → TimedLeg → List TimedLeg → List Duty
 onward room s flights first others = flat_map (below room s flights first others)
-    (filter (may_follow s (last_of first others).flight) flights)
+    (filter (may_follow s flights.turns (last_of first others).flight) flights.list)

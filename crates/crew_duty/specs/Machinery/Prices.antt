@@ -2,6 +2,7 @@
 use Rattle.std.specs.Prelude.{◌≡◌, ◌<◌, ◌≤◌, ◌≤ℤ◌, ℕ, ℤ, pos, negsuc, List, get_or, if◌then◌else◌, length}
 use Rattle.crew_flights.specs.declared.flight.Flight.{Flight}
 use Rattle.crew_resource.specs.Members.{Each}
+use Rattle.crew_pairing.specs.Flights.{Flights}
 use Rattle.crew_pairing.specs.Legality.{total}
 use Rattle.crew_pairing.specs.Legs.{Leg}
 use Rattle.crew_pairing.specs.declared.duty.Duty.{Duty}
@@ -18,11 +19,12 @@ at_price price f = record {
   price = price;
 }
 
--- two lists have the same flights, one by one, but for their prices
-pub record AreSameButPrices (flights before : List Flight) : Type 0 where
-  pub count : length flights ≡ length before
-  pub each : (i : ℕ) (d : Flight) → i < length flights
-      → get_or flights i d ≡ at_price (get_or flights i d).price (get_or before i d)
+-- the same flights, one by one, but for their prices, and the same turns
+pub record AreSameButPrices (flights before : Flights) : Type 0 where
+  pub count : length flights.list ≡ length before.list
+  pub each : (i : ℕ) (d : Flight) → i < length flights.list
+      → get_or flights.list i d ≡ at_price (get_or flights.list i d).price (get_or before.list i d)
+  pub turns : flights.turns ≡ before.turns
 
 -- prices by the numbers of flights: 0 at a number that no flight has
 abbrev pub price_at : List ℤ → ℕ → ℤ

@@ -1,7 +1,9 @@
 -- The departures of a timetable as slots: where and when, as one number, and which flight.
-use Rattle.std.specs.Prelude.{◌≡◌, Bool, true, ◌&&◌, int_le, int_lt, if◌then◌else◌, ℕ, suc, ◌+◌, ◌*◌, ◌≤◌, ◌<◌, ℤ, pos, ◌+ℤ◌, ◌≤ℤ◌, List, [], ◌∷◌, length, get_or, IsPermutation}
+use Rattle.std.specs.Prelude.{◌≡◌, Bool, true, ◌&&◌, int_le, int_lt, if◌then◌else◌, ℕ, suc, ◌+◌, ◌*◌, ◌≤◌, ◌<◌, ℤ, pos, ◌+ℤ◌, ◌-ℤ◌, ◌≤ℤ◌, List, [], ◌∷◌, length, get_or, IsPermutation}
 use Rattle.crew_time.specs.Instant.{IsInstant}
-use Rattle.crew_flights.specs.Codes.{is_code}
+use Rattle.std.specs.Ordering.{eq_by_cmp}
+use Rattle.crew_flights.specs.Codes.{code_cmp, is_code}
+use Rattle.crew_flights.specs.Timetable.{Turns}
 use Rattle.crew_flights.specs.declared.flight.Flight.{Flight}
 use Rattle.crew_rules.specs.declared.settings.Settings.{Settings}
 use Rattle.crew_pairing.specs.Legality.{may_follow}
@@ -44,9 +46,19 @@ pub record IsIndex (flights : List Flight) (slots : List Slot) : Type 0 where
   pub all : IsPermutation (slots_from 0 flights) slots
   pub ascending : Ascend slots
 
+-- a flight that leaves where another arrives, after a gap from so many minutes to `sit`
+abbrev pub is_after : Settings → ℕ → Flight → Flight → Bool
+is_after s least before next =
+    eq_by_cmp code_cmp before.to next.from
+    && (int_le (pos least) (next.dep -ℤ before.arr) && int_le (next.dep -ℤ before.arr) (pos s.sit))
+
+-- the same, and it departs by a minute
+abbrev pub is_after_by : Settings → ℕ → ℤ → Flight → Flight → Bool
+is_after_by s least latest before next = is_after s least before next && int_le next.dep latest
+
 -- a flight that may follow another, and departs by a minute
-abbrev pub follows_by : Settings → ℤ → Flight → Flight → Bool
-follows_by s latest before next = may_follow s before next && int_le next.dep latest
+abbrev pub follows_by : Settings → Turns → ℤ → Flight → Flight → Bool
+follows_by s turns latest before next = may_follow s turns before next && int_le next.dep latest
 
 abbrev pub earlier : ℤ → ℤ → ℤ
 earlier a b = if int_lt a b then a else b

@@ -8,6 +8,7 @@ use Rattle.crew_rules.specs.Tables.{table_a, table_b}
 use Rattle.crew_rules.specs.declared.settings.Settings.{Settings}
 use Rattle.crew_pairing.specs.declared.leg.TimedLeg.{TimedLeg}
 use Rattle.crew_pairing.specs.declared.duty.Duty.{Duty}
+use Rattle.crew_pairing.specs.Flights.{Flights}
 use Rattle.crew_pairing.specs.Legality.{deadheads, duty_of, flight_duty_period, flight_time, last_of, may_follow, segments}
 
 abbrev pub timed : Bool → Flight → TimedLeg
@@ -27,33 +28,33 @@ abbrev pub own : Settings → TimedLeg → List TimedLeg → List Duty
 own s first others = if (last_of first others).deadhead then [] else duty_of s first others ∷ []
 
 -- the duties that begin with these legs, with fewer than `room` legs more
-unfoldable pub listing : ℕ → Settings → List Flight → TimedLeg → List TimedLeg → List Duty
+unfoldable pub listing : ℕ → Settings → Flights → TimedLeg → List TimedLeg → List Duty
 listing zero s flights first others = []
 listing (suc room) s flights first others =
     if is_hopeless s first others then []
     else own s first others ++ flat_map
     (λ next. listing room s flights first (others ++ timed false next ∷ [])
     ++ listing room s flights first (others ++ timed true next ∷ []))
-    (filter (may_follow s (last_of first others).flight) flights)
+    (filter (may_follow s flights.turns (last_of first others).flight) flights.list)
 
 -- the duties that go on with a flight, flown and then deadheaded
-abbrev pub below : ℕ → Settings → List Flight → TimedLeg → List TimedLeg → Flight → List Duty
+abbrev pub below : ℕ → Settings → Flights → TimedLeg → List TimedLeg → Flight → List Duty
 below room s flights first others next = listing room s flights first
     (others ++ timed false next ∷ [])
     ++ listing room s flights first (others ++ timed true next ∷ [])
 
 -- the duties that begin with a flight, flown and then deadheaded
-abbrev pub from_flight : Settings → List Flight → Flight → List Duty
+abbrev pub from_flight : Settings → Flights → Flight → List Duty
 from_flight s flights first = listing 8 s flights (timed false first) []
     ++ listing 8 s flights (timed true first) []
 
 -- all duties
-abbrev pub all_duties : Settings → List Flight → List Duty
-all_duties s flights = flat_map (from_flight s flights) flights
+abbrev pub all_duties : Settings → Flights → List Duty
+all_duties s flights = flat_map (from_flight s flights) flights.list
 
 -- the duties that begin with the flight at a place, and none where there is no flight
-abbrev pub from_place : Settings → List Flight → ℕ → List Duty
-from_place s flights place = flat_map (from_flight s flights) (take 1 (drop place flights))
+abbrev pub from_place : Settings → Flights → ℕ → List Duty
+from_place s flights place = flat_map (from_flight s flights) (take 1 (drop place flights.list))
 
 -- a list that was made before, and this of it
 abbrev pub IsOkAnd : {X E : Type 0} → Result X E → (X → Type 0) → Type 0

@@ -7,9 +7,9 @@ use Rattle.std.proofs.lemmas.List.{take_all}
 use Rattle.std.proofs.lemmas.Map.Iter.{iter_end, iter_turn}
 use Rattle.std.proofs.lemmas.Result.{err_from_is_err_and}
 use Rattle.crew_flights.specs.Timetable.{IsBasePrice}
-use Rattle.crew_flights.specs.declared.flight.Flight.{Flight}
 use Rattle.crew_rules.specs.declared.settings.Settings.{Settings}
 use Rattle.crew_pairing.specs.Duties.{flights_of}
+use Rattle.crew_pairing.specs.Flights.{Flights}
 use Rattle.crew_pairing.proofs.Timetables.{flights-of-timetable}
 use Rattle.crew_pairing.proofs.Tree.{Each-member, slice_get-Member}
 use Rattle.crew_audit.specs.Machinery.Listing.{after, all_partials, of_base}
@@ -20,17 +20,17 @@ use Rattle.crew_audit.proofs.Whole.{all-partials, prices-fit}
 use Rattle.crew_audit.proofs.audit.find.Goals as goal
 
 -- what the search lists of a base, as the definition has it
-base-is : (s : Settings) (fs gs : List Flight) (b : List ℕ × ℤ) (z : ℤ) → fs ≡ gs → z ≡ b.1 → after (s.max_duties - 0) s fs b.0 z [] ≡ of_base s gs b
+base-is : (s : Settings) (fs gs : Flights) (b : List ℕ × ℤ) (z : ℤ) → fs ≡ gs → z ≡ b.1 → after (s.max_duties - 0) s fs b.0 z [] ≡ of_base s gs b
 base-is s fs gs b z f e =
     let room : s.max_duties - 0 ≡ s.max_duties = omega arith in
-    ap (λ (n : ℕ). after n s fs b.0 z []) room ∙ (ap (λ (hs : List Flight). after s.max_duties s hs b.0 z []) f ∙ ap (λ (y : ℤ). after s.max_duties s gs b.0 y []) e)
+    ap (λ (n : ℕ). after n s fs b.0 z []) room ∙ (ap (λ (hs : Flights). after s.max_duties s hs b.0 z []) f ∙ ap (λ (y : ℤ). after s.max_duties s gs b.0 y []) e)
 
 -- a price keeps its value in 64 bits
 price-is : (z : ℤ) → IsBasePrice z → to_z w64 (of_z w64 z) ≡ z
 price-is z price = let least = price.least in let most = price.most in omega (arith, ints, least, most)
 
 pub list_after-requires-clause-flights : goal.list_after-requires-clause-flights
-list_after-requires-clause-flights bound c = rw (c.in_ok-flights.ensures.held) (flights-of-timetable c.args.timetable.now c.flights_at_hand.ensures.sound)
+list_after-requires-clause-flights bound c = rw (c.in_ok-flights.ensures.held) (flights-of-timetable c.args.timetable.now c.of.ensures.sound)
 
 pub list_after-requires-clause-price : goal.list_after-requires-clause-price
 list_after-requires-clause-price bound c =
@@ -38,7 +38,7 @@ list_after-requires-clause-price bound c =
     let all = fin.entries t.bases in
     let b : List ℕ × ℤ = (c.in-Some.base.now, c.in-Some.base_price.now) in
     let at = iter_turn deref_pair all c.loop-base.yielded _ _ _ _ (c.into_iter-base-iterator.ensures.into_iter_gives ∙ c.bases-base-items.ensures.held) c.loop-base.yielded_by (c.in-Some.base, c.in-Some.base_price) c.in-Some.is c.next.ensures.steps in
-    let price = Each-member (λ (x : List ℕ × ℤ). IsBasePrice x.1) all b (prices-fit t c.flights_at_hand.ensures.sound) (slice_get-Member all (length c.loop-base.yielded) b at.1) in
+    let price = Each-member (λ (x : List ℕ × ℤ). IsBasePrice x.1) all b (prices-fit t c.of.ensures.sound) (slice_get-Member all (length c.loop-base.yielded) b at.1) in
     subst IsBasePrice (sym (price-is b.1 price)) price
 
 pub loop-base-preserved : goal.loop-base-preserved
@@ -49,7 +49,7 @@ loop-base-preserved bound c =
     let x : Bor (List ℕ) × Bor ℤ = (c.in-Some.base, c.in-Some.base_price) in
     let b : List ℕ × ℤ = (c.in-Some.base.now, c.in-Some.base_price.now) in
     let at = iter_turn deref_pair all c.loop-base.yielded _ _ _ _ (c.into_iter-base-iterator.ensures.into_iter_gives ∙ c.bases-base-items.ensures.held) c.loop-base.yielded_by x c.in-Some.is c.next.ensures.steps in
-    let price = Each-member (λ (y : List ℕ × ℤ). IsBasePrice y.1) all b (prices-fit t c.flights_at_hand.ensures.sound) (slice_get-Member all (length c.loop-base.yielded) b at.1) in
+    let price = Each-member (λ (y : List ℕ × ℤ). IsBasePrice y.1) all b (prices-fit t c.of.ensures.sound) (slice_get-Member all (length c.loop-base.yielded) b at.1) in
     let own = base-is s c.in_ok-flights.flights (flights_of t) b (to_z w64 (of_z w64 b.1)) c.in_ok-flights.ensures.held (price-is b.1 price) in
     let taken = subst (Took bound.F.Sink.count bound.F.Sink.holds c.loop-base.found c.list_after.new.found) own c.in_ok-list_after.ensures.ok in
     record {
@@ -65,13 +65,13 @@ returns-in_err-list_after-clause-over bound c =
     let all = fin.entries t.bases in
     let b : List ℕ × ℤ = (c.in-Some.base.now, c.in-Some.base_price.now) in
     let at = iter_turn deref_pair all c.loop-base.yielded _ _ _ _ (c.into_iter-base-iterator.ensures.into_iter_gives ∙ c.bases-base-items.ensures.held) c.loop-base.yielded_by (c.in-Some.base, c.in-Some.base_price) c.in-Some.is c.next.ensures.steps in
-    let price = Each-member (λ (x : List ℕ × ℤ). IsBasePrice x.1) all b (prices-fit t c.flights_at_hand.ensures.sound) (slice_get-Member all (length c.loop-base.yielded) b at.1) in
+    let price = Each-member (λ (x : List ℕ × ℤ). IsBasePrice x.1) all b (prices-fit t c.of.ensures.sound) (slice_get-Member all (length c.loop-base.yielded) b at.1) in
     let own = base-is s c.in_ok-flights.flights (flights_of t) b (to_z w64 (of_z w64 b.1)) c.in_ok-flights.ensures.held (price-is b.1 price) in
     let before = bound.F.Sink.count c.loop-base.found in
     let p = err_from_is_err_and c.from_residual-in_err-list_after.result c.from_residual-in_err-list_after.ensures.1 in
     λ e. (
       all_partials s t,
-      all-partials s t c.flights_at_hand.ensures.sound,
+      all-partials s t c.of.ensures.sound,
       let over = took-over bound.F.Sink.count bound.F.Sink.holds (of_base s (flights_of t)) all (length c.loop-base.yielded) b c.args.found.now c.loop-base.found c.args.limit at.1 c.loop-base.invariant.found
           (subst (λ (ps : List Partial). c.args.limit < before + length ps) own (c.in_err-list_after.ensures.over (cc))) in
           let none = c.requires.new in
@@ -88,7 +88,7 @@ returns-clause-ok bound c =
     subst (λ (bs : List (List ℕ × ℤ)). Took bound.F.Sink.count bound.F.Sink.holds c.args.found.now c.loop-base.found (flat_map (of_base s (flights_of t)) bs)) whole c.loop-base.invariant.found
 
 pub returns-clause-all : goal.returns-clause-all
-returns-clause-all bound c = all-partials c.args.settings.now c.args.timetable.now c.flights_at_hand.ensures.sound
+returns-clause-all bound c = all-partials c.args.settings.now c.args.timetable.now c.of.ensures.sound
 
 pub returns-clause-few : goal.returns-clause-few
 returns-clause-few bound c =

@@ -18,7 +18,7 @@ duty_pay-requires-clause-elapsed c =
     let s = c.args.settings.now in
     let report_is = c.report-report.ensures.value in
     let release_is = c.release-release.ensures.value in
-    let late = ends-later s first others c.requires.sound c.requires.connected in
+    let late = ends-later s c.requires.connected.0 first others c.requires.sound c.requires.connected.1 in
     let end = (last_of first others).flight.arr in
     let ordered = no-later c.report-report.result first.flight.dep end c.release-release.result s.lead s.debrief report_is release_is late in
     let elapsed = read-elapsed c.release-release.result c.report-report.result c.report-report.ensures.bound.0 ordered c.release-release.ensures.bound.1 in
@@ -36,7 +36,7 @@ overflow_cast-result-3 c =
     let s = c.args.settings.now in
     let report_is = c.report-report.ensures.value in
     let release_is = c.release-release.ensures.value in
-    let late = ends-later s first others c.requires.sound c.requires.connected in
+    let late = ends-later s c.requires.connected.0 first others c.requires.sound c.requires.connected.1 in
     let end = (last_of first others).flight.arr in
     let period = read-period c.flight_duty_period.result c.report-report.result first.flight.dep end c.release-release.result s.lead s.debrief c.flight_duty_period.ensures report_is release_is late
     c.report-report.ensures.bound.0 c.release-release.ensures.bound.1 in
@@ -57,7 +57,7 @@ overflow_cast-result-5 c =
     let s = c.args.settings.now in
     let report_is = c.report-report.ensures.value in
     let release_is = c.release-release.ensures.value in
-    let late = ends-later s first others c.requires.sound c.requires.connected in
+    let late = ends-later s c.requires.connected.0 first others c.requires.sound c.requires.connected.1 in
     let end = (last_of first others).flight.arr in
     let ordered = no-later c.report-report.result first.flight.dep end c.release-release.result s.lead s.debrief report_is release_is late in
     let elapsed = read-elapsed c.release-release.result c.report-report.result c.report-report.ensures.bound.0 ordered c.release-release.ensures.bound.1 in
@@ -66,7 +66,7 @@ overflow_cast-result-5 c =
     let elapsed-is : to_z w64 (of_z w64 (to_z w64 (of_z w64 c.release-release.result) -ℤ to_z w64 (of_z w64 c.report-report.result))) ≡ release s first others -ℤ report s first =
     elapsed.value ∙ (λ i. release_is i -ℤ report_is i) in
     let paid : c.duty_pay.result ≡ duty_pay s (release s first others -ℤ report s first) (flight_time first others) = c.duty_pay.ensures ∙ ap_two (λ (e f : ℤ). duty_pay s e f) elapsed-is fly.value in
-    let bounds = legs-paid s first others c.requires.checked c.requires.few c.requires.sound c.requires.connected (subst (λ (z : ℤ). pos 15_000_000 ≤ℤ z) report_is c.report-report.ensures.bound.0)
+    let bounds = legs-paid s c.requires.connected.0 first others c.requires.checked c.requires.few c.requires.sound c.requires.connected.1 (subst (λ (z : ℤ). pos 15_000_000 ≤ℤ z) report_is c.report-report.ensures.bound.0)
     (subst (λ (z : ℤ). z ≤ℤ pos 70_000_000) release_is c.release-release.ensures.bound.1) in
     let pay = read-pay c.duty_pay.result (duty_pay s (release s first others -ℤ report s first) (flight_time first others)) paid bounds.0 bounds.1 in
     pay.fits
@@ -78,7 +78,7 @@ returns-clause-value c =
     let s = c.args.settings.now in
     let report_is = c.report-report.ensures.value in
     let release_is = c.release-release.ensures.value in
-    let late = ends-later s first others c.requires.sound c.requires.connected in
+    let late = ends-later s c.requires.connected.0 first others c.requires.sound c.requires.connected.1 in
     let end = (last_of first others).flight.arr in
     let ordered = no-later c.report-report.result first.flight.dep end c.release-release.result s.lead s.debrief report_is release_is late in
     let elapsed = read-elapsed c.release-release.result c.report-report.result c.report-report.ensures.bound.0 ordered c.release-release.ensures.bound.1 in
@@ -89,7 +89,7 @@ returns-clause-value c =
     let elapsed-is : to_z w64 (of_z w64 (to_z w64 (of_z w64 c.release-release.result) -ℤ to_z w64 (of_z w64 c.report-report.result))) ≡ release s first others -ℤ report s first =
     elapsed.value ∙ (λ i. release_is i -ℤ report_is i) in
     let paid : c.duty_pay.result ≡ duty_pay s (release s first others -ℤ report s first) (flight_time first others) = c.duty_pay.ensures ∙ ap_two (λ (e f : ℤ). duty_pay s e f) elapsed-is fly.value in
-    let bounds = legs-paid s first others c.requires.checked c.requires.few c.requires.sound c.requires.connected (subst (λ (z : ℤ). pos 15_000_000 ≤ℤ z) report_is c.report-report.ensures.bound.0)
+    let bounds = legs-paid s c.requires.connected.0 first others c.requires.checked c.requires.few c.requires.sound c.requires.connected.1 (subst (λ (z : ℤ). pos 15_000_000 ≤ℤ z) report_is c.report-report.ensures.bound.0)
     (subst (λ (z : ℤ). z ≤ℤ pos 70_000_000) release_is c.release-release.ensures.bound.1) in
     let pay = read-pay c.duty_pay.result (duty_pay s (release s first others -ℤ report s first) (flight_time first others)) paid bounds.0 bounds.1 in
     let key-is : c.loop-leg.key ≡ map leg_of (first ∷ others) = grind (arith, common_steps) in
@@ -108,7 +108,7 @@ returns-clause-range c =
     let report = rw c.report-report.ensures.value at c.report-report.ensures.bound in
     let release = rw c.release-release.ensures.value at c.release-release.ensures.bound in
     let price = rw c.price.ensures.value at c.price.ensures.bound in
-    subst IsInRange (sym (returns-clause-value c)) (made-in-range s first others c.requires.checked c.requires.sound c.requires.connected c.requires.few report.0 report.1 release.0 release.1 price.0 price.1)
+    subst IsInRange (sym (returns-clause-value c)) (made-in-range s c.requires.connected.0 first others c.requires.checked c.requires.sound c.requires.connected.1 c.requires.few report.0 report.1 release.0 release.1 price.0 price.1)
 
 pub loop-leg-preserved : goal.loop-leg-preserved
 loop-leg-preserved c = grind (arith, common_steps)

@@ -137,6 +137,9 @@ list_legs-returns-then-others-ge-LEGS-clause-ok bound t c =
 pub list_legs-duty_from-next-requires-clause-sound : goal.list_legs-duty_from-next-requires-clause-sound
 list_legs-duty_from-next-requires-clause-sound bound t c = known-sound c.args.scope.now.flights.now (c.args.first.now ∷ c.args.others.now) c.requires.flights c.requires.beginning.known
 
+pub list_legs-duty_from-next-requires-clause-connected : goal.list_legs-duty_from-next-requires-clause-connected
+list_legs-duty_from-next-requires-clause-connected bound t c = (c.args.scope.now.flights.now.turns, c.requires.beginning.connected)
+
 pub list_legs-returns-then-not-keep_totals-clause-ok : goal.list_legs-returns-then-not-keep_totals-clause-ok
 list_legs-returns-then-not-keep_totals-clause-ok bound t c =
     let s = c.args.scope.now.settings.now in
@@ -169,7 +172,7 @@ list_legs-returns-in_err-list_own-clause-over bound t c =
     let opened = legs-open room s flights base price before first others c.if-others-ge-LEGS.false (sym c.cannot_begin.ensures ∙ c.if-cannot_begin.false) c.requires.joins caps in
     let own-is = own-listed room s flights base price before (duty_of s first others) c.deref-2.result.now c.last_leg-last.result (last_of first others) longer-2 c.last_leg-last.ensures in
     let p = err_from_is_err_and c.from_residual-in_err-list_own.result c.from_residual-in_err-list_own.ensures.1 in
-    λ e. rw opened (more-than _ _ _ _ (flat_map (onward room s flights base price before first others) flights) own-is (c.in_err-list_own.ensures.over (cc)))
+    λ e. rw opened (more-than _ _ _ _ (flat_map (onward room s flights base price before first others) flights.list) own-is (c.in_err-list_own.ensures.over (cc)))
 
 pub list_legs-list_below-requires : goal.list_legs-list_below-requires
 list_legs-list_below-requires bound t c =
@@ -179,8 +182,8 @@ list_legs-list_below-requires bound t c =
     let g = c.flight-item.result in
     let near = c.next_legs-leaving.result.now in
     let known = c.next_legs-leaving.ensures.known g (item-known near i g c.loop-flight-test.true c.flight-item.is) in
-    let follows : may_follow s (last_of c.args.first.now c.args.others.now).flight g ≡ true =
-    ap (λ (l : TimedLeg). may_follow s l.flight g) (sym c.last_leg-last.ensures) ∙ sym c.may_come_next.ensures ∙ c.if-may_come_next.true in
+    let follows : may_follow s flights.turns (last_of c.args.first.now c.args.others.now).flight g ≡ true =
+    ap (λ (l : TimedLeg). may_follow s flights.turns l.flight g) (sym c.last_leg-last.ensures) ∙ sym c.may_come_next.ensures ∙ c.if-may_come_next.true in
     λ κs within. (omega arith, (within, (c.requires.checked, (c.requires.flights, (c.requires.price, (c.requires.few, (c.requires.ranges, (c.requires.joins, (c.requires.beginning, (c.if-others-ge-LEGS.false, (known, (follows, c.loop-flight.invariant.room))))))))))))
 
 pub list_legs-returns-in_err-list_below-clause-over : goal.list_legs-returns-in_err-list_below-clause-over
@@ -205,11 +208,11 @@ list_legs-returns-in_err-list_below-clause-over bound t c =
     let caps : keeps_totals s (before ++ duty_of s first others ∷ []) ≡ true = ap (keeps_totals s) (sym longer) ∙ sym c.keep_totals.ensures ∙ c.if-not-keep_totals.false in
     let opened = legs-open room s flights base price before first others c.if-others-ge-LEGS.false (sym c.cannot_begin.ensures ∙ c.if-cannot_begin.false) c.requires.joins caps in
     let own-is = own-listed room s flights base price before (duty_of s first others) c.deref-2.result.now c.last_leg-last.result (last_of first others) longer-2 c.last_leg-last.ensures in
-    let follows : may_follow s (last_of first others).flight g ≡ true = ap (λ (l : TimedLeg). may_follow s l.flight g) (sym c.last_leg-last.ensures) ∙ sym c.may_come_next.ensures ∙ c.if-may_come_next.true in
+    let follows : may_follow s flights.turns (last_of first others).flight g ≡ true = ap (λ (l : TimedLeg). may_follow s flights.turns l.flight g) (sym c.last_leg-last.ensures) ∙ sym c.may_come_next.ensures ∙ c.if-may_come_next.true in
     let p = err_from_is_err_and c.from_residual-in_err-list_below.result c.from_residual-in_err-list_below.ensures.1 in
     let ward = onward-on room s flights base price before first others g follows in
     λ e. rw opened
-    (over-after bound.F.Sink.count bound.F.Sink.holds c.args.found.now c.list_own.new.found _ _ (flat_map (onward room s flights base price before first others) flights) c.args.scope.now.limit own-is c.in_ok-list_own.ensures.ok
+    (over-after bound.F.Sink.count bound.F.Sink.holds c.args.found.now c.list_own.new.found _ _ (flat_map (onward room s flights base price before first others) flights.list) c.args.scope.now.limit own-is c.in_ok-list_own.ensures.ok
     (rw (← whole) (took-over bound.F.Sink.count bound.F.Sink.holds (onward room s flights base price before first others) near i g c.list_own.new.found c.loop-flight.found c.args.scope.now.limit at c.loop-flight.invariant.found
     (rw ward (c.in_err-list_below.ensures.over (cc))))))
 
@@ -227,7 +230,7 @@ list_legs-loop-flight-preserved bound t c =
     let g = c.flight-item.result in
     let near = c.next_legs-leaving.result.now in
     let at = item-at near i g c.loop-flight-test.true c.flight-item.is in
-    let test : may_follow s (last_of first others).flight g ≡ c.may_come_next.result = ap (λ (l : TimedLeg). may_follow s l.flight g) (sym c.last_leg-last.ensures) ∙ sym c.may_come_next.ensures in
+    let test : may_follow s flights.turns (last_of first others).flight g ≡ c.may_come_next.result = ap (λ (l : TimedLeg). may_follow s flights.turns l.flight g) (sym c.last_leg-last.ensures) ∙ sym c.may_come_next.ensures in
     let F : Flight → List Partial = onward room s flights base price before first others in
     elim c.if-may_come_next.branch [
       | list_legs-then-may_come_next+in_ok-list_below w ↦
@@ -267,7 +270,7 @@ list_legs-returns-clause-ok bound t c =
     let whole = legs-near room s flights base price before first others c.last_leg-last.result near c.last_leg-last.ensures c.next_legs-leaving.ensures in
     let all : take c.loop-flight.flight-index near ≡ near = take_all c.loop-flight.flight-index near (omega arith) in
     let done = rw whole at (rw all at c.loop-flight.invariant.found) in
-    rw opened (joined-up bound.F.Sink.count bound.F.Sink.holds c.args.found.now c.list_own.new.found c.loop-flight.found _ _ (flat_map (onward room s flights base price before first others) flights) own-is c.in_ok-list_own.ensures.ok done)
+    rw opened (joined-up bound.F.Sink.count bound.F.Sink.holds c.args.found.now c.list_own.new.found c.loop-flight.found _ _ (flat_map (onward room s flights base price before first others) flights.list) own-is c.in_ok-list_own.ensures.ok done)
 
 pub list_below-returns-in_err-list_legs-clause-over : goal.list_below-returns-in_err-list_legs-clause-over
 list_below-returns-in_err-list_legs-clause-over bound t c =

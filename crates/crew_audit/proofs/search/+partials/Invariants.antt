@@ -32,7 +32,7 @@ invariant-list_after-loop-flight g l = record {
 abbrev pub invariant-list_legs-loop-flight : goal.invariant-list_legs-loop-flight
 invariant-list_legs-loop-flight g l = record {
   found : Took g.F.Sink.count g.F.Sink.holds l.initial.found l.found
-      (flat_map (λ x. if may_follow l.scope.settings.now (last_of l.first l.others).flight x then
+      (flat_map (λ x. if may_follow l.scope.settings.now l.scope.flights.now.turns (last_of l.first l.others).flight x then
       flat_map (with_next (l.scope.settings.now.max_duties - (length l.before + 1)) l.scope.settings.now l.scope.flights.now l.scope.base l.scope.base_price l.before)
       (below (7 - length l.others) l.scope.settings.now l.scope.flights.now l.first l.others x) else [])
       (take l.flight-index l.leaving));

@@ -1,4 +1,5 @@
 use Rattle.std.proofs.Common.{subst}
+use Rattle.crew_duty.specs.Machinery.Held.{over}
 use Rattle.crew_flights.specs.declared.flight.Flight.{Flight}
 use Rattle.crew_duty.specs.Machinery.Plans.{IsNext}
 use Rattle.crew_duty.proofs.Places.{AreNext-more}
@@ -7,7 +8,7 @@ use Rattle.crew_duty.proofs.beside.all_next_beside.Goals as goal
 pub loop-flight-preserved : goal.loop-flight-preserved
 loop-flight-preserved c =
     let s = c.args.settings.now in
-    let flights = c.args.flights.now in
+    let flights = over c.args.flights.now c.args.turns.now in
     let next = c.in_ok-next_beside.field-0 in
     let i = c.loop-flight.flight-index in
     let d = c.flight-item.result in

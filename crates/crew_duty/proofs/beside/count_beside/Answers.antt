@@ -1,5 +1,6 @@
 use Rattle.std.proofs.Common.{◌≡◌, ◌+◌, ◌∙◌, ap, arith, length, min, ℕ}
 use Rattle.crew_pairing.specs.Machinery.Listing.{from_place}
+use Rattle.crew_duty.specs.Machinery.Held.{held}
 use Rattle.crew_duty.proofs.Counts.{counts-more, sum-more, total-more}
 use Rattle.crew_duty.proofs.beside.count_beside.Goals as goal
 
@@ -8,7 +9,7 @@ count_from-requires-clause-so_far c = let inv = c.loop-place.invariant.all in om
 
 pub loop-place-preserved : goal.loop-place-preserved
 loop-place-preserved c =
-    let F = from_place c.args.plan.now.settings.now c.args.plan.now.flights.now in
+    let F = from_place c.args.plan.now.settings.now (held c.args.plan.now) in
     let i = c.loop-place.place in
     let counts = c.loop-place.counts.items in
     let longer = c.in_ok-longer.longer in

@@ -13,9 +13,9 @@ pub returns-clause-slots : goal.returns-clause-slots
 returns-clause-slots c =
     let s = c.args.settings.now in
     let before = c.args.before.now in
-    let low = moment before.to (before.arr +ℤ pos s.connect) in
+    let low = moment before.to (before.arr +ℤ pos c.args.gap) in
     let high = moment before.to (earlier (before.arr +ℤ pos s.sit) c.args.latest) in
-    let early = c.moment-earliest.ensures.value ∙ ap (λ (m : ℤ). moment before.to m) {y = before.arr +ℤ pos s.connect} (omega (arith, ints, c.get-arrival.ensures.value, c.from.ensures)) in
+    let early = c.moment-earliest.ensures.value ∙ ap (λ (m : ℤ). moment before.to m) {y = before.arr +ℤ pos c.args.gap} (omega (arith, ints, c.get-arrival.ensures.value, c.from.ensures)) in
     let sat : to_z w64 (of_z w64 (to_z w64 (of_z w64 c.get-arrival.result) +ℤ to_z w64 (of_z w64 c.from-2.result))) ≡ before.arr +ℤ pos s.sit = omega (arith, ints, c.get-arrival.ensures, c.from-2.ensures) in
     let same : to_z w64 (of_z w64 c.args.latest) ≡ c.args.latest = omega (arith, ints, c.requires.least, c.requires.most) in
     let last : c.earlier_of-last.result ≡ earlier (before.arr +ℤ pos s.sit) c.args.latest = c.earlier_of-last.ensures.value ∙ (λ i. earlier (sat i) (same i)) in

@@ -1,72 +1,50 @@
-use Rattle.std.proofs.Common.{◌≡◌, ◌≤◌, ◌<◌, ◌∙◌, List, ap, length, subst, sum, arith}
-use Rattle.crew_flights.specs.declared.flight.Flight.{Flight}
+use Rattle.std.proofs.Common.{◌≡◌, ◌≤◌, ◌<◌, ◌∙◌, ap, length, subst, sum, arith}
 use Rattle.crew_pairing.specs.Duties.{flights_of}
+use Rattle.crew_pairing.specs.Flights.{Flights}
 use Rattle.crew_pairing.specs.Machinery.Listing.{all_duties}
-use Rattle.crew_duty.specs.Machinery.Plans.{AreNext}
-use Rattle.crew_duty.specs.Machinery.Slots.{IsIndex}
+use Rattle.crew_duty.specs.Machinery.Held.{over}
 use Rattle.crew_duty.proofs.Counts.{counts-few, counts-over}
 use Rattle.crew_pairing.proofs.InOrder.{all-duties}
 use Rattle.crew_pairing.proofs.Timetables.{flights-few, flights-of-timetable}
+use Rattle.crew_duty.proofs.Planned.{both-held, is-plan}
 use Rattle.crew_duty.proofs.duties.list_duties.Goals as goal
 
 pub index_of-requires : goal.index_of-requires
 index_of-requires g c = rw (c.deref.ensures.value, c.in_ok-flights.ensures.held) (flights-few c.args.timetable.now c.held_flights.ensures.sound)
 
 pub count_all-requires-after_bounds : goal.count_all-requires-after_bounds
-count_all-requires-after_bounds g c =
-    let s = c.args.settings.now in
-    let t = c.args.timetable.now in
-    let held = c.in_ok-flights.ensures.held in
-    let fs = c.deref-4.ensures.value ∙ held in
-    let index = c.in_ok-slots.ensures in
-    let next = c.in_ok-next.ensures in
-    let first : c.deref.result.now ≡ flights_of t = c.deref.ensures.value ∙ held in
-    let second : c.deref-2.result.now ≡ flights_of t = c.deref-2.ensures.value ∙ held in
-    λ κs q. record {
-      checked = c.requires;
-      are_flights = rw fs (flights-of-timetable t c.held_flights.ensures.sound);
-      few = rw fs (flights-few t c.held_flights.ensures.sound);
-      index = rw (fs, c.deref-5.ensures.value) (subst (λ (l : List Flight). IsIndex l c.in_ok-slots.slots.items) first index);
-      are_next = rw (fs, c.deref-6.ensures.value) (subst (λ (l : List Flight). AreNext s l l c.in_ok-next.next.items) second next);
-    }
+count_all-requires-after_bounds g c = λ κs q.
+    is-plan c.args.settings.now c.args.timetable.now c.deref.result.now c.deref-2.result.now c.deref-4.result.now c.in_ok-turns.turns c.deref-5.result.now c.deref-6.result.now c.requires c.held_flights.ensures.sound
+    (c.deref.ensures.value ∙ c.in_ok-flights.ensures.held) (c.deref-2.ensures.value ∙ c.in_ok-flights.ensures.held) (c.deref-4.ensures.value ∙ c.in_ok-flights.ensures.held) c.in_ok-turns.ensures
+    (rw c.deref-5.ensures.value c.in_ok-slots.ensures) (rw c.deref-6.ensures.value c.in_ok-next.ensures)
 
 pub returns-then-total-gt-DUTIES-clause-too_many : goal.returns-then-total-gt-DUTIES-clause-too_many
 returns-then-total-gt-DUTIES-clause-too_many g c =
     let s = c.args.settings.now in
     let t = c.args.timetable.now in
-    let same : c.deref-4.result.now ≡ flights_of t = c.deref-4.ensures.value ∙ c.in_ok-flights.ensures.held in
+    let flights = over c.deref-4.result.now c.in_ok-turns.turns in
+    let same : flights ≡ flights_of t = both-held c.deref-4.result.now c.in_ok-turns.turns t (c.deref-4.ensures.value ∙ c.in_ok-flights.ensures.held) c.in_ok-turns.ensures in
     let more : 200_000 < sum c.in_ok-counts.counts.items = omega (arith, ap sum c.deref-7.ensures.value, c.total_of-total.ensures, c.if-total-gt-DUTIES.true) in
-    let many = counts-over s c.deref-4.result.now c.in_ok-counts.counts.items c.in_ok-counts.ensures more in
+    let many = counts-over s flights c.in_ok-counts.counts.items c.in_ok-counts.ensures more in
     λ e. (
       all_duties s (flights_of t),
       all-duties s (flights_of t) (flights-of-timetable t c.held_flights.ensures.sound),
-      subst (λ (fs : List Flight). 200_000 < length (all_duties s fs)) same many,
+      subst (λ (fs : Flights). 200_000 < length (all_duties s fs)) same many,
     )
 
 pub list_all-requires-clause-plan : goal.list_all-requires-clause-plan
-list_all-requires-clause-plan g c =
-    let s = c.args.settings.now in
-    let t = c.args.timetable.now in
-    let held = c.in_ok-flights.ensures.held in
-    let fs = c.deref-4.ensures.value ∙ held in
-    let index = c.in_ok-slots.ensures in
-    let next = c.in_ok-next.ensures in
-    let first : c.deref.result.now ≡ flights_of t = c.deref.ensures.value ∙ held in
-    let second : c.deref-2.result.now ≡ flights_of t = c.deref-2.ensures.value ∙ held in
-    λ κs q. record {
-      checked = c.requires;
-      are_flights = rw fs (flights-of-timetable t c.held_flights.ensures.sound);
-      few = rw fs (flights-few t c.held_flights.ensures.sound);
-      index = rw (fs, c.deref-5.ensures.value) (subst (λ (l : List Flight). IsIndex l c.in_ok-slots.slots.items) first index);
-      are_next = rw (fs, c.deref-6.ensures.value) (subst (λ (l : List Flight). AreNext s l l c.in_ok-next.next.items) second next);
-    }
+list_all-requires-clause-plan g c = λ κs q.
+    is-plan c.args.settings.now c.args.timetable.now c.deref.result.now c.deref-2.result.now c.deref-4.result.now c.in_ok-turns.turns c.deref-5.result.now c.deref-6.result.now c.requires c.held_flights.ensures.sound
+    (c.deref.ensures.value ∙ c.in_ok-flights.ensures.held) (c.deref-2.ensures.value ∙ c.in_ok-flights.ensures.held) (c.deref-4.ensures.value ∙ c.in_ok-flights.ensures.held) c.in_ok-turns.ensures
+    (rw c.deref-5.ensures.value c.in_ok-slots.ensures) (rw c.deref-6.ensures.value c.in_ok-next.ensures)
 
 pub returns-clause-listed : goal.returns-clause-listed
 returns-clause-listed g c =
     let s = c.args.settings.now in
     let t = c.args.timetable.now in
-    let same : c.deref-4.result.now ≡ flights_of t = c.deref-4.ensures.value ∙ c.in_ok-flights.ensures.held in
-    let listed : c.in_ok-list_all.field-0 ≡ all_duties s (flights_of t) = c.in_ok-list_all.ensures ∙ ap (λ (fs : List Flight). all_duties s fs) same in
+    let flights = over c.deref-4.result.now c.in_ok-turns.turns in
+    let same : flights ≡ flights_of t = both-held c.deref-4.result.now c.in_ok-turns.turns t (c.deref-4.ensures.value ∙ c.in_ok-flights.ensures.held) c.in_ok-turns.ensures in
+    let listed : c.in_ok-list_all.field-0 ≡ all_duties s (flights_of t) = c.in_ok-list_all.ensures ∙ ap (λ (fs : Flights). all_duties s fs) same in
     rw listed (all-duties s (flights_of t) (flights-of-timetable t c.held_flights.ensures.sound))
 
 pub returns-clause-few : goal.returns-clause-few
@@ -74,7 +52,7 @@ returns-clause-few g c =
     let counts = c.in_ok-counts.counts.items in
     let seen = ap sum c.deref-7.ensures.value in
     let few : sum counts ≤ 200_000 = omega (arith, seen, c.total_of-total.ensures, c.if-total-gt-DUTIES.false) in
-    let all = counts-few c.args.settings.now c.deref-4.result.now counts c.in_ok-counts.ensures few in
+    let all = counts-few c.args.settings.now (over c.deref-4.result.now c.in_ok-turns.turns) counts c.in_ok-counts.ensures few in
     omega (arith, ap length c.in_ok-list_all.ensures, all, few)
 
 pub next_flights-requires-clause-index : goal.next_flights-requires-clause-index

@@ -1,4 +1,5 @@
 use Rattle.std.proofs.Common.{rules, ◌≡◌, ◌+◌, ◌/◌, ◌++◌, length, subst, ℕ}
+use Rattle.crew_duty.specs.Machinery.Held.{held}
 use Rattle.crew_duty.specs.Machinery.Counts.{AreCounts}
 use Rattle.crew_pairing.specs.Machinery.Listing.{from_place}
 use Rattle.crew_duty.proofs.Counts.{counts-append}
@@ -6,7 +7,7 @@ use Rattle.crew_duty.proofs.pieces.+count_in+fn-count_in-join_mut+arg3.Goals as 
 
 pub returns : goal.returns
 returns g t c =
-    let F = from_place c.args.plan.now.settings.now c.args.plan.now.flights.now in
+    let F = from_place c.args.plan.now.settings.now (held c.args.plan.now) in
     let from = c.args.from in
     let m = length c.split_at_mut-front.result.0.now in
     let n = length c.split_at_mut-front.result.1.now in

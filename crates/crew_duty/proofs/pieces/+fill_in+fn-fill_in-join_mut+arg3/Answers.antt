@@ -1,5 +1,6 @@
 use Rattle.std.proofs.Common.{rules, ◌≡◌, arith, map}
 use Rattle.crew_pairing.specs.Machinery.Listing.{from_place}
+use Rattle.crew_duty.specs.Machinery.Held.{held}
 use Rattle.crew_duty.specs.declared.rooms.Room.{Room}
 use Rattle.crew_duty.proofs.InRooms.{filled-append, rooms-back, rooms-front}
 use Rattle.crew_duty.proofs.pieces.+fill_in+fn-fill_in-join_mut+arg3.Goals as goal
@@ -7,7 +8,7 @@ use Rattle.crew_duty.proofs.pieces.+fill_in+fn-fill_in-join_mut+arg3.Goals as go
 pub join_mut-these-requires-after_bounds : goal.join_mut-these-requires-after_bounds
 join_mut-these-requires-after_bounds g t c κs within =
     let s = c.args.plan.now.settings.now in
-    let flights = c.args.plan.now.flights.now in
+    let flights = held c.args.plan.now in
     let front = c.split_at_mut-front.result.0.now in
     let back = c.split_at_mut-front.result.1.now in
     let halves = c.split_at_mut-front.ensures.value in (
@@ -17,7 +18,7 @@ join_mut-these-requires-after_bounds g t c κs within =
 
 pub returns : goal.returns
 returns g t c =
-    let F = from_place c.args.plan.now.settings.now c.args.plan.now.flights.now in
+    let F = from_place c.args.plan.now.settings.now (held c.args.plan.now) in
     let front = c.split_at_mut-front.result.0.now in
     let back = c.split_at_mut-front.result.1.now in
     let D = λ (r : Room). r.duties.items in

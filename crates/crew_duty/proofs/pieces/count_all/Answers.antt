@@ -1,5 +1,6 @@
 use Rattle.std.proofs.Common.{◌≡◌, ◌++◌, ◌∙◌, List, ℕ, ap, arith, drop, length, subst, sym, take}
 use Rattle.std.proofs.Math.Seq.{take-append_seam}
+use Rattle.crew_duty.specs.Machinery.Held.{held}
 use Rattle.crew_duty.specs.Machinery.Counts.{AreCounts}
 use Rattle.crew_pairing.specs.Machinery.Listing.{from_place}
 use Rattle.crew_duty.proofs.pieces.count_all.Goals as goal
@@ -12,7 +13,7 @@ count_in-requires-clause-within g c = λ κs q. omega (arith, c.deref_mut.ensure
 
 pub returns : goal.returns
 returns g c =
-    let F = from_place c.args.plan.now.settings.now c.args.plan.now.flights.now in
+    let F = from_place c.args.plan.now.settings.now (held c.args.plan.now) in
     let many = length c.args.plan.now.flights.now in
     let xs = c.count_in.new.counts in
     let rest = drop (length xs) c.in_ok-counts.counts.items in

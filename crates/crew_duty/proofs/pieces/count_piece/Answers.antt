@@ -1,5 +1,6 @@
 use Rattle.std.proofs.Common.{◌≡◌, ◌<◌, ◌-◌, ◌∙◌, List, ℕ, arith, length, subst, take}
 use Rattle.std.proofs.lemmas.List.{take_all}
+use Rattle.crew_duty.specs.Machinery.Held.{held}
 use Rattle.crew_duty.specs.Machinery.Counts.{AreCounts}
 use Rattle.crew_pairing.specs.Machinery.Listing.{from_place}
 use Rattle.crew_duty.proofs.Counts.{counts-more, sum-more, total-more}
@@ -8,7 +9,7 @@ use Rattle.crew_duty.proofs.pieces.count_piece.Goals as goal
 
 pub loop-place-preserved : goal.loop-place-preserved
 loop-place-preserved c =
-    let F = from_place c.args.plan.now.settings.now c.args.plan.now.flights.now in
+    let F = from_place c.args.plan.now.settings.now (held c.args.plan.now) in
     let i = c.loop-place.place in
     let counts = c.loop-place.counts in
     let longer = c.in_ok-longer.longer in
@@ -22,7 +23,7 @@ loop-place-preserved c =
 
 pub returns : goal.returns
 returns c =
-    let F = from_place c.args.plan.now.settings.now c.args.plan.now.flights.now in
+    let F = from_place c.args.plan.now.settings.now (held c.args.plan.now) in
     let i = c.loop-place.place in
     let counts = c.loop-place.counts in
     let inv = c.loop-place.invariant in

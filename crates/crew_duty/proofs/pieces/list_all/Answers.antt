@@ -4,6 +4,7 @@ use Rattle.std.proofs.Math.Seq.{take-append_seam}
 use Rattle.std.proofs.lemmas.List.{length-map}
 use Rattle.rayon.proofs.ListFacts.{IfOk-then}
 use Rattle.crew_pairing.specs.Machinery.Listing.{from_place}
+use Rattle.crew_duty.specs.Machinery.Held.{held}
 use Rattle.crew_duty.specs.declared.rooms.Room.{Room}
 use Rattle.crew_duty.specs.Machinery.Rooms.{IsRoom}
 use Rattle.crew_duty.proofs.Counts.{all-listed, counts-few}
@@ -13,17 +14,17 @@ use Rattle.crew_duty.proofs.pieces.list_all.Goals as goal
 pub fill_in-requires-clause-rooms : goal.fill_in-requires-clause-rooms
 fill_in-requires-clause-rooms g c κs within =
     let s = c.args.plan.now.settings.now in
-    let flights = c.args.plan.now.flights.now in
+    let flights = held c.args.plan.now in
     let counts = c.args.counts.now in
     let few : sum counts ≤ 200_000 = omega (arith, c.requires.total, c.requires.few) in
-    let long : 0 + length counts ≤ length flights = omega (arith, c.requires.counts.all) in
+    let long : 0 + length counts ≤ length flights.list = omega (arith, c.requires.counts.all) in
     let are : All (IsRoom s flights) c.in_ok-rooms.rooms.items = are-rooms s flights 0 counts c.in_ok-rooms.rooms.items c.in_ok-rooms.ensures.places c.in_ok-rooms.ensures.counts (c.requires.counts.exact few) long few in
     rw c.deref_mut.ensures.value are
 
 pub join_rooms-requires : goal.join_rooms-requires
 join_rooms-requires g c =
     let s = c.args.plan.now.settings.now in
-    let flights = c.args.plan.now.flights.now in
+    let flights = held c.args.plan.now in
     let F = from_place s flights in
     let D = λ (r : Room). r.duties.items in
     let G = λ (r : Room). F r.place in
@@ -42,7 +43,7 @@ join_rooms-requires g c =
 pub returns : goal.returns
 returns g c =
     let s = c.args.plan.now.settings.now in
-    let flights = c.args.plan.now.flights.now in
+    let flights = held c.args.plan.now in
     let F = from_place s flights in
     let D = λ (r : Room). r.duties.items in
     let G = λ (r : Room). F r.place in

@@ -1,5 +1,6 @@
 use Rattle.std.proofs.Common.{List, subst}
 use Rattle.std.proofs.lemmas.List.{take_all}
+use Rattle.crew_duty.specs.Machinery.Held.{over}
 use Rattle.crew_flights.specs.declared.flight.Flight.{Flight}
 use Rattle.crew_duty.specs.Machinery.Plans.{AreNext, IsNext}
 use Rattle.crew_duty.proofs.Places.{AreNext-more}
@@ -8,7 +9,7 @@ use Rattle.crew_duty.proofs.plan.next_flights.Goals as goal
 pub loop-flight-preserved : goal.loop-flight-preserved
 loop-flight-preserved c =
     let s = c.args.settings.now in
-    let flights = c.args.flights.now in
+    let flights = over c.args.flights.now c.args.turns.now in
     let next = c.in_ok-next_of.field-0 in
     let i = c.loop-flight.flight-index in
     let d = c.flight-item.result in
@@ -18,6 +19,6 @@ loop-flight-preserved c =
 pub returns : goal.returns
 returns c =
     let s = c.args.settings.now in
-    let flights = c.args.flights.now in
-    let all = take_all c.loop-flight.flight-index flights c.loop-flight-test.false in
+    let flights = over c.args.flights.now c.args.turns.now in
+    let all = take_all c.loop-flight.flight-index flights.list c.loop-flight-test.false in
     subst (λ (fs : List Flight). AreNext s flights fs c.loop-flight.next.items) all c.loop-flight.invariant

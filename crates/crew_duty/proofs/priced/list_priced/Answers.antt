@@ -1,6 +1,7 @@
 use Rattle.std.proofs.Common.{◌≡◌, ◌++◌, ◌∙◌, List, ℤ, ap, ap₂, arith, map, sym, take}
 use Rattle.std.proofs.lemmas.List.{map-append, take_all}
 use Rattle.crew_pairing.specs.Machinery.Blocks.{part_of}
+use Rattle.crew_duty.specs.Machinery.Held.{over}
 use Rattle.crew_duty.specs.Machinery.Prices.{under_prices}
 use Rattle.crew_duty.proofs.Blocks.{take-part}
 use Rattle.crew_duty.proofs.NewPrices.{duties-priced}
@@ -21,9 +22,9 @@ loop-from-preserved c =
     }
 
 pub returns-clause-listed : goal.returns-clause-listed
-returns-clause-listed c s before same all =
+returns-clause-listed c s turns before same all =
     let prices = c.in_ok-prices.prices.items in
     let duties = c.args.duties.now in
     let whole = take_all c.loop-from.from duties (omega (arith, c.loop-from-test.false, c.len-in-loop-from.ensures)) in
     let now : c.loop-from.list ≡ map (under_prices prices) duties = c.loop-from.invariant.list ∙ ap (map (under_prices prices)) whole in
-    rw now (duties-priced s prices c.args.flights.now before duties same c.in_ok-prices.ensures.held all)
+    rw now (duties-priced s prices (over c.args.flights.now turns) before duties same c.in_ok-prices.ensures.held all)

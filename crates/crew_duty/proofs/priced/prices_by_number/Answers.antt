@@ -14,7 +14,7 @@ loop-flight-preserved c =
     let place = c.loop-flight.flight-index in
     let here = c.loop-flight-test.true in
     let at : (d : Flight) → get_or flights place d ≡ f = λ d. get_or_default flights place d f here ∙ sym c.flight-item.is in
-    let sound : IsFlight f.id f = subst (λ (g : Flight). IsFlight g.id g) (at f) (flight-at flights place f c.requires.each here) in
+    let sound : IsFlight f.id f = subst (λ (g : Flight). IsFlight g.id g) (at f) (flight-at flights place f c.requires.1.each here) in
     let least = sound.least_price in
     let most = sound.most_price in
     let id : c.get.result ≡ f.id = c.get.ensures.value in
@@ -24,6 +24,6 @@ loop-flight-preserved c =
     let long = ap length whole ∙ length-set old f.id f.price in
     record {
       room = λ i d k. rw long (c.loop-flight.invariant.room i d k);
-      held = rw whole (held-set flights old place f c.requires.rising here at room c.loop-flight.invariant.held);
+      held = rw whole (held-set flights old place f c.requires.1.rising here at room c.loop-flight.invariant.held);
       limits = rw whole (limits-set old f.id f.price c.loop-flight.invariant.limits room (least, most));
     }

@@ -5,6 +5,7 @@ use Rattle.std.proofs.lemmas.Option.{get_or_from_slice_get, slice_get-get_or}
 use Rattle.std.proofs.lemmas.Int.{ints}
 use Rattle.crew_flights.specs.Timetable.{IsFlight}
 use Rattle.crew_flights.specs.declared.flight.Flight.{Flight}
+use Rattle.crew_duty.specs.Machinery.Held.{held}
 use Rattle.crew_duty.specs.Machinery.Filling.{Goes}
 use Rattle.crew_pairing.specs.Legality.{last_of, leg_of}
 use Rattle.crew_pairing.specs.Machinery.Listing.{is_hopeless, listing, own, timed}
@@ -26,7 +27,7 @@ use Rattle.crew_duty.proofs.search.+tree.Goals as goal
 pub step-returns-then-totals-limits-clause-goes : goal.step-returns-then-totals-limits-clause-goes
 step-returns-then-totals-limits-clause-goes t c = λ others g path goes.
     let s = c.args.plan.now.settings.now in
-    let flights = c.args.plan.now.flights.now in
+    let flights = held c.args.plan.now in
     let first = c.args.first.now in
     let longer = others ++ timed true g ∷ [] in
     let closed = ridden-closed s first others g (omega (arith, c.if-totals-limits.true, path.are_totals.deadheads, c.requires.limits.deadheads)) in
@@ -43,8 +44,8 @@ offset-next place n h k = omega arith
 pub step-offset_bounds-plan-place : goal.step-offset_bounds-plan-place
 step-offset_bounds-plan-place t c =
     let p = c.requires.path in
-    let flights = c.args.plan.now.flights.now in
-    offset-flight c.args.place (length flights) (slice_get-within flights c.args.place p.1 p.3.flight) c.requires.plan.few
+    let flights = held c.args.plan.now in
+    offset-flight c.args.place (length flights.list) (slice_get-within flights.list c.args.place p.1 p.3.flight) c.requires.plan.few
 
 pub step-bounds-plan-place : goal.step-bounds-plan-place
 step-bounds-plan-place t c = let p = c.requires.path in slice_get-within c.args.plan.now.flights.now c.args.place p.1 p.3.flight
@@ -52,9 +53,9 @@ step-bounds-plan-place t c = let p = c.requires.path in slice_get-within c.args.
 pub step-after-longer-requires-clause-sound : goal.step-after-longer-requires-clause-sound
 step-after-longer-requires-clause-sound t c =
     let p = c.requires.path in
-    let flights = c.args.plan.now.flights.now in
-    let flight = get_or_from_slice_get flights c.args.place p.1 c.index-plan-place.result p.3.flight in
-    rw flight (Each-member (λ (f : Flight). IsFlight f.id f) flights p.1 c.requires.plan.are_flights.each (slice_get-Member flights c.args.place p.1 p.3.flight))
+    let flights = held c.args.plan.now in
+    let flight = get_or_from_slice_get flights.list c.args.place p.1 c.index-plan-place.result p.3.flight in
+    rw flight (Each-member (λ (f : Flight). IsFlight f.id f) flights.list p.1 c.requires.plan.are_flights.each (slice_get-Member flights.list c.args.place p.1 p.3.flight))
 
 pub step-after-longer-requires-clause-bounded : goal.step-after-longer-requires-clause-bounded
 step-after-longer-requires-clause-bounded t c =
@@ -64,10 +65,10 @@ step-after-longer-requires-clause-bounded t c =
 pub step-returns-then-forbid-clause-goes : goal.step-returns-then-forbid-clause-goes
 step-returns-then-forbid-clause-goes t c = λ others g path goes.
     let s = c.args.plan.now.settings.now in
-    let flights = c.args.plan.now.flights.now in
+    let flights = held c.args.plan.now in
     let first = c.args.first.now in
     let d = c.args.deadhead in
-    let flight = get_or_from_slice_get flights c.args.place g c.index-plan-place.result goes.flight in
+    let flight = get_or_from_slice_get flights.list c.args.place g c.index-plan-place.result goes.flight in
     let longer = others ++ timed d g ∷ [] in
     let come = rw flight at (c.after-longer.ensures (first ∷ others) path.are_totals) in
     let last : (last_of first longer).flight ≡ g = ap (λ (l : TimedLeg). l.flight) (last_of-push first others (timed d g)) in
@@ -78,7 +79,7 @@ step-returns-then-forbid-clause-goes t c = λ others g path goes.
 pub step-enter-requires : goal.step-enter-requires
 step-enter-requires t c =
     let s = c.args.plan.now.settings.now in
-    let flights = c.args.plan.now.flights.now in
+    let flights = held c.args.plan.now in
     let first = c.args.first.now in
     let p = c.requires.path in
     let others = p.0 in
@@ -86,7 +87,7 @@ step-enter-requires t c =
     let path = p.2 in
     let goes = p.3 in
     let d = c.args.deadhead in
-    let flight = get_or_from_slice_get flights c.args.place g c.index-plan-place.result goes.flight in
+    let flight = get_or_from_slice_get flights.list c.args.place g c.index-plan-place.result goes.flight in
     let longer = others ++ timed d g ∷ [] in
     let come = rw flight at (c.after-longer.ensures (first ∷ others) path.are_totals) in
     let last : (last_of first longer).flight ≡ g = ap (λ (l : TimedLeg). l.flight) (last_of-push first others (timed d g)) in
@@ -96,7 +97,7 @@ step-enter-requires t c =
     let few : length others < 7 = omega (arith, c.requires.few, path-length path) in
     let more = path-longer s flights first others c.args.key.now c.args.totals c.args.place g d c.push.new.self c.after-longer.result path goes few (sym tested ∙ c.if-forbid.false) pushed come in
     let long : length c.push.new.self ≡ length c.args.key.now + 1 = ap length pushed ∙ length-append c.args.key.now (leg_of (timed d g) ∷ []) in
-    (omega (arith, long, c.requires.few), (c.requires.plan, (c.requires.limits, ((longer, more, ends-longer flights first others c.args.place g d goes.flight), (c.requires.so_far, c.requires.room)))))
+    (omega (arith, long, c.requires.few), (c.requires.plan, (c.requires.limits, ((longer, more, ends-longer flights.list first others c.args.place g d goes.flight), (c.requires.so_far, c.requires.room)))))
 
 pub step-pop-requires : goal.step-pop-requires
 step-pop-requires t c =
@@ -107,10 +108,10 @@ step-pop-requires t c =
 pub step-returns-clause-goes : goal.step-returns-clause-goes
 step-returns-clause-goes t c = λ others g path goes.
     let s = c.args.plan.now.settings.now in
-    let flights = c.args.plan.now.flights.now in
+    let flights = held c.args.plan.now in
     let first = c.args.first.now in
     let d = c.args.deadhead in
-    let flight = get_or_from_slice_get flights c.args.place g c.index-plan-place.result goes.flight in
+    let flight = get_or_from_slice_get flights.list c.args.place g c.index-plan-place.result goes.flight in
     let longer = others ++ timed d g ∷ [] in
     let come = rw flight at (c.after-longer.ensures (first ∷ others) path.are_totals) in
     let last : (last_of first longer).flight ≡ g = ap (λ (l : TimedLeg). l.flight) (last_of-push first others (timed d g)) in
@@ -119,7 +120,7 @@ step-returns-clause-goes t c = λ others g path goes.
     let pushed : c.push.new.self ≡ c.args.key.now ++ leg_of (timed d g) ∷ [] = c.push.ensures ∙ (λ j. c.args.key.now ++ leg j ∷ []) in
     let few : length others < 7 = omega (arith, c.requires.few, path-length path) in
     let more = path-longer s flights first others c.args.key.now c.args.totals c.args.place g d c.push.new.self c.after-longer.result path goes few (sym tested ∙ c.if-forbid.false) pushed come in
-    let listed = c.in_ok-counted.ensures.goes longer more (ends-longer flights first others c.args.place g d goes.flight) in
+    let listed = c.in_ok-counted.ensures.goes longer more (ends-longer flights.list first others c.args.place g d goes.flight) in
     let room : 8 - length longer ≡ 7 - length others = omega (arith, length-append others (timed d g ∷ [])) in
     rw room at listed
 
@@ -129,32 +130,32 @@ step-returns-clause-kept t c = pop-back c.args.key.now c.enter.new.key c.pop.new
 pub enter-returns-then-legs-ge-LEGS-clause-goes : goal.enter-returns-then-legs-ge-LEGS-clause-goes
 enter-returns-then-legs-ge-LEGS-clause-goes t c = λ others path ends.
     let s = c.args.plan.now.settings.now in
-    let flights = c.args.plan.now.flights.now in
+    let flights = held c.args.plan.now in
     let first = c.args.first.now in
     let full : length others ≡ 7 = omega (arith, c.if-legs-ge-LEGS.true, ap length c.legs.ensures, path-length path, path.few) in
     rw (listing-last s flights first others full path.hope) (c.put_own-counted.ensures others path ends)
 
 pub enter-offset_bounds-plan-last : goal.enter-offset_bounds-plan-last
 enter-offset_bounds-plan-last t c =
-    let flights = c.args.plan.now.flights.now in
-    offset-next c.args.last (length flights) (slice_get-within flights c.args.last _ c.requires.path.2.flight) c.requires.plan.few
+    let flights = held c.args.plan.now in
+    offset-next c.args.last (length flights.list) (slice_get-within flights.list c.args.last _ c.requires.path.2.flight) c.requires.plan.few
 
 pub enter-bounds-plan-last : goal.enter-bounds-plan-last
 enter-bounds-plan-last t c =
     let s = c.args.plan.now.settings.now in
-    let flights = c.args.plan.now.flights.now in
-    let inside = slice_get-within flights c.args.last _ c.requires.path.2.flight in
-    omega (arith, inside, AreNext-length s flights flights c.args.plan.now.next.now c.requires.plan.are_next)
+    let flights = held c.args.plan.now in
+    let inside = slice_get-within flights.list c.args.last _ c.requires.path.2.flight in
+    omega (arith, inside, AreNext-length s flights flights.list c.args.plan.now.next.now c.requires.plan.are_next)
 
 pub enter-returns-then-latest-plan-clause-goes : goal.enter-returns-then-latest-plan-clause-goes
 enter-returns-then-latest-plan-clause-goes t c = λ others path ends.
     let s = c.args.plan.now.settings.now in
-    let flights = c.args.plan.now.flights.now in
+    let flights = held c.args.plan.now in
     let next = c.args.plan.now.next.now in
     let first = c.args.first.now in
-    let inside : c.args.last < length next = omega (arith, slice_get-within flights c.args.last _ ends.flight, AreNext-length s flights flights next c.requires.plan.are_next) in
+    let inside : c.args.last < length next = omega (arith, slice_get-within flights.list c.args.last _ ends.flight, AreNext-length s flights flights.list next c.requires.plan.are_next) in
     let here = get_or next c.args.last c.index-plan-last.result in
-    let is = AreNext-at s flights flights next c.args.last (last_of first others).flight here c.requires.plan.are_next ends.flight (slice_get-get_or next c.args.last c.index-plan-last.result inside) in
+    let is = AreNext-at s flights flights.list next c.args.last (last_of first others).flight here c.requires.plan.are_next ends.flight (slice_get-get_or next c.args.last c.index-plan-last.result inside) in
     let latest = c.latest.ensures.value s first (first ∷ others) c.requires.limits path.are_totals in
     let soon : c.latest.result <ℤ here.soonest = omega (arith, ints, c.if-latest-plan.true, c.latest.ensures.least, c.latest.ensures.most, is.least, is.most) in
     let none = leads-nowhere s flights first others (7 - length others) here c.latest.result is latest c.latest.ensures.least soon in
@@ -174,7 +175,7 @@ pub enter-returns-clause-goes : goal.enter-returns-clause-goes
 enter-returns-clause-goes t c = IfOk-then c.walk.result _ _ c.walk.ensures.goes
     (λ n on others path ends.
     let s = c.args.plan.now.settings.now in
-    let flights = c.args.plan.now.flights.now in
+    let flights = held c.args.plan.now in
     let first = c.args.first.now in
     let mine = own s first others in
     let more = onward (7 - length others) s flights first others in
@@ -208,7 +209,7 @@ walk-step-requires t c =
 pub walk-step-requires-in-loop-place : goal.walk-step-requires-in-loop-place
 walk-step-requires-in-loop-place t c =
     let s = c.args.plan.now.settings.now in
-    let flights = c.args.plan.now.flights.now in
+    let flights = held c.args.plan.now in
     let first = c.args.first.now in
     let p = c.requires.path in
     let others = p.0 in
@@ -228,7 +229,7 @@ pub walk-loop-place-preserved : goal.walk-loop-place-preserved
 walk-loop-place-preserved t c = record {
   goes = λ others path ends.
       let s = c.args.plan.now.settings.now in
-      let flights = c.args.plan.now.flights.now in
+      let flights = held c.args.plan.now in
       let first = c.args.first.now in
       let i = c.loop-place.place-index in
       let items = c.as_slice-place-items.result.now in
@@ -248,7 +249,7 @@ walk-loop-place-preserved t c = record {
 pub walk-returns-clause-goes : goal.walk-returns-clause-goes
 walk-returns-clause-goes t c = λ others path ends.
     let s = c.args.plan.now.settings.now in
-    let flights = c.args.plan.now.flights.now in
+    let flights = held c.args.plan.now in
     let first = c.args.first.now in
     let items = c.as_slice-place-items.result.now in
     let lead = c.in_ok-next.ensures first others c.requires.limits ends path.are_totals in

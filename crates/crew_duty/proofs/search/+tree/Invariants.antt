@@ -1,5 +1,6 @@
 use Rattle.std.proofs.Common.{◌≡◌, ◌-◌, ◌*◌, List, take, length}
 use Rattle.std.specs.List.{flat_map}
+use Rattle.crew_duty.specs.Machinery.Held.{held}
 use Rattle.crew_duty.specs.Machinery.Filling.{Goes}
 use Rattle.crew_duty.specs.Machinery.Paths.{IsPath, LastAt}
 use Rattle.crew_pairing.specs.declared.leg.TimedLeg.{TimedLeg}
@@ -17,7 +18,7 @@ decreases-enter l = 31 - 3 * length l.key.now
 
 abbrev pub invariant-walk-loop-place : goal.invariant-walk-loop-place
 invariant-walk-loop-place l = record {
-  goes : (others : List TimedLeg) → IsPath l.plan.settings.now l.plan.flights.now l.first others l.fn.key l.totals → LastAt l.plan.flights.now l.first others l.last
-      → Goes l.fn.so_far (flat_map (below_place (7 - length others) l.plan.settings.now l.plan.flights.now l.first others) (take l.place-index l.place-items)) l.fn.found l.counted l.found;
+  goes : (others : List TimedLeg) → IsPath l.plan.settings.now (held l.plan) l.first others l.fn.key l.totals → LastAt l.plan.flights.now l.first others l.last
+      → Goes l.fn.so_far (flat_map (below_place (7 - length others) l.plan.settings.now (held l.plan) l.first others) (take l.place-index l.place-items)) l.fn.found l.counted l.found;
   kept : l.key ≡ l.fn.key;
 }

@@ -6,6 +6,7 @@ use Rattle.crew_pairing.specs.Legality.{flight_duty_period, flight_time, last_of
 use Rattle.crew_pairing.proofs.Paid.{legs-paid}
 use Rattle.crew_pairing.proofs.Times.{ends-later, flown-total}
 use Rattle.crew_pairing.proofs.Tree.{slice_get-within}
+use Rattle.crew_duty.specs.Machinery.Held.{held}
 use Rattle.crew_duty.proofs.Paths.{path-sound}
 use Rattle.crew_duty.proofs.ReadNumbers.{no-later, read-elapsed, read-flown, read-pay, read-price, read-times, release-most}
 use Rattle.crew_duty.proofs.Running.{priced-total}
@@ -30,13 +31,13 @@ overflow_cast-result-4 c =
 pub duty_pay-requires-clause-elapsed : goal.duty_pay-requires-clause-elapsed
 duty_pay-requires-clause-elapsed c =
     let s = c.args.plan.now.settings.now in
-    let flights = c.args.plan.now.flights.now in
+    let flights = held c.args.plan.now in
     let first = c.args.first.now in
     let limits = c.requires.limits in
     let others = c.requires.path.0 in
     let path = c.requires.path.1 in
     let ends = c.requires.path.2 in
-    let flight = get_or_from_slice_get flights c.args.last _ c.index-plan-last.result ends.flight in
+    let flight = get_or_from_slice_get flights.list c.args.last _ c.index-plan-last.result ends.flight in
     let arrival : c.get-arrival.result ≡ (last_of first others).flight.arr = c.get-arrival.ensures.value ∙ ap (λ (f : Flight). f.arr) flight in
     let range = c.get-arrival.ensures.range in
     let debrief = c.requires.plan.checked.debrief in
@@ -44,7 +45,7 @@ duty_pay-requires-clause-elapsed c =
     let release-is : c.get-arrival.result +ℤ c.from.result ≡ release s first others = λ i. arrival i +ℤ c.from.ensures i in
     let sum : to_z w64 (of_z w64 (to_z w64 (of_z w64 c.get-arrival.result) +ℤ to_z w64 (of_z w64 c.from.result))) ≡ release s first others = times.release ∙ release-is in
     let sound = path-sound c.requires.plan.are_flights path in
-    let late = ends-later s first others sound path.beginning.connected in
+    let late = ends-later s flights.turns first others sound path.beginning.connected in
     let plain : release s first others ≡ (last_of first others).flight.arr +ℤ pos s.debrief = refl in
     let ordered = no-later c.args.limits.now.report first.flight.dep (last_of first others).flight.arr (last_of first others).flight.arr (release s first others) s.lead s.debrief limits.report refl late plain in
     let most = release-most (last_of first others).flight.arr (release s first others) s.debrief plain (subst (λ (z : ℤ). z ≤ℤ pos 68_375_519) arrival range.to) debrief in
@@ -63,13 +64,13 @@ ap_two f p q = λ i. f (p i) (q i)
 pub overflow_cast-result-5 : goal.overflow_cast-result-5
 overflow_cast-result-5 c =
     let s = c.args.plan.now.settings.now in
-    let flights = c.args.plan.now.flights.now in
+    let flights = held c.args.plan.now in
     let first = c.args.first.now in
     let limits = c.requires.limits in
     let others = c.requires.path.0 in
     let path = c.requires.path.1 in
     let ends = c.requires.path.2 in
-    let flight = get_or_from_slice_get flights c.args.last _ c.index-plan-last.result ends.flight in
+    let flight = get_or_from_slice_get flights.list c.args.last _ c.index-plan-last.result ends.flight in
     let arrival : c.get-arrival.result ≡ (last_of first others).flight.arr = c.get-arrival.ensures.value ∙ ap (λ (f : Flight). f.arr) flight in
     let range = c.get-arrival.ensures.range in
     let debrief = c.requires.plan.checked.debrief in
@@ -77,7 +78,7 @@ overflow_cast-result-5 c =
     let release-is : c.get-arrival.result +ℤ c.from.result ≡ release s first others = λ i. arrival i +ℤ c.from.ensures i in
     let sum : to_z w64 (of_z w64 (to_z w64 (of_z w64 c.get-arrival.result) +ℤ to_z w64 (of_z w64 c.from.result))) ≡ release s first others = times.release ∙ release-is in
     let sound = path-sound c.requires.plan.are_flights path in
-    let late = ends-later s first others sound path.beginning.connected in
+    let late = ends-later s flights.turns first others sound path.beginning.connected in
     let plain : release s first others ≡ (last_of first others).flight.arr +ℤ pos s.debrief = refl in
     let ordered = no-later c.args.limits.now.report first.flight.dep (last_of first others).flight.arr (last_of first others).flight.arr (release s first others) s.lead s.debrief limits.report refl late plain in
     let most = release-most (last_of first others).flight.arr (release s first others) s.debrief plain (subst (λ (z : ℤ). z ≤ℤ pos 68_375_519) arrival range.to) debrief in
@@ -87,17 +88,17 @@ overflow_cast-result-5 c =
     let elapsed-is : to_z w64 (of_z w64 (to_z w64 (of_z w64 (to_z w64 (of_z w64 c.get-arrival.result) +ℤ to_z w64 (of_z w64 c.from.result))) -ℤ to_z w64 (of_z w64 c.args.limits.now.report))) ≡ release s first others -ℤ report s first =
     rw sum elapsed.value ∙ ap (λ (z : ℤ). release s first others -ℤ z) limits.report in
     let paid : c.duty_pay.result ≡ duty_pay s (release s first others -ℤ report s first) (flight_time first others) = c.duty_pay.ensures ∙ ap_two (λ (e f : ℤ). duty_pay s e f) elapsed-is fly.value in
-    let bounds = legs-paid s first others c.requires.plan.checked path.few sound path.beginning.connected (subst (λ (z : ℤ). pos 15_000_000 ≤ℤ z) limits.report limits.report_least) most in
+    let bounds = legs-paid s flights.turns first others c.requires.plan.checked path.few sound path.beginning.connected (subst (λ (z : ℤ). pos 15_000_000 ≤ℤ z) limits.report limits.report_least) most in
     let pay = read-pay c.duty_pay.result (duty_pay s (release s first others -ℤ report s first) (flight_time first others)) paid bounds.0 bounds.1 in
     pay.fits
 
 pub returns : goal.returns
 returns c = λ others path ends.
     let s = c.args.plan.now.settings.now in
-    let flights = c.args.plan.now.flights.now in
+    let flights = held c.args.plan.now in
     let first = c.args.first.now in
     let limits = c.requires.limits in
-    let flight = get_or_from_slice_get flights c.args.last _ c.index-plan-last.result ends.flight in
+    let flight = get_or_from_slice_get flights.list c.args.last _ c.index-plan-last.result ends.flight in
     let arrival : c.get-arrival.result ≡ (last_of first others).flight.arr = c.get-arrival.ensures.value ∙ ap (λ (f : Flight). f.arr) flight in
     let range = c.get-arrival.ensures.range in
     let debrief = c.requires.plan.checked.debrief in
@@ -105,7 +106,7 @@ returns c = λ others path ends.
     let release-is : c.get-arrival.result +ℤ c.from.result ≡ release s first others = λ i. arrival i +ℤ c.from.ensures i in
     let sum : to_z w64 (of_z w64 (to_z w64 (of_z w64 c.get-arrival.result) +ℤ to_z w64 (of_z w64 c.from.result))) ≡ release s first others = times.release ∙ release-is in
     let sound = path-sound c.requires.plan.are_flights path in
-    let late = ends-later s first others sound path.beginning.connected in
+    let late = ends-later s flights.turns first others sound path.beginning.connected in
     let plain : release s first others ≡ (last_of first others).flight.arr +ℤ pos s.debrief = refl in
     let ordered = no-later c.args.limits.now.report first.flight.dep (last_of first others).flight.arr (last_of first others).flight.arr (release s first others) s.lead s.debrief limits.report refl late plain in
     let most = release-most (last_of first others).flight.arr (release s first others) s.debrief plain (subst (λ (z : ℤ). z ≤ℤ pos 68_375_519) arrival range.to) debrief in
@@ -115,10 +116,10 @@ returns c = λ others path ends.
     let elapsed-is : to_z w64 (of_z w64 (to_z w64 (of_z w64 (to_z w64 (of_z w64 c.get-arrival.result) +ℤ to_z w64 (of_z w64 c.from.result))) -ℤ to_z w64 (of_z w64 c.args.limits.now.report))) ≡ release s first others -ℤ report s first =
     rw sum elapsed.value ∙ ap (λ (z : ℤ). release s first others -ℤ z) limits.report in
     let paid : c.duty_pay.result ≡ duty_pay s (release s first others -ℤ report s first) (flight_time first others) = c.duty_pay.ensures ∙ ap_two (λ (e f : ℤ). duty_pay s e f) elapsed-is fly.value in
-    let bounds = legs-paid s first others c.requires.plan.checked path.few sound path.beginning.connected (subst (λ (z : ℤ). pos 15_000_000 ≤ℤ z) limits.report limits.report_least) most in
+    let bounds = legs-paid s flights.turns first others c.requires.plan.checked path.few sound path.beginning.connected (subst (λ (z : ℤ). pos 15_000_000 ≤ℤ z) limits.report limits.report_least) most in
     let pay = read-pay c.duty_pay.result (duty_pay s (release s first others -ℤ report s first) (flight_time first others)) paid bounds.0 bounds.1 in
     let key-is : c.copy.result ≡ map leg_of (first ∷ others) = c.copy.ensures ∙ path.is_key in
-    let to-is : (get_or flights c.args.last c.index-plan-last.result).to ≡ (last_of first others).flight.to = ap (λ (f : Flight). f.to) flight in
+    let to-is : (get_or flights.list c.args.last c.index-plan-last.result).to ≡ (last_of first others).flight.to = ap (λ (f : Flight). f.to) flight in
     let report-is : to_z w32 (of_z w32 (to_z w64 (of_z w64 c.args.limits.now.report))) ≡ report s first = times.report_is ∙ limits.report in
     let release-32 = times.release_is ∙ release-is in
     let end : c.get-arrival.result -ℤ c.args.limits.now.report ≡ flight_duty_period s first others = λ i. arrival i -ℤ limits.report i in

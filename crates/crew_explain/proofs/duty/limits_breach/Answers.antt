@@ -4,8 +4,7 @@ use Rattle.std.proofs.lemmas.List.Sums.{count_by-le-length}
 use Rattle.crew_rules.specs.Tables.{table_a, table_b}
 use Rattle.crew_pairing.specs.Legality.{deadheads, flight_duty_period, flight_time, last_of, segments}
 use Rattle.crew_pairing.specs.declared.leg.TimedLeg.{TimedLeg}
-use Rattle.crew_explain.specs.Rules.{Asked, at_most, first_of, told}
-use Rattle.crew_explain.specs.declared.breach.Breach.{Breach}
+use Rattle.crew_explain.specs.Rules.{first_of, told}
 use Rattle.crew_explain.specs.declared.breach.Rule.TheVariants as The
 use Rattle.crew_explain.specs.declared.explained.Limits.{Limits}
 use Rattle.crew_explain.proofs.Asking.{asked}

@@ -3,7 +3,6 @@ use Rattle.std.specs.FinMap as fin
 use Rattle.std.specs.Result.{result_map_both}
 use Rattle.std.proofs.lemmas.Int.{ints}
 use Rattle.crew_flights.specs.Timetable.{IsBasePrice}
-use Rattle.crew_pairing.specs.Legs.{Leg}
 use Rattle.crew_pairing.specs.declared.duty.Duty.{Duty}
 use Rattle.crew_explain.specs.Explanations.{AreNumbers}
 use Rattle.crew_explain.specs.Rules.{based, broken_of, first_of, read_walk, walk_rules}

@@ -1,10 +1,8 @@
-use Rattle.std.proofs.Common.{◌≡◌, ◌∙◌, ◌-ℤ◌, ◌≤ℤ◌, ◌+◌, arith, of_z, pos, to_z, w32, w64}
+use Rattle.std.proofs.Common.{◌≡◌, ◌-ℤ◌, arith, of_z, to_z, w32, w64}
 use Rattle.std.proofs.lemmas.Int.{ints}
-use Rattle.crew_pairing.proofs.Tree.{Each-member}
-use Rattle.crew_explain.specs.Machinery.Ranges.{IsInRange}
 use Rattle.crew_explain.proofs.Added.{item-in-range}
 use Rattle.crew_explain.proofs.Asking.{free-hit, free-pass}
-use Rattle.crew_explain.proofs.ReadWindows.{ended-in-range, read-minutes}
+use Rattle.crew_explain.proofs.ReadWindows.{ended-in-range}
 use Rattle.crew_explain.proofs.limits.free_times_breach.Goals as goal
 
 pub returns-then-found-gt-MOST_SINCE_REST : goal.returns-then-found-gt-MOST_SINCE_REST

@@ -1,4 +1,4 @@
-use Rattle.std.proofs.Common.{◌≡◌, ◌∙◌, ◌∷◌, ◌+◌, List, drop, subst, sym}
+use Rattle.std.proofs.Common.{◌≡◌, ◌∙◌, ◌+◌, List, drop, subst, sym}
 use Rattle.crew_pairing.specs.declared.duty.Duty.{Duty}
 use Rattle.crew_explain.specs.Rules.{between, first_of, rests}
 use Rattle.crew_explain.proofs.Asking.{drop-next, hit-append}

@@ -3,7 +3,7 @@ use Rattle.std.proofs.lemmas.Int.{ints}
 use Rattle.crew_pairing.specs.Legality.{total}
 use Rattle.crew_pairing.specs.Pairings.{minutes_away}
 use Rattle.crew_pairing.specs.declared.duty.Duty.{Duty}
-use Rattle.crew_explain.specs.Rules.{at_most, first_of}
+use Rattle.crew_explain.specs.Rules.{first_of}
 use Rattle.crew_explain.specs.declared.breach.Rule.TheVariants as The
 use Rattle.crew_explain.proofs.Added.{fits-self}
 use Rattle.crew_explain.proofs.Asking.{asked}

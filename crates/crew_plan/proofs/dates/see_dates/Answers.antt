@@ -14,7 +14,7 @@ lent P (f ∷ fs) each = (each.0, lent P fs each.1)
 
 pub returns-clause-dated : goal.returns-clause-dated
 returns-clause-dated c =
-    let all = flights_of c.args.timetable.now in
+    let all = (flights_of c.args.timetable.now).list in
     let end = iter_end deref all c.loop-flight.yielded _ _ _ _ (c.into_iter-flight-iterator.ensures.into_iter_gives ∙ c.flights-flight-items.ensures.held) c.loop-flight.yielded_by c.in-None.is c.next.ensures.steps in
     let seen = lent (λ (f : Flight). IsInstant f.dep) c.loop-flight.yielded c.loop-flight.invariant in
     λ flight m. Each-member (λ (f : Flight). IsInstant f.dep) all flight (subst (Each (λ (f : Flight). IsInstant f.dep)) end.0 seen) m

@@ -1,5 +1,5 @@
 use Rattle.std.proofs.Common.{List, sym, subst, ◌∙◌}
-use Rattle.crew_flights.specs.declared.flight.Flight.{Flight}
+use Rattle.crew_pairing.specs.Flights.{Flights}
 use Rattle.crew_resource.proofs.Members.{Member-get_or}
 use Rattle.crew_resource.specs.Members.{Member}
 use Rattle.crew_audit.specs.Machinery.Leaving.{IsGroup}
@@ -12,6 +12,6 @@ returns-then-eq c =
     let g = c.group-item.result in
     let there = Member-get_or c.deref-group-items.result.now c.loop-group.group-index g c.loop-group-test.true (sym c.group-item.is) in
     let known = subst (λ (gs : List Leaving). Member gs g) c.deref-group-items.ensures.value there in (
-      subst (λ (fs : List Flight). IsGroup fs g) c.self.view_is (c.self.invariant g known),
+      subst (λ (fs : Flights). IsGroup fs.list g) c.self.view_is (c.self.invariant g known),
       λ f. leaves-same g.airport c.args.airport f (sym c.eq.ensures ∙ c.if-eq.true),
     )

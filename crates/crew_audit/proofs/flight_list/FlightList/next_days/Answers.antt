@@ -13,6 +13,6 @@ returns c =
     let last = c.args.last.now in
     let r = c.requires.range in
     let q = c.requires.checked in
-    among-fewer _ (λ f. may_stand_after s last (duty_of s (timed false f) [])) c.args.self.now c.days_within.result.now
+    among-fewer _ (λ f. may_stand_after s last (duty_of s (timed false f) [])) c.args.self.now.list c.days_within.result.now
     (rests-within s last _ _ (omega (arith, ints, r.release, r.release_most, c.from.ensures, c.from-2.ensures, q.lead)) (omega (arith, ints, r.release, r.release_most, c.from.ensures, c.from-2.ensures, c.from-3.ensures, q.lead, q.max_rest_most)))
     c.days_within.ensures

@@ -20,7 +20,7 @@ returns-in-None c =
     let s = c.args.settings.now in
     let before = c.args.before.now in
     let none = sym c.last.ensures.value ∙ ap option_copied c.in-None.is in
-    among-fewer (leaves c.args.base) (λ f. may_join c.args.base s before (duty_of s (timed false f) [])) c.args.self.now c.leaving.result.now
+    among-fewer (leaves c.args.base) (λ f. may_join c.args.base s before (duty_of s (timed false f) [])) c.args.self.now.list c.leaving.result.now
     (λ f t. join-none c.args.base s before (timed false f) none t) c.leaving.ensures
 
 pub returns-in-Some : goal.returns-in-Some
@@ -29,5 +29,5 @@ returns-in-Some c =
     let before = c.args.before.now in
     let last = c.in-Some.last.now in
     let is = sym c.last.ensures.value ∙ ap option_copied c.in-Some.is in
-    among-fewer (λ f. may_stand_after s last (duty_of s (timed false f) [])) (λ f. may_join c.args.base s before (duty_of s (timed false f) [])) c.args.self.now c.next_days.result.now
+    among-fewer (λ f. may_stand_after s last (duty_of s (timed false f) [])) (λ f. may_join c.args.base s before (duty_of s (timed false f) [])) c.args.self.now.list c.next_days.result.now
     (λ f t. join-last c.args.base s before last (duty_of s (timed false f) []) is ∙ t) c.next_days.ensures

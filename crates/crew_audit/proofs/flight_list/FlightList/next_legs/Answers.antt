@@ -9,8 +9,7 @@ pub returns : goal.returns
 returns c =
     let s = c.args.settings.now in
     let last = c.args.last.now in
-    let r = c.get.ensures.range in
-    let q = c.get-2.ensures.range in
-    among-fewer _ (may_follow s last) c.args.self.now c.legs_within.result.now
-    (follows-within s last _ _ (omega (arith, ints, c.get.ensures.value, r.from, r.to, c.from.ensures, c.requires.connect)) (omega (arith, ints, c.get-2.ensures.value, q.from, q.to, c.from-2.ensures, c.requires.sit_most)))
+    let r = c.get-arrival.ensures.range in
+    among-fewer _ (may_follow s c.args.self.now.turns last) c.args.self.now.list c.legs_within.result.now
+    (follows-within s c.args.self.now.turns last _ _ (omega (arith, ints, c.get-arrival.ensures.value, r.from, r.to)) (omega (arith, ints, c.get-arrival.ensures.value, r.from, r.to, c.from.ensures, c.requires.sit_most)))
     c.legs_within.ensures

@@ -19,7 +19,7 @@ returns c = λ flights past m.
     let dep : to_z w64 (of_z w64 c.get.result) ≡ f.dep = omega (arith, ints, c.get.ensures.value, c.get.ensures.range) in
     let end : to_z w64 (of_z w64 c.reach.result) ≡ reach_of s f = omega (arith, ints, c.reach.ensures.value, c.reach.ensures.least, c.reach.ensures.most) in
     let apart = rw (dep, end) at (c.if-not-apart.ensures refl) in
-    let one = Each-member (λ (g : Flight). AreApart g.dep (reach_of s g) minutes → filter (begins_with g.id) duties ≡ from_flight s flights g) flights f past.same m in
+    let one = Each-member (λ (g : Flight). AreApart g.dep (reach_of s g) minutes → filter (begins_with g.id) duties ≡ from_flight s flights g) flights.list f past.same m in
     let ordered = starts-ordered duties number from to c.start_of-from.ensures c.start_of-to.ensures in
     record {
       ordered = ordered;

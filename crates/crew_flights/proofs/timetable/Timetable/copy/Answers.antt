@@ -5,12 +5,13 @@ use Rattle.crew_flights.proofs.timetable.Timetable.copy.Goals as goal
 
 pub returns : goal.returns
 returns c =
-    timetable_again c.self.inside.flights c.in_ok-entries_again.field-0 c.self.inside.bases c.in_ok-entries_again-2.field-0 c.self.invariant.flights_ordered c.self.invariant.bases_ordered c.in_ok-entries_again.ensures c.in_ok-entries_again-2.ensures
+    timetable_again c.self.inside.flights c.in_ok-entries_again.field-0 c.self.inside.bases c.in_ok-entries_again-2.field-0 c.self.inside.turns c.in_ok-entries_again-3.field-0 c.self.invariant.flights_ordered c.self.invariant.bases_ordered c.self.invariant.turns_ordered c.in_ok-entries_again.ensures c.in_ok-entries_again-2.ensures c.in_ok-entries_again-3.ensures
     ∙ c.self.view_is
 
 pub invariant_of-result : goal.invariant_of-result
 invariant_of-result c = record {
   flights_ordered = c.in_ok-entries_again.ensures.1;
   bases_ordered = c.in_ok-entries_again-2.ensures.1;
+  turns_ordered = c.in_ok-entries_again-3.ensures.1;
   sound = subst IsSound (c.self.view_is ∙ sym (returns c)) c.self.invariant.sound;
 }

@@ -1,0 +1,18 @@
+use Rattle.std.proofs.Common.{◌∙◌, ap, sym, subst}
+use Rattle.crew_flights.specs.Timetable.{Timetable, IsSound}
+use Rattle.crew_flights.specs.Edits.{with_turn}
+use Rattle.crew_flights.proofs.Kept.{turns_put}
+use Rattle.crew_flights.proofs.timetable.Timetable.put_turn.Goals as goal
+
+pub returns-clause-ok : goal.returns-clause-ok
+returns-clause-ok c =
+    turns_put c.self.inside.flights c.self.inside.bases c.self.inside.turns c.insert.new.self c.args.before c.args.after c.args.minutes c.self.invariant.turns_ordered c.in_ok-insert.ensures.ordered c.in_ok-insert.ensures.updates.0
+    ∙ ap (λ (t : Timetable). with_turn t c.args.before c.args.after c.args.minutes) c.self.view_is
+
+pub invariant_of-self-2 : goal.invariant_of-self-2
+invariant_of-self-2 c = record {
+  flights_ordered = c.self.invariant.flights_ordered;
+  bases_ordered = c.self.invariant.bases_ordered;
+  turns_ordered = c.in_ok-insert.ensures.ordered;
+  sound = subst IsSound (sym (returns-clause-ok c)) c.requires;
+}

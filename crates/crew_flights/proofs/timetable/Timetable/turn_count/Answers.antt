@@ -1,0 +1,9 @@
+use Rattle.std.proofs.Common.{◌∙◌, ap, sym}
+use Rattle.std.specs.FinMap as map
+use Rattle.crew_flights.specs.Codes.{pair_cmp}
+use Rattle.crew_flights.specs.Timetable.{Timetable}
+use Rattle.crew_flights.proofs.Maps.{len_seen}
+use Rattle.crew_flights.proofs.timetable.Timetable.turn_count.Goals as goal
+
+pub returns-clause-held : goal.returns-clause-held
+returns-clause-held c = c.len.ensures.len ∙ sym (len_seen pair_cmp _ c.self.invariant.turns_ordered) ∙ ap (λ (t : Timetable). map.len t.turns) c.self.view_is
