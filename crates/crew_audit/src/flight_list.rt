@@ -269,14 +269,6 @@ fn within<'a>(flights: &'a [Flight], blocks: &'a [Block], span: Span) -> &'a [Fl
     }
 }
 
-// The flights of a timetable, by number.
-fn held_flights(alloc: Global, timetable: &Timetable) -> Result<Vec<Flight>, AllocError>
-    ensures held { IfOk result (λ flights. flights.items ≡ (flights_of timetable.now).list) }
-    ensures sound { IsSound timetable.now }
-{
-    timetable.flights().copied().collect(alloc)
-}
-
 impl<'a> FlightList<'a> {
     /// Those of a timetable.
     pub(crate) fn of(
@@ -287,7 +279,7 @@ impl<'a> FlightList<'a> {
         ensures held { IfOk result (λ flights. flights ≡ flights_of timetable.now) }
         ensures sound { IsSound timetable.now }
     {
-        let all = held_flights(alloc, timetable)?;
+        let all = timetable.placed_flights(alloc)?;
         let groups = groups_of(alloc, settings, &all)?;
         Ok(FlightList {
             all,

@@ -1,6 +1,6 @@
 -- The slots between two moments are those of the flights that may follow, and in order of place they are theirs.
 use Rattle.std.proofs.Common.{◌≡◌, ◌≤◌, ◌<◌, ◌+◌, ◌*◌, ℕ, zero, suc, ℤ, pos, ◌≤ℤ◌, ◌+ℤ◌, ◌-ℤ◌, List, [], ◌∷◌, ◌++◌, Bool, true, false, ◌&&◌, length, refl, sym, ap, subst, ◌∙◌, arith, take, drop, get_or, filter, int_le, if◌then◌else◌}
-use Rattle.std.specs.Prelude.{◌==◌, int_lt}
+use Rattle.std.specs.Prelude.{◌==◌, int_lt, nat_lt}
 use Rattle.std.specs.List.Sorted.{IsPartitionPoint, IsPartitionedBy}
 use Rattle.std.specs.List.{list_all}
 use Rattle.std.specs.Ordering.{eq_by_cmp, int_cmp, is_lt, nat_cmp, ordering_then}
@@ -16,7 +16,7 @@ use Rattle.std.proofs.lemmas.Cmp.{int_ranked}
 use Rattle.std.proofs.lemmas.Int.{ints}
 use Rattle.crew_resource.specs.Members.{Each}
 use Rattle.crew_time.specs.Instant.{IsInstant}
-use Rattle.crew_flights.specs.Codes.{code_cmp, code_cmp_total, is_code, is_letter}
+use Rattle.crew_flights.specs.Codes.{code_cmp, code_cmp_total, is_code}
 use Rattle.crew_flights.specs.Timetable.{Turns}
 use Rattle.crew_flights.specs.declared.flight.Flight.{Flight}
 use Rattle.crew_rules.specs.Settings.{IsChecked}
@@ -26,49 +26,52 @@ use Rattle.crew_pairing.proofs.Windows.{window}
 use Rattle.crew_duty.specs.Machinery.Slots.{Ascend, IsNamed, earlier, follows_by, is_after, is_after_by, is_between, code_number, moment, slot_of, slots_from}
 use Rattle.crew_duty.specs.declared.departures.Slot.{Slot}
 
-letter-within : (x : ℕ) → is_letter x ≡ true → (65 ≤ x) × (x ≤ 90)
-letter-within x h = grind (arith)
+abbrev is_byte : ℕ → Bool
+is_byte x = nat_lt x 256
 
-code-apart : (a b c x y z : ℕ) → is_letter a ≡ true → is_letter b ≡ true → is_letter c ≡ true → is_letter x ≡ true → is_letter y ≡ true → is_letter z ≡ true
+byte-within : (x : ℕ) → is_byte x ≡ true → x ≤ 255
+byte-within x h = grind (arith)
+
+code-apart : (a b c x y z : ℕ) → is_byte a ≡ true → is_byte b ≡ true → is_byte c ≡ true → is_byte x ≡ true → is_byte y ≡ true → is_byte z ≡ true
     → code_number (a ∷ b ∷ c ∷ []) ≡ code_number (x ∷ y ∷ z ∷ []) → (a ∷ b ∷ c ∷ []) ≡ (x ∷ y ∷ z ∷ [])
 code-apart a b c x y z ha hb hc hx hy hz e =
-    let ka = letter-within a ha in let kb = letter-within b hb in let kc = letter-within c hc in
-    let kx = letter-within x hx in let ky = letter-within y hy in let kz = letter-within z hz in
-    let first : a ≡ x = omega (arith, ka.0, ka.1, kb.0, kb.1, kc.0, kc.1, kx.0, kx.1, ky.0, ky.1, kz.0, kz.1, e) in
-    let second : b ≡ y = omega (arith, ka.0, ka.1, kb.0, kb.1, kc.0, kc.1, kx.0, kx.1, ky.0, ky.1, kz.0, kz.1, e) in
-    let third : c ≡ z = omega (arith, ka.0, ka.1, kb.0, kb.1, kc.0, kc.1, kx.0, kx.1, ky.0, ky.1, kz.0, kz.1, e) in
+    let ka = byte-within a ha in let kb = byte-within b hb in let kc = byte-within c hc in
+    let kx = byte-within x hx in let ky = byte-within y hy in let kz = byte-within z hz in
+    let first : a ≡ x = omega (arith, ka, kb, kc, kx, ky, kz, e) in
+    let second : b ≡ y = omega (arith, first, kb, kc, ky, kz, e) in
+    let third : c ≡ z = omega (arith, first, second, e) in
     λ i. first i ∷ second i ∷ third i ∷ []
 
-three-letters : (code : List ℕ) → length code ≡ 3 → (a : ℕ) × (b : ℕ) × (c : ℕ) × (code ≡ a ∷ b ∷ c ∷ [])
-three-letters [] e = absurd (omega arith)
-three-letters (a ∷ []) e = absurd (omega arith)
-three-letters (a ∷ b ∷ []) e = absurd (omega arith)
-three-letters (a ∷ b ∷ c ∷ []) e = (a, b, c, refl)
-three-letters (a ∷ b ∷ c ∷ d ∷ rest) e = absurd (omega arith)
+three-bytes : (code : List ℕ) → length code ≡ 3 → (a : ℕ) × (b : ℕ) × (c : ℕ) × (code ≡ a ∷ b ∷ c ∷ [])
+three-bytes [] e = absurd (omega arith)
+three-bytes (a ∷ []) e = absurd (omega arith)
+three-bytes (a ∷ b ∷ []) e = absurd (omega arith)
+three-bytes (a ∷ b ∷ c ∷ []) e = (a, b, c, refl)
+three-bytes (a ∷ b ∷ c ∷ d ∷ rest) e = absurd (omega arith)
 
-code-parts : (code : List ℕ) → is_code code ≡ true → ((length code == 3) ≡ true) × (list_all is_letter code ≡ true)
-code-parts code h = and_parts (length code == 3) (list_all is_letter code) h
+code-parts : (code : List ℕ) → is_code code ≡ true → ((length code == 3) ≡ true) × (list_all is_byte code ≡ true)
+code-parts code h = and_parts (length code == 3) (list_all is_byte code) h
 
 has-three : (code : List ℕ) → is_code code ≡ true → length code ≡ 3
 has-three code h = let p : (length code == 3) ≡ true = (code-parts code h).0 in grind (arith)
 
-are-letters : (a b c : ℕ) → is_code (a ∷ b ∷ c ∷ []) ≡ true → (is_letter a ≡ true) × (is_letter b ≡ true) × (is_letter c ≡ true)
-are-letters a b c h =
-    let p = and_parts (is_letter a) (is_letter b && (is_letter c && true)) (code-parts (a ∷ b ∷ c ∷ []) h).1 in
-    let q = and_parts (is_letter b) (is_letter c && true) p.1 in
-    (p.0, q.0, (and_parts (is_letter c) true q.1).0)
+are-bytes : (a b c : ℕ) → is_code (a ∷ b ∷ c ∷ []) ≡ true → (is_byte a ≡ true) × (is_byte b ≡ true) × (is_byte c ≡ true)
+are-bytes a b c h =
+    let p = and_parts (is_byte a) (is_byte b && (is_byte c && true)) (code-parts (a ∷ b ∷ c ∷ []) h).1 in
+    let q = and_parts (is_byte b) (is_byte c && true) p.1 in
+    (p.0, q.0, (and_parts (is_byte c) true q.1).0)
 
 same-three : (a b c x y z : ℕ) → is_code (a ∷ b ∷ c ∷ []) ≡ true → is_code (x ∷ y ∷ z ∷ []) ≡ true → code_number (a ∷ b ∷ c ∷ []) ≡ code_number (x ∷ y ∷ z ∷ []) → (a ∷ b ∷ c ∷ []) ≡ (x ∷ y ∷ z ∷ [])
 same-three a b c x y z h k e =
-    let p = are-letters a b c h in
-    let q = are-letters x y z k in
+    let p = are-bytes a b c h in
+    let q = are-bytes x y z k in
     code-apart a b c x y z p.0 p.1 p.2 q.0 q.1 q.2 e
 
 -- airports with one number are one
 pub code-same : (a b : List ℕ) → is_code a ≡ true → is_code b ≡ true → code_number a ≡ code_number b → a ≡ b
 code-same a b h k e =
-    let p = three-letters a (has-three a h) in
-    let q = three-letters b (has-three b k) in
+    let p = three-bytes a (has-three a h) in
+    let q = three-bytes b (has-three b k) in
     pa-then p.3 q.3 (same-three p.0 p.1 p.2 q.0 q.1 q.2 (subst (λ (x : List ℕ). is_code x ≡ true) p.3 h) (subst (λ (x : List ℕ). is_code x ≡ true) q.3 k) (sym (ap code_number p.3) ∙ (e ∙ ap code_number q.3)))
   where
     pa-then : {x y : List ℕ} → a ≡ x → b ≡ y → x ≡ y → a ≡ b

@@ -1,9 +1,8 @@
 //! All legal duties of a timetable.
 
 ghost use Rattle.std.specs.Prelude.{◌≡◌, ◌≤◌, IfOk, length};
-ghost use Rattle.crew_flights.specs.Timetable.{IsSound};
 ghost use Rattle.crew_rules.specs.Settings.{IsChecked};
-ghost use Rattle.crew_pairing.specs.Duties.{AreDuties, HasTooMany, flights_of};
+ghost use Rattle.crew_pairing.specs.Duties.{AreDuties, HasTooMany};
 
 use crate::departures::index_of;
 use crate::fault::DutyFault;
@@ -11,19 +10,11 @@ use crate::pieces::{count_all, list_all, total_of};
 use crate::plan::{Plan, next_flights};
 use crate::search::DUTIES;
 use crate::turns::HeldTurns;
-use crew_flights::{Flight, Timetable};
+use crew_flights::Timetable;
 use crew_pairing::Duties;
 use crew_rules::Settings;
-use std::alloc::{AllocError, Global};
+use std::alloc::Global;
 use std::thread::Threads;
-
-/// The flights of a timetable, by number.
-pub(crate) fn held_flights(alloc: Global, timetable: &Timetable) -> Result<Vec<Flight>, AllocError>
-    ensures held { IfOk result (λ flights. flights.items ≡ (flights_of timetable.now).list) }
-    ensures sound { IsSound timetable.now }
-{
-    timetable.flights().copied().collect(alloc)
-}
 
 /// The legal duties of a timetable: exactly those, by key. `TooManyDuties` where there are more
 /// than 200,000, and `Memory` only where a growth was refused.
@@ -42,7 +33,7 @@ pub fn list_duties<R: Threads + Sync>(
     ensures too_many { result ≡ Err DutyFault.TooManyDuties
         → HasTooMany settings.now timetable.now }
 {
-    let flights = held_flights(alloc, timetable)?;
+    let flights = timetable.placed_flights(alloc)?;
     let turns = HeldTurns::of(alloc, timetable)?;
     let slots = index_of(alloc, &flights)?;
     let next = next_flights(alloc, settings, &flights, &turns, &slots)?;

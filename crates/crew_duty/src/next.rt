@@ -11,7 +11,7 @@ ghost use Rattle.crew_duty.specs.Machinery.Kept.{AreKept, ClimbInTime};
 use crate::beside::{EarlierDuties, all_next_beside, count_beside, fill_beside};
 use crate::changes::changes_between;
 use crate::departures::index_of;
-use crate::duties::{held_flights, list_duties};
+use crate::duties::list_duties;
 use crate::fault::DutyFault;
 use crate::past::{Block, Past};
 use crate::pieces::total_of;
@@ -91,9 +91,9 @@ pub fn list_next<R: Threads + Sync>(
     ensures too_many { result ≡ Err DutyFault.TooManyDuties
         → HasTooMany settings.now timetable.now }
 {
-    let before = held_flights(alloc, earlier)?;
+    let before = earlier.placed_flights(alloc)?;
     let turns_before = HeldTurns::of(alloc, earlier)?;
-    let flights = held_flights(alloc, timetable)?;
+    let flights = timetable.placed_flights(alloc)?;
     let turns = HeldTurns::of(alloc, timetable)?;
     if can_reprice(duties, &flights, &turns, &before, &turns_before) {
         return Ok(list_priced(alloc, &flights, duties)?);

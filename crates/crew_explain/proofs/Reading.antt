@@ -1,10 +1,12 @@
 -- What is read of a walk: legs with their flights, duties, and the list of them.
-use Rattle.std.proofs.Common.{◌≡◌, ◌≤◌, ◌+◌, ℕ, suc, pos, Bool, true, false, cond, nat_le, List, [], ◌∷◌, ◌++◌, map, Option, Some, None, Result, Ok, Err, inl, inr, refl, sym, ap, subst, ◌∙◌, arith, length, append-nil, append_assoc}
-use Rattle.std.specs.Prelude.{slice_get}
+use Rattle.std.proofs.Common.{◌≡◌, ◌≤◌, ◌+◌, ℕ, suc, pos, Bool, true, false, cond, nat_le, List, [], ◌∷◌, ◌++◌, map, Option, Some, None, Result, Ok, Err, refl, sym, ap, subst, ◌∙◌, arith, length, append-nil, append_assoc}
 use Rattle.std.specs.FinMap as fin
 use Rattle.std.proofs.lemmas.Bool.Decides.{nat_tests}
-use Rattle.crew_flights.proofs.Listed.{held_is_listed, listed_is_held}
+use Rattle.std.specs.Option.{option_map}
+use Rattle.crew_flights.specs.Places.{placed, placed_flight}
 use Rattle.crew_flights.specs.Timetable.{IsFlight, IsSound, Timetable}
+use Rattle.crew_flights.proofs.Places.{placed_is_flight}
+use Rattle.crew_pairing.proofs.Timetables.{held-is-placed, placed-is-held}
 use Rattle.crew_flights.specs.declared.flight.Flight.{Flight}
 use Rattle.crew_rules.specs.declared.settings.Settings.{Settings}
 use Rattle.crew_pairing.specs.Duties.{flights_of}
@@ -14,7 +16,6 @@ use Rattle.crew_pairing.specs.Pairings.{IsDuty}
 use Rattle.crew_pairing.specs.declared.duty.Duty.{Duty}
 use Rattle.crew_pairing.specs.declared.leg.TimedLeg.{TimedLeg}
 use Rattle.crew_pairing.proofs.Times.{AllSound}
-use Rattle.crew_pairing.proofs.Tree.{slice_get-Member}
 use Rattle.crew_resource.specs.Members.{Each, Member}
 use Rattle.crew_explain.specs.Rules.{◌>>=◌, checked, duty_rules, first_of, held, limits_of, read_after, read_duty, timed_after, unless}
 use Rattle.crew_explain.specs.declared.breach.Breach.{Breach}
@@ -32,8 +33,27 @@ snoc-each : {X : Type 0} (P : X → Type 0) (xs : List X) (x : X) → Each P xs 
 snoc-each P [] x h k = (k, tt)
 snoc-each P (y ∷ xs) x h k = (h.0, snoc-each P xs x h.1 k)
 
-own-flight : (t : Timetable) (n : ℕ) (f : Flight) → IsSound t → fin.get t.flights n ≡ Some f → IsFlight f.id f
-own-flight t n f s g = subst (λ (m : ℕ). IsFlight m f) (sym (s.flights n f g).own) (s.flights n f g)
+some-same : (x y : Flight) → ◌≡◌ {A = Option Flight} (Some x) (Some y) → x ≡ y
+some-same x y e = cc
+
+-- a flight that is seen is one that is held, placed
+record Seen (t : Timetable) (n : ℕ) (f : Flight) : Type 0 where
+  pub held : Flight
+  pub is_held : fin.get t.flights n ≡ Some held
+  pub is_placed : placed t held ≡ f
+
+seen : (t : Timetable) (n : ℕ) (f : Flight) → placed_flight t n ≡ Some f → Seen t n f
+seen t n f e = by (fin.get t.flights n) refl e
+  where
+    by : (o : Option Flight) → fin.get t.flights n ≡ o → option_map (placed t) o ≡ Some f → Seen t n f
+    by None g h = absurd (let q : ⊥ = (cc) in q)
+    by (Some x) g h = record { held = x; is_held = g; is_placed = some-same (placed t x) f h }
+
+own-flight : (t : Timetable) (n : ℕ) (f : Flight) → IsSound t → placed_flight t n ≡ Some f → IsFlight n f
+own-flight t n f s e = let k = seen t n f e in subst (IsFlight n) k.is_placed (placed_is_flight t n k.held s k.is_held)
+
+own-named : (t : Timetable) (n : ℕ) (f : Flight) → IsSound t → placed_flight t n ≡ Some f → IsFlight f.id f
+own-named t n f s e = let own = own-flight t n f s e in subst (λ (m : ℕ). IsFlight m f) (sym own.own) own
 
 abbrev timed : Leg → Flight → TimedLeg
 timed l f = record { flight = f; deadhead = l.deadhead }
@@ -42,25 +62,20 @@ timed l f = record { flight = f; deadhead = l.deadhead }
 pub timed-sound : (t : Timetable) (duty : ℕ) (legs : List TimedLeg) (ls : List Leg) (out : List TimedLeg) → IsSound t → AllSound legs → timed_after t duty legs ls ≡ Ok out → AllSound out
 timed-sound t duty legs [] out s k e = subst AllSound (ok-same legs out e) k
 timed-sound t duty legs (l ∷ ls) out s k e =
-    go (fin.get t.flights l.flight) refl (λ f g h. timed-sound t duty (legs ++ timed l f ∷ []) ls out s (snoc-each (λ (x : TimedLeg). IsFlight x.flight.id x.flight) legs (timed l f) k (own-flight t l.flight f s g)) h) e
+    go (placed_flight t l.flight) refl (λ f g h. timed-sound t duty (legs ++ timed l f ∷ []) ls out s (snoc-each (λ (x : TimedLeg). IsFlight x.flight.id x.flight) legs (timed l f) k (own-named t l.flight f s g)) h) e
   where
-    go : (o : Option Flight) → fin.get t.flights l.flight ≡ o
-        → ((f : Flight) → fin.get t.flights l.flight ≡ Some f → timed_after t duty (legs ++ timed l f ∷ []) ls ≡ Ok out → AllSound out)
+    go : (o : Option Flight) → placed_flight t l.flight ≡ o
+        → ((f : Flight) → placed_flight t l.flight ≡ Some f → timed_after t duty (legs ++ timed l f ∷ []) ls ≡ Ok out → AllSound out)
         → ((held duty (length legs + 1) o >>= (λ f. Ok (timed l f))) >>= (λ leg. timed_after t duty (legs ++ leg ∷ []) ls)) ≡ Ok out → AllSound out
     go None g on h = no-ok _ _ h
     go (Some f) g on h = on f g h
 
--- flights that are held are those of the list
-held-member : (t : Timetable) (n : ℕ) (f : Flight) → fin.get t.flights n ≡ Some f → Member (flights_of t).list f
-held-member t n f g = let p = held_is_listed t n f g in slice_get-Member (flights_of t).list p.0 f p.1
+-- flights that are seen are those of the list
+held-member : (t : Timetable) (n : ℕ) (f : Flight) → placed_flight t n ≡ Some f → Member (flights_of t).list f
+held-member t n f e = let k = seen t n f e in subst (Member (flights_of t).list) k.is_placed (held-is-placed t n k.held k.is_held)
 
-place-of : {X : Type 0} (xs : List X) (x : X) → Member xs x → (k : ℕ) × (slice_get xs k ≡ Some x)
-place-of [] x m = absurd m
-place-of (y ∷ xs) x (inl e) = (0, ap Some e)
-place-of (y ∷ xs) x (inr m) = let p = place-of xs x m in (suc p.0, p.1)
-
-member-held : (t : Timetable) (f : Flight) → IsSound t → Member (flights_of t).list f → fin.get t.flights f.id ≡ Some f
-member-held t f s m = let p = place-of (flights_of t).list f m in listed_is_held t s p.0 f p.1
+member-held : (t : Timetable) (f : Flight) → IsSound t → Member (flights_of t).list f → placed_flight t f.id ≡ Some f
+member-held t f s m = let p = placed-is-held t s f m in ap (option_map (placed t)) p.1 ∙ ap Some p.2
 
 -- the legs read are those of the key, over flights of the timetable
 record Timed (t : Timetable) (legs : List TimedLeg) (ls : List Leg) (out : List TimedLeg) : Type 0 where
@@ -71,15 +86,15 @@ record Timed (t : Timetable) (legs : List TimedLeg) (ls : List Leg) (out : List 
 
 timed-known : (t : Timetable) (duty : ℕ) (legs : List TimedLeg) (ls : List Leg) (out : List TimedLeg) → IsSound t → timed_after t duty legs ls ≡ Ok out → Timed t legs ls out
 timed-known t duty legs [] out s e = record { more = []; joined = sym (ok-same legs out e) ∙ sym (append-nil legs); known = tt; keyed = refl }
-timed-known t duty legs (l ∷ ls) out s e = go (fin.get t.flights l.flight) refl (λ f h. timed-known t duty (legs ++ timed l f ∷ []) ls out s h) e
+timed-known t duty legs (l ∷ ls) out s e = go (placed_flight t l.flight) refl (λ f h. timed-known t duty (legs ++ timed l f ∷ []) ls out s h) e
   where
-    go : (o : Option Flight) → fin.get t.flights l.flight ≡ o
+    go : (o : Option Flight) → placed_flight t l.flight ≡ o
         → ((f : Flight) → timed_after t duty (legs ++ timed l f ∷ []) ls ≡ Ok out → Timed t (legs ++ timed l f ∷ []) ls out)
         → ((held duty (length legs + 1) o >>= (λ f. Ok (timed l f))) >>= (λ leg. timed_after t duty (legs ++ leg ∷ []) ls)) ≡ Ok out → Timed t legs (l ∷ ls) out
     go None g on h = no-ok _ _ h
     go (Some f) g on h =
         let k = on f h in
-        let named : leg_of (timed l f) ≡ l = ap (λ (n : ℕ). record { flight = n; deadhead = l.deadhead }) (s.flights l.flight f g).own in
+        let named : leg_of (timed l f) ≡ l = ap (λ (n : ℕ). record { flight = n; deadhead = l.deadhead }) (own-flight t l.flight f s g).own in
         record {
           more = timed l f ∷ k.more;
           joined = k.joined ∙ append_assoc legs (timed l f ∷ []) k.more;

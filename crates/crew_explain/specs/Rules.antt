@@ -6,6 +6,7 @@ use Rattle.std.specs.Prelude.{◌+◌, ◌-ℤ◌, ℕ, ℤ, pos, int_le, nat_le
 use Rattle.std.specs.Ordering.{eq_by_cmp}
 use Rattle.std.specs.FinMap as map
 use Rattle.crew_flights.specs.Codes.{code_cmp}
+use Rattle.crew_flights.specs.Places.{placed_flight}
 use Rattle.crew_flights.specs.Timetable.{Timetable, Turns}
 use Rattle.crew_flights.specs.declared.flight.Flight.{Flight}
 use Rattle.crew_rules.specs.Tables.{table_a, table_b}
@@ -64,13 +65,13 @@ unless (Some breach) x = Err breach
 
 -- ---- a duty
 
--- a leg's flight, where it is held
+-- a leg's flight as pairings see it, where it is held
 abbrev pub held : ℕ → ℕ → Option Flight → Result Flight Breach
 held duty leg None = Err (told The.Flight duty leg)
 held duty leg (Some flight) = Ok flight
 
 abbrev pub timed_leg : Timetable → ℕ → ℕ → Leg → Result TimedLeg Breach
-timed_leg t duty leg l = held duty leg (map.get t.flights l.flight)
+timed_leg t duty leg l = held duty leg (placed_flight t l.flight)
     >>= (λ f. Ok (record { flight = f; deadhead = l.deadhead }))
 
 -- legs with their flights, after those that have them already

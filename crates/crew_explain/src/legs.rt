@@ -1,7 +1,7 @@
 //! Legs with their flights, and the duty of such a list.
 
 ghost use Rattle.std.specs.Prelude.{◌≡◌, ◌≤◌, ◌+◌, ◌++◌, ◌∷◌, [], length};
-ghost use Rattle.std.specs.FinMap as map;
+ghost use Rattle.crew_flights.specs.Places.{placed_flight};
 ghost use Rattle.crew_flights.specs.Timetable.{IsFlight, IsSound, Turns};
 ghost use Rattle.crew_rules.specs.Settings.{IsChecked};
 ghost use Rattle.crew_pairing.specs.Legality.{AllConnect, duty_of};
@@ -98,10 +98,10 @@ impl Legs {
 
 // The flight of a leg, where it is held.
 fn flight_of(timetable: &Timetable, duty: usize, leg: usize, id: FlightId) -> Result<Flight, Breach>
-    ensures value { result ≡ held duty leg (map.get timetable.now.flights id) }
+    ensures value { result ≡ held duty leg (placed_flight timetable.now id) }
     ensures sound { IsSound timetable.now }
 {
-    match timetable.flight(id) {
+    match timetable.placed_flight(id) {
         Some(flight) => Ok(flight),
         None => Err(Breach::of(Rule::Flight, duty, leg)),
     }

@@ -1,5 +1,9 @@
+pub mod Codes
 pub mod Kept
+pub mod Linked
 pub mod Listed
 pub mod Maps
+pub mod Mirrors
 pub mod Numbers
+pub mod Places
 pub mod Soundness

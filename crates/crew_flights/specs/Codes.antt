@@ -1,5 +1,5 @@
--- The numbers of flights and the codes of airports.
-use Rattle.std.specs.Prelude.{◌≤◌, ◌&&◌, ◌==◌, ℕ, nat_le, Bool, List, length}
+-- The numbers of flights and the codes of places.
+use Rattle.std.specs.Prelude.{◌≤◌, ◌&&◌, ◌==◌, ◌∷◌, ◌+◌, ◌/◌, ◌%◌, ℕ, nat_le, nat_lt, Bool, List, [], length}
 use Rattle.std.specs.List.{list_all}
 use Rattle.std.specs.declared.cmp.Ordering.{Ordering}
 use Rattle.std.specs.Ordering.{nat_cmp, then_cmp}
@@ -15,11 +15,21 @@ pub record IsFlightNumber (number : ℕ) : Type 0 where
 abbrev pub is_letter : ℕ → Bool
 is_letter byte = nat_le 65 byte && nat_le byte 90
 
--- three letters
+-- the code of a place: three bytes
 abbrev pub is_code : List ℕ → Bool
-is_code letters = (length letters == 3) && list_all is_letter letters
+is_code bytes = (length bytes == 3) && list_all (λ byte. nat_lt byte 256) bytes
 
--- codes stand in the order of the alphabet
+-- the code of an airport: three letters
+abbrev pub is_airport : List ℕ → Bool
+is_airport letters = (length letters == 3) && list_all is_letter letters
+
+-- the place between a flight and the one that follows it, by the number of the first: the number in
+-- digits of seven bits, each with the eighth bit set. So it is no airport's, whose letters are below
+-- 128
+abbrev pub own_place : ℕ → List ℕ
+own_place number = (128 + number / 16_384) ∷ (128 + (number / 128) % 128) ∷ (128 + number % 128) ∷ []
+
+-- codes stand in the order of their bytes, and so those of airports in that of the alphabet
 abbrev pub code_cmp : List ℕ → List ℕ → Ordering
 code_cmp = slice_cmp nat_cmp
 

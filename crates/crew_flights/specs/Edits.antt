@@ -2,13 +2,14 @@
 use Rattle.std.specs.Prelude.{◌∷◌, ◌&&◌, ◌||◌, ◌-ℤ◌, ℕ, nat_le, ℤ, pos, negsuc, int_le, Bool, not, false, cond, List, [], Option, Some, None}
 use Rattle.std.specs.Ordering.{eq_by_cmp, nat_cmp}
 use Rattle.std.specs.FinMap as map
-use Rattle.crew_flights.specs.Codes.{code_cmp}
+use Rattle.crew_flights.specs.Codes.{code_cmp, is_airport}
+use Rattle.crew_flights.specs.FollowOns.{FollowOns, linked, unlinked, without_number}
 use Rattle.crew_flights.specs.Timetable.{Timetable}
 use Rattle.crew_flights.specs.declared.flight.Flight.{Flight}
 use Rattle.crew_flights.specs.declared.edit.Edit.{Edit}
-use Rattle.crew_flights.specs.declared.edit.Edit.TheVariants.{AddBase, BasePrice, AddFlight, Cancel, Retime, Price, Turn, TakeTurn}
+use Rattle.crew_flights.specs.declared.edit.Edit.TheVariants.{AddBase, BasePrice, AddFlight, Cancel, Retime, Price, Turn, TakeTurn, Follow, TakeFollow}
 use Rattle.crew_flights.specs.declared.edit.Refusal.{Refusal}
-use Rattle.crew_flights.specs.declared.edit.Refusal.TheVariants.{BaseExists, NoBase, FlightExists, NoFlight, BadTimes, SameAirport, WrongOrigin, PriceRange, TooManyFlights, TooManyBases, NoConnection, NoTurn, TurnRange, TooManyTurns}
+use Rattle.crew_flights.specs.declared.edit.Refusal.TheVariants.{BaseExists, NoBase, FlightExists, NoFlight, BadTimes, SameAirport, WrongOrigin, PriceRange, TooManyFlights, TooManyBases, NoConnection, NoTurn, TurnRange, TooManyTurns, Taken, NoFollowOn, NoAirport}
 use Rattle.crew_flights.specs.declared.edit.Verdict.{Verdict}
 use Rattle.crew_flights.specs.declared.edit.Verdict.TheVariants.{Accepted, Refused}
 
@@ -23,6 +24,17 @@ has_flight t number = map.contains_key t.flights number
 abbrev pub has_turn : Timetable → ℕ → ℕ → Bool
 has_turn t before after = map.contains_key t.turns (before, after)
 
+-- another flight follows this one
+abbrev pub is_followed : Timetable → ℕ → Bool
+is_followed t number = map.contains_key t.follows number
+
+-- this flight follows another one
+abbrev pub is_led : Timetable → ℕ → Bool
+is_led t number = map.contains_key t.leads number
+
+abbrev pub is_taken : Timetable → ℕ → ℕ → Bool
+is_taken t before after = is_followed t before || is_led t after
+
 abbrev pub has_both : Timetable → ℕ → ℕ → Bool
 has_both t before after = has_flight t before && has_flight t after
 
@@ -33,6 +45,9 @@ is_price price = int_le (negsuc 999_999_999) price && int_le price (pos 1_000_00
 -- the arrival is 1 to 1,440 minutes after the departure
 abbrev pub is_block : ℤ → ℤ → Bool
 is_block dep arr = int_le (pos 1) (arr -ℤ dep) && int_le (arr -ℤ dep) (pos 1_440)
+
+abbrev pub joins_airports : Flight → Bool
+joins_airports flight = is_airport flight.from && is_airport flight.to
 
 abbrev pub is_same_code : List ℕ → List ℕ → Bool
 is_same_code = eq_by_cmp code_cmp
@@ -53,13 +68,15 @@ connects (Some before) (Some after) = is_same_code before.to after.from
 
 abbrev pub refusals : Timetable → Edit → List (Bool × Refusal)
 refusals t (AddBase code price) = (has_base t code, BaseExists) ∷
-    (not (is_price price), PriceRange) ∷ (nat_le 16 (map.len t.bases), TooManyBases) ∷ []
+    (not (is_price price), PriceRange) ∷ (nat_le 16 (map.len t.bases), TooManyBases) ∷
+    (not (is_airport code), NoAirport) ∷ []
 refusals t (BasePrice code price) = (not (has_base t code), NoBase) ∷
     (not (is_price price), PriceRange) ∷ []
 refusals t (AddFlight flight) = (has_flight t flight.id, FlightExists) ∷
     (not (is_block flight.dep flight.arr), BadTimes) ∷
     (is_same_code flight.from flight.to, SameAirport) ∷ (not (is_price flight.price), PriceRange)
-    ∷ (nat_le 5_000 (map.len t.flights), TooManyFlights) ∷ []
+    ∷ (nat_le 5_000 (map.len t.flights), TooManyFlights) ∷
+    (not (joins_airports flight), NoAirport) ∷ []
 refusals t (Cancel id) = (not (has_flight t id), NoFlight) ∷ []
 refusals t (Retime id from dep arr report_clock) = (not (has_flight t id), NoFlight) ∷
     (not (is_block dep arr), BadTimes) ∷
@@ -72,6 +89,11 @@ refusals t (Turn before after minutes) = (not (has_both t before after), NoFligh
     ∷ (not (has_turn t before after) && nat_le 10_000 (map.len t.turns), TooManyTurns) ∷ []
 refusals t (TakeTurn before after) = (not (has_both t before after), NoFlight) ∷
     (not (has_turn t before after), NoTurn) ∷ []
+refusals t (Follow before after) = (not (has_both t before after), NoFlight) ∷
+    (not (connects (map.get t.flights before) (map.get t.flights after)), NoConnection) ∷
+    (is_taken t before after, Taken) ∷ []
+refusals t (TakeFollow before) = (not (has_flight t before), NoFlight) ∷
+    (not (is_followed t before), NoFollowOn) ∷ []
 
 abbrev pub first_of : List (Bool × Refusal) → Option Refusal
 first_of [] = None
@@ -89,12 +111,19 @@ with_base t code price = record t { bases = map.insert t.bases code price }
 abbrev pub with_flight : Timetable → ℕ → Flight → Timetable
 with_flight t number flight = record t { flights = map.insert t.flights number flight }
 
--- the turns before and after a flight go with it
+-- which flight follows which
+abbrev pub follow_ons_of : Timetable → FollowOns
+follow_ons_of t = record { follows = t.follows; leads = t.leads }
+
+abbrev pub with_follow_ons : Timetable → FollowOns → Timetable
+with_follow_ons t f = record t { follows = f.follows; leads = f.leads }
+
+-- the turns and the follow-ons before and after a flight go with it
 abbrev pub is_turn_of : ℕ → ℕ × ℕ → Bool
 is_turn_of number pair = eq_by_cmp nat_cmp pair.0 number || eq_by_cmp nat_cmp pair.1 number
 
 abbrev pub without_flight : Timetable → ℕ → Timetable
-without_flight t number = record t {
+without_flight t number = record (with_follow_ons t (without_number (follow_ons_of t) number)) {
   flights = map.remove t.flights number;
   turns = map.retain_keys t.turns (λ pair. not (is_turn_of number pair));
 }
@@ -104,6 +133,12 @@ with_turn t before after minutes = record t { turns = map.insert t.turns (before
 
 abbrev pub without_turn : Timetable → ℕ → ℕ → Timetable
 without_turn t before after = record t { turns = map.remove t.turns (before, after) }
+
+abbrev pub with_follow : Timetable → ℕ → ℕ → Timetable
+with_follow t before after = with_follow_ons t (linked (follow_ons_of t) before after)
+
+abbrev pub without_follow : Timetable → ℕ → Timetable
+without_follow t before = with_follow_ons t (unlinked (follow_ons_of t) before)
 
 -- a flight, where it is held, stands changed under its number
 abbrev pub with_changed : Timetable → ℕ → Option Flight → (Flight → Flight) → Timetable
@@ -127,6 +162,8 @@ changed t (Retime id from dep arr report_clock) = with_changed t id (map.get t.f
 changed t (Price id price) = with_changed t id (map.get t.flights id) (repriced price)
 changed t (Turn before after minutes) = with_turn t before after minutes
 changed t (TakeTurn before after) = without_turn t before after
+changed t (Follow before after) = with_follow t before after
+changed t (TakeFollow before) = without_follow t before
 
 -- ---- an edit: refused with no change, or accepted
 

@@ -1,6 +1,8 @@
 pub mod Codes
 pub mod Edits
 pub mod Fold
+pub mod FollowOns
+pub mod Places
 pub mod Refusals
 pub mod Timetable
 pub mod Turns

@@ -48,6 +48,16 @@ pub enum Edit {
         before: FlightId,
         after: FlightId,
     },
+    /// A follow-on: in each pairing one flight is the next leg after another, in the same duty or
+    /// as the first of the next duty, or neither is there.
+    Follow {
+        before: FlightId,
+        after: FlightId,
+    },
+    /// The follow-on after a flight goes.
+    TakeFollow {
+        before: FlightId,
+    },
 }
 
 /// Why an entry is refused.
@@ -75,8 +85,8 @@ pub enum Refusal {
     TooManyBases = 30,
     /// The entry's number isn't its seat's next.
     OutOfTurn = 31,
-    /// The later flight of a turn leaves another airport than the earlier one reaches, or departs
-    /// before that arrives.
+    /// The later flight of a turn or of a follow-on leaves another airport than the earlier one
+    /// reaches, or departs before that arrives.
     NoConnection = 32,
     /// There is no such turn.
     NoTurn = 33,
@@ -84,12 +94,18 @@ pub enum Refusal {
     TurnRange = 34,
     /// 10,000 turns are there.
     TooManyTurns = 35,
+    /// Another flight follows the earlier one, or the later one follows another.
+    Taken = 36,
+    /// No flight follows this one.
+    NoFollowOn = 37,
+    /// A base or an end of a flight is no airport.
+    NoAirport = 38,
 }
 
 impl Refusal {
     ghost use Rattle.crew_flights.specs.Refusals.{number_of};
 
-    /// The number of this refusal, from 21 to 35.
+    /// The number of this refusal, from 21 to 38.
     pub fn number(self) -> u8
         ensures { result ≡ number_of self }
     {

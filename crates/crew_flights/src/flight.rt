@@ -1,10 +1,11 @@
-//! Flights, their numbers, and the codes of airports.
+//! Flights, their numbers, and the codes of places.
 
 ghost use Rattle.std.specs.Prelude.{◌≡◌, ◌↔◌, ℕ, List, true, IsSome, IfSome};
 ghost use Rattle.std.proofs.Common.{refl};
 ghost use Rattle.std.specs.Ordering.{nat_cmp, eq_by_cmp, as_partial_cmp};
 ghost use Rattle.std.specs.Cmp.{nat_cmp_total, eq_by_cmp_equiv, partial_equiv_from_equiv, partial_order_from_total};
-ghost use Rattle.crew_flights.specs.Codes.{IsFlightNumber, is_code, code_cmp, code_cmp_total};
+ghost use Rattle.crew_flights.specs.Codes.{IsFlightNumber, is_airport, is_code, code_cmp, code_cmp_total};
+ghost use Rattle.crew_flights.specs.Codes as Spec;
 
 use crew_time::{ClockMinute, Minute};
 use std::cmp::Ordering;
@@ -88,35 +89,58 @@ impl Ord for FlightId {
     }
 }
 
-/// The code of an airport: three letters of A to Z.
+/// The code of a place: an airport's three letters of A to Z, or the place between a flight and the
+/// one that follows it.
 ///
 /// A contract sees the three bytes.
 #[derive(Clone, Copy, Debug)]
 pub struct Code {
-    letters: [u8; 3],
+    bytes: [u8; 3],
 }
 
 impl Model for Code {
     ghost Value = { List ℕ };
 
-    ghost view = { λ code. code.letters };
+    ghost view = { λ code. code.bytes };
 
-    ghost invariant = { λ code. is_code code.letters ≡ true };
+    ghost invariant = { λ code. is_code code.bytes ≡ true };
 
-    ghost inverse = { λ letters. record { letters = letters } };
+    ghost inverse = { λ bytes. record { bytes = bytes } };
 }
 
 impl Code {
     /// The airport of three bytes, if they are letters.
     pub fn new(letters: [u8; 3]) -> Option<Self>
-        ensures valid { IsSome result ↔ (is_code letters ≡ true) }
+        ensures valid { IsSome result ↔ (is_airport letters ≡ true) }
         ensures value { IfSome result (λ code. code ≡ letters) }
     {
-        if letters.iter().all(|letter| letter.is_ascii_uppercase()) {
-            Some(Code { letters })
+        if are_letters(&letters) {
+            Some(Code { bytes: letters })
         } else {
             None
         }
+    }
+
+    /// The place between a flight and the one that follows it. No airport has its code, and no
+    /// other flight.
+    pub fn own_place(id: FlightId) -> Self
+        ensures { result ≡ Spec.own_place id }
+    {
+        let number = id.get();
+        Code {
+            bytes: [
+                (128 + number / 16_384) as u8,
+                (128 + number / 128 % 128) as u8,
+                (128 + number % 128) as u8,
+            ],
+        }
+    }
+
+    /// Whether the place is an airport.
+    pub fn is_airport(self) -> bool
+        ensures { result ≡ is_airport self }
+    {
+        are_letters(&self.bytes)
     }
 
     /// The three bytes.
@@ -124,8 +148,15 @@ impl Code {
         ensures value { result ≡ self }
         ensures range { is_code result ≡ true }
     {
-        self.letters
+        self.bytes
     }
+}
+
+// Whether three bytes are letters of A to Z.
+fn are_letters(bytes: &[u8; 3]) -> bool
+    ensures { result ≡ is_airport bytes.now }
+{
+    bytes.iter().all(|byte| byte.is_ascii_uppercase())
 }
 
 impl PartialEq for Code {

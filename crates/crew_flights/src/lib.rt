@@ -1,7 +1,7 @@
-//! Flights, base prices, turns between flights, and the edits that change them.
+//! Flights, base prices, turns and follow-ons between flights, and the edits that change them.
 //!
-//! A timetable is three finite maps: flights by number, base prices by airport, and turns by pairs of
-//! flights.
+//! A timetable is five finite maps: flights by number, base prices by airport, turns by pairs of
+//! flights, and which flight follows which, seen from either.
 //! An edit either changes it, or is refused with the first refusal that applies and
 //! changes nothing. A log of entries is folded into a timetable and a verdict an entry:
 //! an entry that comes out of its seat's turn changes nothing.
@@ -10,6 +10,7 @@
 mod edit;
 mod entries;
 mod flight;
+mod follow_ons;
 pub mod laws;
 mod timetable;
 

@@ -1,15 +1,17 @@
 //! A timetable in memory.
 
-ghost use Rattle.std.specs.Prelude.{◌≡◌, ℕ, ℤ, List, IfOk, OnOk, OnErr, filter, not};
+ghost use Rattle.std.specs.Prelude.{◌≡◌, ℕ, ℤ, List, IfOk, OnOk, OnErr, filter, not, map as list_map};
 ghost use Rattle.std.specs.FinMap as map;
 ghost use Rattle.std.specs.BTreeMap.{IsFromIterResult, IsOrdered};
 ghost use Rattle.crew_flights.specs.Codes.{pair_cmp};
 ghost use Rattle.crew_flights.specs.Edits.{is_price, is_block, first_of};
 ghost use Rattle.crew_flights.specs.Edits as Spec;
+ghost use Rattle.crew_flights.specs.Places as Places;
 ghost use Rattle.std.specs.Map.Iter.{ShowsInOrder, deref, deref_pair};
 
 use crate::edit::{Edit, Refusal, Verdict};
 use crate::flight::{Code, Flight, FlightId};
+use crate::follow_ons::FollowOns;
 use crew_time::Minute;
 use std::alloc::{AllocError, Global};
 use std::collections::BTreeMap;
@@ -26,14 +28,16 @@ const TURNS: usize = 10_000;
 // The most minutes of a turn: one more than a day.
 const MINUTES: u32 = 1_441;
 
-/// The flights that are held, the bases with their prices, and the turns between flights.
+/// The flights that are held, the bases with their prices, and the turns and follow-ons between
+/// flights.
 ///
-/// A contract sees three finite maps.
+/// A contract sees five finite maps.
 #[derive(Drop)]
 pub struct Timetable {
     flights: BTreeMap<FlightId, Flight>,
     bases: BTreeMap<Code, i64>,
     turns: BTreeMap<(FlightId, FlightId), u32>,
+    follow_ons: FollowOns,
 }
 
 impl Model for Timetable {
@@ -43,16 +47,16 @@ impl Model for Timetable {
 
     ghost coded = { timetable_code };
 
-    ghost view = { λ d. timetable_of d.flights d.bases d.turns };
+    ghost view = { λ d. timetable_of d.flights d.bases d.turns d.follow_ons };
 
-    ghost invariant = { λ d. IsKept d.flights d.bases d.turns };
+    ghost invariant = { λ d. IsKept d.flights d.bases d.turns d.follow_ons };
 }
 
 impl Timetable {
     ghost use Rattle.crew_flights.specs.Timetable.{empty_timetable, IsSound};
     ghost use Rattle.crew_flights.specs.declared.flight.Flight.{Flight};
 
-    /// No flights, no bases and no turns.
+    /// No flights, no bases, no turns and no follow-ons.
     pub fn new(alloc: Global) -> Self
         ensures { result ≡ empty_timetable }
     {
@@ -60,6 +64,7 @@ impl Timetable {
             flights: BTreeMap::new(alloc),
             bases: BTreeMap::new(alloc),
             turns: BTreeMap::new(alloc),
+            follow_ons: FollowOns::new(alloc),
         }
     }
 
@@ -87,6 +92,39 @@ impl Timetable {
         self.turns.get(&(before, after)).copied()
     }
 
+    /// The flight that follows one.
+    pub fn next_after(&self, id: FlightId) -> Option<FlightId>
+        ensures held { result ≡ map.get self.now.follows id }
+        ensures sound { IsSound self.now }
+    {
+        self.follow_ons.after(id)
+    }
+
+    /// The flight that one follows.
+    pub fn lead_of(&self, id: FlightId) -> Option<FlightId>
+        ensures held { result ≡ map.get self.now.leads id }
+        ensures sound { IsSound self.now }
+    {
+        self.follow_ons.before(id)
+    }
+
+    /// A flight as pairings see it: it leaves from the place of the flight that it follows, and
+    /// arrives at a place of its own where another follows it.
+    pub fn placed(&self, flight: &Flight) -> Flight
+        ensures held { result ≡ Places.placed self.now flight.now }
+        ensures sound { IsSound self.now }
+    {
+        Flight {
+            from: self.lead_of(flight.id).map_or(flight.from, Code::own_place),
+            to: if self.next_after(flight.id).is_some() {
+                Code::own_place(flight.id)
+            } else {
+                flight.to
+            },
+            ..*flight
+        }
+    }
+
     /// How many flights are held.
     pub fn flight_count(&self) -> usize
         ensures held { result ≡ map.len self.now.flights }
@@ -111,13 +149,41 @@ impl Timetable {
         self.turns.len()
     }
 
-    /// The flights, by number.
+    /// How many flights are followed.
+    pub fn follow_count(&self) -> usize
+        ensures held { result ≡ map.len self.now.follows }
+        ensures sound { IsSound self.now }
+    {
+        self.follow_ons.len()
+    }
+
+    /// The flights, by number, each between its airports.
     pub fn flights(&self) -> Values<'_, FlightId, Flight>
         ensures held { result ≡ map.values self.now.flights }
         ensures runs { ShowsInOrder (deref {X = Flight}) }
         ensures sound { IsSound self.now }
     {
         self.flights.values()
+    }
+
+    /// The flight of a number as pairings see it.
+    pub fn placed_flight(&self, id: FlightId) -> Option<Flight>
+        ensures held { result ≡ Places.placed_flight self.now id }
+        ensures sound { IsSound self.now }
+    {
+        let flight = self.flight(id)?;
+        Some(self.placed(&flight))
+    }
+
+    /// The flights, by number, as pairings see them.
+    pub fn placed_flights(&self, alloc: Global) -> Result<Vec<Flight>, AllocError>
+        ensures held { IfOk result (λ flights. flights.items
+            ≡ list_map (Places.placed self.now) (map.values self.now.flights)) }
+        ensures sound { IsSound self.now }
+    {
+        self.flights()
+            .map(|flight| self.placed(flight))
+            .collect(alloc)
     }
 
     /// The bases with their prices, by code.
@@ -138,6 +204,15 @@ impl Timetable {
         self.turns.iter()
     }
 
+    /// The flights that are followed, by number, with those that follow them.
+    pub fn follows(&self) -> Iter<'_, FlightId, FlightId>
+        ensures held { result ≡ map.entries self.now.follows }
+        ensures runs { ShowsInOrder (deref_pair {K = ℕ} {X = ℕ}) }
+        ensures sound { IsSound self.now }
+    {
+        self.follow_ons.iter()
+    }
+
     /// The same timetable again.
     pub fn copy(&self, alloc: Global) -> Result<Timetable, AllocError>
         ensures { IfOk result (λ copied. copied ≡ self.now) }
@@ -146,12 +221,13 @@ impl Timetable {
             flights: entries_again(alloc, &self.flights)?,
             bases: entries_again(alloc, &self.bases)?,
             turns: entries_again(alloc, &self.turns)?,
+            follow_ons: self.follow_ons.copy(alloc)?,
         })
     }
 }
 
 // The same entries again.
-fn entries_again<K: Copy + Ord, V: Copy>(
+pub(crate) fn entries_again<K: Copy + Ord, V: Copy>(
     alloc: Global,
     entries: &BTreeMap<K, V>,
 ) -> Result<BTreeMap<K, V>, AllocError>
@@ -186,6 +262,13 @@ fn times_fit(dep: Minute, arr: Minute) -> bool
     (1..=1_440).contains(&(arr.get() - dep.get()))
 }
 
+// A flight between airports.
+fn joins_airports(flight: &Flight) -> bool
+    ensures { result ≡ Spec.joins_airports flight.now }
+{
+    flight.from.is_airport() && flight.to.is_airport()
+}
+
 // Of two flights that are held, whether the second leaves where the first arrives, and no earlier.
 fn connects(before: Option<Flight>, after: Option<Flight>) -> bool
     ensures { result ≡ Spec.connects before after }
@@ -211,7 +294,7 @@ fn first_refusal(tests: &[(bool, Refusal)]) -> Option<Refusal>
 impl Timetable {
     ghost use Rattle.std.specs.Prelude.{None};
     ghost use Rattle.crew_flights.specs.Timetable.{IsSound};
-    ghost use Rattle.crew_flights.specs.Edits.{refusal_of, changed, apply_of, with_base, with_flight, with_turn, without_flight, without_turn};
+    ghost use Rattle.crew_flights.specs.Edits.{refusal_of, changed, apply_of, with_base, with_flight, with_turn, with_follow, without_flight, without_follow, without_turn};
 
     /// Applies an edit: the verdict is `Accepted`, or the first refusal that applies, and then
     /// nothing changes. On want of memory nothing changes either.
@@ -236,6 +319,7 @@ impl Timetable {
                 (self.base_price(code).is_some(), Refusal::BaseExists),
                 (!price_fits(price), Refusal::PriceRange),
                 (self.base_count() >= BASES, Refusal::TooManyBases),
+                (!code.is_airport(), Refusal::NoAirport),
             ]),
             Edit::BasePrice { code, price } => first_refusal(&[
                 (self.base_price(code).is_none(), Refusal::NoBase),
@@ -247,6 +331,7 @@ impl Timetable {
                 (flight.from == flight.to, Refusal::SameAirport),
                 (!price_fits(flight.price), Refusal::PriceRange),
                 (self.flight_count() >= FLIGHTS, Refusal::TooManyFlights),
+                (!joins_airports(&flight), Refusal::NoAirport),
             ]),
             Edit::Cancel(id) => first_refusal(&[(self.flight(id).is_none(), Refusal::NoFlight)]),
             Edit::Retime {
@@ -290,6 +375,18 @@ impl Timetable {
                 (!self.has_both(before, after), Refusal::NoFlight),
                 (self.turn(before, after).is_none(), Refusal::NoTurn),
             ]),
+            Edit::Follow { before, after } => first_refusal(&[
+                (!self.has_both(before, after), Refusal::NoFlight),
+                (
+                    !connects(self.flight(before), self.flight(after)),
+                    Refusal::NoConnection,
+                ),
+                (self.is_taken(before, after), Refusal::Taken),
+            ]),
+            Edit::TakeFollow { before } => first_refusal(&[
+                (self.flight(before).is_none(), Refusal::NoFlight),
+                (self.next_after(before).is_none(), Refusal::NoFollowOn),
+            ]),
         }
     }
 
@@ -300,9 +397,17 @@ impl Timetable {
         self.flight(before).is_some() && self.flight(after).is_some()
     }
 
+    // Whether a flight is followed already, or another follows one already.
+    fn is_taken(&self, before: FlightId, after: FlightId) -> bool
+        ensures { result ≡ Spec.is_taken self.now before after }
+    {
+        self.next_after(before).is_some() || self.lead_of(after).is_some()
+    }
+
     // Makes the change of an edit that no refusal meets.
     fn change(&mut self, edit: &Edit) -> Result<(), AllocError>
-        requires { IsSound (changed self.old edit.now) }
+        requires met { refusal_of self.old edit.now ≡ None }
+        requires sound { IsSound (changed self.old edit.now) }
         ensures ok { OnOk result (self.new ≡ changed self.old edit.now) }
         ensures err { OnErr result (self.new ≡ self.old) }
     {
@@ -346,6 +451,11 @@ impl Timetable {
                 self.remove_turn(before, after);
                 Ok(())
             }
+            Edit::Follow { before, after } => self.put_follow(before, after),
+            Edit::TakeFollow { before } => {
+                self.remove_follow(before);
+                Ok(())
+            }
         }
     }
 
@@ -373,6 +483,7 @@ impl Timetable {
     {
         self.flights.remove(&id);
         drop_turns(&mut self.turns, id);
+        self.follow_ons.remove(id);
     }
 
     fn put_turn(
@@ -394,5 +505,22 @@ impl Timetable {
         ensures { self.new ≡ without_turn self.old before after }
     {
         self.turns.remove(&(before, after));
+    }
+
+    fn put_follow(&mut self, before: FlightId, after: FlightId) -> Result<(), AllocError>
+        requires free { map.get self.old.follows before ≡ None }
+        requires sound { IsSound (with_follow self.old before after) }
+        ensures ok { OnOk result (self.new ≡ with_follow self.old before after) }
+        ensures err { OnErr result (self.new ≡ self.old) }
+    {
+        self.follow_ons.link(before, after)?;
+        Ok(())
+    }
+
+    fn remove_follow(&mut self, before: FlightId)
+        requires { IsSound (without_follow self.old before) }
+        ensures { self.new ≡ without_follow self.old before }
+    {
+        self.follow_ons.unlink(before);
     }
 }

@@ -14,6 +14,7 @@ use Rattle.crew_answers.specs.LongVectors.{LongVector}
 use Rattle.crew_flights.proofs.Soundness.{changed_sound, empty_sound}
 use Rattle.crew_flights.specs.Edits.{applied, apply_of, refusal_of}
 use Rattle.crew_flights.specs.Fold.{data_after, is_in_turn}
+use Rattle.crew_flights.specs.Places.{placed}
 use Rattle.crew_flights.specs.Timetable.{IsSound, Timetable, empty_timetable}
 use Rattle.crew_flights.specs.declared.edit.Edit.{Edit}
 use Rattle.crew_flights.specs.declared.edit.Refusal.{Refusal}
@@ -282,7 +283,7 @@ module _ (s : Settings) (checked : IsChecked s) where
   no-entries (x ∷ es) e = absurd (omega (arith, e))
 
   no-flights : (flights_of empty_timetable).list ≡ []
-  no-flights = ap (map (λ (e : ℕ × Flight). e.1)) (no-entries (fin.entries empty_timetable.flights) (sym (fin.len-entries empty_timetable.flights) ∙ fin.len-empty nat_cmp Flight))
+  no-flights = ap (λ (es : List (ℕ × Flight)). map (placed empty_timetable) (map (λ (e : ℕ × Flight). e.1) es)) (no-entries (fin.entries empty_timetable.flights) (sym (fin.len-entries empty_timetable.flights) ∙ fin.len-empty nat_cmp Flight))
 
   none-known : {A : Type 0} (flight : Flight) → Member (flights_of empty_timetable).list flight → A
   none-known flight m = absurd (subst (λ (fs : List Flight). Member fs flight) no-flights m)

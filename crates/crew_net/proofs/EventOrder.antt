@@ -14,7 +14,7 @@ use Rattle.crew_net.specs.Machinery.Moments.{IsReal, code_number, moment, slots_
 use Rattle.crew_net.specs.Machinery.Timelines.{IsTimeline}
 use Rattle.crew_net.specs.Machinery.Moments.{Slot}
 use Rattle.crew_net.specs.declared.timeline.Timeline.{Timeline}
-use Rattle.crew_net.proofs.Codes.{AreLetters, are-letters, code-same, has-three, three-letters}
+use Rattle.crew_net.proofs.Codes.{AreBytes, are-bytes, code-same, has-three, three-bytes}
 use Rattle.crew_net.proofs.Geometry.{equal-code, moment-same}
 use Rattle.crew_pairing.proofs.Tree.{slice_get-within}
 use Rattle.crew_pairing.specs.declared.duty.Duty.{Duty}
@@ -43,25 +43,25 @@ pick zero (suc n) h = inl (omega arith)
 pick (suc m) zero h = absurd (omega (arith, h))
 pick (suc m) (suc n) h = elim (pick m n (omega (arith, h))) [ inl l ↦ inl (omega (arith, l)) | inr e ↦ inr (ap suc e) ]
 
-three-less : (a b c x y z : ℕ) → AreLetters a b c → AreLetters x y z → code_number (a ∷ b ∷ c ∷ []) < code_number (x ∷ y ∷ z ∷ []) → code_cmp (a ∷ b ∷ c ∷ []) (x ∷ y ∷ z ∷ []) ≡ Less
+three-less : (a b c x y z : ℕ) → AreBytes a b c → AreBytes x y z → code_number (a ∷ b ∷ c ∷ []) < code_number (x ∷ y ∷ z ∷ []) → code_cmp (a ∷ b ∷ c ∷ []) (x ∷ y ∷ z ∷ []) ≡ Less
 three-less a b c x y z p q h =
-    let a0 = p.first.0 in let a1 = p.first.1 in let b0 = p.second.0 in let b1 = p.second.1 in let c0 = p.third.0 in let c1 = p.third.1 in
-    let x0 = q.first.0 in let x1 = q.first.1 in let y0 = q.second.0 in let y1 = q.second.1 in let z0 = q.third.0 in let z1 = q.third.1 in
-    elim (pick a x (omega (arith, a0, a1, b0, b1, c0, c1, x0, x1, y0, y1, z0, z1, h))) [
+    let b1 = p.second in let c1 = p.third in
+    let y1 = q.second in let z1 = q.third in
+    elim (pick a x (omega (arith, b1, c1, y1, z1, h))) [
       | inl l ↦ then-less (nat_cmp a x) _ (nat-less a x l)
-      | inr e ↦ then-tie (nat_cmp a x) _ (nat-tie a x e) (elim (pick b y (omega (arith, e, a0, a1, b0, b1, c0, c1, x0, x1, y0, y1, z0, z1, h))) [
+      | inr e ↦ then-tie (nat_cmp a x) _ (nat-tie a x e) (elim (pick b y (omega (arith, e, c1, z1, h))) [
         | inl l ↦ then-less (nat_cmp b y) _ (nat-less b y l)
-        | inr f ↦ then-tie (nat_cmp b y) _ (nat-tie b y f) (then-less (nat_cmp c z) _ (nat-less c z (omega (arith, e, f, c0, c1, z0, z1, h))))
+        | inr f ↦ then-tie (nat_cmp b y) _ (nat-tie b y f) (then-less (nat_cmp c z) _ (nat-less c z (omega (arith, e, f, h))))
       ])
     ]
 
 -- codes by number are codes in the order of the alphabet
 pub code-less : (a b : List ℕ) → is_code a ≡ true → is_code b ≡ true → code_number a < code_number b → code_cmp a b ≡ Less
 code-less a b ca cb h =
-    let p = three-letters a (has-three a ca) in
-    let q = three-letters b (has-three b cb) in
-    let u = are-letters p.0 p.1 p.2 (subst (λ (x : List ℕ). is_code x ≡ true) p.3 ca) in
-    let v = are-letters q.0 q.1 q.2 (subst (λ (x : List ℕ). is_code x ≡ true) q.3 cb) in
+    let p = three-bytes a (has-three a ca) in
+    let q = three-bytes b (has-three b cb) in
+    let u = are-bytes p.0 p.1 p.2 (subst (λ (x : List ℕ). is_code x ≡ true) p.3 ca) in
+    let v = are-bytes q.0 q.1 q.2 (subst (λ (x : List ℕ). is_code x ≡ true) q.3 cb) in
     let m = ap code_number p.3 in
     let n = ap code_number q.3 in
     let less = three-less p.0 p.1 p.2 q.0 q.1 q.2 u v (omega (arith, h, m, n)) in

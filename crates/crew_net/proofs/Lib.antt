@@ -7,6 +7,7 @@ pub mod Named
 pub mod Codes
 pub mod Keyed
 pub mod EventsReal
+pub mod SlotKeys
 pub mod Gathered
 pub mod Firsts
 pub mod AtMoments

@@ -48,7 +48,7 @@ fn arrive_at(duty: &Duty) -> i64
 }
 
 // The keys of when and where duties leave, and of when and where they arrive.
-fn event_keys(alloc: Global, duties: &Duties) -> Result<(Vec<u64>, Vec<u64>), AllocError>
+fn event_keys(alloc: Global, duties: &Duties) -> Result<(Vec<u128>, Vec<u128>), AllocError>
     requires { length duties.now ≤ 200_000 }
     ensures left { IfOk result (λ keys. Each Spec.IsLeft duties.now) }
     ensures reached { IfOk result (λ keys. Each Spec.IsReached duties.now) }
@@ -114,7 +114,7 @@ fn arrivals_of(
 }
 
 // The keys of when departures report.
-fn report_keys(alloc: Global, departures: &[Departure]) -> Result<Vec<u64>, AllocError>
+fn report_keys(alloc: Global, departures: &[Departure]) -> Result<Vec<u128>, AllocError>
     requires few { length departures.now ≤ 200_000 }
     requires real { Each (λ g. IsReal g.report) departures.now }
     ensures { IfOk result (λ keys. AreKeys (map (λ g. g.report) departures.now) keys.items) }

@@ -11,13 +11,13 @@ use std::alloc::{AllocError, Global};
 /// Keys that stand side by side, from a place up to another, and the first of them.
 #[derive(Clone, Copy, PartialEq, Eq, PartialOrd, Ord)]
 pub(crate) struct Run {
-    pub(crate) first: u64,
+    pub(crate) first: u128,
     pub(crate) from: u32,
     pub(crate) end: u32,
 }
 
 // Whether a key is the next number after the one before it.
-fn goes_on(keys: &[u64], place: usize) -> bool
+fn goes_on(keys: &[u128], place: usize) -> bool
     requires from { 1 ≤ place }
     requires within { place < length keys.now }
 {
@@ -25,7 +25,7 @@ fn goes_on(keys: &[u64], place: usize) -> bool
 }
 
 // The runs of some keys.
-fn runs_of(alloc: Global, keys: &[u64]) -> Result<Vec<Run>, AllocError>
+fn runs_of(alloc: Global, keys: &[u128]) -> Result<Vec<Run>, AllocError>
     requires { length keys.now ≤ 200_000 }
     ensures whole { IfOk result (λ runs. flat_map (Spec.run_keys keys.now) runs.items ≡ keys.now) }
     ensures within { IfOk result (λ runs. Each (IsRunOf (length keys.now)) runs.items) }
@@ -53,7 +53,7 @@ fn runs_of(alloc: Global, keys: &[u64]) -> Result<Vec<Run>, AllocError>
 }
 
 /// The keys, run by run, in order of the first of each: mostly in order already.
-pub(crate) fn gathered(alloc: Global, keys: &[u64]) -> Result<Vec<u64>, AllocError>
+pub(crate) fn gathered(alloc: Global, keys: &[u128]) -> Result<Vec<u128>, AllocError>
     requires { length keys.now ≤ 200_000 }
     ensures same { IfOk result (λ gathered. IsPermutation keys.now gathered.items) }
     ensures long { IfOk result (λ gathered. length gathered.items ≡ length keys.now) }

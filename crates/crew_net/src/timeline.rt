@@ -1,14 +1,14 @@
 //! What happens, by the moment at which it happens.
 //!
 //! To put events in order, where and when each is and the rank of its duty are made one number of
-//! 64 bits: an airport takes 26^3 values, a minute 32 bits, a rank less than 200,000. Such numbers
-//! sort three times as fast as slots of 16 bytes. Duties by key leave in runs, one for each first
+//! 128 bits: a place takes 24 bits, a minute 32, a rank 18. Such numbers sort faster than slots. Duties by key leave in runs, one for each first
 //! flight or so (`runs`), which are put in order first: the sort of the whole then only looks.
 
 ghost use Rattle.std.specs.Prelude.{◌≡◌, ◌≤◌, ◌<◌, ◌-◌, ◌+◌, ◌≤ℤ◌, negsuc, not, pos, true, IfOk, IsTrue, List, ℤ, ℕ, length, map, take, drop, get_or};
 ghost use Rattle.crew_flights.specs.Codes.{is_code};
 ghost use Rattle.crew_net.specs.Machinery.Moments as Spec;
-ghost use Rattle.crew_net.specs.Machinery.Moments.{AreKeys, AreMoments, AreStarts, IsBounded, IsMinute};
+ghost use Rattle.crew_net.specs.Machinery.Moments.{AreKeys, AreMoments, AreSlotKeys, AreStarts, IsBounded, IsKey, IsMinute};
+ghost use Rattle.crew_resource.specs.Members.{Each};
 ghost use Rattle.crew_net.specs.Machinery.Timelines.{IsShape, IsTimeline, IsWithin};
 
 use crate::window::Window;
@@ -27,14 +27,14 @@ pub(crate) struct Timeline {
     pub(crate) places: Vec<u32>,
 }
 
-// The letters of an airport as one number.
+// The bytes of a place as one number.
 fn code_number(airport: Code) -> u32
     ensures value { result ≡ Spec.code_number airport }
-    ensures bound { result < 17_576 }
+    ensures bound { result < 16_777_216 }
     ensures code { is_code airport ≡ true }
 {
     let [first, second, third] = airport.get();
-    u32::from(first - b'A') * 676 + u32::from(second - b'A') * 26 + u32::from(third - b'A')
+    u32::from(first) * 65_536 + u32::from(second) * 256 + u32::from(third)
 }
 
 /// An airport and a minute as one number: airports lie further apart than any two minutes.
@@ -48,25 +48,26 @@ pub(crate) fn moment(airport: Code, minute: i64) -> i64
 }
 
 /// A slot as one number: such numbers are quicker to sort than slots.
-pub(crate) fn slot_key(at: i64, place: usize) -> u64
+pub(crate) fn slot_key(at: i64, place: usize) -> u128
     requires bounded { IsBounded at }
     requires few { place < 200_000 }
     ensures { Spec.keyed_slot result ≡ record { at = at; place = place } }
 {
-    (at + 2_147_500_001) as u64 * 200_000 + place as u64
+    (at + 2_147_500_001) as u128 * 200_000 + place as u128
 }
 
 // The moment of a key.
-fn keyed_at(key: u64) -> i64
+fn keyed_at(key: u128) -> i64
+    requires { IsKey key }
     ensures value { result ≡ (Spec.keyed_slot key).at }
     ensures least { negsuc 2_147_500_000 ≤ℤ result }
-    ensures most { result ≤ℤ pos 100_000_000_000_000 }
+    ensures most { result ≤ℤ pos 100_000_000_000_000_000 }
 {
     (key / 200_000) as i64 - 2_147_500_001
 }
 
 /// The places of keys.
-pub(crate) fn places_of(alloc: Global, keys: &[u64]) -> Result<Vec<u32>, AllocError>
+pub(crate) fn places_of(alloc: Global, keys: &[u128]) -> Result<Vec<u32>, AllocError>
     ensures { IfOk result (λ places. places.items ≡ map (λ k. (Spec.keyed_slot k).place) keys.now) }
 {
     keys.iter()
@@ -88,9 +89,10 @@ fn ends_at(moments: &[i64], at: i64) -> bool
 }
 
 // The moments of keys in order, each once, and where each begins.
-fn moments_of(alloc: Global, keys: &[u64]) -> Result<(Vec<i64>, Vec<u32>), AllocError>
+fn moments_of(alloc: Global, keys: &[u128]) -> Result<(Vec<i64>, Vec<u32>), AllocError>
     requires ascend { Spec.Ascend (map Spec.keyed_slot keys.now) }
     requires few { length keys.now ≤ 200_000 }
+    requires keys { Each IsKey keys.now }
     ensures moments { IfOk result (λ r. AreMoments (map Spec.keyed_slot keys.now) r.0.items) }
     ensures starts { IfOk result (λ r. AreStarts (map Spec.keyed_slot keys.now) r.0.items
         r.1.items) }
@@ -124,8 +126,9 @@ pub(crate) fn window_between(moments: &[i64], earliest: i64, latest: i64) -> Win
 
 impl Timeline {
     /// All that has these keys.
-    pub(crate) fn of(alloc: Global, keys: Vec<u64>) -> Result<Timeline, AllocError>
+    pub(crate) fn of(alloc: Global, keys: Vec<u128>) -> Result<Timeline, AllocError>
         requires few { length keys.items ≤ 200_000 }
+        requires keys { AreSlotKeys keys.items }
         ensures { (ats : List ℤ) → AreKeys ats keys.items
             → IfOk result (λ timeline. IsTimeline ats timeline) }
     {

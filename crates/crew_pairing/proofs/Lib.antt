@@ -5,6 +5,7 @@ pub mod Times
 pub mod Tree
 pub mod Complete
 pub mod Falling
+pub mod FollowOns
 pub mod InList
 pub mod InOrder
 pub mod Keys

@@ -1,7 +1,8 @@
 -- All legal duties of a timetable, by key.
-use Rattle.std.specs.Prelude.{◌≡◌, ◌<◌, ◌≤◌, List, [], ◌∷◌, length}
+use Rattle.std.specs.Prelude.{◌≡◌, ◌<◌, ◌≤◌, List, [], ◌∷◌, length, map as list_map}
 use Rattle.std.specs.declared.cmp.Ordering.TheVariants.{Less}
 use Rattle.std.specs.FinMap as map
+use Rattle.crew_flights.specs.Places.{placed}
 use Rattle.crew_flights.specs.Timetable.{Timetable}
 use Rattle.crew_rules.specs.declared.settings.Settings.{Settings}
 use Rattle.crew_pairing.specs.Flights.{Flights}
@@ -11,9 +12,10 @@ use Rattle.crew_resource.specs.Members.{Each, Member}
 use Rattle.crew_pairing.specs.declared.leg.TimedLeg.{TimedLeg}
 use Rattle.crew_pairing.specs.declared.duty.Duty.{Duty}
 
--- the flights of a timetable, by number, and its turns
+-- the flights of a timetable, by number, and its turns. A flight that another follows arrives at a
+-- place of its own, and the other leaves there: so in each pairing that one is the next leg after it
 abbrev pub flights_of : Timetable → Flights
-flights_of t = record { list = map.values t.flights; turns = t.turns }
+flights_of t = record { list = list_map (placed t) (map.values t.flights); turns = t.turns }
 
 -- each stands before all later ones by its key
 abbrev pub RiseByKey : List Duty → Type 0

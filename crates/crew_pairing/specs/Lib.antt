@@ -5,6 +5,7 @@ pub mod Legality
 pub mod Duties
 pub mod Events
 pub mod Pairings
+pub mod FollowOns
 pub mod Vectors
 pub mod Local
 pub mod Machinery

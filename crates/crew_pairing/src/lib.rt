@@ -11,6 +11,7 @@ mod duty;
 mod events;
 pub mod facts;
 mod key;
+pub mod laws;
 mod leg;
 mod vector;
 

@@ -23,6 +23,8 @@ use Rattle.std.proofs.MapsCrossing.{crosses as maps_cross}
 use Rattle.std.specs.declared.cmp.Ord.{Ghosts as OrdGhosts}
 use Rattle.std.specs.declared.cmp.PartialEq.{Ghosts as EqGhosts}
 use Rattle.std.specs.declared.cmp.PartialOrd.{Ghosts as PartialOrdGhosts}
+use Rattle.crew_flights.specs.contracts.edit.Edit as Edit
+use Rattle.crew_flights.specs.contracts.entries.Entry as Entry
 use Rattle.crew_flights.specs.contracts.entries.Folding as Folding
 use Rattle.crew_flights.specs.contracts.timetable.Timetable as Timetable
 use Rattle.crew_publish.specs.contracts.shown.Shown as Shown
@@ -154,7 +156,21 @@ folding-send = search with_timetable depth 40 fits 30000
 folding-sync : IsSync Folding.the_row
 folding-sync = search with_timetable depth 40 fits 30000
 
-ruleset with_folding = (parts, folding-send, folding-sync)
+edit-send : IsSend Edit.the_row
+edit-send = search parts depth 40 fits 30000
+
+edit-sync : IsSync Edit.the_row
+edit-sync = search parts depth 40 fits 30000
+
+ruleset with_edit = (parts, edit-send, edit-sync)
+
+entry-send : IsSend Entry.the_row
+entry-send = search with_edit depth 40 fits 30000
+
+entry-sync : IsSync Entry.the_row
+entry-sync = search with_edit depth 40 fits 30000
+
+ruleset with_folding = (parts, entry-send, entry-sync, folding-send, folding-sync)
 
 draft-send : IsSend Draft.the_row
 draft-send = search with_folding depth 40 fits 30000

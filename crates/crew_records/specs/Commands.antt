@@ -2,7 +2,7 @@
 use Rattle.std.specs.Prelude.{◌+◌, ◌&&◌, ℕ, List, Option, Some, None, Result, Ok, Err, codes, length, nat_eq, if◌then◌else◌}
 use Rattle.std.specs.Str.{bytes_eq}
 use Rattle.crew_time.specs.Instant.{IsInYears}
-use Rattle.crew_flights.specs.Codes.{is_code}
+use Rattle.crew_flights.specs.Codes.{is_airport}
 use Rattle.crew_flights.specs.declared.edit.Edit.TheVariants as edit
 use Rattle.crew_records.specs.Fields.{Fields, ◌>>=◌, count_field, count_up_to, field_of, code_field, duty_field, id_field, limit_field, price_field, time_field, walk_field, zone_field}
 use Rattle.crew_records.specs.declared.fault.RecordFault.{RecordFault}
@@ -95,6 +95,26 @@ abbrev pub turn_command : Fields → Result Command RecordFault
 turn_command fields =
     if nat_eq (length fields) 3 then take_turn_command fields else put_turn_command fields
 
+-- follow,ID,ID
+unfoldable pub put_follow_command : Fields → Result Command RecordFault
+put_follow_command fields = do
+  count ← count_field fields 3
+  before ← id_field (field_of fields 1)
+  after ← id_field (field_of fields 2)
+  Ok (Submit (edit.Follow before after))
+
+-- follow,ID
+unfoldable pub take_follow_command : Fields → Result Command RecordFault
+take_follow_command fields = do
+  count ← count_field fields 2
+  before ← id_field (field_of fields 1)
+  Ok (Submit (edit.TakeFollow before))
+
+-- a record of two fields takes a follow-on back
+abbrev pub follow_command : Fields → Result Command RecordFault
+follow_command fields =
+    if nat_eq (length fields) 2 then take_follow_command fields else put_follow_command fields
+
 -- front,CODE,DUTY
 unfoldable pub front_command : Fields → Result Command RecordFault
 front_command fields = do
@@ -106,7 +126,7 @@ front_command fields = do
 -- the base that a field names, where it is the last and a code
 abbrev pub base_at : Fields → ℕ → Option (List ℕ)
 base_at fields at =
-    if nat_eq (length fields) (at + 1) && is_code (field_of fields at) then Some (field_of fields at)
+    if nat_eq (length fields) (at + 1) && is_airport (field_of fields at) then Some (field_of fields at)
     else None
 
 -- pairings,LIMIT
@@ -188,7 +208,8 @@ edit_named name fields =
     else (if bytes_eq name (codes "retime") then Some (retime_command fields)
     else (if bytes_eq name (codes "price") then Some (price_command fields)
     else (if bytes_eq name (codes "turn") then Some (turn_command fields)
-    else None))))))
+    else (if bytes_eq name (codes "follow") then Some (follow_command fields)
+    else None)))))))
 
 abbrev pub edit_command : Fields → Option (Result Command RecordFault)
 edit_command fields = edit_named (field_of fields 0) fields

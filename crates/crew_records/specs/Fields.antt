@@ -8,7 +8,7 @@ use Rattle.csv.specs.Records.{field_at}
 use Rattle.jiff_tz.specs.PosixText.{TzText}
 use Rattle.crew_clocks.specs.Civil.{text_minute}
 use Rattle.crew_clocks.specs.Zone.{text_zone}
-use Rattle.crew_flights.specs.Codes.{is_code}
+use Rattle.crew_flights.specs.Codes.{is_airport}
 use Rattle.crew_pairing.specs.Legs.{Leg}
 use Rattle.crew_records.specs.declared.fault.RecordFault.{RecordFault}
 use Rattle.crew_records.specs.declared.fault.RecordFault.TheVariants.{Text, BadField, FieldCount}
@@ -37,7 +37,7 @@ count_field fields n = if length fields == n then Ok tt else Err FieldCount
 
 -- CODE: three bytes of A-Z
 abbrev pub code_field : List ℕ → Result (List ℕ) RecordFault
-code_field f = if is_code f then Ok f else Err BadField
+code_field f = if is_airport f then Ok f else Err BadField
 
 -- the number that digits write after a number
 abbrev pub read_on : ℕ → List ℕ → ℕ

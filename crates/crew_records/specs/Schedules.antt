@@ -26,7 +26,7 @@ abbrev pub job_field : List ℕ → Result ℕ RecordFault
 job_field f = count_up_to 9 999_999_999 f
 
 -- how many fields the record of an edit has, of which so many are there; none where no edit has the
--- name. That of a turn may be without its minutes
+-- name. That of a turn may be without its minutes, that of a follow-on without its second flight
 abbrev pub edit_width : List ℕ → ℕ → Option ℕ
 edit_width name count =
     if bytes_eq name (codes "base") then Some 3
@@ -36,7 +36,8 @@ edit_width name count =
     else (if bytes_eq name (codes "retime") then Some 5
     else (if bytes_eq name (codes "price") then Some 3
     else (if bytes_eq name (codes "turn") then Some (if nat_eq count 3 then 3 else 4)
-    else None))))))
+    else (if bytes_eq name (codes "follow") then Some (if nat_eq count 2 then 2 else 3)
+    else None)))))))
 
 -- an edit has its own number of fields
 abbrev pub has_width : Option ℕ → Fields → Result (Unit {0}) RecordFault

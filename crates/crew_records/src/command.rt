@@ -225,6 +225,41 @@ fn turn_command(row: &ByteRecord, at: usize) -> Result<Command, RecordFault>
     put_turn_command(row, at)
 }
 
+#[tactic(auto, unfolding(crate::specs::Commands::put_follow_command))]
+fn put_follow_command(row: &ByteRecord, at: usize) -> Result<Command, RecordFault>
+    requires { at ≤ 3 }
+    ensures value { result ≡ Spec.put_follow_command (drop at (fields_of row.now)) }
+    ensures dated { IfOk result IsDated }
+{
+    count_fields_at(row, at, 3)?;
+    let before = read_id(field_at(row, at, 1))?;
+    let after = read_id(field_at(row, at, 2))?;
+    Ok(Command::Submit(Edit::Follow { before, after }))
+}
+
+#[tactic(auto, unfolding(crate::specs::Commands::take_follow_command))]
+fn take_follow_command(row: &ByteRecord, at: usize) -> Result<Command, RecordFault>
+    requires { at ≤ 3 }
+    ensures value { result ≡ Spec.take_follow_command (drop at (fields_of row.now)) }
+    ensures dated { IfOk result IsDated }
+{
+    count_fields_at(row, at, 2)?;
+    let before = read_id(field_at(row, at, 1))?;
+    Ok(Command::Submit(Edit::TakeFollow { before }))
+}
+
+// A record of two fields takes a follow-on back.
+fn follow_command(row: &ByteRecord, at: usize) -> Result<Command, RecordFault>
+    requires { at ≤ 3 }
+    ensures value { result ≡ Spec.follow_command (drop at (fields_of row.now)) }
+    ensures dated { IfOk result IsDated }
+{
+    if width_at(row, at) == 2 {
+        return take_follow_command(row, at);
+    }
+    put_follow_command(row, at)
+}
+
 #[tactic(auto, unfolding(crate::specs::Commands::front_command))]
 fn front_command(row: &ByteRecord) -> Result<Command, RecordFault>
     ensures value { result ≡ Spec.front_command (fields_of row.now) }
@@ -374,6 +409,9 @@ pub(crate) fn edit_command(row: &ByteRecord, at: usize) -> Option<Result<Command
     }
     if name == b"turn".as_slice() {
         return Some(turn_command(row, at));
+    }
+    if name == b"follow".as_slice() {
+        return Some(follow_command(row, at));
     }
     None
 }

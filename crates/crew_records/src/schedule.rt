@@ -122,6 +122,9 @@ fn edit_width(name: &[u8], count: usize) -> Option<usize>
     if name == b"turn".as_slice() {
         return Some(if count == 3 { 3 } else { 4 });
     }
+    if name == b"follow".as_slice() {
+        return Some(if count == 2 { 2 } else { 3 });
+    }
     None
 }
 

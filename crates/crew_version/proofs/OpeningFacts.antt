@@ -2,6 +2,7 @@
 use Rattle.std.proofs.Common.{◌≡◌, ℕ, List, [], ◌∷◌, length, map, refl, sym, ap, subst, ◌∙◌, arith}
 use Rattle.std.specs.FinMap as fin
 use Rattle.std.specs.Ordering.{nat_cmp}
+use Rattle.crew_flights.specs.Places.{placed}
 use Rattle.crew_flights.specs.Timetable.{empty_timetable}
 use Rattle.crew_flights.specs.declared.flight.Flight.{Flight}
 use Rattle.crew_pairing.specs.Duties.{HasFew, flights_of}
@@ -18,7 +19,7 @@ no-duties-at-start s =
     no-entries (x ∷ es) e = absurd (omega (arith, e))
 
     no-flights : (flights_of empty_timetable).list ≡ []
-    no-flights = ap (map (λ (e : ℕ × Flight). e.1)) (no-entries (fin.entries empty_timetable.flights) (sym (fin.len-entries empty_timetable.flights) ∙ fin.len-empty nat_cmp Flight))
+    no-flights = ap (λ (es : List (ℕ × Flight)). map (placed empty_timetable) (map (λ (e : ℕ × Flight). e.1) es)) (no-entries (fin.entries empty_timetable.flights) (sym (fin.len-entries empty_timetable.flights) ∙ fin.len-empty nat_cmp Flight))
 
     none-known : {A : Type 0} (flight : Flight) → Member (flights_of empty_timetable).list flight → A
     none-known flight m = absurd (subst (λ (fs : List Flight). Member fs flight) no-flights m)

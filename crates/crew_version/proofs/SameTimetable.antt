@@ -1,5 +1,5 @@
--- Two timetables with the same flights, bases and turns are one.
-use Rattle.std.proofs.Common.{◌≡◌, ℕ, ℤ, Bool, true, List, [], ◌∷◌, ◌&&◌, refl, sym, ◌∙◌, ap, Some, suc, nat_eq}
+-- Two timetables with the same flights, bases, turns and follow-ons are one.
+use Rattle.std.proofs.Common.{◌≡◌, ℕ, ℤ, Bool, true, List, [], ◌∷◌, ◌&&◌, refl, sym, subst, ◌∙◌, ap, Option, None, Some, suc, nat_eq}
 use Rattle.std.specs.Bool.{Decides}
 use Rattle.std.specs.Ordering.{eq_by_cmp, int_eq}
 use Rattle.crew_flights.specs.Codes.{code_cmp}
@@ -12,7 +12,8 @@ use Rattle.crew_vector.proofs.Orders.{code-itself, same-code}
 use Rattle.std.specs.FinMap as map
 use Rattle.std.proofs.lemmas.Map.Keys.{IsDistinct-from_sorted}
 use Rattle.std.proofs.lemmas.Map.Entries.{lookup_from_place}
-use Rattle.crew_flights.specs.Timetable.{Timetable, IsSound}
+use Rattle.crew_flights.specs.FollowOns.{Links}
+use Rattle.crew_flights.specs.Timetable.{Timetable, IsMirrored, IsSound}
 use Rattle.crew_flights.specs.declared.flight.Flight.{Flight}
 use Rattle.crew_flights.proofs.Listed.{keys_rise}
 use Rattle.crew_flights.proofs.Maps.{find_lookup}
@@ -35,12 +36,30 @@ same-flights a b s t h =
     map.same_entries_map a.flights b.flights
     (again (map.entries a.flights) (numbered a s) ∙ ap (list_map (λ (f : Flight). (f.id, f))) h ∙ sym (again (map.entries b.flights) (numbered b t)))
 
--- flights by number, bases by code and turns tell a timetable
-pub same-timetable : (a b : Timetable) → IsSound a → IsSound b → map.values a.flights ≡ map.values b.flights → map.entries a.bases ≡ map.entries b.bases → map.entries a.turns ≡ map.entries b.turns → a ≡ b
-same-timetable a b s t h k l =
-    ap (λ x. record { flights = x; bases = a.bases; turns = a.turns }) (same-flights a b s t h)
-    ∙ (ap (λ x. record { flights = b.flights; bases = x; turns = a.turns }) (map.same_entries_map a.bases b.bases k)
-    ∙ ap (λ x. record { flights = b.flights; bases = b.bases; turns = x }) (map.same_entries_map a.turns b.turns l))
+-- a mirror of links is told by them
+one-mirror : (f l m : Links) → IsMirrored f l → IsMirrored l f → IsMirrored f m → IsMirrored m f → (q : ℕ) → map.get l q ≡ map.get m q
+one-mirror f l m to-l from-l to-m from-m q = by (map.get l q) (map.get m q) refl refl
+  where
+    by : (a b : Option ℕ) → map.get l q ≡ a → map.get m q ≡ b → map.get l q ≡ map.get m q
+    by (Some x) b e k = e ∙ sym (to-m x q (from-l q x e))
+    by None (Some y) e k = to-l y q (from-m q y k) ∙ sym k
+    by None None e k = e ∙ sym k
+
+same-leads : (a b : Timetable) → IsSound a → IsSound b → a.follows ≡ b.follows → a.leads ≡ b.leads
+same-leads a b s t e =
+    map.same_map nat_cmp_total map.nat_cmp-IsAntisymmetric a.leads b.leads
+    (one-mirror b.follows a.leads b.leads (subst (λ (f : Links). IsMirrored f a.leads) e s.leads) (subst (λ (f : Links). IsMirrored a.leads f) e s.follows) t.leads t.follows)
+
+-- flights by number, bases by code, turns and follow-ons tell a timetable
+pub same-timetable : (a b : Timetable) → IsSound a → IsSound b → map.values a.flights ≡ map.values b.flights → map.entries a.bases ≡ map.entries b.bases → map.entries a.turns ≡ map.entries b.turns
+    → map.entries a.follows ≡ map.entries b.follows → a ≡ b
+same-timetable a b s t h k l m =
+    let follows = map.same_entries_map a.follows b.follows m in
+    ap (λ x. record { flights = x; bases = a.bases; turns = a.turns; follows = a.follows; leads = a.leads }) (same-flights a b s t h)
+    ∙ (ap (λ x. record { flights = b.flights; bases = x; turns = a.turns; follows = a.follows; leads = a.leads }) (map.same_entries_map a.bases b.bases k)
+    ∙ (ap (λ x. record { flights = b.flights; bases = b.bases; turns = x; follows = a.follows; leads = a.leads }) (map.same_entries_map a.turns b.turns l)
+    ∙ (ap (λ x. record { flights = b.flights; bases = b.bases; turns = b.turns; follows = x; leads = a.leads }) follows
+    ∙ ap (λ x. record { flights = b.flights; bases = b.bases; turns = b.turns; follows = b.follows; leads = x }) (same-leads a b s t follows))))
 
 -- ---- comparisons
 
@@ -106,4 +125,10 @@ turn-decides x y = (
   λ e.
       and_from _ _ (and_from _ _ ((id-decides x.0.0 y.0.0).1 (ap (λ z. z.0.0) e)) ((id-decides x.0.1 y.0.1).1 (ap (λ z. z.0.1) e)))
       ((Decides-eqb x.1 y.1).1 (ap (λ z. z.1) e)),
+)
+
+pub follow-on-decides : (x y : ℕ × ℕ) → Decides (eq_by_cmp nat_cmp x.0 y.0 && eq_by_cmp nat_cmp x.1 y.1) (x ≡ y)
+follow-on-decides x y = (
+  λ t. let a = and_parts _ _ t in ap (λ z. (z, x.1)) ((id-decides x.0 y.0).0 a.0) ∙ ap (λ z. (y.0, z)) ((id-decides x.1 y.1).0 a.1),
+  λ e. and_from _ _ ((id-decides x.0 y.0).1 (ap (λ z. z.0) e)) ((id-decides x.1 y.1).1 (ap (λ z. z.1) e)),
 )

@@ -110,6 +110,14 @@ fn is_same_edit(one: &Edit, other: &Edit) -> bool
                 after: a,
             },
         ) => is_same_id(before, b) && is_same_id(after, a),
+        (
+            Edit::Follow { before, after },
+            Edit::Follow {
+                before: b,
+                after: a,
+            },
+        ) => is_same_id(before, b) && is_same_id(after, a),
+        (Edit::TakeFollow { before }, Edit::TakeFollow { before: b }) => is_same_id(before, b),
         _ => false,
     }
 }

@@ -3,17 +3,18 @@ use Rattle.std.specs.Prelude.{◌≡◌, true, false, int_lt, ℕ, suc, ◌+◌,
 use Rattle.std.specs.declared.cmp.Ordering.{Ordering}
 use Rattle.std.specs.Ordering.{int_cmp, nat_cmp, ordering_then}
 use Rattle.std.specs.List.Sorted.{IsPartitionPoint}
+use Rattle.crew_resource.specs.Members.{Each}
 
 -- when something happens, and its place among all
 pub record Slot : Type 0 where
   pub at : ℤ
   pub place : ℕ
 
--- the letters of an airport as one number
+-- the bytes of a place as one number
 abbrev pub code_number : List ℕ → ℕ
-code_number code = (get_or code 0 0 - 65) * 676 + (get_or code 1 0 - 65) * 26 + (get_or code 2 0 - 65)
+code_number code = get_or code 0 0 * 65_536 + get_or code 1 0 * 256 + get_or code 2 0
 
--- an airport and a minute as one number: airports lie further apart than any two minutes of 32 bits
+-- a place and a minute as one number: places lie further apart than any two minutes of 32 bits
 abbrev pub moment : List ℕ → ℤ → ℤ
 moment airport minute = pos (code_number airport * 4_295_000_000) +ℤ minute
 
@@ -27,10 +28,10 @@ pub record IsReal (minute : ℤ) : Type 0 where
   pub least : negsuc 2_147_483_647 ≤ℤ minute
   pub most : minute ≤ℤ pos 2_147_483_647
 
--- a moment of such a minute: with a place it fits 64 bits
+-- a moment of such a minute
 pub record IsBounded (at : ℤ) : Type 0 where
   pub least : negsuc 2_147_500_000 ≤ℤ at
-  pub most : at ≤ℤ pos 75_490_000_000_000
+  pub most : at ≤ℤ pos 72_058_142_720_000_000
 
 -- what happens at these moments, from a place on
 abbrev pub slots_from : ℕ → List ℤ → List Slot
@@ -47,6 +48,14 @@ slot_cmp a b = ordering_then (int_cmp a.at b.at) (nat_cmp a.place b.place)
 -- the keys of all that happens at these moments, in any order
 abbrev pub AreKeys : List ℤ → List ℕ → Type 0
 AreKeys ats keys = IsPermutation (slots_from 0 ats) (map keyed_slot keys)
+
+-- a key of a slot at a moment that is no later than any
+abbrev pub IsKey : ℕ → Type 0
+IsKey key = (keyed_slot key).at ≤ℤ pos 72_058_142_720_000_000
+
+-- keys of slots at bounded moments
+abbrev pub AreSlotKeys : List ℕ → Type 0
+AreSlotKeys keys = (ats : List ℤ) × AreKeys ats keys × Each IsBounded ats
 
 -- no slot is later than one after it
 abbrev pub Ascend : List Slot → Type 0

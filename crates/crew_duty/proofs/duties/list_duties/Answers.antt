@@ -10,11 +10,11 @@ use Rattle.crew_duty.proofs.Planned.{both-held, is-plan}
 use Rattle.crew_duty.proofs.duties.list_duties.Goals as goal
 
 pub index_of-requires : goal.index_of-requires
-index_of-requires g c = rw (c.deref.ensures.value, c.in_ok-flights.ensures.held) (flights-few c.args.timetable.now c.held_flights.ensures.sound)
+index_of-requires g c = rw (c.deref.ensures.value, c.in_ok-flights.ensures.held) (flights-few c.args.timetable.now c.placed_flights.ensures.sound)
 
 pub count_all-requires-after_bounds : goal.count_all-requires-after_bounds
 count_all-requires-after_bounds g c = λ κs q.
-    is-plan c.args.settings.now c.args.timetable.now c.deref.result.now c.deref-2.result.now c.deref-4.result.now c.in_ok-turns.turns c.deref-5.result.now c.deref-6.result.now c.requires c.held_flights.ensures.sound
+    is-plan c.args.settings.now c.args.timetable.now c.deref.result.now c.deref-2.result.now c.deref-4.result.now c.in_ok-turns.turns c.deref-5.result.now c.deref-6.result.now c.requires c.placed_flights.ensures.sound
     (c.deref.ensures.value ∙ c.in_ok-flights.ensures.held) (c.deref-2.ensures.value ∙ c.in_ok-flights.ensures.held) (c.deref-4.ensures.value ∙ c.in_ok-flights.ensures.held) c.in_ok-turns.ensures
     (rw c.deref-5.ensures.value c.in_ok-slots.ensures) (rw c.deref-6.ensures.value c.in_ok-next.ensures)
 
@@ -28,13 +28,13 @@ returns-then-total-gt-DUTIES-clause-too_many g c =
     let many = counts-over s flights c.in_ok-counts.counts.items c.in_ok-counts.ensures more in
     λ e. (
       all_duties s (flights_of t),
-      all-duties s (flights_of t) (flights-of-timetable t c.held_flights.ensures.sound),
+      all-duties s (flights_of t) (flights-of-timetable t c.placed_flights.ensures.sound),
       subst (λ (fs : Flights). 200_000 < length (all_duties s fs)) same many,
     )
 
 pub list_all-requires-clause-plan : goal.list_all-requires-clause-plan
 list_all-requires-clause-plan g c = λ κs q.
-    is-plan c.args.settings.now c.args.timetable.now c.deref.result.now c.deref-2.result.now c.deref-4.result.now c.in_ok-turns.turns c.deref-5.result.now c.deref-6.result.now c.requires c.held_flights.ensures.sound
+    is-plan c.args.settings.now c.args.timetable.now c.deref.result.now c.deref-2.result.now c.deref-4.result.now c.in_ok-turns.turns c.deref-5.result.now c.deref-6.result.now c.requires c.placed_flights.ensures.sound
     (c.deref.ensures.value ∙ c.in_ok-flights.ensures.held) (c.deref-2.ensures.value ∙ c.in_ok-flights.ensures.held) (c.deref-4.ensures.value ∙ c.in_ok-flights.ensures.held) c.in_ok-turns.ensures
     (rw c.deref-5.ensures.value c.in_ok-slots.ensures) (rw c.deref-6.ensures.value c.in_ok-next.ensures)
 
@@ -45,7 +45,7 @@ returns-clause-listed g c =
     let flights = over c.deref-4.result.now c.in_ok-turns.turns in
     let same : flights ≡ flights_of t = both-held c.deref-4.result.now c.in_ok-turns.turns t (c.deref-4.ensures.value ∙ c.in_ok-flights.ensures.held) c.in_ok-turns.ensures in
     let listed : c.in_ok-list_all.field-0 ≡ all_duties s (flights_of t) = c.in_ok-list_all.ensures ∙ ap (λ (fs : Flights). all_duties s fs) same in
-    rw listed (all-duties s (flights_of t) (flights-of-timetable t c.held_flights.ensures.sound))
+    rw listed (all-duties s (flights_of t) (flights-of-timetable t c.placed_flights.ensures.sound))
 
 pub returns-clause-few : goal.returns-clause-few
 returns-clause-few g c =

@@ -20,7 +20,7 @@ list_priced-requires-clause-few g c = few-legs c.args.settings.now (flights_of c
 pub list_priced-requires-clause-flights : goal.list_priced-requires-clause-flights
 list_priced-requires-clause-flights g c =
     let now = c.args.timetable.now in
-    (now.turns, held-flights c.deref-then-can_reprice.result.now now.turns now c.held_flights-2.ensures.sound (c.deref-then-can_reprice.ensures.value ∙ c.in_ok-flights.ensures.held) refl)
+    (now.turns, held-flights c.deref-then-can_reprice.result.now now.turns now c.placed_flights-2.ensures.sound (c.deref-then-can_reprice.ensures.value ∙ c.in_ok-flights.ensures.held) refl)
 
 -- the same, over flights and turns that are held
 same-both : {a b x y : Flights} → AreSameButPrices a b → a ≡ x → b ≡ y → AreSameButPrices x y
@@ -38,7 +38,7 @@ blocks-requires-clause-past g c =
     let here = both-held c.deref-3.result.now turns now (c.deref-3.ensures.value ∙ c.in_ok-flights.ensures.held) c.in_ok-turns.ensures in
     let old = both-held c.deref-4.result.now c.in_ok-turns_before.turns_before before (c.deref-4.ensures.value ∙ c.in_ok-before.ensures.held) c.in_ok-turns_before.ensures in
     let told = told-both c.in_ok-minutes.ensures here old in
-    let past = past-of s now before c.args.duties.now c.in_ok-minutes.minutes.items c.requires.checked c.held_flights-2.ensures.sound c.held_flights.ensures.sound c.requires.earlier told in
+    let past = past-of s now before c.args.duties.now c.in_ok-minutes.minutes.items c.requires.checked c.placed_flights-2.ensures.sound c.placed_flights.ensures.sound c.requires.earlier told in
     let asked = both-held c.deref-6.result.now turns now (c.deref-6.ensures.value ∙ c.in_ok-flights.ensures.held) c.in_ok-turns.ensures in
     let known : IsPast s (over c.deref-6.result.now turns) c.args.duties.now c.deref-5.result.now = rw c.deref-5.ensures.value (subst (λ (fs : Flights). IsPast s fs c.args.duties.now c.in_ok-minutes.minutes.items) (sym asked) past) in
     (turns, known)
@@ -46,12 +46,12 @@ blocks-requires-clause-past g c =
 pub list_beside-requires-clause-flights : goal.list_beside-requires-clause-flights
 list_beside-requires-clause-flights g c =
     let now = c.args.timetable.now in
-    held-flights c.deref-9.result.now c.in_ok-turns.turns now c.held_flights-2.ensures.sound (c.deref-9.ensures.value ∙ c.in_ok-flights.ensures.held) c.in_ok-turns.ensures
+    held-flights c.deref-9.result.now c.in_ok-turns.turns now c.placed_flights-2.ensures.sound (c.deref-9.ensures.value ∙ c.in_ok-flights.ensures.held) c.in_ok-turns.ensures
 
 pub list_beside-requires-clause-few : goal.list_beside-requires-clause-few
 list_beside-requires-clause-few g c =
     let now = c.args.timetable.now in
-    held-few c.deref-9.result.now now c.held_flights-2.ensures.sound (c.deref-9.ensures.value ∙ c.in_ok-flights.ensures.held)
+    held-few c.deref-9.result.now now c.placed_flights-2.ensures.sound (c.deref-9.ensures.value ∙ c.in_ok-flights.ensures.held)
 
 pub returns-clause-too_many : goal.returns-clause-too_many
 returns-clause-too_many g c = λ e.
@@ -59,7 +59,7 @@ returns-clause-too_many g c = λ e.
     let now = c.args.timetable.now in
     let fs = both-held c.deref-9.result.now c.in_ok-turns.turns now (c.deref-9.ensures.value ∙ c.in_ok-flights.ensures.held) c.in_ok-turns.ensures in (
       all_duties s (flights_of now),
-      all-duties s (flights_of now) (flights-of-timetable now c.held_flights-2.ensures.sound),
+      all-duties s (flights_of now) (flights-of-timetable now c.placed_flights-2.ensures.sound),
       subst (λ (l : Flights). 200_000 < length (all_duties s l)) fs (c.list_beside.ensures.too_many e),
     )
 
@@ -92,7 +92,7 @@ list_beside-requires-clause-kept g c =
     let here = both-held c.deref-3.result.now turns now (c.deref-3.ensures.value ∙ c.in_ok-flights.ensures.held) c.in_ok-turns.ensures in
     let old = both-held c.deref-4.result.now c.in_ok-turns_before.turns_before before (c.deref-4.ensures.value ∙ c.in_ok-before.ensures.held) c.in_ok-turns_before.ensures in
     let told = told-both c.in_ok-minutes.ensures here old in
-    let past = past-of s now before c.args.duties.now c.in_ok-minutes.minutes.items c.requires.checked c.held_flights-2.ensures.sound c.held_flights.ensures.sound c.requires.earlier told in
+    let past = past-of s now before c.args.duties.now c.in_ok-minutes.minutes.items c.requires.checked c.placed_flights-2.ensures.sound c.placed_flights.ensures.sound c.requires.earlier told in
     let asked = both-held c.deref-6.result.now turns now (c.deref-6.ensures.value ∙ c.in_ok-flights.ensures.held) c.in_ok-turns.ensures in
     let known : IsPast s (over c.deref-6.result.now turns) c.args.duties.now c.deref-5.result.now = rw c.deref-5.ensures.value (subst (λ (fs : Flights). IsPast s fs c.args.duties.now c.in_ok-minutes.minutes.items) (sym asked) past) in
     let first = c.deref-6.ensures.value ∙ sym c.deref-9.ensures.value in

@@ -3,12 +3,23 @@ use Rattle.std.proofs.lemmas.List.{length-map}
 use Rattle.crew_net.proofs.ByReport.{few-moments}
 use Rattle.crew_net.proofs.EventsReal.{events-real}
 use Rattle.crew_net.proofs.Keyed.{gathered-keys}
+use Rattle.crew_net.proofs.SlotKeys.{arriving-bounded, leaving-bounded}
 use Rattle.crew_net.specs.Machinery.Held.{arrive_at, leave_at}
 use Rattle.crew_net.specs.Machinery.Moments.{IsReal}
 use Rattle.crew_net.specs.Nets.{AreByReport}
 use Rattle.crew_pairing.specs.declared.events.Departure.{Departure}
 use Rattle.crew_resource.specs.Members.{Each}
 use Rattle.crew_net.proofs.events.events_of.Goals as goal
+
+pub of-requires-clause-keys : goal.of-requires-clause-keys
+of-requires-clause-keys c = (
+  map leave_at c.args.duties.now,
+  gathered-keys (map leave_at c.args.duties.now) c.in_ok-leave.leave.items _ c.in_ok-leave.ensures.leave (subst (λ (l : List ℕ). IsPermutation l c.in_ok-gathered.field-0.items) c.deref.ensures.value c.in_ok-gathered.ensures.same),
+  leaving-bounded c.args.duties.now c.in_ok-leave.ensures.left,
+)
+
+pub of-requires-2-clause-keys : goal.of-requires-2-clause-keys
+of-requires-2-clause-keys c = (map arrive_at c.args.duties.now, c.in_ok-leave.ensures.arrive, arriving-bounded c.args.duties.now c.in_ok-leave.ensures.reached)
 
 pub departures_of-requires : goal.departures_of-requires
 departures_of-requires c = c.in_ok-leave-2.ensures (map leave_at c.args.duties.now) (gathered-keys (map leave_at c.args.duties.now) c.in_ok-leave.leave.items _ c.in_ok-leave.ensures.leave (subst (λ (l : List ℕ). IsPermutation l c.in_ok-gathered.field-0.items) c.deref.ensures.value c.in_ok-gathered.ensures.same))

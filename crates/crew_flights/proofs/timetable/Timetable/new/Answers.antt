@@ -7,7 +7,7 @@ use Rattle.crew_flights.proofs.Soundness.{empty_sound}
 use Rattle.crew_flights.proofs.timetable.Timetable.new.Goals as goal
 
 pub returns : goal.returns
-returns c = λ i. record { flights = seen_empty nat_cmp c.new.result.entries c.new.ensures.empty i; bases = seen_empty code_cmp c.new-2.result.entries c.new-2.ensures.empty i; turns = seen_empty pair_cmp c.new-3.result.entries c.new-3.ensures.empty i }
+returns c = λ i. record { flights = seen_empty nat_cmp c.new.result.entries c.new.ensures.empty i; bases = seen_empty code_cmp c.new-2.result.entries c.new-2.ensures.empty i; turns = seen_empty pair_cmp c.new-3.result.entries c.new-3.ensures.empty i; follows = (c.new-4.ensures i).follows; leads = (c.new-4.ensures i).leads }
 
 pub invariant_of-result : goal.invariant_of-result
 invariant_of-result c = record {

@@ -10,7 +10,7 @@ use Rattle.crew_flights.proofs.timetable.Timetable.put_base.Goals as goal
 
 pub returns-clause-ok : goal.returns-clause-ok
 returns-clause-ok c =
-    bases_put c.self.inside.flights c.self.inside.bases c.insert.new.self c.self.inside.turns c.args.code c.args.price c.self.invariant.bases_ordered c.in_ok-insert.ensures.ordered (λ q. c.in_ok-insert.ensures.updates.0 q ∙ ap (λ (z : ℤ). cond (is_at (code_cmp c.args.code) q) (Some z) (get code_cmp c.self.inside.bases q)) (to_z-of_z w64 c.args.price c.ranges.price))
+    bases_put c.self.inside.flights c.self.inside.bases c.insert.new.self c.self.inside.turns c.self.inside.follow_ons c.args.code c.args.price c.self.invariant.bases_ordered c.in_ok-insert.ensures.ordered (λ q. c.in_ok-insert.ensures.updates.0 q ∙ ap (λ (z : ℤ). cond (is_at (code_cmp c.args.code) q) (Some z) (get code_cmp c.self.inside.bases q)) (to_z-of_z w64 c.args.price c.ranges.price))
     ∙ ap (λ (t : Timetable). with_base t c.args.code c.args.price) c.self.view_is
 
 pub invariant_of-self-2 : goal.invariant_of-self-2

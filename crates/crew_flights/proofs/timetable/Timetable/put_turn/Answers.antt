@@ -6,7 +6,7 @@ use Rattle.crew_flights.proofs.timetable.Timetable.put_turn.Goals as goal
 
 pub returns-clause-ok : goal.returns-clause-ok
 returns-clause-ok c =
-    turns_put c.self.inside.flights c.self.inside.bases c.self.inside.turns c.insert.new.self c.args.before c.args.after c.args.minutes c.self.invariant.turns_ordered c.in_ok-insert.ensures.ordered c.in_ok-insert.ensures.updates.0
+    turns_put c.self.inside.flights c.self.inside.bases c.self.inside.turns c.insert.new.self c.self.inside.follow_ons c.args.before c.args.after c.args.minutes c.self.invariant.turns_ordered c.in_ok-insert.ensures.ordered c.in_ok-insert.ensures.updates.0
     ∙ ap (λ (t : Timetable). with_turn t c.args.before c.args.after c.args.minutes) c.self.view_is
 
 pub invariant_of-self-2 : goal.invariant_of-self-2

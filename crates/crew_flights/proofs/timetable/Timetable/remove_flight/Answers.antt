@@ -6,7 +6,7 @@ use Rattle.crew_flights.proofs.timetable.Timetable.remove_flight.Goals as goal
 
 pub returns : goal.returns
 returns c =
-    flights_removed c.self.inside.flights c.remove.new.self c.self.inside.bases c.self.inside.turns c.drop_turns.new.turns c.args.id c.self.invariant.flights_ordered c.remove.ensures.ordered c.remove.ensures.updates.0 c.self.invariant.turns_ordered c.drop_turns.ensures.left
+    flights_removed c.self.inside.flights c.remove.new.self c.self.inside.bases c.self.inside.turns c.drop_turns.new.turns c.self.inside.follow_ons c.remove-2.new.self c.args.id c.self.invariant.flights_ordered c.remove.ensures.ordered c.remove.ensures.updates.0 c.self.invariant.turns_ordered c.drop_turns.ensures.left c.remove-2.ensures
     ∙ ap (λ (t : Timetable). without_flight t c.args.id) c.self.view_is
 
 pub invariant_of-self : goal.invariant_of-self

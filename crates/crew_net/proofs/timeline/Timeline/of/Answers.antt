@@ -1,7 +1,12 @@
 use Rattle.std.proofs.Common.{◌∙◌, List, ap, map, subst, sym, ℕ}
-use Rattle.crew_net.specs.Machinery.Moments.{AreMoments, AreStarts, Ascend, keyed_slot}
+use Rattle.crew_net.specs.Machinery.Moments.{AreMoments, AreStarts, Ascend, IsKey, keyed_slot}
 use Rattle.crew_net.proofs.Keyed.{key-places, keys-ascend, keys-in-order}
+use Rattle.crew_net.proofs.SlotKeys.{keys-stay}
+use Rattle.crew_resource.specs.Members.{Each}
 use Rattle.crew_net.proofs.timeline.Timeline.of.Goals as goal
+
+pub moments_of-requires-clause-keys : goal.moments_of-requires-clause-keys
+moments_of-requires-clause-keys c = subst (Each IsKey) (sym c.deref.ensures.value) (keys-stay c.args.keys.items c.sort_unstable.new.self.items c.requires.keys c.sort_unstable.ensures.permutation)
 
 pub moments_of-requires-clause-ascend : goal.moments_of-requires-clause-ascend
 moments_of-requires-clause-ascend c = subst (λ (l : List ℕ). Ascend (map keyed_slot l)) (sym c.deref.ensures.value) (keys-ascend c.sort_unstable.new.self.items c.sort_unstable.ensures.sorted)
