@@ -14,7 +14,7 @@ from .client import EngineEnded, NotUnderstood, Refused, Session
 from .faults import EngineFault, ScheduleFault
 from .pairing import Pairing
 from .prices import Prices
-from .timetable import Flight, Timetable, record_of
+from .timetable import Timetable, record_of
 
 PATIENCE = 60.0  # seconds for the first answer, which wants no work
 MOST_EDITS = 900_000  # of one session, which takes 1,000,000
@@ -42,14 +42,15 @@ def one_line() -> Iterator[None]:
 
 class Engine:
     """Flights, prices and questions. Where a session has taken nearly as many edits as it may, it goes on by a new one
-    with the flights as they stand.
+    with the prices and follow-ons as they stand.
 
     `seconds` is the time that settles and lists took by the clock, `settles` their number."""
 
     def __init__(self, program: str, options: list[str], timetable: Timetable):
         self.program, self.options = program, options
-        self.rules = dict(timetable.rules)
-        self.flights = dict(timetable.flights)
+        self.rules = timetable.rules
+        self.flights = timetable.flights
+        self.follows: dict[int, int] = {}
         self.prices: dict[int, int] = dict.fromkeys(timetable.flights, 0)
         self.base_prices: dict[str, int] = dict.fromkeys(timetable.bases, 0)
         self.seconds = 0.0
@@ -65,7 +66,7 @@ class Engine:
         self.session.close()
 
     def start(self) -> None:
-        """Starts the program, and gives it the zones, bases and flights as they stand."""
+        """Starts the program, and gives it the zones, bases, flights and follow-ons as they stand."""
         try:
             self.session = Session(self.program, self.options)
         except EngineEnded as fault:
@@ -74,6 +75,7 @@ class Engine:
         self.send(f'zone,{code},"{rule}"' for code, rule in self.rules.items())
         self.send(f'base,{base},{price}' for base, price in self.base_prices.items())
         self.send(record_of(flight, self.prices[number]) for number, flight in self.flights.items())
+        self.send(f'follow,{first},{second}' for first, second in self.follows.items())
 
     def greet(self) -> None:
         """Asks what every engine answers at once, so that one which never answers is told of."""
@@ -105,14 +107,16 @@ class Engine:
             self.send(f'{kind},{name},{price}' for name, price in changed.items())
             held.update(changed)
 
-    def move(self, flights: Iterable[Flight], rules: dict[str, str]) -> None:
-        """Gives flights other airports, of which these are new, with their clocks: each flight is cancelled, and added
-        again with its price."""
-        self.send(f'zone,{code},"{rule}"' for code, rule in rules.items())
-        self.rules |= rules
-        for flight in flights:
-            self.flights[flight.number] = flight
-            self.send((f'cancel,{flight.number}', record_of(flight, self.prices[flight.number])))
+    def bind(self, pairs: Iterable[tuple[int, int]]) -> None:
+        """Lets the second flight of each pair follow the first in every pairing."""
+        for first, second in pairs:
+            self.follows[first] = second
+            self.send((f'follow,{first},{second}',))
+
+    def unbind(self, pairs: Iterable[tuple[int, int]]) -> None:
+        for first, _ in pairs:
+            del self.follows[first]
+            self.send((f'follow,{first}',))
 
     def cheapest(self, most: int, share: int) -> list[tuple[Pairing, int]]:
         """Settles, and lists pairings with their costs, up to so many, the cheapest first; where `share` isn't 0,
@@ -126,8 +130,16 @@ class Engine:
         self.settles += 1
         return found
 
+    def leasts(self) -> dict[str, int]:
+        """The least cost of a pairing of each base, under the prices of the last settle; none where a base has none."""
+        began = time.perf_counter()
+        with one_line():
+            bests = {base: self.session.best(base) for base in self.base_prices}
+        self.seconds += time.perf_counter() - began
+        return {base: best.cost for base, best in bests.items() if best}
+
     def renew(self) -> None:
-        """A new session with the flights as they stand."""
+        """A new session with all as it stands."""
         self.processor_before = self.processor_seconds()
         self.__exit__()
         self.start()

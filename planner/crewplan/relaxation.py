@@ -80,18 +80,20 @@ class Result:
 
 class Bound:
     """The greatest lower bound so far. Any prices give one, where no flight's is above the penalty: what they come to,
-    and where the least cost under them is below 0, that cost once for each pairing that a cover may have: each ends with
-    a flight to its base, which no other covers."""
+    and of each base, where the least cost under them is below 0, that cost once for each pairing of the base that a cover
+    may have: each ends with a flight to the base, which no other covers."""
 
     def __init__(self, timetable: Timetable, capacity: int | None):
         arrivals = Counter(flight.destination for flight in timetable.flights.values())
         most = math.inf if capacity is None else capacity
         self.capacity = capacity or 0
-        self.most = sum(min(arrivals[base], most) for base in timetable.bases)
+        self.most = {base: min(arrivals[base], most) for base in timetable.bases}
         self.value = -math.inf
 
-    def offer(self, prices: Prices, least: float) -> None:
-        value = sum(prices.flights.values()) + self.capacity * sum(prices.bases.values()) + self.most * min(least, 0)
+    def offer(self, prices: Prices, leasts: dict[str, int]) -> None:
+        """With the least cost of each base that has a pairing."""
+        value = sum(prices.flights.values()) + self.capacity * sum(prices.bases.values())
+        value += sum(self.most[base] * min(least, 0) for base, least in leasts.items())
         self.value = max(self.value, value)
 
 
@@ -114,7 +116,7 @@ def relax(timetable: Timetable, engine: Engine, ways: Ways, *, penalty: float = 
         engine.set_prices(prices)
         listed = engine.cheapest(ways.most, ways.share)
         least = min(listed[0][1], 0) if listed else 0
-        bound.offer(prices, least)
+        bound.offer(prices, engine.leasts())
         problem.take_in([pairing for pairing, _ in listed])
         before, spent = problem.masters, time.perf_counter()
         relaxed, took = feed(problem, relaxed, ways, dropping)

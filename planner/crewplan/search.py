@@ -25,7 +25,6 @@ from .plan import Whole, whole_of
 from .problem import Problem, Relaxed
 from .relaxation import Ways
 from .settings import Settings
-from .timetable import Timetable
 
 FIRST = (Steps(settles=1), Steps(settles=1, spread=0.05), Steps(part=0.1, least=0.6, spread=0.05),
          Steps(settles=1, part=0.03, spread=0.1))
@@ -57,7 +56,6 @@ class Exchange:
 class Search:
     """What a search goes on: the problem with the relaxation's optimum, the engine, and whom it tells. Searches of other
     numbers go other ways."""
-    timetable: Timetable
     settings: Settings
     engine: Engine
     problem: Problem
@@ -68,7 +66,7 @@ class Search:
     number: int = 0
 
     def __post_init__(self) -> None:
-        self.follow_ons = FollowOns(self.timetable, self.settings, self.engine)
+        self.follow_ons = FollowOns(self.settings, self.engine)
         self.ways = replace(self.ways, gap=0.0)
         self.draw = numpy.random.default_rng(self.number)
         self.weights = {pair: weight for weight, pair in self.problem.pool.follow_ons(self.relaxed.values)}

@@ -86,7 +86,7 @@ def run_one(start: Start, number: int, tell_step: TellStep, tell: Callable[[Foun
     problem = Problem.of(start.timetable, start.penalty, start.capacity, start.ways.master)
     problem.take_in(start.pairings)
     with Engine(start.program, start.options, start.timetable) as engine:
-        search = Search(start.timetable, settings_of(start.options), engine, problem, start.relaxed, start.ways, tell_step,
+        search = Search(settings_of(start.options), engine, problem, start.relaxed, start.ways, tell_step,
                         Exchange(tell_plan, hear), number)
         search.run(start.seconds)
         return Took(search.dives, engine.settles, problem.masters, len(problem.pool) - len(start.pairings),

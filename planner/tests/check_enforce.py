@@ -2,10 +2,10 @@
 """Compares what follow-ons leave of a timetable's pairings with a plain list of all of them.
 
 On small random timetables, the same at each run, some of them with a leg that the crew may ride: follow-ons drawn by lot
-are enforced, some are undone, and others enforced in their place, so that private airports are shared and used again. The
-engine's audit then has to count the pairings that a plain list keeps, at the same least cost: those in which each pair of
-flights comes one directly after the other, or neither comes. Where no crew rides, a master problem in which the flights of
-a chain of follow-ons share a row has to have the optimum of one with a row for each.
+are enforced, some are undone, and others enforced in their place. The engine's audit then has to count the pairings that a
+plain list keeps, at the same least cost: those in which each pair of flights comes one directly after the other, or neither
+comes. Where no crew rides, a master problem in which the flights of a chain of follow-ons share a row has to have the
+optimum of one with a row for each.
 """
 from __future__ import annotations
 
@@ -43,23 +43,22 @@ def keeps(legs: list[int], pair: Pair) -> bool:
     return first in legs and second in legs and legs.index(second) == legs.index(first) + 1
 
 
-def check(program: str, draw: random.Random, text: str, settings: dict[str, int]) -> tuple[str, int, int]:
-    """What is wrong, how many follow-ons were enforced and by how many airports."""
+def check(program: str, draw: random.Random, text: str, settings: dict[str, int]) -> tuple[str, int]:
+    """What is wrong, and how many follow-ons were enforced."""
     listed = [pairing for pairing in lister.pairings(text, settings)]
     pairs = sorted({pair for pairing in listed for pair in zip(legs_of(pairing), legs_of(pairing)[1:])})
     if not pairs:
-        return '', 0, 0
+        return '', 0
     timetable, options = read_text(text), options_of(settings)
     flights, bases = lister.read(text, settings)
     with Engine(program, options, timetable) as engine:
         engine.set_prices(Prices({number: flight.price for number, flight in flights.items()}, bases))
-        follow_ons = FollowOns(timetable, settings_of(options), engine)
+        follow_ons = FollowOns(settings_of(options), engine)
         first = follow_ons.enforce(draw.sample(pairs, min(len(pairs), draw.randint(1, 5))))
         follow_ons.release(draw.sample(first, len(first) // 2))
         follow_ons.enforce(draw.sample(pairs, min(len(pairs), draw.randint(1, 5))))
         engine.session.settle()
         audit = engine.session.audit(AUDIT)
-        used = sum(bool(held) for held in follow_ons.airports.values())
         kept = [pairing for pairing in listed if all(keeps(legs_of(pairing), pair) for pair in follow_ons.pairs)]
         wanted = len(kept), min((lister.cost(pairing, (flights, bases)) for pairing in kept), default=None)
         found = audit.pairings, audit.cost
@@ -67,8 +66,8 @@ def check(program: str, draw: random.Random, text: str, settings: dict[str, int]
         follow_ons.release(follow_ons.pairs)
         engine.session.settle()
         if engine.session.audit(AUDIT).pairings != len(listed):
-            return 'not all pairings are back after all is undone', count, used
-    return ('' if wanted == found else f'wanted {wanted}, found {found}'), count, used
+            return 'not all pairings are back after all is undone', count
+    return ('' if wanted == found else f'wanted {wanted}, found {found}'), count
 
 
 def check_rows(draw: random.Random, text: str, settings: dict[str, int]) -> str:
@@ -104,15 +103,15 @@ def fault_of(problem: Problem, relaxed: Relaxed) -> str:
 
 def main(program: str) -> int:
     draw, other_draw = random.Random(SEED), random.Random(SEED + 1)
-    bad, enforced, airports, riding, place = 0, 0, 0, 0, 0
+    bad, enforced, riding, place = 0, 0, 0, 0
     for place, (text, settings) in enumerate(check_lister.timetables(draw, TIMETABLES), 1):
-        fault, count, used = check(program, draw, text, settings)
-        enforced, airports, riding = enforced + count, airports + used, riding + (count > 0 and 'deadheads' in settings)
+        fault, count = check(program, draw, text, settings)
+        enforced, riding = enforced + count, riding + (count > 0 and 'deadheads' in settings)
         if fault := fault or ('deadheads' not in settings and check_rows(other_draw, text, settings)):
             bad += 1
             print(f'{fault}: settings {settings}, over\n{text}', file=sys.stderr)
-    print(f'{place - bad} of {place} timetables keep the pairings of a plain list under {enforced} follow-ons, which '
-          f'share {airports} private airports; {riding} of them with crews that ride')
+    print(f'{place - bad} of {place} timetables keep the pairings of a plain list under {enforced} follow-ons; '
+          f'{riding} of them with crews that ride')
     return 0 if bad == 0 else 1
 
 

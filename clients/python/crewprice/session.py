@@ -114,6 +114,22 @@ class Session:
     def price(self, number: int, price: int) -> int:
         return self.send(f'price,{number},{price}')
 
+    def turn(self, before: int, after: int, minutes: int) -> int:
+        """The least minutes on the ground between two flights that are neighbours in a duty, in place of `connect`: 0 to
+        1,441. More than `sit` forbid the connection, 1,441 whatever that is."""
+        return self.send(f'turn,{before},{after},{minutes}')
+
+    def take_turn(self, before: int, after: int) -> int:
+        return self.send(f'turn,{before},{after}')
+
+    def follow(self, before: int, after: int) -> int:
+        """In each pairing one flight is the next leg after another, in the same duty or as the first of the next, or
+        neither is there."""
+        return self.send(f'follow,{before},{after}')
+
+    def take_follow(self, before: int) -> int:
+        return self.send(f'follow,{before}')
+
     def load(self, timetable: Timetable) -> None:
         self.send_all(timetable.records())
 
