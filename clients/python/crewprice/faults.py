@@ -4,7 +4,8 @@ from __future__ import annotations
 NAMES = {
     1: 'BadTimeText', 2: 'NoSuchTime', 3: 'YearRange', 4: 'BadZone', 21: 'BaseExists', 22: 'NoBase', 23: 'FlightExists',
     24: 'NoFlight', 25: 'BadTimes', 26: 'SameAirport', 27: 'WrongOrigin', 28: 'PriceRange', 29: 'TooManyFlights',
-    30: 'TooManyBases', 40: 'TooManyDuties', 45: 'OverLimit', 61: 'SeatFull', 70: 'UnknownRecord', 71: 'FieldCount',
+    30: 'TooManyBases', 32: 'NoConnection', 33: 'NoTurn', 34: 'TurnRange', 35: 'TooManyTurns', 36: 'Taken',
+    37: 'NoFollowOn', 40: 'TooManyDuties', 45: 'OverLimit', 61: 'SeatFull', 70: 'UnknownRecord', 71: 'FieldCount',
     72: 'BadField', 73: 'NoZone', 74: 'ZoneExists', 75: 'TooManyZones',
 }
 

@@ -72,6 +72,27 @@ class Sessions(unittest.TestCase):
         self.assertEqual(best.duties, ((Leg(1), Leg(2)),))
         self.assertEqual(best.flights, (1, 2))
 
+    def test_turns_and_follow_ons(self) -> None:
+        with Session(PROGRAM) as session:
+            session.load(there_and_back())
+            session.turn(1, 2, 61)  # there are 60 minutes
+            session.settle()
+            self.assertIsNone(session.best())
+            session.turn(1, 2, 60)
+            session.settle()
+            self.assertEqual(session.best().walk, '1-2')
+            session.take_turn(1, 2)
+            session.follow(1, 2)
+            session.follow(1, 2)
+            version = session.settle()
+            self.assertEqual([(it.reason, it.name) for it in version.refused], [(36, 'Taken')])
+            self.assertEqual(session.best().walk, '1-2')
+            self.assertEqual(session.explain('BOS', '1').rule, 'returns')
+            session.take_follow(1)
+            session.take_follow(1)
+            session.take_turn(1, 2)
+            self.assertEqual([it.name for it in session.settle().refused], ['NoFollowOn', 'NoTurn'])
+
     def test_the_status_of_a_session(self) -> None:
         session = Session(PROGRAM)
         self.assertIsNone(session.best())
