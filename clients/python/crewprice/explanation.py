@@ -54,8 +54,8 @@ class Broken:
     limit: int | None
 
 
-COUNTED = ('connect', 'sit', 'deadheads', 'flight-time', 'flight-duty', 'rest', 'max-rest', 'fdp-total', 'fly-cap',
-           'max-duties', 'away-cap', 'window', 'free-time')
+COUNTED = ('turn', 'connect', 'sit', 'deadheads', 'flight-time', 'flight-duty', 'rest', 'max-rest', 'fdp-total',
+           'fly-cap', 'max-duties', 'away-cap', 'window', 'free-time')
 
 
 def broken_of(words: list[str]) -> Broken:

@@ -78,6 +78,8 @@ class Sessions(unittest.TestCase):
             session.turn(1, 2, 61)  # there are 60 minutes
             session.settle()
             self.assertIsNone(session.best())
+            broken = session.explain('BOS', '1-2')
+            self.assertEqual((broken.rule, broken.found, broken.limit), ('turn', 60, 61))
             session.turn(1, 2, 60)
             session.settle()
             self.assertEqual(session.best().walk, '1-2')
