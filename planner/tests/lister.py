@@ -139,9 +139,33 @@ def read(text: str, settings: dict[str, int]) -> Timetable:
                     int(number), origin, target, instant(dep), instant(arr), int(price), clock)
             case ["settle"]:
                 break
+            case ["turn" | "follow", *_]:
+                continue
             case [_, *_]:
                 raise ValueError(f"no record of a timetable: {record}")
     return flights, bases
+
+
+class Bonds:
+    """The turns of two flights, the flight that follows one and the one that it follows, up to the first settle."""
+
+    def __init__(self, text: str):
+        self.turns: dict[tuple[int, int], int] = {}
+        self.next: dict[int, int] = {}
+        self.lead: dict[int, int] = {}
+        for record in csv.reader(text.splitlines()):
+            match record:
+                case ["turn", before, after, minutes]:
+                    self.turns[int(before), int(after)] = int(minutes)
+                case ["follow", before, after]:
+                    self.next[int(before)], self.lead[int(after)] = int(after), int(before)
+                case ["settle"]:
+                    break
+
+    def keep(self, before: Flight, after: Flight) -> bool:
+        """Whether one flight may be the next leg after another, by what follows them and what they follow."""
+        return (self.next.get(before.number, after.number) == after.number
+                and self.lead.get(after.number, before.number) == before.number)
 
 
 def table_a(clock: int) -> int:
@@ -169,7 +193,7 @@ def lists(items: list, may_follow: Callable[..., bool], is_within: Callable[[tup
     return found
 
 
-def legal_duties(all_flights: list[Flight], limits: dict[str, int]) -> list[Duty]:
+def legal_duties(all_flights: list[Flight], limits: dict[str, int], bonds: Bonds) -> list[Duty]:
     def duty_of(legs: tuple[Leg, ...]) -> Duty:
         # From report to the last arrival the duty is a flight duty period (117.3).
         first, last = legs[0].flight, legs[-1].flight
@@ -177,7 +201,9 @@ def legal_duties(all_flights: list[Flight], limits: dict[str, int]) -> list[Duty
         return Duty(legs, first.origin, last.target, report, release, last.arr - report, sum(leg.fly for leg in legs))
 
     def may_follow(before: Leg, after: Leg) -> bool:
-        return limits["connect"] <= after.flight.dep - before.flight.arr <= limits["sit"]
+        least = bonds.turns.get((before.flight.number, after.flight.number), limits["connect"])
+        return (least <= after.flight.dep - before.flight.arr <= limits["sit"]
+                and bonds.keep(before.flight, after.flight))
 
     def is_within(legs: tuple[Leg, ...]) -> bool:
         duty, clock = duty_of(legs), legs[0].flight.clock
@@ -228,14 +254,16 @@ def has_free_hours(duties: tuple[Duty, ...], report: int) -> bool:
 
 def partials(text: str, settings: dict[str, int]) -> list[tuple[Duty, ...]]:
     """All legal lists of duties from a base. Settings that aren't given are at their defaults."""
-    (flights, bases), limits = read(text, settings), with_defaults(settings)
+    (flights, bases), limits, bonds = read(text, settings), with_defaults(settings), Bonds(text)
 
     def may_follow(before: Duty, after: Duty) -> bool:
         # Ten hours of rest or more, from release to report (117.25(e)).
-        return LEAST_REST <= after.report - before.release <= limits["max_rest"]
+        return (LEAST_REST <= after.report - before.release <= limits["max_rest"]
+                and bonds.keep(before.legs[-1].flight, after.legs[0].flight))
 
     def is_within(duties: tuple[Duty, ...]) -> bool:
-        return (duties[0].origin in bases and len(duties) <= limits["max_duties"]
+        return (duties[0].origin in bases and duties[0].legs[0].flight.number not in bonds.lead
+                and len(duties) <= limits["max_duties"]
                 # At most 60 hours of flight duty periods in any 168, and 190 in 672 (117.23(c)).
                 and most_in_a_window(duties) <= limits["fdp_cap"]
                 and sum(duty.fdp for duty in duties) <= limits["fdp_total"]
@@ -245,17 +273,17 @@ def partials(text: str, settings: dict[str, int]) -> list[tuple[Duty, ...]]:
                 # 30 hours free from duty in the 168 before each report (117.25(b)).
                 and all(has_free_hours(duties, duty.report) for duty in duties))
 
-    return lists(legal_duties(list(flights.values()), limits), may_follow, is_within)
+    return lists(legal_duties(list(flights.values()), limits, bonds), may_follow, is_within)
 
 
-def is_home(duties: tuple[Duty, ...]) -> bool:
-    return duties[-1].target == duties[0].origin
+def is_home(duties: tuple[Duty, ...], bonds: Bonds) -> bool:
+    return duties[-1].target == duties[0].origin and duties[-1].legs[-1].flight.number not in bonds.next
 
 
 def pairings(text: str, settings: dict[str, int]) -> list[Pairing]:
     """All legal pairings, by base and walk."""
-    limits = with_defaults(settings)
-    found = [pairing_of(duties, limits) for duties in partials(text, settings) if is_home(duties)]
+    limits, bonds = with_defaults(settings), Bonds(text)
+    found = [pairing_of(duties, limits) for duties in partials(text, settings) if is_home(duties, bonds)]
     return sorted(found, key=lambda pairing: (pairing.base, pairing.walk))
 
 
@@ -321,7 +349,7 @@ def is_beaten(one: Vector, others: set[Vector]) -> bool:
 def shown(text: str, settings: dict[str, int]) -> list[Pairing]:
     """The pairings in the fronts, by cost and walk. A front has each vector of its base and last duty that no
     other beats, with the first walk that has it, of those none of whose beginnings is beaten where it ends."""
-    timetable, limits = read(text, settings), with_defaults(settings)
+    timetable, limits, bonds = read(text, settings), with_defaults(settings), Bonds(text)
     lists_at: dict[tuple[str, Duty], list[tuple[Duty, ...]]] = {}
     for duties in partials(text, settings):
         lists_at.setdefault((duties[0].origin, duties[-1]), []).append(duties)
@@ -337,7 +365,7 @@ def shown(text: str, settings: dict[str, int]) -> list[Pairing]:
     found = []
     for lines in lists_at.values():
         first: dict[Vector, Pairing] = {}
-        for duties in filter(is_clean, filter(is_home, lines)):
+        for duties in filter(is_clean, (it for it in lines if is_home(it, bonds))):
             pairing, one = pairing_of(duties, limits), vector(duties, timetable, limits)
             if one not in first or pairing.walk < first[one].walk:
                 first[one] = pairing
