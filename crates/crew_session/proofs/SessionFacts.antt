@@ -18,12 +18,9 @@ use Rattle.crew_session.specs.Zones.{zone_fault}
 use Rattle.crew_version.specs.Versions.{IsRight, Snapshot, opening, timetable_of, verdicts_of}
 use Rattle.crew_pairing.specs.Duties.{HasTooMany}
 use Rattle.crew_session.specs.declared.journal.Journal.{Journal}
-use Rattle.crew_session.specs.Audits.{Audits}
-use Rattle.crew_session.specs.Fronts.{ShowsFront}
-use Rattle.crew_session.specs.Pairings.{ShowsApart, ShowsCheapest}
-use Rattle.crew_pairing.specs.Legs.{Leg}
+use Rattle.crew_session.specs.Questions.{Tells}
 use Rattle.crew_records.specs.declared.command.Command.{Command}
-use Rattle.crew_records.specs.declared.command.Command.TheVariants.{Apart, Audit, Cheapest, Settle, ShowFront}
+use Rattle.crew_records.specs.declared.command.Command.TheVariants.{AddZone, Submit, AddFlight, Retime, Settle, Best, BestOf, ShowFront, Cheapest, Apart, CheapestOf, ApartOf, Explain, Audit, Refuse}
 use Rattle.jiff_tz.specs.PosixText.{TzText}
 use Rattle.crew_records.specs.Faults.{record_number}
 use Rattle.crew_records.specs.declared.fault.RecordFault.{RecordFault}
@@ -43,39 +40,29 @@ did (Ok u) old new s number command kind a b p q e f does came =
     (q.1, subst (λ (x : State × List ℕ). Appends old new x.1) f came.0, subst (λ (k : Command). Obeys s number k a b q.1) (sym e) (does q.1 (came.1 ∙ ap (λ (x : State × List ℕ). x.0) f, refl)))
 did (Err x) old new s number command kind a b p q e f does came = tt
 
--- a front changes nothing
-pub fronted : {F : Type 0} (r : Result (Unit {0}) F) (old new : Option (List ℕ)) (s : Settings) (number : ℕ) (base : List ℕ) (key : List Leg) (command : Command) (j : Journal) (v w : Snapshot) (taken : List Entry) → command ≡ ShowFront base key → w ≡ v
-    → OnOk r ((text : List ℕ) × Appends old new text × ShowsFront base key w text) → OnOk r ((text : List ℕ) × Appends old new text × Obeys s number command (state_of j v taken) (state_of j v taken) text)
-fronted (Ok u) old new s number base key command j v w taken e f told =
-    (told.0, told.1, subst (λ (k : Command). Obeys s number k (state_of j v taken) (state_of j v taken) told.0) (sym e) (refl, subst (λ (x : Snapshot). ShowsFront base key x told.0) f told.2))
-fronted (Err x) old new s number base key command j v w taken e f told = tt
+-- a question changes nothing
+asked : (s : Settings) (number : ℕ) (command : Command) (a : State) (text : List ℕ) → Tells number command a.version text → Obeys s number command a a text
+asked s number Best a text told = (refl, told)
+asked s number (BestOf base) a text told = (refl, told)
+asked s number (ShowFront base key) a text told = (refl, told)
+asked s number (Cheapest limit) a text told = (refl, told)
+asked s number (Apart limit share) a text told = (refl, told)
+asked s number (CheapestOf base limit) a text told = (refl, told)
+asked s number (ApartOf base limit share) a text told = (refl, told)
+asked s number (Explain base walk) a text told = (refl, told)
+asked s number (Audit limit) a text told = (refl, told)
+asked s number (AddZone code zone) a text told = absurd told
+asked s number (Submit e) a text told = absurd told
+asked s number (AddFlight id from to dep arr price) a text told = absurd told
+asked s number (Retime id from dep arr) a text told = absurd told
+asked s number Settle a text told = absurd told
+asked s number (Refuse fault) a text told = absurd told
 
--- pairings change nothing
-pub cheapest-shown : {F : Type 0} (r : Result (Unit {0}) F) (old new : Option (List ℕ)) (s : Settings) (number limit : ℕ) (command : Command) (j : Journal) (v w : Snapshot) (taken : List Entry) → command ≡ Cheapest limit → w ≡ v
-    → OnOk r ((text : List ℕ) × Appends old new text × ShowsCheapest limit w text) → OnOk r ((text : List ℕ) × Appends old new text × Obeys s number command (state_of j v taken) (state_of j v taken) text)
-cheapest-shown (Ok u) old new s number limit command j v w taken e f told =
-    (told.0, told.1, subst (λ (k : Command). Obeys s number k (state_of j v taken) (state_of j v taken) told.0) (sym e) (refl, subst (λ (x : Snapshot). ShowsCheapest limit x told.0) f told.2))
-cheapest-shown (Err x) old new s number limit command j v w taken e f told = tt
-
-pub apart-shown : {F : Type 0} (r : Result (Unit {0}) F) (old new : Option (List ℕ)) (s : Settings) (number limit share : ℕ) (command : Command) (j : Journal) (v w : Snapshot) (taken : List Entry) → command ≡ Apart limit share → w ≡ v
-    → OnOk r ((text : List ℕ) × Appends old new text × ShowsApart limit share w text) → OnOk r ((text : List ℕ) × Appends old new text × Obeys s number command (state_of j v taken) (state_of j v taken) text)
-apart-shown (Ok u) old new s number limit share command j v w taken e f told =
-    (told.0, told.1, subst (λ (k : Command). Obeys s number k (state_of j v taken) (state_of j v taken) told.0) (sym e) (refl, subst (λ (x : Snapshot). ShowsApart limit share x told.0) f told.2))
-apart-shown (Err x) old new s number limit share command j v w taken e f told = tt
-
--- nor does what is shown of one base
-pub shown-of : {F : Type 0} (r : Result (Unit {0}) F) (old new : Option (List ℕ)) (s : Settings) (number : ℕ) (command kind : Command) (a : State) (Shows : Snapshot → List ℕ → Type 0) (w : Snapshot) → command ≡ kind → w ≡ a.version
-    → ((text : List ℕ) → Shows a.version text → Obeys s number kind a a text) → OnOk r ((text : List ℕ) × Appends old new text × Shows w text) → OnOk r ((text : List ℕ) × Appends old new text × Obeys s number command a a text)
-shown-of (Ok u) old new s number command kind a Shows w e f does told =
-    (told.0, told.1, subst (λ (k : Command). Obeys s number k a a told.0) (sym e) (does told.0 (subst (λ (x : Snapshot). Shows x told.0) f told.2)))
-shown-of (Err x) old new s number command kind a Shows w e f does told = tt
-
--- an audit changes nothing
-pub audited : {F : Type 0} (r : Result (Unit {0}) F) (old new : Option (List ℕ)) (s : Settings) (number limit : ℕ) (command : Command) (j : Journal) (v w : Snapshot) (taken : List Entry) → command ≡ Audit limit → w ≡ v
-    → OnOk r ((text : List ℕ) × Appends old new text × Audits limit number w text) → OnOk r ((text : List ℕ) × Appends old new text × Obeys s number command (state_of j v taken) (state_of j v taken) text)
-audited (Ok u) old new s number limit command j v w taken e f told =
-    (told.0, told.1, subst (λ (k : Command). Obeys s number k (state_of j v taken) (state_of j v taken) told.0) (sym e) (refl, subst (λ (x : Snapshot). Audits limit number x told.0) f told.2))
-audited (Err x) old new s number limit command j v w taken e f told = tt
+pub told-of : {F : Type 0} (r : Result (Unit {0}) F) (old new : Option (List ℕ)) (s : Settings) (number : ℕ) (command : Command) (a : State) (w : Snapshot) → w ≡ a.version
+    → OnOk r ((text : List ℕ) × Appends old new text × Tells number command w text) → OnOk r ((text : List ℕ) × Appends old new text × Obeys s number command a a text)
+told-of (Ok u) old new s number command a w f told =
+    (told.0, told.1, asked s number command a told.0 (subst (λ (x : Snapshot). Tells number command x told.0) f told.2))
+told-of (Err x) old new s number command a w f told = tt
 
 -- ---- what was begun
 
@@ -120,42 +107,24 @@ begins-of (Ok u) old new Is Was more begun = tt
 begins-of (Err x) old new Is Was more (inl none) = inl none
 begins-of (Err x) old new Is Was more (inr told) = inr (told.0, more told.0 told.1, told.2)
 
--- a settle, a front, pairings and an audit
+-- a beginning of a text of a kind
+pub begun-one : {F : Type 0} (r : Result (Unit {0}) F) (old new : Option (List ℕ)) (Is : List ℕ → Type 0) (text : List ℕ) → Is text → OnErr r (AppendsBeginning old new text) → OnErr r (BeginsOne old new Is)
+begun-one (Ok u) old new Is text is begun = tt
+begun-one (Err x) old new Is text is begun = inr (text, is, begun)
+
+-- a settle
 pub settled-begin : {F : Type 0} (r : Result (Unit {0}) F) (old new : Option (List ℕ)) (s : Settings) (number : ℕ) (command : Command) (a : State) → command ≡ Settle
     → OnErr r (BeginsOne old new (λ text. (b : State) × Settles number a b text)) → OnErr r (BeginsOne old new (λ text. (b : State) × Obeys s number command a b text))
 settled-begin r old new s number command a e =
     begins-of r old new (λ text. (b : State) × Settles number a b text) (λ text. (b : State) × Obeys s number command a b text)
     (λ text h. (h.0, subst (λ (k : Command). Obeys s number k a h.0 text) (sym e) h.1))
 
-pub fronted-begin : {F : Type 0} (r : Result (Unit {0}) F) (old new : Option (List ℕ)) (s : Settings) (number : ℕ) (base : List ℕ) (key : List Leg) (command : Command) (j : Journal) (v w : Snapshot) (taken : List Entry) → command ≡ ShowFront base key → w ≡ v
-    → OnErr r (BeginsOne old new (ShowsFront base key w)) → OnErr r (BeginsOne old new (λ text. (b : State) × Obeys s number command (state_of j v taken) b text))
-fronted-begin r old new s number base key command j v w taken e f =
-    begins-of r old new (ShowsFront base key w) (λ text. (b : State) × Obeys s number command (state_of j v taken) b text)
-    (λ text h. (state_of j v taken, subst (λ (k : Command). Obeys s number k (state_of j v taken) (state_of j v taken) text) (sym e) (refl, subst (λ (x : Snapshot). ShowsFront base key x text) f h)))
-
-pub cheapest-begin : {F : Type 0} (r : Result (Unit {0}) F) (old new : Option (List ℕ)) (s : Settings) (number limit : ℕ) (command : Command) (j : Journal) (v w : Snapshot) (taken : List Entry) → command ≡ Cheapest limit → w ≡ v
-    → OnErr r (BeginsOne old new (ShowsCheapest limit w)) → OnErr r (BeginsOne old new (λ text. (b : State) × Obeys s number command (state_of j v taken) b text))
-cheapest-begin r old new s number limit command j v w taken e f =
-    begins-of r old new (ShowsCheapest limit w) (λ text. (b : State) × Obeys s number command (state_of j v taken) b text)
-    (λ text h. (state_of j v taken, subst (λ (k : Command). Obeys s number k (state_of j v taken) (state_of j v taken) text) (sym e) (refl, subst (λ (x : Snapshot). ShowsCheapest limit x text) f h)))
-
-pub apart-begin : {F : Type 0} (r : Result (Unit {0}) F) (old new : Option (List ℕ)) (s : Settings) (number limit share : ℕ) (command : Command) (j : Journal) (v w : Snapshot) (taken : List Entry) → command ≡ Apart limit share → w ≡ v
-    → OnErr r (BeginsOne old new (ShowsApart limit share w)) → OnErr r (BeginsOne old new (λ text. (b : State) × Obeys s number command (state_of j v taken) b text))
-apart-begin r old new s number limit share command j v w taken e f =
-    begins-of r old new (ShowsApart limit share w) (λ text. (b : State) × Obeys s number command (state_of j v taken) b text)
-    (λ text h. (state_of j v taken, subst (λ (k : Command). Obeys s number k (state_of j v taken) (state_of j v taken) text) (sym e) (refl, subst (λ (x : Snapshot). ShowsApart limit share x text) f h)))
-
-pub shown-begin : {F : Type 0} (r : Result (Unit {0}) F) (old new : Option (List ℕ)) (s : Settings) (number : ℕ) (command kind : Command) (a : State) (Shows : Snapshot → List ℕ → Type 0) (w : Snapshot) → command ≡ kind → w ≡ a.version
-    → ((text : List ℕ) → Shows a.version text → Obeys s number kind a a text) → OnErr r (BeginsOne old new (Shows w)) → OnErr r (BeginsOne old new (λ text. (b : State) × Obeys s number command a b text))
-shown-begin r old new s number command kind a Shows w e f does =
-    begins-of r old new (Shows w) (λ text. (b : State) × Obeys s number command a b text)
-    (λ text h. (a, subst (λ (k : Command). Obeys s number k a a text) (sym e) (does text (subst (λ (x : Snapshot). Shows x text) f h))))
-
-pub audited-begin : {F : Type 0} (r : Result (Unit {0}) F) (old new : Option (List ℕ)) (s : Settings) (number limit : ℕ) (command : Command) (j : Journal) (v w : Snapshot) (taken : List Entry) → command ≡ Audit limit → w ≡ v
-    → OnErr r (BeginsOne old new (Audits limit number w)) → OnErr r (BeginsOne old new (λ text. (b : State) × Obeys s number command (state_of j v taken) b text))
-audited-begin r old new s number limit command j v w taken e f =
-    begins-of r old new (Audits limit number w) (λ text. (b : State) × Obeys s number command (state_of j v taken) b text)
-    (λ text h. (state_of j v taken, subst (λ (k : Command). Obeys s number k (state_of j v taken) (state_of j v taken) text) (sym e) (refl, subst (λ (x : Snapshot). Audits limit number x text) f h)))
+-- a question
+pub told-begin : {F : Type 0} (r : Result (Unit {0}) F) (old new : Option (List ℕ)) (s : Settings) (number : ℕ) (command : Command) (a : State) (w : Snapshot) → w ≡ a.version
+    → OnErr r (BeginsOne old new (Tells number command w)) → OnErr r (BeginsOne old new (λ text. (b : State) × Obeys s number command a b text))
+told-begin r old new s number command a w f =
+    begins-of r old new (Tells number command w) (λ text. (b : State) × Obeys s number command a b text)
+    (λ text h. (a, asked s number command a text (subst (λ (x : Snapshot). Tells number command x text) f h)))
 
 -- ---- entries since the last version
 

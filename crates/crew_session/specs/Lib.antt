@@ -7,6 +7,7 @@ pub mod Fronts
 pub mod Lines
 pub mod Oddities
 pub mod Pairings
+pub mod Questions
 pub mod Replay
 pub mod Replies
 pub mod ReplyLines

@@ -7,21 +7,18 @@ use Rattle.crew_flights.specs.declared.edit.Edit.{Edit}
 use Rattle.crew_flights.specs.declared.edit.Edit.TheVariants as edit
 use Rattle.crew_flights.specs.declared.entries.Entry.{Entry}
 use Rattle.crew_pairing.specs.Duties.{HasTooMany}
-use Rattle.crew_session.specs.Audits.{Audits}
-use Rattle.crew_session.specs.Explanations.{ShowsExplained}
-use Rattle.crew_session.specs.Fronts.{ShowsFront}
 use Rattle.crew_records.specs.Commands.{command_of}
 use Rattle.crew_records.specs.Faults.{record_number}
-use Rattle.crew_session.specs.Lines.{best_line, refused_line, refused_lines, version_line}
+use Rattle.crew_session.specs.Lines.{refused_line, refused_lines, version_line}
 use Rattle.crew_records.specs.Fields.{Fields}
-use Rattle.crew_session.specs.Pairings.{ShowsApart, ShowsApartOf, ShowsBestOf, ShowsCheapest, ShowsCheapestOf}
+use Rattle.crew_session.specs.Questions.{Tells}
 use Rattle.crew_session.specs.Rows.{records_of}
 use Rattle.crew_session.specs.Entries.{entry_of}
 use Rattle.crew_session.specs.Writes.{BeginsBy, WritesBy}
 use Rattle.crew_session.specs.Zones.{Zones, clock_at, flight_with, zone_fault}
 use Rattle.crew_version.specs.Versions.{IsNext, IsRight, Snapshot, opening, timetable_of, verdicts_of}
 use Rattle.crew_records.specs.declared.command.Command.{Command}
-use Rattle.crew_records.specs.declared.command.Command.TheVariants.{AddZone, Submit, AddFlight, Retime, Settle, Best, BestOf, ShowFront, Cheapest, Apart, CheapestOf, ApartOf, Explain, Audit, Refuse}
+use Rattle.crew_records.specs.declared.command.Command.TheVariants.{AddZone, Submit, AddFlight, Retime, Settle, Refuse}
 use Rattle.crew_records.specs.declared.fault.RecordFault.{RecordFault}
 
 -- where a session stands: the zones, the last version, the entries since, and the records of these
@@ -105,18 +102,8 @@ Obeys s number (AddFlight id from to dep arr price) a b text =
 Obeys s number (Retime id from dep arr) a b text =
     Does b text (submit_at (clock_at s a.zones from dep) (edit.Retime id from dep arr) number a)
 Obeys s number Settle a b text = Settles number a b text
-Obeys s number Best a b text = Does b text (a, best_line a.version.best)
-Obeys s number (BestOf base) a b text = (b ≡ a) × ShowsBestOf base a.version text
-Obeys s number (ShowFront base key) a b text = (b ≡ a) × ShowsFront base key a.version text
-Obeys s number (Cheapest limit) a b text = (b ≡ a) × ShowsCheapest limit a.version text
-Obeys s number (Apart limit share) a b text = (b ≡ a) × ShowsApart limit share a.version text
-Obeys s number (CheapestOf base limit) a b text =
-    (b ≡ a) × ShowsCheapestOf base limit a.version text
-Obeys s number (ApartOf base limit share) a b text =
-    (b ≡ a) × ShowsApartOf base limit share a.version text
-Obeys s number (Explain base walk) a b text = (b ≡ a) × ShowsExplained base walk a.version text
-Obeys s number (Audit limit) a b text = (b ≡ a) × Audits limit number a.version text
 Obeys s number (Refuse fault) a b text = Does b text (refuse number (record_number fault) a)
+Obeys s number question a b text = (b ≡ a) × Tells number question a.version text
 
 -- the record of a number
 abbrev pub ObeysRow : Settings → ℕ → Fields → State → State → List ℕ → Type 0

@@ -13,6 +13,10 @@ use Rattle.crew_records.specs.declared.fault.RecordFault.TheVariants.{ZoneExists
 abbrev pub Zones : Type 0
 Zones = map.FinMap code_cmp TzText
 
+-- zones in order of airport, as a map
+abbrev pub zones_from : List (List ℕ × TzText) → Zones
+zones_from zones = map.from_sorted zones
+
 -- why a zone for an airport is refused: an airport has one zone, and 2,000 airports have one
 abbrev pub zone_fault : Zones → List ℕ → Option RecordFault
 zone_fault zones code =

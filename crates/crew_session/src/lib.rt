@@ -14,6 +14,7 @@
 //! the records' steps, with the product's choices.
 #![tactic(auto)]
 
+mod airports;
 mod audit;
 mod clocks;
 mod demand;
@@ -31,6 +32,7 @@ mod noted;
 mod pairings;
 mod plain;
 mod player;
+mod question;
 mod replies;
 mod rows;
 mod schedule;
@@ -38,11 +40,15 @@ mod session;
 mod text;
 mod zones;
 
+pub use airports::Airports;
 pub use engine::Engine;
 pub use engine_fault::EngineFault;
 pub use fault::SessionFault;
+pub use lines::{write_refused, write_verdict, write_version};
 pub use noted::{NotedReader, NotedWriter};
 pub use plain::Plain;
+pub use question::answer;
+pub use rows::next_row;
 pub use schedule::replay;
-pub use session::run;
+pub use session::{has_too_many, run};
 pub use text::write_text;

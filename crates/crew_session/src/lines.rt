@@ -122,8 +122,9 @@ fn refused_line(alloc: Global, number: u32, why: u8) -> Result<String, AllocErro
     Ok(line)
 }
 
-// Writes that a record is refused.
-pub(crate) fn write_refused<W: Write>(
+/// Writes that a record is refused, by its number. `Write` where the writer fails, or `Memory`; what was
+/// written is then a beginning of the line.
+pub fn write_refused<W: Write>(
     alloc: Global,
     writer: &mut W,
     number: u32,
@@ -140,8 +141,9 @@ pub(crate) fn write_refused<W: Write>(
     write_line(writer, line.as_bytes())
 }
 
-// Writes what a verdict on the entry that a record made writes.
-fn write_verdict<W: Write>(
+/// Writes what a verdict on the entry that a record made writes: a line where it is a refusal.
+/// `Write` where the writer fails, or `Memory`; what was written is then a beginning of the line.
+pub fn write_verdict<W: Write>(
     alloc: Global,
     writer: &mut W,
     number: u32,
@@ -193,8 +195,9 @@ fn version_line(alloc: Global, version: &Version) -> Result<String, AllocError>
     Ok(line)
 }
 
-// Writes the number of a version and what it has.
-pub(crate) fn write_version<W: Write>(
+/// Writes the number of a version and what it has. `Write` where the writer fails, or `Memory`; what
+/// was written is then a beginning of the line.
+pub fn write_version<W: Write>(
     alloc: Global,
     writer: &mut W,
     version: &Version,

@@ -11,10 +11,7 @@ use std::io::Read;
 
 /// The next record into `row`, and whether there was one. A fault of the reader is `Read`, whatever
 /// it says.
-pub(crate) fn next_row<R: Read>(
-    reader: &mut Reader<R>,
-    row: &mut ByteRecord,
-) -> Result<bool, SessionFault>
+pub fn next_row<R: Read>(reader: &mut Reader<R>, row: &mut ByteRecord) -> Result<bool, SessionFault>
     requires { IsOpen reader.old }
     ensures goes_on { IfOk result (λ found. found ≡ true → IsOpen reader.new) }
     ensures row { IfOk result (λ found. found ≡ true → TakesRow (rows_left R.remaining reader.old)

@@ -22,20 +22,15 @@ ghost use Rattle.crew_session.specs.Streams.{bytes_held, bytes_left, read_failed
 ghost use Rattle.crew_session.specs.Texts.{AppendsBeginning, BeginsOne};
 ghost use Rattle.crew_version.specs.Versions.{Snapshot, opening, timetable_of, verdicts_of};
 
-use crate::audit::answer_audit;
 use crate::clocks::clock_at;
 use crate::ending::{Ending, RECORDS, cause, check_all};
 use crate::engine::Engine;
 use crate::engine_fault::EngineFault;
-use crate::explain::answer_explain;
 use crate::fault::{SessionFault, stop};
-use crate::front::answer_front;
 use crate::journal::Journal;
-use crate::lines::{write_best, write_refusals, write_refused, write_version};
+use crate::lines::{write_refusals, write_refused, write_version};
 use crate::noted::{NotedReader, NotedWriter};
-use crate::pairings::{
-    answer_apart, answer_apart_of, answer_best_of, answer_cheapest, answer_cheapest_of,
-};
+use crate::question::answer;
 use crate::rows::next_row;
 use crew_clocks::Zone;
 use crew_duty::{DutyFault, list_duties};
@@ -122,8 +117,8 @@ fn add_zone<W: Write>(
     Ok(journal.zones.add(code, zone)?)
 }
 
-// Whether the entries of a version and these come to more duties than may be listed.
-fn has_too_many<R: Threads + Sync>(
+/// Whether the entries of a version and these come to more than 200,000 legal duties.
+pub fn has_too_many<R: Threads + Sync>(
     rt: &R,
     alloc: Global,
     version: &Version,
@@ -323,26 +318,8 @@ fn obey<R: Threads + Sync, W: Write, E: Engine>(
             }
         }
         Command::Settle => settle(rt, alloc, number, journal, writer, engine),
-        Command::Best => write_best(alloc, writer, engine.version()),
-        Command::BestOf { base } => answer_best_of(alloc, writer, base, engine.version()),
-        Command::ShowFront { base, key } => {
-            answer_front(alloc, writer, base, &key, engine.version())
-        }
-        Command::Cheapest { limit } => answer_cheapest(alloc, writer, limit, engine.version()),
-        Command::Apart { limit, share } => {
-            answer_apart(alloc, writer, limit, share, engine.version())
-        }
-        Command::CheapestOf { base, limit } => {
-            answer_cheapest_of(alloc, writer, base, limit, engine.version())
-        }
-        Command::ApartOf { base, limit, share } => {
-            answer_apart_of(alloc, writer, base, limit, share, engine.version())
-        }
-        Command::Explain { base, walk } => {
-            answer_explain(alloc, writer, base, &walk, engine.version())
-        }
-        Command::Audit { limit } => answer_audit(alloc, number, limit, writer, engine.version()),
         Command::Refuse(fault) => write_refused(alloc, writer, number, fault.number()),
+        question => answer(alloc, number, &question, engine.version(), writer),
     }
 }
 

@@ -1,6 +1,6 @@
 //! The zones of airports.
 
-ghost use Rattle.std.specs.Prelude.{◌≡◌, OnOk};
+ghost use Rattle.std.specs.Prelude.{◌≡◌, OnErr, OnOk};
 ghost use Rattle.std.specs.Option.{option_copied};
 ghost use Rattle.std.proofs.Props.{props};
 ghost use Rattle.std.specs.BTreeMap.{IsOrdered};
@@ -58,7 +58,8 @@ impl Zones {
 
     // Takes a zone.
     pub(crate) fn add(&mut self, code: Code, zone: Zone) -> Result<(), AllocError>
-        ensures { OnOk result (zones_of self.new ≡ map.insert (zones_of self.old) code zone) }
+        ensures ok { OnOk result (zones_of self.new ≡ map.insert (zones_of self.old) code zone) }
+        ensures err { OnErr result (self.new.by_code.entries ≡ self.old.by_code.entries) }
     {
         self.by_code.insert(code, zone)?;
         Ok(())

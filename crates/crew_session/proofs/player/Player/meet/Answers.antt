@@ -3,7 +3,7 @@ use Rattle.crew_session.proofs.PlayerFacts.{refusal-begun, refusal-met, step-beg
 use Rattle.crew_session.proofs.player.Player.meet.Goals as goal
 
 pub returns-in_ok-add-in-Zone-clause-meets : goal.returns-in_ok-add-in-Zone-clause-meets
-returns-in_ok-add-in-Zone-clause-meets g c = λ s a stands. zone-met s c.args.self.now _ a c.args.number c.in-Zone.code c.in-Zone.zone _ _ c.in-Zone.is c.in_ok-add-in-Zone.ensures refl stands
+returns-in_ok-add-in-Zone-clause-meets g c = λ s a stands. zone-met s c.args.self.now _ a c.args.number c.in-Zone.code c.in-Zone.zone _ _ c.in-Zone.is c.in_ok-add-in-Zone.ensures.ok refl stands
 
 pub returns-in-Play-clause-meets : goal.returns-in-Play-clause-meets
 returns-in-Play-clause-meets g c = λ s a stands. step-met c.play.result s _ a c.args.number c.in-Play.step _ _ _ c.in-Play.is (c.play.ensures.steps s a stands)
