@@ -1,5 +1,5 @@
 -- How a run of the program ends.
-use Rattle.std.specs.Prelude.{◌≡◌, ◌⊎◌, ◌∷◌, [], ℕ, zero, suc, Bool, List, Option, Result, Ok, Err, IfSome, IsTrue, false}
+use Rattle.std.specs.Prelude.{◌≡◌, ◌⊎◌, ◌∷◌, [], ℕ, zero, suc, Bool, List, Option, Result, Ok, Err, IfErr, IfSome, IsTrue, false}
 use Rattle.std.specs.Io.KnownBytes.{Appends, Keeps}
 use Rattle.clap.specs.Kinds.{IsAmong, Kinds}
 use Rattle.clap.specs.Words.{Text, kind_of}
@@ -9,6 +9,7 @@ use Rattle.clap.specs.declared.error.kind.ErrorKind.TheVariants as kind
 use Rattle.crew_rules.specs.Settings.{check_of}
 use Rattle.crew_rules.specs.declared.settings.BadSetting.{BadSetting}
 use Rattle.crew_records.specs.Fields.{Fields}
+use Rattle.crew_serve.specs.Serving.{IsServingFault}
 use Rattle.crew_session.specs.Faults.{Never}
 use Rattle.crew_session.specs.Replay.{IsReplayText, ReplayBegins}
 use Rattle.crew_session.specs.Rows.{records_of}
@@ -19,11 +20,11 @@ use Rattle.crew_session.specs.declared.fault.SessionFault.{SessionFault}
 use Rattle.crew_command.specs.Faults.{fault_of, line_of, status_of}
 use Rattle.crew_command.specs.declared.fault.Fault.{Fault}
 use Rattle.crew_command.specs.declared.fault.Fault.TheVariants.{Read, Write, Usage, Word, Memory, Setting, Strange}
-use Rattle.crew_workers.specs.Workers.{EndsStrange, IsUnbegun}
+use Rattle.crew_serve.specs.Workers.{EndsStrange, IsUnbegun}
 use Rattle.crew_rules.specs.declared.settings.Settings.{Settings}
 use Rattle.crew_words.specs.Words.{faults_in, settings_of, task_of}
 use Rattle.crew_words.specs.declared.task.Task.{Task}
-use Rattle.crew_words.specs.declared.task.Task.TheVariants.{Run, Replay}
+use Rattle.crew_words.specs.declared.task.Task.TheVariants.{Run, Replay, Serve}
 
 -- what a run comes to
 abbrev pub Outcome : Type 0
@@ -91,10 +92,12 @@ abbrev pub FailsWith : ℕ → Settings → Streams → SessionFault → Type 0
 FailsWith zero s io fault = FailsAlone io fault
 FailsWith (suc more) s io fault = FailsBeside s io fault
 
+-- of what a service's clients are told it says nothing: that goes elsewhere
 abbrev pub WroteOf : Task → Streams → Result (Unit {0}) SessionFault → Type 0
 WroteOf (Run s sharing) io r =
     Wrote (FailsWith sharing.workers s io) (IsSessionText s) (Begins s (start s)) io r
 WroteOf (Replay s) io r = Wrote (FailsAlone io) (IsReplayText s) (ReplayBegins s) io r
+WroteOf (Serve s hosting) io r = IfErr r (IsServingFault io.reader)
 
 -- what a task comes to
 abbrev pub Played : Task → Streams → Outcome → Type 0

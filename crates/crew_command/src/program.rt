@@ -1,19 +1,20 @@
 //! The whole run, over any reader and writers.
 
-ghost use Rattle.std.specs.Prelude.{◌≡◌, ◌<◌, ◌≤◌, map};
+ghost use Rattle.std.specs.Prelude.{◌≡◌, ◌<◌, ◌≤◌, IfErr, map};
 ghost use Rattle.clap.specs.Words.{kind_of};
 ghost use Rattle.crew_rules.specs.Settings.{IsChecked, check_of};
 ghost use Rattle.crew_session.specs.Streams.{bytes_held, bytes_left, read_failed, write_failed};
 ghost use Rattle.crew_command.specs.Program.{Answers, Comes, Outcome, Plays, Shows, Reports, WroteOf, status_after, streams};
+ghost use Rattle.crew_serve.specs.Serving.{IsServingFault};
 ghost use Rattle.crew_words.specs.Words.{settings_of};
 ghost use Rattle.crew_words.specs.declared.task.Task.TheVariants.{Run};
 
 use crate::fault::Fault;
 use clap::error::ErrorKind;
 use crew_rules::Settings;
+use crew_serve::{Crew, House, Outbox, run_with_workers, serve};
 use crew_session::{NotedReader, NotedWriter, Plain, SessionFault, replay, run};
-use crew_words::{Sharing, Task, read_words};
-use crew_workers::{Crew, run_with_workers};
+use crew_words::{Hosting, Sharing, Task, read_words};
 use std::alloc::Global;
 use std::convert::AsStr;
 use std::io;
@@ -117,13 +118,44 @@ fn play_session<T: Threads + Wait + Sync + Clock + Eprint, R: Read + Drop, W: Wr
     }
 }
 
+// Serves clients, whose answers go elsewhere than a session's lines.
+fn play_service<T: Threads + Wait + Sync, R: Read + Drop, S: Outbox + Sync>(
+    rt: &T,
+    alloc: Global,
+    settings: &Settings,
+    hosting: Hosting,
+    reader: &mut NotedReader<R>,
+    answers: &S,
+) -> Result<(), SessionFault>
+    requires { IsChecked settings.now }
+    ensures { IfErr result (IsServingFault (read_failed reader.new)) }
+{
+    let Hosting {
+        seats,
+        viewers,
+        workers,
+    } = hosting;
+    let house = House {
+        seats,
+        viewers,
+        workers,
+    };
+    serve(rt, alloc, reader, answers, settings, house)
+}
+
 // Does a task whose settings are in their ranges.
-fn play<T: Threads + Wait + Sync + Clock + Eprint, R: Read + Drop, W: Write + Drop>(
+fn play<
+    T: Threads + Wait + Sync + Clock + Eprint,
+    R: Read + Drop,
+    W: Write + Drop,
+    S: Outbox + Sync,
+>(
     rt: &T,
     alloc: Global,
     task: Task,
     reader: &mut NotedReader<R>,
     writer: &mut NotedWriter<W>,
+    answers: &S,
 ) -> Result<(), SessionFault>
     requires { IsChecked (settings_of task) }
     ensures { WroteOf task (streams (bytes_left R.remaining reader.old)
@@ -135,16 +167,25 @@ fn play<T: Threads + Wait + Sync + Clock + Eprint, R: Read + Drop, W: Write + Dr
             play_session(rt, alloc, &settings, sharing, reader, writer)
         }
         Task::Replay(settings) => replay(rt, alloc, reader, writer, &settings),
+        Task::Serve(settings, hosting) => {
+            play_service(rt, alloc, &settings, hosting, reader, answers)
+        }
     }
 }
 
 // Does a task, or refuses its settings.
-fn run_task<T: Threads + Wait + Sync + Clock + Eprint, R: Read + Drop, W: Write + Drop>(
+fn run_task<
+    T: Threads + Wait + Sync + Clock + Eprint,
+    R: Read + Drop,
+    W: Write + Drop,
+    S: Outbox + Sync,
+>(
     rt: &T,
     alloc: Global,
     task: Task,
     reader: &mut NotedReader<R>,
     writer: &mut NotedWriter<W>,
+    answers: &S,
 ) -> Result<(), Fault>
     ensures { Plays task (check_of (settings_of task))
         (streams (bytes_left R.remaining reader.old) (bytes_held W.contents writer.old)
@@ -154,57 +195,66 @@ fn run_task<T: Threads + Wait + Sync + Clock + Eprint, R: Read + Drop, W: Write 
     if let Err(bad) = task.settings().check() {
         return Err(Fault::Setting(bad));
     }
-    match play(rt, alloc, task, reader, writer) {
+    match play(rt, alloc, task, reader, writer, answers) {
         Ok(()) => Ok(()),
         Err(fault) => Err(Fault::of_session(fault)),
     }
 }
 
 // Does what the words ask for.
-fn run_words<T: Threads + Wait + Sync + Clock + Eprint, S: AsStr, R: Read + Drop, W: Write + Drop>(
+fn run_words<
+    T: Threads + Wait + Sync + Clock + Eprint,
+    A: AsStr,
+    R: Read + Drop,
+    W: Write + Drop,
+    S: Outbox + Sync,
+>(
     rt: &T,
     alloc: Global,
-    words: &[S],
+    words: &[A],
     reader: &mut NotedReader<R>,
     writer: &mut NotedWriter<W>,
+    answers: &S,
 ) -> Result<(), Fault>
-    ensures { Comes (map S.text words.now) (streams (bytes_left R.remaining reader.old)
+    ensures { Comes (map A.text words.now) (streams (bytes_left R.remaining reader.old)
         (bytes_held W.contents writer.old) (bytes_held W.contents writer.new)
         (read_failed reader.new) (write_failed writer.new)) result }
 {
     match read_words(alloc, words) {
-        Ok(task) => run_task(rt, alloc, task, reader, writer),
+        Ok(task) => run_task(rt, alloc, task, reader, writer, answers),
         Err(error) => answer(error, writer),
     }
 }
 
 /// Does what the words ask for, and gives the status: 0 done, or help or the version was asked for;
 /// 1 a read or write fault; 2 a fault in the words; 3 out of memory; 4 a bad setting; 5 a strange log.
-/// The line of a fault goes to `faults`, all else to `writer`; a fault in writing to `faults`
-/// changes nothing. The first word is the program's own name.
+/// The line of a fault goes to `faults`, what a service's clients are told to `answers`, all else to
+/// `writer`; a fault in writing to `faults` changes nothing. The first word is the program's own name.
 pub fn command<
     T: Threads + Wait + Sync + Clock + Eprint,
-    S: AsStr,
+    A: AsStr,
     R: Read + Drop,
     W: Write + Drop,
+    S: Outbox + Sync,
     F: Write + Drop,
 >(
     rt: &T,
     alloc: Global,
-    words: &[S],
+    words: &[A],
     reader: &mut NotedReader<R>,
     writer: &mut NotedWriter<W>,
+    answers: &S,
     faults: &mut NotedWriter<F>,
 ) -> u8
     // The words come to an outcome; this is its status, and its line is told.
-    ensures ends { (r : Outcome) × Comes (map S.text words.now)
+    ensures ends { (r : Outcome) × Comes (map A.text words.now)
         (streams (bytes_left R.remaining reader.old) (bytes_held W.contents writer.old)
         (bytes_held W.contents writer.new) (read_failed reader.new) (write_failed writer.new)) r
         × (result ≡ status_after r) × Reports r (bytes_held F.contents faults.old)
         (bytes_held F.contents faults.new) (write_failed faults.new) }
     ensures most { result ≤ 5 }
 {
-    match run_words(rt, alloc, words, reader, writer) {
+    match run_words(rt, alloc, words, reader, writer, answers) {
         Ok(()) => 0,
         Err(fault) => {
             fault.tell(faults);

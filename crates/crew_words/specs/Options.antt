@@ -6,6 +6,7 @@ use Rattle.std.specs.Str.Parse.{digits_value, without_leading_plus}
 use Rattle.clap.specs.Words.{Row, one_of}
 use Rattle.crew_rules.specs.declared.settings.Settings.{Settings}
 use Rattle.crew_rules.specs.Settings.{standard}
+use Rattle.crew_words.specs.declared.task.Hosting.{Hosting}
 use Rattle.crew_words.specs.declared.task.Sharing.{Sharing}
 
 -- one decimal digit or more, and nothing else
@@ -27,6 +28,14 @@ abbrev pub sharing_in : List Row → Sharing
 sharing_in rows = record {
   workers = number_in (one_of (codes "workers") rows) 0;
   progress = number_in (one_of (codes "progress") rows) 0;
+}
+
+-- what a service has room for: 64 clients, each of which may edit, and two workers unless it is given
+abbrev pub hosting_in : List Row → Hosting
+hosting_in rows = record {
+  seats = number_in (one_of (codes "seats") rows) 64;
+  viewers = number_in (one_of (codes "viewers") rows) 64;
+  workers = number_in (one_of (codes "workers") rows) 2;
 }
 
 -- each setting is the number of the option of its name

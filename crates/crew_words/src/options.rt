@@ -3,9 +3,9 @@
 ghost use Rattle.std.specs.Prelude.{◌≡◌, ◌≤◌, IfOk, length, map, string_bytes};
 ghost use Rattle.clap.specs.Words.{found_of, one_of, rows_of};
 ghost use Rattle.crew_words.specs.Help as Spec;
-ghost use Rattle.crew_words.specs.Options.{number_in, settings_in, sharing_in};
+ghost use Rattle.crew_words.specs.Options.{hosting_in, number_in, settings_in, sharing_in};
 
-use crate::task::Sharing;
+use crate::task::{Hosting, Sharing};
 use clap::ArgMatches;
 use crew_rules::Settings;
 use std::alloc::{AllocError, Global};
@@ -201,6 +201,19 @@ pub fn sharing_from(found: &ArgMatches<'_>) -> Sharing
     Sharing {
         workers: number_of(found, "workers", 0),
         progress: number_of(found, "progress", 0),
+    }
+}
+
+/// What the options have a service hold room for, and how its work is shared; the standard unless it
+/// is given.
+pub fn hosting_from(found: &ArgMatches<'_>) -> Hosting
+    ensures { result ≡ hosting_in (rows_of (found_of found.now)) }
+{
+    let standard = Hosting::STANDARD;
+    Hosting {
+        seats: number_of(found, "seats", standard.seats),
+        viewers: number_of(found, "viewers", standard.viewers),
+        workers: number_of(found, "workers", standard.workers),
     }
 }
 

@@ -22,6 +22,26 @@ impl Sharing {
     };
 }
 
+/// What a service has room for, and how its work is shared.
+#[derive(Clone, Copy, Debug)]
+pub struct Hosting {
+    /// How many clients may edit.
+    pub seats: u32,
+    /// How many clients there may be at a time.
+    pub viewers: u32,
+    /// How many threads take part in the work of each settle beside the one that settles.
+    pub workers: u32,
+}
+
+impl Hosting {
+    /// What a service has unless the words say otherwise.
+    pub const STANDARD: Hosting = Hosting {
+        seats: 64,
+        viewers: 64,
+        workers: 2,
+    };
+}
+
 /// What the program is asked to do.
 #[derive(Clone, Copy, Debug)]
 pub enum Task {
@@ -29,6 +49,8 @@ pub enum Task {
     Run(Settings, Sharing),
     /// A schedule of steps under these settings.
     Replay(Settings),
+    /// A service for several clients under these settings, which has room for so many.
+    Serve(Settings, Hosting),
 }
 
 impl Task {
@@ -37,7 +59,7 @@ impl Task {
         ensures { result ≡ settings_of self }
     {
         match self {
-            Task::Run(settings, _) | Task::Replay(settings) => settings,
+            Task::Run(settings, _) | Task::Replay(settings) | Task::Serve(settings, _) => settings,
         }
     }
 }

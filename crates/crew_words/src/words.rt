@@ -5,7 +5,9 @@ ghost use Rattle.clap.specs.Words.{FailsBy, app_of, found_of, kind_of, rows_of, 
 ghost use Rattle.clap.specs.declared.builder.command.Command.TheViews.{out-Command as fields_of};
 ghost use Rattle.crew_words.specs.Words as Spec;
 
-use crate::options::{OPTIONS, SettingOption, help_texts, settings_from, sharing_from};
+use crate::options::{
+    OPTIONS, SettingOption, help_texts, hosting_from, settings_from, sharing_from,
+};
 use crate::task::{Sharing, Task};
 use clap::error::ErrorKind;
 use clap::{Arg, ArgAction, ArgMatches, Command, Error};
@@ -27,13 +29,26 @@ static RUN: &str =
 static REPLAY: &str =
     "Plays a schedule: reads the steps of several workers and readers on standard input, one a line in the order in which they are to happen, and writes the reply to each to standard output";
 
-// What `--help` says of the number of workers.
+static SERVE: &str =
+    "Serves up to 64 clients at once: reads lines NAME,RECORD on standard input, a client's name and a record of its session, and writes each answer to standard output as lines that begin with that name; queries are answered while a settle runs";
+
+// What `--help` says of the number of workers of a session.
 static WORKERS: &str =
     "Threads of the running service that take part in the work of each settle: 0 to 64, 0 unless given\nWhat is written is the same for every number. With 0 a settle shares its work out over all processors by itself;\nwith four workers a session was measured to take 1.1 to 1.3 times as long.\nThey are for --progress, and to try the service that programs use as a crate";
 
 // What `--help` says of how often it is told how far a settle is.
 static PROGRESS: &str =
     "With workers, tells on standard error how far a settle is, every so many seconds: 0 to 3600, 0 unless given\n0 tells nothing";
+
+// What `--help` says of the numbers of a service.
+static SEATS: &str =
+    "Clients that may edit: 0 to 64, 64 unless given\nA client takes a seat with its first edit and gives it up when it leaves; with 0 nothing can be edited";
+
+static VIEWERS: &str =
+    "Clients that there may be at a time: 1 to 64, 64 unless given\nOne more is refused until one leaves";
+
+static SERVE_WORKERS: &str =
+    "Threads that take part in the work of each settle, beside the one that settles: 0 to 64, 2 unless given\nWhat a version holds is the same for every number. With 0 the thread that settles works alone";
 
 // An option that takes a value.
 fn value_arg<'a>(alloc: Global, name: &'a str, unit: &'a str, help: &'a str) -> Arg<'a>
@@ -58,11 +73,11 @@ fn arg_of<'a>(alloc: Global, option: &SettingOption, help: &'a str) -> Arg<'a>
 }
 
 // The option of the number of workers: a whole number from 0 to 64.
-fn workers_arg<'a>(alloc: Global) -> Arg<'a>
+fn workers_arg<'a>(alloc: Global, help: &'a str) -> Arg<'a>
     ensures rule { rule_of result ≡ Spec.workers_rule }
     ensures local { result.global ≡ false }
 {
-    value_arg(alloc, "workers", "THREADS", WORKERS).value_parser(clap::value_parser!(u32).range(
+    value_arg(alloc, "workers", "THREADS", help).value_parser(clap::value_parser!(u32).range(
         0..=64,
     ))
 }
@@ -74,6 +89,25 @@ fn progress_arg<'a>(alloc: Global) -> Arg<'a>
 {
     value_arg(alloc, "progress", "SECONDS", PROGRESS).value_parser(clap::value_parser!(u32).range(
         0..=3_600,
+    ))
+}
+
+// The option of how many clients may edit: a whole number from 0 to 64.
+fn seats_arg<'a>(alloc: Global) -> Arg<'a>
+    ensures rule { rule_of result ≡ Spec.seats_rule }
+    ensures local { result.global ≡ false }
+{
+    let any = clap::value_parser!(u32);
+    value_arg(alloc, "seats", "CLIENTS", SEATS).value_parser(any.range(0..=64))
+}
+
+// The option of how many clients there may be at a time: a whole number from 1 to 64.
+fn viewers_arg<'a>(alloc: Global) -> Arg<'a>
+    ensures rule { rule_of result ≡ Spec.viewers_rule }
+    ensures local { result.global ≡ false }
+{
+    value_arg(alloc, "viewers", "CLIENTS", VIEWERS).value_parser(clap::value_parser!(u32).range(
+        1..=64,
     ))
 }
 
@@ -127,8 +161,21 @@ fn run_command<'a>(alloc: Global, texts: &'a [String]) -> Result<Command<'a>, Er
     ensures local { IfOk result (λ r. (fields_of r).has_globals ≡ false) }
     ensures memory { IfErr result (λ e. kind_of e ≡ ErrorKind.OutOfMemory) }
 {
-    let command = subcommand(alloc, "run", RUN, texts)?.arg(workers_arg(alloc))?;
+    let command = subcommand(alloc, "run", RUN, texts)?.arg(workers_arg(alloc, WORKERS))?;
     Ok(command.arg(progress_arg(alloc))?)
+}
+
+// The subcommand of a service, with each setting and the numbers of seats, of clients and of workers as
+// options.
+fn serve_command<'a>(alloc: Global, texts: &'a [String]) -> Result<Command<'a>, Error>
+    requires { length texts.now ≡ 15 }
+    ensures shape { IfOk result (λ r. app_of r ≡ Spec.serve_command) }
+    ensures local { IfOk result (λ r. (fields_of r).has_globals ≡ false) }
+    ensures memory { IfErr result (λ e. kind_of e ≡ ErrorKind.OutOfMemory) }
+{
+    let seated = subcommand(alloc, "serve", SERVE, texts)?.arg(seats_arg(alloc))?;
+    let viewed = seated.arg(viewers_arg(alloc))?;
+    Ok(viewed.arg(workers_arg(alloc, SERVE_WORKERS))?)
 }
 
 // The whole command line, of which these are the subcommands.
@@ -136,11 +183,14 @@ fn program<'a>(
     alloc: Global,
     run: Command<'a>,
     replay: Command<'a>,
+    serve: Command<'a>,
 ) -> Result<Command<'a>, AllocError>
     requires run { app_of run ≡ Spec.run_command }
     requires local { (fields_of run).has_globals ≡ false }
     requires replay { app_of replay ≡ Spec.sub_up_to (codes "replay") 15 }
     requires local_too { (fields_of replay).has_globals ≡ false }
+    requires serve { app_of serve ≡ Spec.serve_command }
+    requires local_as_well { (fields_of serve).has_globals ≡ false }
     ensures { IfOk result (λ r. app_of r ≡ Spec.program) }
 {
     Command::new(alloc, "crewprice")
@@ -151,7 +201,8 @@ fn program<'a>(
         .subcommand_required(true)
         .disable_help_subcommand(true)
         .subcommand(run)?
-        .subcommand(replay)
+        .subcommand(replay)?
+        .subcommand(serve)
 }
 
 // What a subcommand of this name asks for.
@@ -161,6 +212,8 @@ fn task_named(name: &str, found: &ArgMatches<'_>) -> Task
     let settings = settings_from(found);
     if name == "replay" {
         Task::Replay(settings)
+    } else if name == "serve" {
+        Task::Serve(settings, hosting_from(found))
     } else {
         Task::Run(settings, sharing_from(found))
     }
@@ -184,7 +237,8 @@ fn program_with<'a>(alloc: Global, texts: &'a [String]) -> Result<Command<'a>, E
 {
     let run = run_command(alloc, texts)?;
     let replay = subcommand(alloc, "replay", REPLAY, texts)?;
-    Ok(program(alloc, run, replay)?)
+    let serve = serve_command(alloc, texts)?;
+    Ok(program(alloc, run, replay, serve)?)
 }
 
 // What these words ask for, by a command line with these texts.

@@ -8,7 +8,7 @@
 ghost use Rattle.std.specs.Prelude.{◌≡◌, ◌≢◌};
 ghost use Rattle.std.specs.IoError.{error_kind};
 
-use crew_command::{Fault, NotedWriter, Outlet, command};
+use crew_command::{Fault, NotedWriter, Outlet, Post, command};
 use std::io::ErrorKind;
 use std::process::ExitCode;
 use std::rt::Env;
@@ -54,6 +54,7 @@ fn main(rt: HostRuntime) -> ExitCode {
         words.as_slice(),
         &mut outlet.before(rt.reader()),
         &mut outlet.writer(),
+        &Post::new(&rt, io::writer(&rt)),
         &mut faults,
     );
     ExitCode::from(status)

@@ -1,5 +1,6 @@
 //! Runs beside workers, which have to come to what the same run without them comes to.
 
+use crate::outbox::Collected;
 use crate::runs::Case;
 use crew_command::{NotedReader, NotedWriter, command};
 use std::alloc::{AllocError, Global};
@@ -25,6 +26,7 @@ fn outcome_of<R: Print + Eprint + Threads + Wait + Sync + Clock>(
         words,
         &mut NotedReader::new(case.source(rt)),
         &mut NotedWriter::new(&mut written),
+        &Collected::new(rt, alloc),
         &mut NotedWriter::new(Vec::new(alloc)),
     );
     (written, status)

@@ -25,6 +25,7 @@ mod edits;
 mod library;
 mod logs;
 mod meeting;
+mod outbox;
 mod pairs;
 mod runs;
 mod serving;

@@ -1,6 +1,7 @@
 //! Whole runs of the program.
 
 use crate::beside::compare;
+use crate::outbox::Collected;
 use crate::streams::{Shown, Source};
 use crate::ways::Ways;
 use crew_command::{NotedReader, NotedWriter, Outlet, command};
@@ -70,14 +71,17 @@ fn run_plain<R: Print + Eprint + Threads + Wait + Sync + Clock>(
     case: &Case<'_>,
 ) -> io::Result<()> {
     let mut answers = case.answers(rt, "");
+    let told = Collected::new(rt, alloc);
     let status = command(
         rt,
         alloc,
         words,
         &mut NotedReader::new(case.source(rt)),
         &mut NotedWriter::new(&mut answers),
+        &told,
         &mut NotedWriter::new(case.faults(rt)),
     );
+    told.show(&mut answers)?;
     answers.show_count()?;
     show_status(rt, status)?;
     if case.ways.count > 0 {
@@ -98,7 +102,16 @@ fn run_over<T: Threads + Wait + Sync + Clock + Eprint, R: Read, W: Write + Drop,
     let mut reader = outlet.before(reader);
     let mut writer = outlet.writer();
     let mut faults = NotedWriter::new(faults);
-    command(rt, alloc, words, &mut reader, &mut writer, &mut faults)
+    let told = Collected::new(rt, alloc);
+    command(
+        rt,
+        alloc,
+        words,
+        &mut reader,
+        &mut writer,
+        &told,
+        &mut faults,
+    )
 }
 
 // Runs the program over an outlet, which answers while the input is open, and shows its status.

@@ -1,21 +1,20 @@
 use Rattle.std.proofs.Common.{◌≡◌, ◌∙◌, [], List, true, map, ap, refl, sym, subst, Ok, Err, Result}
 use Rattle.std.specs.Result.{IsErrAnd}
-use Rattle.std.specs.Option.{option_map_or}
 use Rattle.clap.specs.Faults.{fault_of, is_simple_and_free}
 use Rattle.clap.specs.Kinds.{HasKind, Kinds}
-use Rattle.clap.specs.Words.{App, FailsBy, Row, Text, is_simple, subcommand_of}
+use Rattle.clap.specs.Words.{App, FailsBy, Text, is_simple, subcommand_of}
 use Rattle.clap.specs.declared.error.Error.{Error}
 use Rattle.clap.proofs.OnLiterals.{clap_on_literals}
 use Rattle.crew_words.specs.declared.task.Task.{Task}
-use Rattle.crew_words.specs.Words.{faults_in, number_rule, program, run_command, sub_up_to, task_by, task_of}
+use Rattle.crew_words.specs.Words.{faults_in, number_rule, program, run_command, serve_command, sub_up_to, task_by, task_of}
 use Rattle.crew_words.proofs.words.read_with.Goals as goal
 
 simple : is_simple program ≡ true
-unfolding program run_command sub_up_to number_rule clap_on_literals
+unfolding program run_command serve_command sub_up_to number_rule clap_on_literals
 simple = refl
 
 free : is_simple_and_free program ≡ true
-unfolding program run_command sub_up_to number_rule clap_on_literals
+unfolding program run_command serve_command sub_up_to number_rule clap_on_literals
 free = refl
 
 -- an error that is handed on is of the same kinds

@@ -1,0 +1,9 @@
+pub mod ClerkFacts
+pub mod Crossing
+pub mod DeskFacts
+pub mod LayoutFacts
+pub mod Played
+pub mod RosterFacts
+pub mod TalkFacts
+pub mod Told
+pub mod Views

@@ -1,4 +1,0 @@
-use Rattle.crew_workers.proofs.sessions.play_parts.Goals as goal
-
-pub returns : goal.returns
-returns g c = c.play_beside.ensures

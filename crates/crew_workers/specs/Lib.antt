@@ -1,2 +1,0 @@
-pub mod Workers
-pub mod Machinery
