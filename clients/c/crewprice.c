@@ -8,10 +8,11 @@
 #include <string.h>
 #include <sys/socket.h>
 #include <sys/types.h>
+#include <sys/un.h>
 #include <sys/wait.h>
 #include <unistd.h>
 
-enum { UNREAD = 1500, BUFFER = 1 << 16 };
+enum { UNREAD = 1500, BUFFER = 1 << 16, TOO_MANY_CLIENTS = 64 };
 
 /* Text that grows: lines one after another, each with a 0 at its end. */
 struct text {
@@ -20,10 +21,12 @@ struct text {
 };
 
 struct cp_session {
-    pid_t child;
+    pid_t child; /* 0 of a connection */
     int pipe;
     long sent, unread;
-    int reason, numbers;
+    long left; /* lines of an answer over a connection that weren't read yet */
+    unsigned long long seen;
+    int reason;
     char error[200];
     char out[BUFFER];
     size_t out_length;
@@ -51,7 +54,79 @@ static int no_memory(cp_session *s) {
 }
 
 static int ended(cp_session *s) {
+    if (s->child == 0) return fail(s, 0, "the connection ended before its answer");
     return fail(s, 0, "the engine ended before its answer; what it said is on standard error");
+}
+
+static int not_understood(cp_session *s, const char *line) {
+    return fail(s, 0, "a line that no engine writes: %.120s", line);
+}
+
+static int grow(struct text *t, size_t length) {
+    if (length <= t->room) return 0;
+    size_t room = t->room ? t->room : 4096;
+    while (room < length) room *= 2;
+    char *bytes = realloc(t->bytes, room);
+    if (bytes == NULL) return -1;
+    t->bytes = bytes;
+    t->room = room;
+    return 0;
+}
+
+/* Appends the next line that comes to the text of lines; where it begins there, or -1. */
+static long long read_any(cp_session *s) {
+    size_t begin = s->lines.length;
+    for (;;) {
+        if (s->in_begin == s->in_end) {
+            ssize_t n = recv(s->pipe, s->in, BUFFER, 0);
+            if (n < 0 && errno == EINTR) continue;
+            if (n <= 0) return ended(s);
+            s->in_begin = 0;
+            s->in_end = (size_t)n;
+        }
+        char *from = s->in + s->in_begin;
+        char *end = memchr(from, '\n', s->in_end - s->in_begin);
+        size_t n = end != NULL ? (size_t)(end - from) : s->in_end - s->in_begin;
+        if (grow(&s->lines, s->lines.length + n + 1) < 0) return no_memory(s);
+        memcpy(s->lines.bytes + s->lines.length, from, n);
+        s->lines.length += n;
+        s->in_begin += n + (end != NULL);
+        if (end != NULL) {
+            s->lines.bytes[s->lines.length++] = 0;
+            return (long long)begin;
+        }
+    }
+}
+
+/* The next line of the answer that is on its way, in the same way. Over a connection an answer begins with
+ * a line that tells its version and how many lines it has. */
+static long long read_line(cp_session *s) {
+    if (s->child != 0) return read_any(s);
+    while (s->left == 0) {
+        long long at = read_any(s);
+        if (at < 0) return -1;
+        const char *line = s->lines.bytes + at;
+        if (sscanf(line, "at %llu lines %ld", &s->seen, &s->left) != 2 || s->left < 0) return not_understood(s, line);
+        s->lines.length = (size_t)at;
+    }
+    s->left--;
+    return read_any(s);
+}
+
+/* After a write that failed. A relay without room says so, and ends the connection, perhaps before
+ * anything was sent. */
+static int refused_at_once(cp_session *s) {
+    long record;
+    int reason;
+    if (s->child != 0) return ended(s);
+    s->lines.length = 0;
+    for (;;) {
+        long long at = read_line(s);
+        if (at < 0) return -1;
+        if (sscanf(s->lines.bytes + at, "record %ld refused %d", &record, &reason) == 2 && reason == TOO_MANY_CLIENTS)
+            return fail(s, reason, "the service has no room for another client");
+        s->lines.length = (size_t)at;
+    }
 }
 
 static int flush(cp_session *s) {
@@ -59,7 +134,7 @@ static int flush(cp_session *s) {
     while (done < s->out_length) {
         ssize_t n = send(s->pipe, s->out + done, s->out_length - done, MSG_NOSIGNAL);
         if (n < 0 && errno == EINTR) continue;
-        if (n < 0) return ended(s);
+        if (n < 0) return refused_at_once(s);
         done += (size_t)n;
     }
     s->out_length = 0;
@@ -83,42 +158,6 @@ static int put_record(cp_session *s, const char *record) {
     if (put(s, record, strlen(record)) < 0 || put(s, "\n", 1) < 0) return -1;
     s->sent++;
     return 0;
-}
-
-static int grow(struct text *t, size_t length) {
-    if (length <= t->room) return 0;
-    size_t room = t->room ? t->room : 4096;
-    while (room < length) room *= 2;
-    char *bytes = realloc(t->bytes, room);
-    if (bytes == NULL) return -1;
-    t->bytes = bytes;
-    t->room = room;
-    return 0;
-}
-
-/* Appends the next line to the text of lines; where it begins there, or -1. */
-static long long read_line(cp_session *s) {
-    size_t begin = s->lines.length;
-    for (;;) {
-        if (s->in_begin == s->in_end) {
-            ssize_t n = recv(s->pipe, s->in, BUFFER, 0);
-            if (n < 0 && errno == EINTR) continue;
-            if (n <= 0) return ended(s);
-            s->in_begin = 0;
-            s->in_end = (size_t)n;
-        }
-        char *from = s->in + s->in_begin;
-        char *end = memchr(from, '\n', s->in_end - s->in_begin);
-        size_t n = end != NULL ? (size_t)(end - from) : s->in_end - s->in_begin;
-        if (grow(&s->lines, s->lines.length + n + 1) < 0) return no_memory(s);
-        memcpy(s->lines.bytes + s->lines.length, from, n);
-        s->lines.length += n;
-        s->in_begin += n + (end != NULL);
-        if (end != NULL) {
-            s->lines.bytes[s->lines.length++] = 0;
-            return (long long)begin;
-        }
-    }
 }
 
 static int keep_refused(cp_session *s, long record, int reason) {
@@ -149,14 +188,11 @@ static long long ask(cp_session *s, const char *question) {
         long record;
         int reason;
         if (sscanf(s->lines.bytes + at, "record %ld refused %d", &record, &reason) != 2) return at;
+        if (reason == TOO_MANY_CLIENTS) return fail(s, reason, "the service has no room for another client");
         if (record == s->sent) return fail(s, reason, "record %ld is refused by %d: docs/sessions.md tells why", record, reason);
         if (keep_refused(s, record, reason) < 0) return -1;
         s->lines.length = 0;
     }
-}
-
-static int not_understood(cp_session *s, const char *line) {
-    return fail(s, 0, "a line that no engine writes: %.120s", line);
 }
 
 /* The pairing of a line after its first word. The walk is told by its place, since the lines may move. */
@@ -173,16 +209,26 @@ static int read_pairing(cp_session *s, size_t at, const char *kind, cp_pairing *
     return 0;
 }
 
+static int words_of(const char *text) {
+    int count = 1;
+    for (; *text != 0; text++) count += *text == ' ';
+    return count;
+}
+
 static int read_entry(cp_session *s, size_t at, cp_entry *entry, size_t *walk) {
     const char *line = s->lines.bytes + at;
     if (strncmp(line, "entry ", 6) != 0) return not_understood(s, line);
     char *end = s->lines.bytes + at + 6;
     memset(entry->vector, 0, sizeof entry->vector);
-    for (int i = 0; i < s->numbers; i++) {
+    /* The sixth number is that of the duties, which the walk has. */
+    int numbers = 7;
+    for (int i = 0; i < numbers; i++) {
         char *from = end;
         entry->vector[i] = strtoll(from, &end, 10);
         if (end == from || *end != ' ') return not_understood(s, line);
         end++;
+        if (i == 5) numbers = 6 + words_of(end) - (int)entry->vector[5];
+        if (numbers < 7 || numbers > 8) return not_understood(s, line);
     }
     *walk = (size_t)(end - s->lines.bytes);
     return 0;
@@ -210,11 +256,7 @@ cp_session *cp_open(const char *program, const char *const *words) {
         return NULL;
     }
     size_t count = 0;
-    s->numbers = 7;
-    while (words != NULL && words[count] != NULL) {
-        if (count > 0 && strcmp(words[count - 1], "--away-cap") == 0 && atoi(words[count]) > 8280) s->numbers = 8;
-        count++;
-    }
+    while (words != NULL && words[count] != NULL) count++;
     fflush(NULL);
     s->child = fork();
     if (s->child == 0) run(program, words, count, ends[1]);
@@ -226,6 +268,30 @@ cp_session *cp_open(const char *program, const char *const *words) {
     }
     s->pipe = ends[0];
     return s;
+}
+
+cp_session *cp_connect(const char *path) {
+    struct sockaddr_un address = {.sun_family = AF_UNIX};
+    if (strlen(path) >= sizeof address.sun_path) {
+        errno = ENAMETOOLONG;
+        return NULL;
+    }
+    strcpy(address.sun_path, path);
+    cp_session *s = calloc(1, sizeof *s);
+    if (s == NULL) return NULL;
+    s->pipe = socket(AF_UNIX, SOCK_STREAM | SOCK_CLOEXEC, 0);
+    if (s->pipe < 0 || connect(s->pipe, (const struct sockaddr *)&address, sizeof address) < 0) {
+        int why = errno;
+        if (s->pipe >= 0) close(s->pipe);
+        free(s);
+        errno = why;
+        return NULL;
+    }
+    return s;
+}
+
+unsigned long long cp_seen(const cp_session *s) {
+    return s->seen;
 }
 
 long cp_send(cp_session *s, const char *record) {
@@ -241,6 +307,7 @@ int cp_settle(cp_session *s, cp_version *version) {
     if (at < 0) return -1;
     if (sscanf(s->lines.bytes + at, "version %llu entries %llu flights %llu", &made.number, &made.entries, &made.flights) != 3)
         return not_understood(s, s->lines.bytes + at);
+    s->seen = made.number;
     if (version != NULL) *version = made;
     return 0;
 }
@@ -347,21 +414,27 @@ int cp_reason(const cp_session *s) {
     return s->reason;
 }
 
-int cp_close(cp_session *s) {
+static int wait_for(pid_t child) {
     int status = -1;
+    while (waitpid(child, &status, 0) < 0 && errno == EINTR) {
+    }
+    if (WIFEXITED(status)) return WEXITSTATUS(status);
+    return WIFSIGNALED(status) ? 128 + WTERMSIG(status) : -1;
+}
+
+int cp_close(cp_session *s) {
     if (s == NULL) return -1;
-    flush(s);
+    ssize_t n;
+    int sent = flush(s);
     shutdown(s->pipe, SHUT_WR);
-    while (recv(s->pipe, s->in, BUFFER, 0) > 0) {
+    while ((n = recv(s->pipe, s->in, BUFFER, 0)) > 0 || (n < 0 && errno == EINTR)) {
     }
     close(s->pipe);
-    while (waitpid(s->child, &status, 0) < 0 && errno == EINTR) {
-    }
+    int status = s->child == 0 ? (sent < 0 || n < 0 ? -1 : 0) : wait_for(s->child);
     free(s->lines.bytes);
     free(s->pairings);
     free(s->entries);
     free(s->refused);
     free(s);
-    if (WIFEXITED(status)) return WEXITSTATUS(status);
-    return WIFSIGNALED(status) ? 128 + WTERMSIG(status) : -1;
+    return status;
 }

@@ -1,5 +1,6 @@
-/* Sessions of the pricing engine `crewprice`: flights and dual prices in, legal crew pairings of least
- * reduced cost out. C99 and POSIX, no other library.
+/* Clients of the pricing engine `crewprice`: flights and dual prices in, legal crew pairings of least
+ * reduced cost out; as a session, a process of one's own, or as a connection to a service that several
+ * clients share. C99 and POSIX, no other library.
  *
  *     const char *settings[] = {"--sit", "180", NULL};
  *     cp_session *session = cp_open("crewprice", settings);
@@ -51,6 +52,17 @@ typedef struct {
  * question, which finds that it ended. */
 cp_session *cp_open(const char *program, const char *const *words);
 
+/* Connects to a service: the Unix socket of a relay (clients/relay) before `crewprice serve`. What comes
+ * back takes the same calls. All clients share one log: an edit counts from the next settle of any of them
+ * on, a settle has all edits that this client sent before it, and a question is answered by the version
+ * that is published, while others settle too. NULL where there is no memory or no relay, with errno. A
+ * relay that has no room is told by the first question, by -1 and cp_reason 64. */
+cp_session *cp_connect(const char *path);
+
+/* The number of the version that the last answer is from, 0 before any settle. It never falls; over a
+ * connection it rises as others settle too. */
+unsigned long long cp_seen(const cp_session *session);
+
 /* Sends a zone or an edit as its record, without a line's end. Its number, from 1, or -1. */
 long cp_send(cp_session *session, const char *record);
 
@@ -84,7 +96,8 @@ size_t cp_refusals(cp_session *session, const cp_refused **list);
 const char *cp_error(const cp_session *session);
 int cp_reason(const cp_session *session);
 
-/* Ends the session. The engine's exit status, 0 where all went well, or 128 and the signal that ended it. */
+/* Ends the session. The engine's exit status, 0 where all went well, or 128 and the signal that ended it.
+ * A connection leaves the service once that has taken all edits: 0, or -1 where it had ended before. */
 int cp_close(cp_session *session);
 
 #ifdef __cplusplus

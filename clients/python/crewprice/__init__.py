@@ -1,4 +1,5 @@
-"""Sessions of the pricing engine `crewprice`: flights and dual prices in, legal crew pairings of least reduced cost out.
+"""Clients of the pricing engine `crewprice`: flights and dual prices in, legal crew pairings of least reduced cost out.
+A `Session` is a process of one's own, a `Service` a connection to an engine that several clients share.
 
     from crewprice import Session, Timetable
 
@@ -7,11 +8,13 @@
         session.settle()
         print(session.best())
 """
+from .client import Audit, Version
 from .explanation import Broken, DutyFigures, Legal
 from .faults import EngineEnded, EngineError, NotUnderstood, Refused
 from .pairing import Entry, Leg, Pairing
-from .session import Audit, Session, Version
+from .service import Service
+from .session import Session
 from .timetable import Flight, Timetable
 
 __all__ = ['Audit', 'Broken', 'DutyFigures', 'EngineEnded', 'EngineError', 'Entry', 'Flight', 'Leg', 'Legal',
-           'NotUnderstood', 'Pairing', 'Refused', 'Session', 'Timetable', 'Version']
+           'NotUnderstood', 'Pairing', 'Refused', 'Service', 'Session', 'Timetable', 'Version']

@@ -7,6 +7,8 @@ from typing import NamedTuple
 
 from .faults import NotUnderstood
 
+NUMBERS = (7, 8)  # of a vector
+
 
 class Leg(NamedTuple):
     """A flight, by its number, that the crew flies, or rides as passengers."""
@@ -79,10 +81,13 @@ class Entry:
         return max(self.vector[:3])
 
     @classmethod
-    def of_words(cls, words: str, numbers: int) -> Entry:
-        """From `V1 .. Vn WALK`."""
-        *vector, walk = words.split(' ', numbers)
+    def of_words(cls, words: str) -> Entry:
+        """From `V1 .. Vn WALK`. How many numbers there are is told by the sixth, the duties of the walk."""
+        found = words.split(' ')
         try:
-            return cls(tuple(map(int, vector)), walk)
-        except ValueError:
+            numbers = len(found) - int(found[5])
+            if numbers not in NUMBERS:
+                raise ValueError
+            return cls(tuple(map(int, found[:numbers])), ' '.join(found[numbers:]))
+        except (ValueError, IndexError):
             raise NotUnderstood(f'no entry: {words!r}') from None
