@@ -33,7 +33,7 @@ passed-at base price p rank d h q =
 -- it rises by vector
 pub passed-rises : (p : BasePass LongValue) (rank : ℕ) (d : Duty) → AreValued p → AreListed p → rank < length p.net.duties → RiseByVector (shown_entries p.net.settings d (keyed_entries p rank))
 passed-rises p rank d valued listed within =
-    labels-rise p.net.settings d (record { leaves = p.positions; pools = p.pools }) p.net.duties (get_or p.fronts rank []) (λ l m. (_, (valued rank l within m).counting)) (listed rank within)
+    labels-rise p.net.settings d (record { leaves = p.leaves; pools = p.pools }) p.net.duties (get_or p.fronts rank []) (λ l m. (_, (valued rank l within m).counting)) (listed rank within)
 
 -- and is right
 pub pass-right : (base : List ℕ) (price : ℤ) (p : BasePass LongValue) (t : Timetable) → RiseByKey p.net.duties → AreValued p → AreListed p

@@ -41,7 +41,7 @@ fn rank_at<T: Trails>(trails: &T, link: Option<Link>, count: usize, place: usize
     let before = trails.before(last);
     let count = count - 1;
     if place == count {
-        Some(last.duty)
+        Some(trails.rank(last))
     } else {
         rank_at(trails, before, count, place)
     }

@@ -40,47 +40,47 @@ module _ {V : Type 0} (board : V → Option V) (duty : ℕ) where
       ∙ (sym (boarded-append 0 (take i ls) l)
       ∙ ap (boarded_from board duty 0) (ap (λ z. take i ls ++ z ∷ []) e ∙ sym (take_more ls i l h)))
 
-  module _ (leads : Link → Bool) (trail : Link → List ℕ) where
+  module _ (leads : Link → Bool) (trail : Link → List ℕ) (rank : ℕ) where
     -- links from a place on lead to the labels of a list
     Into : ℕ → List (Label V) → Type 0
-    Into n ls = (k : ℕ) (l : Label V) → slice_get ls k ≡ Some l → (leads (link_at (n + k)) ≡ true) × (trail (link_at (n + k)) ≡ walk_of trail l.before ++ duty ∷ [])
+    Into n ls = (k : ℕ) (l : Label V) → slice_get ls k ≡ Some l → (leads (link_at (n + k)) ≡ true) × (trail (link_at (n + k)) ≡ walk_of trail l.before ++ rank ∷ [])
 
     At : ℕ → Label V → Type 0
-    At n l = (leads (link_at n) ≡ true) × (trail (link_at n) ≡ walk_of trail l.before ++ duty ∷ [])
+    At n l = (leads (link_at n) ≡ true) × (trail (link_at n) ≡ walk_of trail l.before ++ rank ∷ [])
 
     into-here : (n : ℕ) (l : Label V) (ls : List (Label V)) → Into n (l ∷ ls) → At n l
     unfolding Into At
     into-here n l ls h =
         let e : n + 0 ≡ n = omega arith in
-        subst (λ k. (leads (link_at k) ≡ true) × (trail (link_at k) ≡ walk_of trail l.before ++ duty ∷ [])) e (h 0 l refl)
+        subst (λ k. (leads (link_at k) ≡ true) × (trail (link_at k) ≡ walk_of trail l.before ++ rank ∷ [])) e (h 0 l refl)
 
     into-next : (n : ℕ) (l : Label V) (ls : List (Label V)) → Into n (l ∷ ls) → Into (n + 1) ls
     unfolding Into
     into-next n l ls h k m e =
         let q : n + suc k ≡ n + 1 + k = omega arith in
-        subst (λ j. (leads (link_at j) ≡ true) × (trail (link_at j) ≡ walk_of trail m.before ++ duty ∷ [])) q (h (suc k) m e)
+        subst (λ j. (leads (link_at j) ≡ true) × (trail (link_at j) ≡ walk_of trail m.before ++ rank ∷ [])) q (h (suc k) m e)
 
-    into-first : (ls : List (Label V)) → LeadInto leads trail duty ls → Into 0 ls
+    into-first : (ls : List (Label V)) → LeadInto leads trail duty rank ls → Into 0 ls
     unfolding Into
     into-first ls h k l e =
         let q : k ≡ 0 + k = omega arith in
-        subst (λ j. (leads (link_at j) ≡ true) × (trail (link_at j) ≡ walk_of trail l.before ++ duty ∷ [])) q (h.there k l e, h.walk k l e)
+        subst (λ j. (leads (link_at j) ≡ true) × (trail (link_at j) ≡ walk_of trail l.before ++ rank ∷ [])) q (h.there k l e, h.walk k l e)
 
-    linked_entry : (n : ℕ) (l : Label V) (o : Option V) → At n l → map (shown trail) (linked o (link_at n)) ≡ labelled o (walk_of trail l.before ++ duty ∷ [])
+    linked_entry : (n : ℕ) (l : Label V) (o : Option V) → At n l → map (shown trail) (linked o (link_at n)) ≡ labelled o (walk_of trail l.before ++ rank ∷ [])
     unfolding At
     linked_entry n l None a = refl
     linked_entry n l (Some z) a = ap (λ w. (z, w) ∷ []) a.1
 
     entries_from : (n : ℕ) (ls : List (Label V)) → Into n ls
-        → map (shown trail) (boarded_from board duty n ls) ≡ flat_map (λ e. labelled (board e.0) (e.1 ++ duty ∷ [])) (map (shown trail) ls)
+        → map (shown trail) (boarded_from board duty n ls) ≡ flat_map (λ e. labelled (board e.0) (e.1 ++ rank ∷ [])) (map (shown trail) ls)
     entries_from n [] h = refl
     entries_from n (l ∷ ls) h =
         map-append (shown trail) (linked (board l.value) (link_at n)) (boarded_from board duty (n + 1) ls)
         ∙ (ap (λ ys. ys ++ map (shown trail) (boarded_from board duty (n + 1) ls)) (linked_entry n l (board l.value) (into-here n l ls h))
-        ∙ ap (λ ys. labelled (board l.value) (walk_of trail l.before ++ duty ∷ []) ++ ys) (entries_from (n + 1) ls (into-next n l ls h)))
+        ∙ ap (λ ys. labelled (board l.value) (walk_of trail l.before ++ rank ∷ []) ++ ys) (entries_from (n + 1) ls (into-next n l ls h)))
 
-    pub boarded_entries : (ls : List (Label V)) → LeadInto leads trail duty ls
-        → map (shown trail) (boarded_from board duty 0 ls) ≡ flat_map (λ e. labelled (board e.0) (e.1 ++ duty ∷ [])) (map (shown trail) ls)
+    pub boarded_entries : (ls : List (Label V)) → LeadInto leads trail duty rank ls
+        → map (shown trail) (boarded_from board duty 0 ls) ≡ flat_map (λ e. labelled (board e.0) (e.1 ++ rank ∷ [])) (map (shown trail) ls)
     boarded_entries ls h = entries_from 0 ls (into-first ls h)
 
     module _ (count : V → ℤ) (one_more : (v z : V) → board v ≡ Some z → count z ≡ count v +ℤ pos 1) where
@@ -89,7 +89,7 @@ module _ {V : Type 0} (board : V → Option V) (duty : ℕ) where
       linked_counted n l None e a i m h = absurd h
       linked_counted n l (Some z) e a i m (inl q) = subst (IsCounted count leads trail) q record {
         leading = a.0;
-        counts = one_more l.value z e ∙ (ap (λ k. k +ℤ pos 1) i.counts ∙ (one_longer (walk_of trail l.before) duty ∙ ap (λ w. pos (length w)) (sym a.1)));
+        counts = one_more l.value z e ∙ (ap (λ k. k +ℤ pos 1) i.counts ∙ (one_longer (walk_of trail l.before) rank ∙ ap (λ w. pos (length w)) (sym a.1)));
       }
       linked_counted n l (Some z) e a i m (inr h) = absurd h
 
@@ -100,7 +100,7 @@ module _ {V : Type 0} (board : V → Option V) (duty : ℕ) where
           (λ p. counted_from (n + 1) ls (into-next n l ls h) (λ x q. c x (inr q)) m p)
           (Member-append (linked (board l.value) (link_at n)) (boarded_from board duty (n + 1) ls) m k)
 
-      pub boarded_counted : (ls : List (Label V)) → LeadInto leads trail duty ls → AreCounted count leads trail ls → AreCounted count leads trail (boarded_from board duty 0 ls)
+      pub boarded_counted : (ls : List (Label V)) → LeadInto leads trail duty rank ls → AreCounted count leads trail ls → AreCounted count leads trail (boarded_from board duty 0 ls)
       boarded_counted ls h c = counted_from 0 ls (into-first ls h) c
 
 module _ {V : Type 0} (wait : V → V) where

@@ -214,10 +214,10 @@ module _ {V : Type 0} (trail : Link → List ℕ) (lapses : V → Bool) (board :
   part_in lapsing l m = boarded-part board duty (boards_where lapsing lapses board) (where_part lapses board lapsing) 0 pool l m
 
   -- labels of either part have what labels that board have
-  pub part_counted : (count : V → ℤ) (leads : Link → Bool) → ((v z : V) → board v ≡ Some z → count z ≡ count v +ℤ pos 1) → LeadInto leads trail duty pool → AreCounted count leads trail pool
+  pub part_counted : (count : V → ℤ) (leads : Link → Bool) (rank : ℕ) → ((v z : V) → board v ≡ Some z → count z ≡ count v +ℤ pos 1) → LeadInto leads trail duty rank pool → AreCounted count leads trail pool
       → (lapsing : Bool) (view now : List (Label V)) → view ≡ boarded_from (boards_where lapsing lapses board) duty 0 pool → now ≡ view → AreCounted count leads trail now
-  part_counted count leads one_more h c lapsing view now e f l m =
-      boarded_counted board duty leads trail count one_more pool h c l (part_in lapsing l (subst (λ (ls : List (Label V)). Member ls l) (f ∙ e) m))
+  part_counted count leads rank one_more h c lapsing view now e f l m =
+      boarded_counted board duty leads trail rank count one_more pool h c l (part_in lapsing l (subst (λ (ls : List (Label V)). Member ls l) (f ∙ e) m))
 
   module _ (kept cut kept_now cut_now front : List (Label V)) (is_kept : kept ≡ boarded_from (boards_where false lapses board) duty 0 pool)
       (is_cut : cut ≡ boarded_from (boards_where true lapses board) duty 0 pool) (kept_is : kept_now ≡ kept) (cut_is : cut_now ≡ cut) where

@@ -32,9 +32,9 @@ module _ {V : Type 0} (cmp : V → V → Ordering) (below same : V → V → Boo
   plain_alone : (C : V → List ℕ → Type 0) (entries : List (V × List ℕ)) → IsPool below same ranks_at_most C entries → IsLocal below ranks_at_most C entries
   plain_alone C entries i = local_from_pool V (List ℕ) below same ranks_at_most (below_order order) ranks_order itself between plain ranks_total C entries i
 
-  module _ (board : V → Option V) (duty : ℕ) (reflects : (a b y z : V) → board a ≡ Some y → board b ≡ Some z → below y z ≡ true → below a b ≡ true) where
+  module _ (board : V → Option V) (duty rank : ℕ) (reflects : (a b y z : V) → board a ≡ Some y → board b ≡ Some z → below y z ≡ true → below a b ≡ true) where
     boards : V × List ℕ → List (V × List ℕ)
-    boards e = labelled (board e.0) (e.1 ++ duty ∷ [])
+    boards e = labelled (board e.0) (e.1 ++ rank ∷ [])
 
     view_alone : (C : V → List ℕ → Type 0) (entries : List (V × List ℕ)) → IsPool below same ranks_at_most C entries
         → (v : V) (w : List ℕ) (x : V) (y : List ℕ) → Member (flat_map boards entries) (v, w) → Member (flat_map boards entries) (x, y) → below v x ≡ true → (v ≡ x) × (w ≡ y)
@@ -42,11 +42,11 @@ module _ {V : Type 0} (cmp : V → V → Ordering) (below same : V → V → Boo
     view_alone C entries i v w x y m n h =
         let a = Member-flat_map_out boards entries (v, w) m in
         let b = Member-flat_map_out boards entries (x, y) n in
-        let p = labelled_out (board a.0.0) (a.0.1 ++ duty ∷ []) v w a.2 in
-        let q = labelled_out (board b.0.0) (b.0.1 ++ duty ∷ []) x y b.2 in
+        let p = labelled_out (board a.0.0) (a.0.1 ++ rank ∷ []) v w a.2 in
+        let q = labelled_out (board b.0.0) (b.0.1 ++ rank ∷ []) x y b.2 in
         let e = (plain_alone C entries i).alone a.0.0 a.0.1 b.0.0 b.0.1 a.1 b.1 (reflects a.0.0 b.0.0 v x p.0 q.0 h) in (
           some_same v x (sym p.0 ∙ (ap board e.0 ∙ q.0)),
-          sym p.1 ∙ (ap (λ z. z ++ duty ∷ []) e.1 ∙ q.1),
+          sym p.1 ∙ (ap (λ z. z ++ rank ∷ []) e.1 ∙ q.1),
         )
 
     view_front : (C : V → List ℕ → Type 0) (entries : List (V × List ℕ)) → IsPool below same ranks_at_most C entries
@@ -57,11 +57,11 @@ module _ {V : Type 0} (cmp : V → V → Ordering) (below same : V → V → Boo
       alone = view_alone C entries i;
     }
 
-    pub boarded_front : (leads : Link → Bool) (trail : Link → List ℕ) (candidates : List (V × List ℕ)) (pool : List (Label V)) → LeadInto leads trail duty pool → ArePoolOf below same trail candidates pool
+    pub boarded_front : (leads : Link → Bool) (trail : Link → List ℕ) (candidates : List (V × List ℕ)) (pool : List (Label V)) → LeadInto leads trail duty rank pool → ArePoolOf below same trail candidates pool
         → IsLocal below ranks_at_most (λ v w. Member (map (shown trail) (boarded_from board duty 0 pool)) (v, w)) (map (shown trail) (boarded_from board duty 0 pool))
     unfolding boards
     boarded_front leads trail candidates pool h i =
-        subst (λ (es : List (V × List ℕ)). IsLocal below ranks_at_most (λ v w. Member es (v, w)) es) (sym (boarded_entries board duty leads trail pool h))
+        subst (λ (es : List (V × List ℕ)). IsLocal below ranks_at_most (λ v w. Member es (v, w)) es) (sym (boarded_entries board duty leads trail rank pool h))
         (view_front (λ v w. Member candidates (v, w)) (map (shown trail) pool) i)
 
   module _ (wait : V → V) (reflects : (a b : V) → below (wait a) (wait b) ≡ true → below a b ≡ true) where

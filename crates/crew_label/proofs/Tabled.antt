@@ -7,7 +7,7 @@ use Rattle.std.proofs.lemmas.List.{get_or_append_left, get_or_default}
 use Rattle.std.proofs.Math.Seq.{get_or-append_seam}
 use Rattle.crew_resource.specs.Members.{Each, Member}
 use Rattle.crew_label.specs.Boarding.{LeadInto}
-use Rattle.crew_label.specs.Tables.{AreLinked, departure_of, leads_in, trail_in, walk_in, walks_from}
+use Rattle.crew_label.specs.Tables.{AreLinked, Leaving, departure_of, is_known, leads_in, rank_of, trail_in, walk_in, walks_from}
 use Rattle.crew_label.specs.Walks.{Leads, walk_of}
 use Rattle.crew_label.specs.declared.label.Label.{Label}
 use Rattle.crew_label.specs.declared.label.Link.{Link}
@@ -47,10 +47,17 @@ got [] k x e = absurd (let q : ⊥ = (cc) in q)
 got (y ∷ ys) zero x e = (cc)
 got (y ∷ ys) (suc k) x e = got ys k x e
 
-new_departure : (leaves : List ℕ) (duty n : ℕ) → slice_get leaves duty ≡ Some n → (departure_of leaves duty ≡ n) × (nat_lt duty (length leaves) ≡ true)
-new_departure leaves duty n e = (got leaves duty n e, lt_in duty (length leaves) (within_list leaves duty n e))
+new_departure : (leaves : Leaving) (duty rank n : ℕ) → slice_get leaves.ranks duty ≡ Some rank → slice_get leaves.positions rank ≡ Some n
+    → (rank_of leaves duty ≡ rank) × (departure_of leaves duty ≡ n) × (is_known leaves duty ≡ true)
+new_departure leaves duty rank n d e =
+    let is = got leaves.ranks duty rank d in (
+      is,
+      ap (λ k. get_or leaves.positions k 0) is ∙ got leaves.positions rank n e,
+      and_from (nat_lt duty (length leaves.ranks)) (nat_lt (rank_of leaves duty) (length leaves.positions)) (lt_in duty (length leaves.ranks) (within_list leaves.ranks duty rank d))
+          (ap (λ k. nat_lt k (length leaves.positions)) is ∙ lt_in rank (length leaves.positions) (within_list leaves.positions rank n e)),
+    )
 
-module _ {V : Type 0} (leaves : List ℕ) where
+module _ {V : Type 0} (leaves : Leaving) where
   within : (pools : List (List (Label V))) (g k : ℕ) → k < length (get_or pools g []) → g < length pools
   within [] g k h = absurd (omega arith)
   within (p ∷ ps) zero k h = omega arith
@@ -59,14 +66,14 @@ module _ {V : Type 0} (leaves : List ℕ) where
   -- what leads to a label has a departure
   leads_within : (pools : List (List (Label V))) (link : Link) → leads_in leaves pools link ≡ true → departure_of leaves link.duty < length pools
   leads_within pools link e =
-      let k = and_parts (nat_lt link.duty (length leaves)) (nat_lt link.place (length (get_or pools (departure_of leaves link.duty) []))) e in
+      let k = and_parts (is_known leaves link.duty) (nat_lt link.place (length (get_or pools (departure_of leaves link.duty) []))) e in
       within pools (departure_of leaves link.duty) link.place (lt_from link.place (length (get_or pools (departure_of leaves link.duty) [])) k.1)
 
   -- and leads to it where there are more pools
   pub leads_more : (xs ys : List (List (Label V))) (link : Link) → leads_in leaves xs link ≡ true → leads_in leaves (xs ++ ys) link ≡ true
   leads_more xs ys link e =
-      let k = and_parts (nat_lt link.duty (length leaves)) (nat_lt link.place (length (get_or xs (departure_of leaves link.duty) []))) e in
-      and_from (nat_lt link.duty (length leaves)) (nat_lt link.place (length (get_or (xs ++ ys) (departure_of leaves link.duty) []))) k.0
+      let k = and_parts (is_known leaves link.duty) (nat_lt link.place (length (get_or xs (departure_of leaves link.duty) []))) e in
+      and_from (is_known leaves link.duty) (nat_lt link.place (length (get_or (xs ++ ys) (departure_of leaves link.duty) []))) k.0
       (ap (λ p. nat_lt link.place (length p)) (get_or_append_left xs ys [] (departure_of leaves link.duty) (leads_within xs link e)) ∙ k.1)
 
   pub Leads_more : (xs ys : List (List (Label V))) (o : Option Link) → Leads (leads_in leaves xs) o → Leads (leads_in leaves (xs ++ ys)) o
@@ -86,7 +93,7 @@ module _ {V : Type 0} (leaves : List ℕ) where
   walk_stays before ps ws n None h = refl
   walk_stays before ps ws n (Some link) h =
       let k = leads_within before link h in
-      ap (λ row. get_or row link.place [] ++ link.duty ∷ []) (sym (walks_below ws ps (departure_of leaves link.duty) (omega (arith, k, n))))
+      ap (λ row. get_or row link.place [] ++ rank_of leaves link.duty ∷ []) (sym (walks_below ws ps (departure_of leaves link.duty) (omega (arith, k, n))))
 
   rows : (ws : List (List (List ℕ))) (before ps : List (List (Label V))) (k : ℕ) → length ws ≡ length before → AreLinked leaves before ps → k < length ps
       → get_or (walks_from leaves ws ps) (length ws + k) [] ≡ map (λ l. walk_in leaves (walks_from leaves ws ps) l.before) (get_or ps k [])
@@ -122,23 +129,32 @@ module _ {V : Type 0} (leaves : List ℕ) where
   pub leads_to : (pools : List (List (Label V))) (link : Link) → leads_in leaves pools link ≡ true
       → (l : Label V) × (departure_of leaves link.duty < length pools) × (slice_get (get_or pools (departure_of leaves link.duty) []) link.place ≡ Some l)
   leads_to pools link e =
-      let k = and_parts (nat_lt link.duty (length leaves)) (nat_lt link.place (length (get_or pools (departure_of leaves link.duty) []))) e in
+      let k = and_parts (is_known leaves link.duty) (nat_lt link.place (length (get_or pools (departure_of leaves link.duty) []))) e in
       let at = at_place (get_or pools (departure_of leaves link.duty) []) link.place (lt_from link.place (length (get_or pools (departure_of leaves link.duty) [])) k.1) in
       (at.0, leads_within pools link e, at.1)
 
-  -- the departure of a link's duty, as the code reads it
-  pub departure_read : (pools : List (List (Label V))) (link : Link) (read : List ℕ) (x : ℕ) → leads_in leaves pools link ≡ true → read ≡ leaves → x ≡ get_or read link.duty x → x ≡ departure_of leaves link.duty
-  departure_read pools link read x e is at =
-      let k = and_parts (nat_lt link.duty (length leaves)) (nat_lt link.place (length (get_or pools (departure_of leaves link.duty) []))) e in
-      at ∙ ap (λ (xs : List ℕ). get_or xs link.duty x) is ∙ get_or_default leaves link.duty x 0 (lt_from link.duty (length leaves) k.0)
+  -- the rank and the departure of a link's duty, as the code reads them
+  pub rank_read : (pools : List (List (Label V))) (link : Link) (read : List ℕ) (x : ℕ) → leads_in leaves pools link ≡ true → read ≡ leaves.ranks → x ≡ get_or read link.duty x → x ≡ rank_of leaves link.duty
+  rank_read pools link read x e is at =
+      let k = and_parts (is_known leaves link.duty) (nat_lt link.place (length (get_or pools (departure_of leaves link.duty) []))) e in
+      let j = and_parts (nat_lt link.duty (length leaves.ranks)) (nat_lt (rank_of leaves link.duty) (length leaves.positions)) k.0 in
+      at ∙ ap (λ (xs : List ℕ). get_or xs link.duty x) is ∙ get_or_default leaves.ranks link.duty x 0 (lt_from link.duty (length leaves.ranks) j.0)
+
+  pub departure_read : (pools : List (List (Label V))) (link : Link) (read : List ℕ) (rank x : ℕ) → leads_in leaves pools link ≡ true → rank ≡ rank_of leaves link.duty → read ≡ leaves.positions
+      → x ≡ get_or read rank x → x ≡ departure_of leaves link.duty
+  departure_read pools link read rank x e ranked is at =
+      let k = and_parts (is_known leaves link.duty) (nat_lt link.place (length (get_or pools (departure_of leaves link.duty) []))) e in
+      let j = and_parts (nat_lt link.duty (length leaves.ranks)) (nat_lt (rank_of leaves link.duty) (length leaves.positions)) k.0 in
+      at ∙ (ap (λ (xs : List ℕ). get_or xs rank x) is ∙ (ap (λ n. get_or leaves.positions n x) ranked
+      ∙ get_or_default leaves.positions (rank_of leaves link.duty) x 0 (lt_from (rank_of leaves link.duty) (length leaves.positions) j.1)))
 
   -- a link's walk is a duty more than that of the label which it leads to
   pub trail_goes_on : (pools : List (List (Label V))) → AreLinked leaves [] pools → (link : Link) (l : Label V) → departure_of leaves link.duty < length pools
       → slice_get (get_or pools (departure_of leaves link.duty) []) link.place ≡ Some l
-      → trail_in leaves pools link ≡ walk_of (trail_in leaves pools) l.before ++ link.duty ∷ []
+      → trail_in leaves pools link ≡ walk_of (trail_in leaves pools) l.before ++ rank_of leaves link.duty ∷ []
   trail_goes_on pools h link l b e =
       let g = departure_of leaves link.duty in
-      ap (λ w. w ++ link.duty ∷ [])
+      ap (λ w. w ++ rank_of leaves link.duty ∷ [])
       (ap (λ row. get_or row link.place []) (first_row pools g h b)
       ∙ (map_at (λ (m : Label V). walk_in leaves (walks_from leaves [] pools) m.before) (get_or pools g []) link.place l [] e
       ∙ same_walk pools l.before))
@@ -180,23 +196,30 @@ module _ {V : Type 0} (leaves : List ℕ) where
       let b = leads_within pools link e in
       let n = length_walks [] pools in
       let row = map (λ (l : Label V). walk_in leaves (walks_from leaves [] pools) l.before) p in
-      ap (λ r. get_or r link.place [] ++ link.duty ∷ [])
+      ap (λ r. get_or r link.place [] ++ rank_of leaves link.duty ∷ [])
       (ap (λ ws. get_or ws g []) (walks_more [] pools p) ∙ get_or_append_left (walks_from leaves [] pools) (row ∷ []) [] g (omega (arith, b, n)))
 
-  -- links of duties that leave from the departure of the last pool lead to its labels
-  pub last_into : (pools : List (List (Label V))) (p : List (Label V)) → AreLinked leaves [] (pools ++ p ∷ []) → (duty : ℕ) → slice_get leaves duty ≡ Some (length pools)
-      → LeadInto (leads_in leaves (pools ++ p ∷ [])) (trail_in leaves (pools ++ p ∷ [])) duty p
-  last_into pools p h duty e =
-      let k = new_departure leaves duty (length pools) e in
-      let row : get_or (pools ++ p ∷ []) (departure_of leaves duty) [] ≡ p = ap (λ i. get_or (pools ++ p ∷ []) i []) k.0 ∙ get_or-append_seam pools p [] [] in
-      let n = length-append pools (p ∷ []) in
+  -- the links of a duty lead to the labels of its departure
+  pub links_into : (pools : List (List (Label V))) → AreLinked leaves [] pools → (duty rank position : ℕ) → slice_get leaves.ranks duty ≡ Some rank → slice_get leaves.positions rank ≡ Some position
+      → LeadInto (leads_in leaves pools) (trail_in leaves pools) duty rank (get_or pools position [])
+  links_into pools h duty rank position d e =
+      let pool = get_or pools position [] in
+      let k = new_departure leaves duty rank position d e in
+      let row = ap (λ i. get_or pools i []) k.1 in
       record {
         there = λ i l at.
-            and_from (nat_lt duty (length leaves)) (nat_lt i (length (get_or (pools ++ p ∷ []) (departure_of leaves duty) []))) k.1
-            (ap (λ r. nat_lt i (length r)) row ∙ lt_in i (length p) (within_list p i l at));
+            and_from (is_known leaves duty) (nat_lt i (length (get_or pools (departure_of leaves duty) []))) k.2
+            (ap (λ r. nat_lt i (length r)) row ∙ lt_in i (length pool) (within_list pool i l at));
         walk = λ i l at.
-            trail_goes_on (pools ++ p ∷ []) h (record { duty = duty; place = i }) l (let q = k.0 in omega (arith, q, n)) (ap (λ r. slice_get r i) row ∙ at);
+            trail_goes_on pools h (record { duty = duty; place = i }) l (subst (λ n. n < length pools) (sym k.1) (within pools position i (within_list pool i l at))) (ap (λ r. slice_get r i) row ∙ at)
+            ∙ ap (λ z. walk_of (trail_in leaves pools) l.before ++ z ∷ []) k.0;
       }
+
+  -- those of duties that leave from the departure of the last pool lead to its labels
+  pub last_into : (pools : List (List (Label V))) (p : List (Label V)) → AreLinked leaves [] (pools ++ p ∷ []) → (duty rank : ℕ) → slice_get leaves.ranks duty ≡ Some rank
+      → slice_get leaves.positions rank ≡ Some (length pools) → LeadInto (leads_in leaves (pools ++ p ∷ [])) (trail_in leaves (pools ++ p ∷ [])) duty rank p
+  last_into pools p h duty rank d e =
+      subst (LeadInto (leads_in leaves (pools ++ p ∷ [])) (trail_in leaves (pools ++ p ∷ [])) duty rank) (get_or-append_seam pools p [] []) (links_into (pools ++ p ∷ []) h duty rank (length pools) d e)
 
 pub mapped_at : {X Y : Type 0} (f : X → Y) (xs : List X) (k : ℕ) (x : X) (d : Y) → k < length (map f xs) → x ≡ get_or xs k x → get_or (map f xs) k d ≡ f x
 mapped_at f [] k x d h e = absurd (omega arith)

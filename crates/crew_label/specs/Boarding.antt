@@ -10,7 +10,8 @@ abbrev pub linked : {V : Type 0} → Option V → Link → List (Label V)
 linked None link = []
 linked (Some v) link = record { value = v; before = Some link } ∷ []
 
--- the labels of a pool that board, from a place on, each with a link to where it stood
+-- the labels of a pool that board a duty by its number, from a place on, each with a link to where
+-- it stood
 abbrev pub boarded_from : {V : Type 0} → (V → Option V) → ℕ → ℕ → List (Label V) → List (Label V)
 boarded_from board duty place [] = []
 boarded_from board duty place (l ∷ ls) =
@@ -21,13 +22,13 @@ boarded_from board duty place (l ∷ ls) =
 abbrev pub waited_label : {V : Type 0} → (V → V) → Label V → Label V
 waited_label wait l = record { value = wait l.value; before = l.before }
 
--- a duty's links lead to the labels of a pool, by place
-pub record LeadInto {V : Type 0} (leads : Link → Bool) (trail : Link → List ℕ) (duty : ℕ)
+-- the links of a duty, by its number, lead to the labels of a pool, by place; walks end with its rank
+pub record LeadInto {V : Type 0} (leads : Link → Bool) (trail : Link → List ℕ) (duty rank : ℕ)
     (pool : List (Label V)) : Type 0 where
   pub there : (k : ℕ) (l : Label V) → slice_get pool k ≡ Some l
       → leads (record { duty = duty; place = k }) ≡ true
   pub walk : (k : ℕ) (l : Label V) → slice_get pool k ≡ Some l
-      → trail (record { duty = duty; place = k }) ≡ walk_of trail l.before ++ duty ∷ []
+      → trail (record { duty = duty; place = k }) ≡ walk_of trail l.before ++ rank ∷ []
 
 -- each value is one that a rest goes by
 abbrev pub AreRested : {V : Type 0} → (V → V) → List (Label V) → Type 0

@@ -31,7 +31,7 @@ const MOST: usize = 0xffff_ffff;
 ///
 /// In a departure's pool no label stands for another. Where nothing of two labels lapses as they
 /// board, that is still so after it, unless their sums are the same: so only those are compared
-/// anew, and they stand together. `duty` is the item's rank. A pool of 2^32 labels is refused as
+/// anew, and they stand together. `duty` is the item's number. A pool of 2^32 labels is refused as
 /// want of memory is.
 pub fn front_aboard<P: Placed, R: Lapses<P>, T: Trails>(
     alloc: Global,
@@ -45,7 +45,8 @@ pub fn front_aboard<P: Placed, R: Lapses<P>, T: Trails>(
     requires boards { (l : Label R.Value) → Member pool.now l
         → R.can_board resource.now l.value item.now }
     requires tell { TellCount R.same_sums (R.count_of resource.now) }
-    requires into { LeadInto (T.leads trails.now) (T.trail trails.now) duty pool.now }
+    requires into { (rank : ℕ) × LeadInto (T.leads trails.now) (T.trail trails.now) duty rank
+        pool.now }
     requires counts { AreCounted (R.count_of resource.now) (T.leads trails.now)
         (T.trail trails.now) pool.now }
     requires most { (most : ℕ) × (R.most resource.now ≡ Some most) }

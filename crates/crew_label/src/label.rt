@@ -5,7 +5,7 @@
 /// The place is that of a label in the pool of the departure that the duty leaves from.
 #[derive(Clone, Copy, Debug, PartialEq, Eq)]
 pub struct Link {
-    /// The duty's rank.
+    /// The duty's number.
     pub duty: u32,
     /// The place of the label that boarded it.
     pub place: u32,

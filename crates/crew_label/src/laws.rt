@@ -14,10 +14,10 @@ use crew_resource::Placed;
 /// Where a resource shifts and forgets nothing, the labels of a pool that board an item are a front
 /// as they stand, and labels that have waited are a pool as they stand.
 pub fn shifts_need_no_filter<P: Placed, R: Forgets<P>>()
-    ensures boarded { (r : R) (item : P) (leads : Link → Bool) (trail : Link → List ℕ) (duty : ℕ)
+    ensures boarded { (r : R) (item : P) (leads : Link → Bool) (trail : Link → List ℕ) (duty rank : ℕ)
         (candidates : List (R.Value × List ℕ)) (pool : List (Label R.Value)) → R.is_shift r
         → ((a b : R.Value) → R.below a b ≡ true → R.same_sums a b ≡ true → a ≡ b)
-        → LeadInto leads trail duty pool
+        → LeadInto leads trail duty rank pool
         → ArePoolOf R.below R.same_sums trail candidates pool
         → IsLocal R.below ranks_at_most (λ v w. Member
         (map (shown trail) (boarded_from (λ u. R.boards r u item) duty 0 pool)) (v, w))

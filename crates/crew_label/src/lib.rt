@@ -1,8 +1,8 @@
 //! Pools of labels whose paths are links.
 //!
-//! A label is its value and a link: the duty boarded last, and the place of the label that boarded
-//! it in the pool of the departure which that duty leaves from. So a path is read by following
-//! links, there is no table of paths beside the pools, and a pool that is made once never changes:
+//! A label is its value and a link: the duty boarded last, by its number, and the place of the label
+//! that boarded it in the pool of the departure which that duty leaves from. So a path is read by
+//! following links, there is no table of paths beside the pools, and a pool made once never changes:
 //! it may be shared by threads and by versions. Labels are dominated by the rule that looks at
 //! paths too (`crew_forgetful`), so a resource may forget a part of its values. A `Table` has the pools
 //! of departures. `Pool::of_pools` merges the pools of one event all at once, one after another: their

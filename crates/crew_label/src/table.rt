@@ -3,7 +3,7 @@ ghost use Rattle.std.specs.Prelude.{◌≡◌, ◌++◌, ◌∷◌, [], ℕ, Lis
 ghost use Rattle.std.specs.Arc.{arc_value};
 ghost use Rattle.crew_resource.specs.Members.{Member};
 ghost use Rattle.crew_label.specs.Boarding.{LeadInto};
-ghost use Rattle.crew_label.specs.Tables.{AreLinked, Tabled, leads_in, trail_in};
+ghost use Rattle.crew_label.specs.Tables.{AreLinked, Tabled, leads_in, rank_of, trail_in};
 ghost use Rattle.crew_label.specs.Walks.{Leads};
 ghost use Rattle.crew_label.specs.declared.label.Label.{Label};
 ghost use Rattle.crew_label.specs.declared.label.Link.{Link};
@@ -19,16 +19,19 @@ use std::sync::Arc;
 /// The pools of departures, in order: each is shared, and leads to labels of earlier ones. The table
 /// owns what it stands on, so it can be kept for as long as its labels are of use.
 ///
-/// A contract sees for each duty by rank the departure that it leaves from, and the pools.
+/// A contract sees for each duty by number its rank, by rank the departure that it leaves from, and the
+/// pools.
 pub struct Table<R: Resource> {
-    leaves: Arc<Vec<u32>, Global>,
+    ranks: Arc<Vec<u32>, Global>,
+    positions: Arc<Vec<u32>, Global>,
     pools: Vec<Arc<Pool<R>, Global>>,
 }
 
 impl<R: Resource> Drop for Table<R> {
     fn drop(self) {
         let Self {
-            leaves: _,
+            ranks: _,
+            positions: _,
             pools: _,
         } = self;
     }
@@ -37,18 +40,32 @@ impl<R: Resource> Drop for Table<R> {
 impl<R: Resource> Model for Table<R> {
     ghost Value = { Tabled R.Value };
 
-    ghost view = { λ t. record { leaves = t.leaves.value.items; pools = map arc_value t.pools.items } };
+    ghost view = { λ t. record {
+      leaves = record { ranks = t.ranks.value.items; positions = t.positions.value.items };
+      pools = map arc_value t.pools.items;
+    } };
 
-    ghost invariant = { λ t. AreLinked t.leaves.value.items [] (map arc_value t.pools.items) };
+    ghost invariant = { λ t. AreLinked (record {
+      ranks = t.ranks.value.items;
+      positions = t.positions.value.items;
+    }) [] (map arc_value t.pools.items) };
 }
 
 impl<R: Resource> Table<R> {
-    /// No pools yet, over duties that leave from these departures.
-    pub fn new(alloc: Global, leaves: Arc<Vec<u32>, Global>) -> Self
-        ensures { result ≡ record { leaves = (arc_value leaves).items; pools = [] } }
+    /// No pools yet, over duties whose ranks are told by number, and their departures by rank.
+    pub fn new(
+        alloc: Global,
+        ranks: Arc<Vec<u32>, Global>,
+        positions: Arc<Vec<u32>, Global>,
+    ) -> Self
+        ensures { result ≡ record {
+          leaves = record { ranks = (arc_value ranks).items; positions = (arc_value positions).items };
+          pools = [];
+        } }
     {
         Table {
-            leaves,
+            ranks,
+            positions,
             pools: Vec::new(alloc),
         }
     }
@@ -84,10 +101,11 @@ impl<R: Resource> Table<R> {
             → (leads_in self.new.leaves self.new.pools link ≡ true)
             × (trail_in self.new.leaves self.new.pools link
             ≡ trail_in self.old.leaves self.old.pools link)) }
-        ensures into { OnOk result ((duty : ℕ)
-            → slice_get self.old.leaves duty ≡ Some (length self.old.pools)
+        ensures into { OnOk result ((duty rank : ℕ)
+            → slice_get self.old.leaves.ranks duty ≡ Some rank
+            → slice_get self.old.leaves.positions rank ≡ Some (length self.old.pools)
             → LeadInto (leads_in self.new.leaves self.new.pools)
-            (trail_in self.new.leaves self.new.pools) duty (arc_value pool)) }
+            (trail_in self.new.leaves self.new.pools) duty rank (arc_value pool)) }
         ensures err { OnErr result (self.new ≡ self.old) }
     {
         self.pools.push(pool)?;
@@ -100,8 +118,15 @@ impl<R: Resource> Trails for Table<R> {
 
     ghost trail = { λ t link. trail_in t.leaves t.pools link };
 
+    ghost rank = { λ t duty. rank_of t.leaves duty };
+
+    fn rank(&self, link: Link) -> u32 {
+        self.ranks[link.duty as usize]
+    }
+
     fn before(&self, link: Link) -> Option<Link> {
-        let departure = self.leaves[link.duty as usize];
+        let rank = self.rank(link);
+        let departure = self.positions[rank as usize];
         before_of(&self.pools[departure as usize], link.place)
     }
 }

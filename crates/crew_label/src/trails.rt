@@ -17,10 +17,19 @@ pub trait Trails {
     /// The walk that ends with the link, duty by duty, by rank.
     ghost trail: { Self → Link → List ℕ };
 
+    /// The rank of a duty, by its number.
+    ghost rank: { Self → ℕ → ℕ };
+
+    /// The rank of the duty that a link names.
+    fn rank(&self, link: Link) -> u32
+        requires { leads self.now link ≡ true }
+        ensures { result ≡ rank self.now link.duty };
+
     /// What the walk of the label that a link leads to ends with.
     fn before(&self, link: Link) -> Option<Link>
         requires { leads self.now link ≡ true }
-        ensures walk { trail self.now link ≡ walk_of (trail self.now) result ++ link.duty ∷ [] }
+        ensures walk { trail self.now link
+            ≡ walk_of (trail self.now) result ++ rank self.now link.duty ∷ [] }
         ensures leads { Leads (leads self.now) result };
 }
 
@@ -41,7 +50,9 @@ pub fn compare_walks<T: Trails>(trails: &T, a: Option<Link>, b: Option<Link>) ->
     if is_same_link(x, y) {
         return Ordering::Equal;
     }
-    compare_walks(trails, trails.before(x), trails.before(y)).then(x.duty.cmp(&y.duty))
+    compare_walks(trails, trails.before(x), trails.before(y)).then(
+        trails.rank(x).cmp(&trails.rank(y)),
+    )
 }
 
 // Whether two links are the same.

@@ -24,7 +24,7 @@ use Rattle.crew_labelling.specs.Candidates.{idle_labels}
 use Rattle.crew_labelling.specs.Held.{IsHeld}
 use Rattle.crew_labelling.specs.Labellings.{arrival_pool, arriving_labels, departure_pool, front_of, fronts_of, pool_among, waited_labels, waiting_labels}
 use Rattle.crew_labelling.specs.Labellings.{pool_of}
-use Rattle.crew_labelling.specs.Terms.{AreLawful, AreTerms, Terms}
+use Rattle.crew_labelling.specs.Terms.{AreLawful, AreTerms, Terms, number_of}
 use Rattle.crew_labelling.proofs.PoolOf.{pool_alike}
 use Rattle.crew_labelling.proofs.Sound.{AreSound, all-lead, tabled}
 use Rattle.crew_labelling.proofs.Stages.{arriving-held, front-at, view-held, waiting-ready}
@@ -38,20 +38,20 @@ module _ {V : Type 0} (w : Terms V) (terms : AreTerms w) (lawful : AreLawful w) 
   abbrev more : List (List (Label V))
   more = pools ++ rest
 
-  walk-same : (Bound : ℕ → V → Type 0) (l : Label V) → IsHeld w Bound (tabled w pools) l → walk_of (trail_in w.positions more) l.before ≡ walk_of (trail_in w.positions pools) l.before
+  walk-same : (Bound : ℕ → V → Type 0) (l : Label V) → IsHeld w Bound (tabled w pools) l → walk_of (trail_in w.leaves more) l.before ≡ walk_of (trail_in w.leaves pools) l.before
   walk-same Bound l h = walk-stays (tabled w pools) (tabled w more) (all-lead w pools rest) l.before h.leading
 
   -- the front of a duty whose departure was there
-  pub front-stays : (rank : ℕ) (d : Duty) → slice_get w.net.duties rank ≡ Some d → get_or w.positions rank 0 < length pools → front_of w more rank d ≡ front_of w pools rank d
+  pub front-stays : (rank : ℕ) (d : Duty) → slice_get w.net.duties rank ≡ Some d → get_or w.leaves.positions rank 0 < length pools → front_of w more rank d ≡ front_of w pools rank d
   front-stays rank d known h =
-      let position = get_or w.positions rank 0 in
-      let view = boarded_from (λ v. w.board v d) rank 0 (get_or pools position []) in
-      ap (λ (ls : List (Label V)). pool_of w.below (is_same w.below) w.cmp (trail_in w.positions more) (boarded_from (λ v. w.board v d) rank 0 ls)) (get_or_append_left pools rest [] position h)
-      ∙ pool_alike w.below (is_same w.below) w.cmp (trail_in w.positions pools) (trail_in w.positions more) view (λ l m. walk-same w.arrived l (view-held w terms lawful pools sound rank d known l m))
+      let position = get_or w.leaves.positions rank 0 in
+      let view = boarded_from (λ v. w.board v d) (number_of w rank) 0 (get_or pools position []) in
+      ap (λ (ls : List (Label V)). pool_of w.below (is_same w.below) w.cmp (trail_in w.leaves more) (boarded_from (λ v. w.board v d) (number_of w rank) 0 ls)) (get_or_append_left pools rest [] position h)
+      ∙ pool_alike w.below (is_same w.below) w.cmp (trail_in w.leaves pools) (trail_in w.leaves more) view (λ l m. walk-same w.arrived l (view-held w terms lawful pools sound rank d known l m))
 
   -- the departures of all duties that arrive there were
   abbrev pub IsPast : Arrival → Type 0
-  IsPast x = (rank : ℕ) (d : Duty) → slice_get w.net.duties rank ≡ Some d → arrival_of d ≡ x → get_or w.positions rank 0 < length pools
+  IsPast x = (rank : ℕ) (d : Duty) → slice_get w.net.duties rank ≡ Some d → arrival_of d ≡ x → get_or w.leaves.positions rank 0 < length pools
 
   fronts-stay : (x : Arrival) → IsPast x → (rank : ℕ) → Member (ranks_where (arrives_at x) w.net.duties) rank → get_or (fronts_of w more) rank [] ≡ get_or (fronts_of w pools) rank []
   fronts-stay x past rank m =
@@ -64,7 +64,7 @@ module _ {V : Type 0} (w : Terms V) (terms : AreTerms w) (lawful : AreLawful w) 
   arrival-stays x past =
       let same = flat-alike (λ (rank : ℕ). get_or (fronts_of w more) rank []) (λ (rank : ℕ). get_or (fronts_of w pools) rank []) (ranks_where (arrives_at x) w.net.duties) (fronts-stay x past) in
       ap (λ (ls : List (Label V)). pool_among w more ls) same
-      ∙ pool_alike w.below w.same w.cmp (trail_in w.positions pools) (trail_in w.positions more) (arriving_labels w (fronts_of w pools) x) (λ l m. walk-same w.arrived l (arriving-held w terms lawful pools sound x l m))
+      ∙ pool_alike w.below w.same w.cmp (trail_in w.leaves pools) (trail_in w.leaves more) (arriving_labels w (fronts_of w pools) x) (λ l m. walk-same w.arrived l (arriving-held w terms lawful pools sound x l m))
 
   -- the pool of a departure that may wait on such arrivals alone
   pub departure-stays : (g : Departure) → ((x : Arrival) → may_wait w.net.settings x g ≡ true → IsPast x) → departure_pool w more g ≡ departure_pool w pools g
@@ -73,4 +73,4 @@ module _ {V : Type 0} (w : Terms V) (terms : AreTerms w) (lawful : AreLawful w) 
       let same = flat-alike (waited_labels w more g) (waited_labels w pools g) (filter opens w.net.arrivals)
       (λ x m. ap (map (waited_label (λ v. w.wait v x g))) (arrival-stays x (past x (Member-filter_out opens w.net.arrivals x m).1))) in
       ap (λ (ls : List (Label V)). pool_among w more (idle_labels (eq_by_cmp code_cmp g.airport w.base) (w.idle g) ++ ls)) same
-      ∙ pool_alike w.below w.same w.cmp (trail_in w.positions pools) (trail_in w.positions more) (waiting_labels w pools g) (λ l m. walk-same w.ready l (waiting-ready w terms lawful pools sound g l m))
+      ∙ pool_alike w.below w.same w.cmp (trail_in w.leaves pools) (trail_in w.leaves more) (waiting_labels w pools g) (λ l m. walk-same w.ready l (waiting-ready w terms lawful pools sound g l m))

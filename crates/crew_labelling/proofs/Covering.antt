@@ -51,7 +51,7 @@ module _ {V : Type 0} (w : Terms V) (terms : AreTerms w) (lawful : AreLawful w) 
   abbrev held : List (List (Label V))
   held = y.arrivals
 
-  passable : IsPassable w.net w.positions
+  passable : IsPassable w.net w.leaves.positions
   passable = terms.passable
 
   abbrev trail : Link → List ℕ
@@ -85,8 +85,8 @@ module _ {V : Type 0} (w : Terms V) (terms : AreTerms w) (lawful : AreLawful w) 
   leaves-at : (d : Duty) → Member w.net.duties d → slice_get (in_order w.net) (departure_place (in_order w.net) (departure_of d)) ≡ Some (departure_of d)
   leaves-at d known = at-departure (in_order w.net) (departure_of d) (leaves-in w.net passable.departs passable.ordered d known)
 
-  position-is : (rank : ℕ) (d : Duty) → slice_get w.net.duties rank ≡ Some d → departure_place (in_order w.net) (departure_of d) ≡ get_or w.positions rank 0
-  position-is rank d known = in-order-distinct w.net passable.departs passable.ordered (departure_place (in_order w.net) (departure_of d)) (get_or w.positions rank 0) (departure_of d)
+  position-is : (rank : ℕ) (d : Duty) → slice_get w.net.duties rank ≡ Some d → departure_place (in_order w.net) (departure_of d) ≡ get_or w.leaves.positions rank 0
+  position-is rank d known = in-order-distinct w.net passable.departs passable.ordered (departure_place (in_order w.net) (departure_of d)) (get_or w.leaves.positions rank 0) (departure_of d)
       (leaves-at d (member-got w.net.duties rank d known)) (passable.are_positions.exact rank d known)
 
   place-is : (x : Arrival) (p : ℕ) → slice_get w.net.arrivals p ≡ Some x → arrival_place w.net.arrivals x ≡ p
@@ -180,18 +180,18 @@ module _ {V : Type 0} (w : Terms V) (terms : AreTerms w) (lawful : AreLawful w) 
     arrived-covers : Goal
     arrived-covers = by-place (slice_get w.net.arrivals (arrival_place w.net.arrivals x)) refl
 
-  boarded-ranked : (rank : ℕ) (d : Duty) → slice_get w.net.duties rank ≡ Some d → (e : V × List ℕ) → Member (boarding w d rank (shows t.pools (get_or w.positions rank 0))) e → Each (λ r. r < n) e.1
+  boarded-ranked : (rank : ℕ) (d : Duty) → slice_get w.net.duties rank ≡ Some d → (e : V × List ℕ) → Member (boarding w d rank (shows t.pools (get_or w.leaves.positions rank 0))) e → Each (λ r. r < n) e.1
   boarded-ranked rank d known e m =
       let boards = λ (z : V × List ℕ). labelled (w.board z.0 d) (z.1 ++ rank ∷ []) in
-      let s = Member-flat_map_out boards (shows t.pools (get_or w.positions rank 0)) e m in
+      let s = Member-flat_map_out boards (shows t.pools (get_or w.leaves.positions rank 0)) e m in
       let k = labelled-out (w.board s.0.0 d) (s.0.1 ++ rank ∷ []) e s.2 in
       subst (λ (z : List ℕ). Each (λ r. r < n) z) (sym k.1)
-      (each-append (λ r. r < n) s.0.1 rank (ranked-in t.pools w.ready (departures-ready w terms lawful) (get_or w.positions rank 0) s.0.0 s.0.1 s.1) (get-within w.net.duties rank d known))
+      (each-append (λ r. r < n) s.0.1 rank (ranked-in t.pools w.ready (departures-ready w terms lawful) (get_or w.leaves.positions rank 0) s.0.0 s.0.1 s.1) (get-within w.net.duties rank d known))
 
   filtered-by : (rank : ℕ) (d : Duty) → slice_get w.net.duties rank ≡ Some d → IsLocal w.below walk_at_most (Shown over (pool-of (departure_of d)) d) (front-of d)
   filtered-by rank d known =
       let local = fronts-are w terms lawful rank d known in
-      let position = get_or w.positions rank 0 in
+      let position = get_or w.leaves.positions rank 0 in
       let pool = shows t.pools position in
       let by-keys = pool_of_rising w.below w.net.duties (boarding w d rank pool) (shows fronts rank) passable.rise (boarded-ranked rank d known) local in
       let view = boards-keyed w.net.duties passable.rise (λ v. w.board v d) rank d known pool in

@@ -9,6 +9,7 @@ pub mod Stages
 pub mod After
 pub mod Upto
 pub mod Right
+pub mod Numbered
 pub mod Only
 pub mod One
 pub mod Keyed

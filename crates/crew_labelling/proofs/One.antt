@@ -47,5 +47,5 @@ module _ {V : Type 0} (w : Terms V) (terms : AreTerms w) (lawful : AreLawful w) 
 
   -- and the front of a duty
   pub front-one : (rank : ℕ) (d : Duty) → slice_get w.net.duties rank ≡ Some d → (labels : List (Label V)) → AreRising w.cmp labels → HaveArrived w (table_of w (labelling_of w)) labels
-      → AreFront w (trail_of (table_of w (labelling_of w))) d rank (get_or (labelling_of w).departures (get_or w.positions rank 0) []) labels → labels ≡ get_or (labelling_of w).fronts rank []
+      → AreFront w (trail_of (table_of w (labelling_of w))) d rank (get_or (labelling_of w).departures (get_or w.leaves.positions rank 0) []) labels → labels ≡ get_or (labelling_of w).fronts rank []
   front-one rank d known labels rises held is = front-only w terms lawful (labelling_of w) is-right rank d known labels (record { rises = rises; held = held; front = is })

@@ -1,11 +1,12 @@
 -- What is right beside a right labelling is of it: labels that rise, link into it and are the pool of the same candidates are its labels.
-use Rattle.std.proofs.Common.{◌≡◌, ◌∙◌, ◌<◌, ◌+◌, ◌++◌, ◌⊎◌, ℕ, zero, suc, List, [], ◌∷◌, Option, Some, None, length, map, get_or, inl, inr, refl, sym, ap, ap₂, subst, ⊎_elim, arith, length-append}
-use Rattle.std.specs.Prelude.{slice_get}
+use Rattle.std.proofs.Common.{◌≡◌, ◌∙◌, ◌<◌, ◌+◌, ◌++◌, ◌⊎◌, ℕ, zero, suc, true, List, [], ◌∷◌, Option, Some, None, length, map, get_or, inl, inr, refl, sym, ap, ap₂, subst, ⊎_elim, arith, length-append}
+use Rattle.std.specs.Prelude.{slice_get, nat_lt}
+use Rattle.std.proofs.lemmas.Bool.{and_parts}
 use Rattle.crew_forgetful.specs.Forgetful.{IsPool}
 use Rattle.crew_forgetful.proofs.Covered.{pool_unique}
 use Rattle.crew_forgetful.proofs.Offers.{same_pool}
 use Rattle.crew_label.specs.Pools.{AreRising}
-use Rattle.crew_label.specs.Tables.{Tabled}
+use Rattle.crew_label.specs.Tables.{Tabled, departure_of, is_known, rank_of}
 use Rattle.crew_label.specs.Walks.{Leads, ranks_at_most, shown, walk_of}
 use Rattle.crew_label.specs.declared.label.Label.{Label}
 use Rattle.crew_label.specs.declared.label.Link.{Link}
@@ -14,7 +15,8 @@ use Rattle.crew_label.proofs.Tabled.{leads_to, trail_goes_on}
 use Rattle.crew_net.specs.Positions.{in_order}
 use Rattle.crew_net.proofs.Orders.{in-order-long}
 use Rattle.crew_net.proofs.Slices.{member-got, some-same, stands}
-use Rattle.crew_pairing.specs.Events.{arrival_of, departure_of}
+use Rattle.crew_pairing.specs.Events.{arrival_of}
+use Rattle.crew_pairing.specs.Events as events
 use Rattle.crew_pairing.specs.declared.duty.Duty.{Duty}
 use Rattle.crew_pairing.specs.declared.events.Arrival.{Arrival}
 use Rattle.crew_pairing.specs.declared.events.Departure.{Departure}
@@ -31,6 +33,7 @@ use Rattle.crew_labelling.specs.Right.{IsArrivalPool, IsDeparturePool, IsDutyFro
 use Rattle.crew_labelling.specs.Terms.{AreLawful, AreTerms, Terms}
 use Rattle.crew_labelling.proofs.Alone.{one-place, same-labels}
 use Rattle.crew_labelling.proofs.Labels.{labelled-out}
+use Rattle.crew_labelling.proofs.Numbered.{one-number}
 
 never-snoc : (xs : List ℕ) (x : ℕ) → [] ≡ xs ++ x ∷ [] → ⊥
 never-snoc xs x e = let n = length-append xs (x ∷ []) in let l = ap length e in omega (arith, n, l)
@@ -56,7 +59,7 @@ module _ {V : Type 0} (w : Terms V) (terms : AreTerms w) (lawful : AreLawful w) 
     pub walk : List ℕ
     pub after : V
     pub known : slice_get w.net.duties rank ≡ Some duty
-    pub from : Member (entries (get_or w.positions rank 0)) (before, walk)
+    pub from : Member (entries (get_or w.leaves.positions rank 0)) (before, walk)
     pub boards : w.board before duty ≡ Some after
     pub walks : k ≡ walk ++ rank ∷ []
     pub waits : v ≡ w.wait after (arrival_of duty) g
@@ -71,7 +74,7 @@ module _ {V : Type 0} (w : Terms V) (terms : AreTerms w) (lawful : AreLawful w) 
       let a = there.among c.1.1 k (there.pool.among c.1.1 k c.1.4) in
       let local = (right.fronts a.0 a.1 a.2).front in
       let boards = λ (e : V × List ℕ). labelled (w.board e.0 a.1) (e.1 ++ a.0 ∷ []) in
-      let b = Member-flat_map_out boards (entries (get_or w.positions a.0 0)) (c.1.1, k) (local.among c.1.1 k a.4) in
+      let b = Member-flat_map_out boards (entries (get_or w.leaves.positions a.0 0)) (c.1.1, k) (local.among c.1.1 k a.4) in
       let o = labelled-out (w.board b.0.0 a.1) (b.0.1 ++ a.0 ∷ []) (c.1.1, k) b.2 in
       inr (record {
         rank = a.0;
@@ -89,11 +92,11 @@ module _ {V : Type 0} (w : Terms V) (terms : AreTerms w) (lawful : AreLawful w) 
 
   -- two ways of one walk have one value, if those before have
   same-ways : (g : Departure) (u v : V) (k : List ℕ) (a : Comes g u k) (b : Comes g v k)
-      → ((x z : V) → Member (entries (get_or w.positions a.rank 0)) (x, a.walk) → Member (entries (get_or w.positions a.rank 0)) (z, a.walk) → x ≡ z) → u ≡ v
+      → ((x z : V) → Member (entries (get_or w.leaves.positions a.rank 0)) (x, a.walk) → Member (entries (get_or w.leaves.positions a.rank 0)) (z, a.walk) → x ≡ z) → u ≡ v
   same-ways g u v k a b tell =
       let snoc = same_snoc a.walk b.walk a.rank b.rank (sym a.walks ∙ b.walks) in
       let duty : a.duty ≡ b.duty = some-same (slice_get w.net.duties b.rank) a.duty b.duty (ap (slice_get w.net.duties) (sym snoc.1) ∙ a.known) b.known in
-      let from = subst (λ (n : ℕ). Member (entries (get_or w.positions n 0)) (b.before, a.walk)) (sym snoc.1) (subst (λ (z : List ℕ). Member (entries (get_or w.positions b.rank 0)) (b.before, z)) (sym snoc.0) b.from) in
+      let from = subst (λ (n : ℕ). Member (entries (get_or w.leaves.positions n 0)) (b.before, a.walk)) (sym snoc.1) (subst (λ (z : List ℕ). Member (entries (get_or w.leaves.positions b.rank 0)) (b.before, z)) (sym snoc.0) b.from) in
       let before : a.before ≡ b.before = tell a.before b.before a.from from in
       let after : a.after ≡ b.after = some-same (w.board b.before b.duty) a.after b.after (sym (ap₂ (λ (x : V) (d : Duty). w.board x d) before duty) ∙ a.boards) b.boards in
       a.waits ∙ (ap₂ (λ (x : V) (d : Duty). w.wait x (arrival_of d) g) after duty ∙ sym b.waits)
@@ -106,40 +109,44 @@ module _ {V : Type 0} (w : Terms V) (terms : AreTerms w) (lawful : AreLawful w) 
       (λ a. ⊎_elim {C = u ≡ v} (λ b. absurd (never-snoc a.walk a.rank (sym b.0 ∙ a.walks)))
       (λ b.
       let shorter : length a.walk < n = let l = length-append a.walk (a.rank ∷ []) in let e = ap length a.walks in omega (arith, h, l, e) in
-      same-ways g u v k a b (walks-tell n (get_or w.positions a.rank 0) (departure_of a.duty) (terms.passable.are_positions.exact a.rank a.duty a.known) a.walk shorter))
+      same-ways g u v k a b (walks-tell n (get_or w.leaves.positions a.rank 0) (events.departure_of a.duty) (terms.passable.are_positions.exact a.rank a.duty a.known) a.walk shorter))
       (comes i g at v k q))
       (comes i g at u k p)
 
   -- and its link
-  one-label : (link other : Link) (l m : Label V) → slice_get (pool (get_or w.positions link.duty 0)) link.place ≡ Some l → slice_get (pool (get_or w.positions other.duty 0)) other.place ≡ Some m
-      → get_or w.positions link.duty 0 < length y.departures → link.duty ≡ other.duty → walk_of trail l.before ≡ walk_of trail m.before → link ≡ other
+  one-label : (link other : Link) (l m : Label V) → slice_get (pool (departure_of w.leaves link.duty)) link.place ≡ Some l → slice_get (pool (departure_of w.leaves other.duty)) other.place ≡ Some m
+      → departure_of w.leaves link.duty < length y.departures → link.duty ≡ other.duty → walk_of trail l.before ≡ walk_of trail m.before → link ≡ other
   one-label link other l m at there within duty walk =
-      let position = get_or w.positions link.duty 0 in
+      let position = departure_of w.leaves link.duty in
       let all = in-order-long w.net terms.passable.departs terms.passable.ordered in
       let long = right.departures_long in
       let g = stands (in_order w.net) position (omega (arith, within, all, long)) in
-      let here : slice_get (pool position) other.place ≡ Some m = ap (λ (n : ℕ). slice_get (pool (get_or w.positions n 0)) other.place) duty ∙ there in
+      let here : slice_get (pool position) other.place ≡ Some m = ap (λ (n : ℕ). slice_get (pool (departure_of w.leaves n)) other.place) duty ∙ there in
       let one = Member-map_in (shown trail) (pool position) l (member-got (pool position) link.place l at) in
       let two = subst (λ (z : List ℕ). Member (entries position) (m.value, z)) (sym walk) (Member-map_in (shown trail) (pool position) m (member-got (pool position) other.place m here)) in
       let value = walks-tell (length (walk_of trail l.before) + 1) position g.0 g.1 (walk_of trail l.before) (omega arith) l.value m.value one two in
       let place = one-place w.cmp lawful.total (pool position) (right.departures position g.0 g.1).rises link.place other.place l m at here value in
       ap₂ {C = Link} (λ d p. record { duty = d; place = p }) duty place
 
+  known : (link : Link) → leads_of t link ≡ true → is_known w.leaves link.duty ≡ true
+  known link h = (and_parts (is_known w.leaves link.duty) (nat_lt link.place (length (get_or y.departures (departure_of w.leaves link.duty) []))) h).0
+
   pub links-tell : (o p : Option Link) → Leads (leads_of t) o → Leads (leads_of t) p → walk_of trail o ≡ walk_of trail p → o ≡ p
   links-tell None None h k e = refl
   links-tell None (Some other) h k e =
-      let to = leads_to w.positions y.departures other k in
-      absurd (never-snoc (walk_of trail to.0.before) other.duty (e ∙ trail_goes_on w.positions y.departures right.linked other to.0 to.1 to.2))
+      let to = leads_to w.leaves y.departures other k in
+      absurd (never-snoc (walk_of trail to.0.before) (rank_of w.leaves other.duty) (e ∙ trail_goes_on w.leaves y.departures right.linked other to.0 to.1 to.2))
   links-tell (Some link) None h k e =
-      let to = leads_to w.positions y.departures link h in
-      absurd (never-snoc (walk_of trail to.0.before) link.duty (sym e ∙ trail_goes_on w.positions y.departures right.linked link to.0 to.1 to.2))
+      let to = leads_to w.leaves y.departures link h in
+      absurd (never-snoc (walk_of trail to.0.before) (rank_of w.leaves link.duty) (sym e ∙ trail_goes_on w.leaves y.departures right.linked link to.0 to.1 to.2))
   links-tell (Some link) (Some other) h k e =
       let linked = right.linked in
-      let one = leads_to w.positions y.departures link h in
-      let two = leads_to w.positions y.departures other k in
-      let snoc = same_snoc (walk_of trail one.0.before) (walk_of trail two.0.before) link.duty other.duty
-      (sym (trail_goes_on w.positions y.departures linked link one.0 one.1 one.2) ∙ (e ∙ trail_goes_on w.positions y.departures linked other two.0 two.1 two.2)) in
-      ap (λ (z : Link). Some z) (one-label link other one.0 two.0 one.2 two.2 one.1 snoc.1 snoc.0)
+      let one = leads_to w.leaves y.departures link h in
+      let two = leads_to w.leaves y.departures other k in
+      let snoc = same_snoc (walk_of trail one.0.before) (walk_of trail two.0.before) (rank_of w.leaves link.duty) (rank_of w.leaves other.duty)
+      (sym (trail_goes_on w.leaves y.departures linked link one.0 one.1 one.2) ∙ (e ∙ trail_goes_on w.leaves y.departures linked other two.0 two.1 two.2)) in
+      let duty = one-number w terms link.duty other.duty (known link h) (known other k) snoc.1 in
+      ap (λ (z : Link). Some z) (one-label link other one.0 two.0 one.2 two.2 one.1 duty snoc.0)
 
   -- labels whose links lead into the labelling
   abbrev pub AreLeading : List (Label V) → Type 0
@@ -202,6 +209,6 @@ module _ {V : Type 0} (w : Terms V) (terms : AreTerms w) (lawful : AreLawful w) 
   front-only rank d known labels is =
       let own = right.fronts rank d known in
       let there = get_or y.fronts rank [] in
-      let unique = local_unique V (List ℕ) w.below ranks_at_most (below_order lawful.order) ranks_order (λ v k. Member (boarding w d rank (entries (get_or w.positions rank 0))) (v, k)) in
+      let unique = local_unique V (List ℕ) w.below ranks_at_most (below_order lawful.order) ranks_order (λ v k. Member (boarding w d rank (entries (get_or w.leaves.positions rank 0))) (v, k)) in
       one-list labels there is.rises own.rises (leading w.arrived labels is.held) (leading w.arrived there own.held)
       (unique (map (shown trail) labels) (map (shown trail) there) is.front own.front) (unique (map (shown trail) there) (map (shown trail) labels) own.front is.front)

@@ -28,7 +28,7 @@ use Rattle.crew_resource.proofs.Members.{Member-append, Member-filter_out, Membe
 use Rattle.crew_labelling.specs.Candidates.{AreFront, AreGathered, Arrives, IsRested, Waits, idle_labels}
 use Rattle.crew_labelling.specs.Held.{AreReady, HaveArrived, leads_of, trail_of}
 use Rattle.crew_labelling.specs.Labellings.{Labelling, arrival_pool, arriving_labels, departure_pool, front_of, fronts_of, labelling_of, pools_upto, rested_pool, table_of, waited_labels, waiting_labels}
-use Rattle.crew_labelling.specs.Terms.{AreLawful, AreTerms, Terms}
+use Rattle.crew_labelling.specs.Terms.{AreLawful, AreTerms, Terms, number_of}
 use Rattle.crew_labelling.proofs.PoolOf.{pool_from}
 use Rattle.crew_labelling.proofs.Sound.{AreSound}
 use Rattle.crew_labelling.proofs.Stages.{among-from, arrival-gathered, arrival-held, arrival-rises, at-or-past, departure-gathered, front-at, front-held, front-is, front-itself, front-rises, into, made-at, rested-is, rested-rises}
@@ -139,7 +139,7 @@ module _ {V : Type 0} (w : Terms V) (terms : AreTerms w) where
 
     -- links of a duty lead to the labels of its departure's pool
     pub departures-into : (rank : ℕ) (d : Duty) → slice_get w.net.duties rank ≡ Some d
-        → LeadInto (leads_of (table_of w (labelling_of w))) (trail_of (table_of w (labelling_of w))) rank (get_or (labelling_of w).departures (get_or w.positions rank 0) [])
+        → LeadInto (leads_of (table_of w (labelling_of w))) (trail_of (table_of w (labelling_of w))) (number_of w rank) rank (get_or (labelling_of w).departures (get_or w.leaves.positions rank 0) [])
     unfolding labelling_of
     departures-into rank d known = into w terms lawful pools sound rank d known
 
@@ -204,10 +204,10 @@ module _ {V : Type 0} (w : Terms V) (terms : AreTerms w) where
     fronts-held = at-front (HaveArrived w t) (λ l m. absurd m) (front-held w terms lawful pools sound)
 
     pub fronts-are : (rank : ℕ) (d : Duty) → slice_get w.net.duties rank ≡ Some d
-        → AreFront w (trail_of (table_of w (labelling_of w))) d rank (get_or (labelling_of w).departures (get_or w.positions rank 0) []) (get_or (labelling_of w).fronts rank [])
+        → AreFront w (trail_of (table_of w (labelling_of w))) d rank (get_or (labelling_of w).departures (get_or w.leaves.positions rank 0) []) (get_or (labelling_of w).fronts rank [])
     unfolding labelling_of
     fronts-are rank d known =
-        subst (λ (ls : List (Label V)). AreFront w trail d rank (get_or pools (get_or w.positions rank 0) []) ls) (sym (front-of rank d known)) (front-is w terms lawful pools sound rank d known)
+        subst (λ (ls : List (Label V)). AreFront w trail d rank (get_or pools (get_or w.leaves.positions rank 0) []) ls) (sym (front-of rank d known)) (front-is w terms lawful pools sound rank d known)
 
     pub fronts-themselves : (rank : ℕ)
         → ArePoolOf w.below w.same (trail_of (table_of w (labelling_of w))) (map (shown (trail_of (table_of w (labelling_of w)))) (get_or (labelling_of w).fronts rank [])) (get_or (labelling_of w).fronts rank [])
@@ -216,27 +216,30 @@ module _ {V : Type 0} (w : Terms V) (terms : AreTerms w) where
         (front-itself w terms lawful pools sound)
 
     -- 4. links lead back
-    pub departures-linked : AreLinked w.positions [] (labelling_of w).departures
+    pub departures-linked : AreLinked w.leaves [] (labelling_of w).departures
     unfolding labelling_of
     departures-linked = sound.linked
 
-    -- a label of a front links to its duty
-    pub front-links : (rank : ℕ) (l : Label V) → Member (get_or (labelling_of w).fronts rank []) l → (place : ℕ) × (l.before ≡ Some (record { duty = rank; place = place }))
+    -- a label of a front links to its duty, by number
+    pub front-links : (rank : ℕ) (l : Label V) → Member (get_or (labelling_of w).fronts rank []) l
+        → (d : Duty) × (place : ℕ) × (slice_get w.net.duties rank ≡ Some d) × (l.before ≡ Some (record { duty = number_of w rank; place = place }))
     unfolding labelling_of
     front-links rank l = at-front' rank
       where
-        at-front' : (rank : ℕ) → Member (get_or (fronts_of w pools) rank []) l → (place : ℕ) × (l.before ≡ Some (record { duty = rank; place = place }))
-        at-front' rank m = ⊎_elim {C = (place : ℕ) × (l.before ≡ Some (record { duty = rank; place = place }))}
+        at-front' : (rank : ℕ) → Member (get_or (fronts_of w pools) rank []) l
+            → (d : Duty) × (place : ℕ) × (slice_get w.net.duties rank ≡ Some d) × (l.before ≡ Some (record { duty = number_of w rank; place = place }))
+        at-front' rank m = ⊎_elim {C = (d : Duty) × (place : ℕ) × (slice_get w.net.duties rank ≡ Some d) × (l.before ≡ Some (record { duty = number_of w rank; place = place }))}
             (λ s.
-            let view = boarded_from (λ v. w.board v s.0) rank 0 (get_or pools (get_or w.positions rank 0) []) in
-            boarded-link (λ v. w.board v s.0) rank 0 (get_or pools (get_or w.positions rank 0) []) l
-            (pool_from w.below (is_same w.below) w.cmp trail view l (subst (λ (ls : List (Label V)). Member ls l) (front-at w pools rank s.0 s.1) m)))
+            let view = boarded_from (λ v. w.board v s.0) (number_of w rank) 0 (get_or pools (get_or w.leaves.positions rank 0) []) in
+            let k = boarded-link (λ v. w.board v s.0) (number_of w rank) 0 (get_or pools (get_or w.leaves.positions rank 0) []) l
+            (pool_from w.below (is_same w.below) w.cmp trail view l (subst (λ (ls : List (Label V)). Member ls l) (front-at w pools rank s.0 s.1) m)) in
+            (s.0, k.0, s.1, k.1))
             (λ past. let long = fronts-long in absurd (subst (λ (ls : List (Label V)). Member ls l) (past-none (fronts_of w pools) rank (omega (arith, past, long))) m))
             (at-or-past w.net.duties rank)
 
     -- one of an arrival to a duty that arrives there
     abbrev pub LinksTo : Arrival → Label V → Type 0
-    LinksTo x l = (rank : ℕ) × (d : Duty) × (place : ℕ) × (slice_get w.net.duties rank ≡ Some d) × (arrival_of d ≡ x) × (l.before ≡ Some (record { duty = rank; place = place }))
+    LinksTo x l = (rank : ℕ) × (d : Duty) × (place : ℕ) × (slice_get w.net.duties rank ≡ Some d) × (arrival_of d ≡ x) × (l.before ≡ Some (record { duty = number_of w rank; place = place }))
 
     arrival-links : (x : Arrival) (l : Label V) → Member (arrival_pool w pools x) l → LinksTo x l
     unfolding labelling_of
@@ -245,7 +248,7 @@ module _ {V : Type 0} (w : Terms V) (terms : AreTerms w) where
         let r = Member-flat_map_out (λ (rank : ℕ). get_or (fronts_of w pools) rank []) ranks l (among-from w terms lawful pools sound (arriving_labels w (fronts_of w pools) x) l m) in
         let d = ranks-out (arrives_at x) w.net.duties r.0 r.1 in
         let k = front-links r.0 l r.2 in
-        (r.0, d.0, k.0, d.1, sym (same-arrival x (arrival_of d.0) d.2), k.1)
+        (r.0, d.0, k.1, d.1, sym (same-arrival x (arrival_of d.0) d.2), k.3)
 
     pub arrivals-link : (place : ℕ) (x : Arrival) → slice_get w.net.arrivals place ≡ Some x → (l : Label V) → Member (get_or (labelling_of w).arrivals place []) l → LinksTo x l
     unfolding labelling_of
@@ -253,25 +256,26 @@ module _ {V : Type 0} (w : Terms V) (terms : AreTerms w) where
 
     -- and one of a departure to a duty on whose arrival the departure may wait, and which leaves before it
     pub departures-link : (i : ℕ) (g : Departure) → slice_get (in_order w.net) i ≡ Some g → (l : Label V) → Member (get_or (labelling_of w).departures i []) l → (link : Link) → l.before ≡ Some link
-        → (d : Duty) × (slice_get w.net.duties link.duty ≡ Some d) × (may_wait w.net.settings (arrival_of d) g ≡ true) × (get_or w.positions link.duty 0 < i)
+        → (rank : ℕ) × (d : Duty) × (slice_get w.net.duties rank ≡ Some d) × (link.duty ≡ number_of w rank) × (may_wait w.net.settings (arrival_of d) g ≡ true) × (get_or w.leaves.positions rank 0 < i)
     unfolding labelling_of
     departures-link i g at l m link is =
         let opens = λ (x : Arrival). may_wait w.net.settings x g in
         let idles = idle_labels (eq_by_cmp code_cmp g.airport w.base) (w.idle g) in
         let among = among-from w terms lawful pools sound (waiting_labels w pools g) l (subst (λ (ls : List (Label V)). Member ls l) (departure-is i g at) m) in
-        ⊎_elim {C = (d : Duty) × (slice_get w.net.duties link.duty ≡ Some d) × (may_wait w.net.settings (arrival_of d) g ≡ true) × (get_or w.positions link.duty 0 < i)}
+        ⊎_elim {C = (rank : ℕ) × (d : Duty) × (slice_get w.net.duties rank ≡ Some d) × (link.duty ≡ number_of w rank) × (may_wait w.net.settings (arrival_of d) g ≡ true) × (get_or w.leaves.positions rank 0 < i)}
         (λ k. absurd (no-link link l.before (idle-alone (eq_by_cmp code_cmp g.airport w.base) (w.idle g) l k) is))
         (λ k.
         let r = Member-flat_map_out (waited_labels w pools g) (filter opens w.net.arrivals) l k in
         let o = Member-filter_out opens w.net.arrivals r.0 r.1 in
         let s = Member-map_out (waited_label (λ v. w.wait v r.0 g)) (arrival_pool w pools r.0) l r.2 in
         let to = arrival-links r.0 s.0 s.1 in
-        let own : Link = record { duty = to.0; place = to.2 } in
-        let before : l.before ≡ Some own = ap (λ (z : Label V). z.before) (sym s.2) ∙ to.5 in
-        let rank : to.0 ≡ link.duty = ap (λ (z : Link). z.duty) (some-same l.before own link before is) in (
+        let own : Link = record { duty = number_of w to.0; place = to.2 } in
+        let before : l.before ≡ Some own = ap (λ (z : Label V). z.before) (sym s.2) ∙ to.5 in (
+          to.0,
           to.1,
-          subst (λ (n : ℕ). slice_get w.net.duties n ≡ Some to.1) rank to.3,
+          to.3,
+          ap (λ (z : Link). z.duty) (some-same l.before link own is before),
           subst (λ (x : Arrival). may_wait w.net.settings x g ≡ true) (sym to.4) o.1,
-          subst (λ (n : ℕ). get_or w.positions n 0 < i) rank (leaves-before w terms i g at r.0 o.1 to.0 to.1 to.3 to.4),
+          leaves-before w terms i g at r.0 o.1 to.0 to.1 to.3 to.4,
         ))
         (Member-append idles (flat_map (waited_labels w pools g) (filter opens w.net.arrivals)) l among)

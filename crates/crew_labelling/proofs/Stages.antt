@@ -1,10 +1,9 @@
 -- What the pools of departures make: the fronts of duties, the pools of arrivals, and the pool of a departure more.
-use Rattle.std.proofs.Common.{◌≡◌, ◌∙◌, ◌<◌, ◌≤◌, ◌+◌, ◌⊎◌, ℕ, zero, suc, Bool, true, List, [], ◌∷◌, Option, Some, length, map, get_or, inl, inr, refl, sym, ap, subst, ⊎_elim, arith}
-use Rattle.std.specs.Prelude.{slice_get, nat_lt}
+use Rattle.std.proofs.Common.{◌≡◌, ◌∙◌, ◌≤◌, ◌+◌, ◌⊎◌, ℕ, zero, suc, Bool, true, List, [], ◌∷◌, Option, Some, length, map, get_or, inl, inr, refl, sym, ap, subst, ⊎_elim, arith}
+use Rattle.std.specs.Prelude.{slice_get}
 use Rattle.std.specs.List.{filter, flat_map}
 use Rattle.std.specs.Ordering.{eq_by_cmp}
 use Rattle.std.proofs.lemmas.Bool.{and_from, and_parts}
-use Rattle.std.proofs.lemmas.Bool.Decides.{nat_tests}
 use Rattle.crew_flights.specs.Codes.{code_cmp}
 use Rattle.crew_forgetful.specs.Machinery.Sums.{is_same}
 use Rattle.crew_label.specs.Boarding.{LeadInto, boarded_from, waited_label}
@@ -15,12 +14,12 @@ use Rattle.crew_label.specs.declared.label.Label.{Label}
 use Rattle.crew_label.specs.declared.label.Link.{Link}
 use Rattle.crew_label.proofs.Boarded.{boarded_counted, boarded_entries}
 use Rattle.crew_label.proofs.FrontPools.{front_from_pool, front_itself}
-use Rattle.crew_label.proofs.Tabled.{leads_to, trail_goes_on}
+use Rattle.crew_label.proofs.Tabled.{links_into}
 use Rattle.crew_net.specs.Events.{arrives_at}
 use Rattle.crew_net.specs.Ranks.{ranks_where}
 use Rattle.crew_net.proofs.ArrivalPlaces.{ranks-in, ranks-out}
 use Rattle.crew_net.proofs.Numbers.{arrival-itself, get-within, same-arrival}
-use Rattle.crew_net.proofs.Slices.{get-at, map-get, member-got, member-place, past-none}
+use Rattle.crew_net.proofs.Slices.{at-within, get-at, map-get, member-got, member-place, past-none}
 use Rattle.crew_pairing.specs.Events.{arrival_of, may_wait}
 use Rattle.crew_pairing.specs.declared.duty.Duty.{Duty}
 use Rattle.crew_pairing.specs.declared.events.Arrival.{Arrival}
@@ -32,16 +31,14 @@ use Rattle.crew_resource.proofs.Members.{Member-append, Member-append_left, Memb
 use Rattle.crew_labelling.specs.Candidates.{AreFront, AreGathered, Arrives, IsRested, Waits, boarding, idle_labels}
 use Rattle.crew_labelling.specs.Held.{AreReady, HaveArrived, IsHeld, leads_of, trail_of}
 use Rattle.crew_labelling.specs.Labellings.{arrival_pool, arriving_labels, departure_pool, front_of, fronts_from, fronts_of, pool_among, rested_pool, waited_labels, waiting_labels}
-use Rattle.crew_labelling.specs.Terms.{AreLawful, AreTerms, Terms}
+use Rattle.crew_labelling.specs.Terms.{AreLawful, AreTerms, Terms, number_of}
 use Rattle.crew_labelling.proofs.Labels.{boarded-held, counted, shown-waited, waited-held}
+use Rattle.crew_labelling.proofs.Numbered.{number-told}
 use Rattle.crew_labelling.proofs.PoolOf.{pool_from, pool_is, pool_rises}
 use Rattle.crew_labelling.proofs.Resting.{rest-held}
 use Rattle.crew_labelling.proofs.Sound.{AreSound, tabled}
 use Rattle.crew_labelling.proofs.Stays.{at-held}
 use Rattle.crew_labelling.proofs.Waiting.{follows, idle-held, idle-in, idle-out}
-
-lt-in : (a b : ℕ) → a < b → nat_lt a b ≡ true
-lt-in a b h = grind (arith, nat_tests)
 
 -- something stands there, or it is past the end
 pub at-or-past : {A : Type 0} (xs : List A) (i : ℕ) → ((a : A) × (slice_get xs i ≡ Some a)) ⊎ (length xs ≤ i)
@@ -112,40 +109,31 @@ module _ {V : Type 0} (w : Terms V) (terms : AreTerms w) (lawful : AreLawful w) 
   -- the front of a duty
   module _ (rank : ℕ) (d : Duty) (known : slice_get w.net.duties rank ≡ Some d) where
     abbrev from : List (Label V)
-    from = get_or pools (get_or w.positions rank 0) []
+    from = get_or pools (get_or w.leaves.positions rank 0) []
 
     abbrev boards : V → Option V
     boards v = w.board v d
 
     abbrev view : List (Label V)
-    view = boarded_from (λ v. w.board v d) rank 0 from
+    view = boarded_from (λ v. w.board v d) (number_of w rank) 0 from
 
-    leads-there : (k : ℕ) (l : Label V) → slice_get from k ≡ Some l → leads_of t (record { duty = rank; place = k }) ≡ true
-    leads-there k l at =
+    pub into : LeadInto (leads_of t) trail (number_of w rank) rank from
+    into =
         let long = terms.passable.are_positions.long in
         let within = get-within w.net.duties rank d known in
-        and_from (nat_lt rank (length w.positions)) (nat_lt k (length from)) (lt-in rank (length w.positions) (omega (arith, long, within))) (lt-in k (length from) (get-within from k l at))
-
-    pub into : LeadInto (leads_of t) trail rank from
-    into = record {
-      there = leads-there;
-      walk = λ k l at.
-          let link : Link = record { duty = rank; place = k } in
-          let to = leads_to w.positions pools link (leads-there k l at) in
-          trail_goes_on w.positions pools sound.linked link l to.1 at;
-    }
+        links_into w.leaves pools sound.linked (number_of w rank) rank (get_or w.leaves.positions rank 0) (number-told w terms rank d known) (at-within w.leaves.positions rank 0 (omega (arith, long, within)))
 
     pub view-shown : map (shown trail) view ≡ boarding w d rank (map (shown trail) from)
-    view-shown = boarded_entries boards rank (leads_of t) trail from into
+    view-shown = boarded_entries boards (number_of w rank) (leads_of t) trail rank from into
 
     from-ready : AreReady w t from
-    from-ready = at-held w w.ready t pools sound.ready (get_or w.positions rank 0)
+    from-ready = at-held w w.ready t pools sound.ready (get_or w.leaves.positions rank 0)
 
     pub view-held : HaveArrived w t view
     view-held =
         boarded-held w t boards rank terms.counts.limit (get-within w.net.duties rank d known) terms.counts.has_most (λ v z e. counting.ends v z d e)
         (λ m v z h e. lawful.board_arrived m v z d (terms.passable.sound d (member-got w.net.duties rank d known)) h e) from view from-ready view-shown
-        (boarded_counted boards rank (leads_of t) trail w.count (λ v z e. counting.one_more v z d e) from into (counted w t w.ready from from-ready))
+        (boarded_counted boards (number_of w rank) (leads_of t) trail rank w.count (λ v z e. counting.one_more v z d e) from into (counted w t w.ready from from-ready))
 
     pub front-held : HaveArrived w t (front_of w pools rank d)
     front-held l m = view-held l (pool_from w.below (is_same w.below) w.cmp trail view l m)

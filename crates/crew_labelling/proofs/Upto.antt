@@ -26,10 +26,10 @@ too-late waits report release arrives h rest elapsed e = grind (arith, ints)
 module _ {V : Type 0} (w : Terms V) (terms : AreTerms w) where
   -- duties that arrive where a departure may wait leave before it
   pub leaves-before : (i : ℕ) (g : Departure) → slice_get (in_order w.net) i ≡ Some g → (x : Arrival) → may_wait w.net.settings x g ≡ true
-      → (rank : ℕ) (d : Duty) → slice_get w.net.duties rank ≡ Some d → arrival_of d ≡ x → get_or w.positions rank 0 < i
-  leaves-before i g at x waits rank d known is = later (get_or w.positions rank 0) i (λ h.
+      → (rank : ℕ) (d : Duty) → slice_get w.net.duties rank ≡ Some d → arrival_of d ≡ x → get_or w.leaves.positions rank 0 < i
+  leaves-before i g at x waits rank d known is = later (get_or w.leaves.positions rank 0) i (λ h.
       let p = terms.passable in
-      let position = get_or w.positions rank 0 in
+      let position = get_or w.leaves.positions rank 0 in
       let a = in-order-at w.net p.departs p.ordered i g at in
       let b = in-order-at w.net p.departs p.ordered position (departure_of d) (p.are_positions.exact rank d known) in
       too-late g.report d.report d.release x.release

@@ -18,7 +18,7 @@ use Rattle.crew_pairing.specs.declared.duty.Duty.{Duty}
 use Rattle.crew_pairing.specs.declared.events.Arrival.{Arrival}
 use Rattle.crew_pairing.specs.declared.events.Departure.{Departure}
 use Rattle.crew_labelling.specs.Candidates.{idle_labels}
-use Rattle.crew_labelling.specs.Terms.{Terms}
+use Rattle.crew_labelling.specs.Terms.{Terms, number_of}
 use Rattle.std.specs.declared.cmp.Ordering.{Ordering}
 use Rattle.crew_label.specs.Pools.{stands_label}
 use Rattle.crew_label.specs.declared.label.Link.{Link}
@@ -43,7 +43,7 @@ pool_of below same cmp trail (l ∷ ls) =
 -- the pool of labels whose links lead into the pools of departures
 abbrev pub pool_among : {V : Type 0} → Terms V → List (List (Label V)) → List (Label V)
     → List (Label V)
-pool_among w pools labels = pool_of w.below w.same w.cmp (trail_in w.positions pools) labels
+pool_among w pools labels = pool_of w.below w.same w.cmp (trail_in w.leaves pools) labels
 
 -- two values are one where each is at most the other
 abbrev pub are_one : {V : Type 0} → (V → V → Bool) → V → V → Bool
@@ -52,8 +52,9 @@ are_one below a b = below a b && below b a
 -- the front of a duty: what dominance by values leaves of the labels that board it from the pool of
 -- its departure
 abbrev pub front_of : {V : Type 0} → Terms V → List (List (Label V)) → ℕ → Duty → List (Label V)
-front_of w pools rank d = pool_of w.below (are_one w.below) w.cmp (trail_in w.positions pools)
-    (boarded_from (λ v. w.board v d) rank 0 (get_or pools (get_or w.positions rank 0) []))
+front_of w pools rank d = pool_of w.below (are_one w.below) w.cmp (trail_in w.leaves pools)
+    (boarded_from (λ v. w.board v d) (number_of w rank) 0
+    (get_or pools (get_or w.leaves.positions rank 0) []))
 
 -- the fronts of duties, whose ranks begin with one
 abbrev pub fronts_from : {V : Type 0} → Terms V → List (List (Label V)) → ℕ → List Duty
@@ -127,4 +128,4 @@ labelling_of w = labelling_by w (pools_upto w (length w.net.by_report))
 
 -- the table of its departures, into which all links of its labels lead
 abbrev pub table_of : {V : Type 0} → Terms V → Labelling V → Tabled V
-table_of w y = record { leaves = w.positions; pools = y.departures }
+table_of w y = record { leaves = w.leaves; pools = y.departures }

@@ -3,7 +3,7 @@ use Rattle.std.specs.Prelude.{◌≡◌, ◌<◌, ◌++◌, ℕ, Bool, cond, Lis
 use Rattle.std.specs.Ordering.{eq_by_cmp}
 use Rattle.crew_flights.specs.Codes.{code_cmp}
 use Rattle.crew_forgetful.specs.Sweeps.{IsCoveredPass}
-use Rattle.crew_label.specs.Tables.{leads_in, trail_in}
+use Rattle.crew_label.specs.Tables.{Leaving, leads_in, trail_in}
 use Rattle.crew_label.specs.Walks.{Leads, shown, walk_of}
 use Rattle.crew_label.specs.declared.label.Label.{Label}
 use Rattle.crew_net.specs.Nets.{Net}
@@ -19,17 +19,17 @@ use Rattle.crew_resource.specs.Members.{Each, Member}
 use Rattle.crew_labelling.specs.Labellings.{Labelling}
 use Rattle.crew_labelling.specs.Terms.{Terms}
 
--- the network, the position of each duty's departure by rank, the pool of each departure in order of
--- report, and the front of each duty by rank
+-- the network, where duties leave, the pool of each departure in order of report, and the front of
+-- each duty by rank
 pub record BasePass (V : Type 0) : Type 0 where
   pub net : Net
-  pub positions : List ℕ
+  pub leaves : Leaving
   pub pools : List (List (Label V))
   pub fronts : List (List (Label V))
 
 -- the entries of the front of a duty, their walks by rank
 abbrev pub entries : {V : Type 0} → BasePass V → ℕ → List (V × List ℕ)
-entries p rank = map (shown (trail_in p.positions p.pools)) (get_or p.fronts rank [])
+entries p rank = map (shown (trail_in p.leaves p.pools)) (get_or p.fronts rank [])
 
 -- and by key
 abbrev pub keyed_entries : {V : Type 0} → BasePass V → ℕ → List (V × List (List Leg))
@@ -49,9 +49,9 @@ pub record IsCoveredBy {V : Type 0} (le same : V → V → Bool)
 pub record AreTold {V : Type 0} (p : BasePass V) : Type 0 where
   pub long : length p.fronts ≡ length p.net.duties
   pub leading : (labels : List (Label V)) (l : Label V) → Member p.fronts labels → Member labels l
-      → Leads (leads_in p.positions p.pools) l.before
+      → Leads (leads_in p.leaves p.pools) l.before
   pub ranked : (labels : List (Label V)) (l : Label V) → Member p.fronts labels → Member labels l
-      → Each (λ rank. rank < length p.net.duties) (walk_of (trail_in p.positions p.pools) l.before)
+      → Each (λ rank. rank < length p.net.duties) (walk_of (trail_in p.leaves p.pools) l.before)
 
 -- the duties and events of the terms' network, with the stages; walks are of duties by key
 abbrev pub network_over : {V : Type 0} → Terms V
@@ -72,7 +72,7 @@ network_over w = record {
 abbrev pub pass_of : {V : Type 0} → Terms V → Labelling V → BasePass V
 pass_of w y = record {
   net = w.net;
-  positions = w.positions;
+  leaves = w.leaves;
   pools = y.departures;
   fronts = y.fronts;
 }

@@ -42,7 +42,7 @@ pub record IsDutyFront {V : Type 0} (w : Terms V) (y : Labelling V) (rank : ℕ)
   pub rises : AreRising w.cmp labels
   pub held : HaveArrived w (table_of w y) labels
   pub front : AreFront w (trail_of (table_of w y)) d rank
-      (get_or y.departures (get_or w.positions rank 0) []) labels
+      (get_or y.departures (get_or w.leaves.positions rank 0) []) labels
 
 -- all of a labelling is
 pub record IsRight {V : Type 0} (w : Terms V) (y : Labelling V) : Type 0 where
@@ -58,4 +58,4 @@ pub record IsRight {V : Type 0} (w : Terms V) (y : Labelling V) : Type 0 where
       → IsRestedPool w y place (get_or y.rested place [])
   pub fronts : (rank : ℕ) (d : Duty) → slice_get w.net.duties rank ≡ Some d
       → IsDutyFront w y rank d (get_or y.fronts rank [])
-  pub linked : AreLinked w.positions [] y.departures
+  pub linked : AreLinked w.leaves [] y.departures

@@ -1,11 +1,12 @@
 -- What the labels of one base go by, as one value: a resource's members, and a network.
-use Rattle.std.specs.Prelude.{◌≡◌, ◌≤◌, ◌+◌, ℕ, suc, ℤ, Bool, List, Option, Some, length}
+use Rattle.std.specs.Prelude.{◌≡◌, ◌<◌, ◌≤◌, ◌+◌, ℕ, suc, ℤ, Bool, List, Option, Some, get_or, length, slice_get}
 use Rattle.std.specs.Cmp.{IsTotalOrder}
 use Rattle.std.specs.declared.cmp.Ordering.{Ordering}
 use Rattle.crew_forgetful.specs.Forgetful.{Forgetful}
 use Rattle.crew_forgetful.specs.Sweeps.{TellCount}
 use Rattle.crew_forgetful.specs.declared.Forgets as Forgets
 use Rattle.crew_forgetful.specs.declared.Lapses as Lapses
+use Rattle.crew_label.specs.Tables.{Leaving}
 use Rattle.crew_net.specs.Events.{AreEvents, arrival_cmp, departure_cmp}
 use Rattle.crew_net.specs.Nets.{AreByReport, Net}
 use Rattle.crew_net.specs.Positions.{ArePositions}
@@ -21,7 +22,7 @@ use Rattle.crew_resource.specs.declared.Resource as Resource
 use Rattle.crew_resource.specs.declared.Staged as Staged
 
 -- how labels are compared and listed, what becomes of their values, and within which bounds these
--- lie; a network, the base, and the position of each duty's departure by rank
+-- lie; a network, the base, the number of each duty by rank, and where duties leave
 pub record Terms (V : Type 0) : Type 1 where
   pub cmp : V → V → Ordering
   pub below : V → V → Bool
@@ -37,14 +38,15 @@ pub record Terms (V : Type 0) : Type 1 where
   pub fits : ℕ → Type 0
   pub net : Net
   pub base : List ℕ
-  pub positions : List ℕ
+  pub numbers : List ℕ
+  pub leaves : Leaving
 
 -- the terms of a resource whose values are listed in an order, over a network
 abbrev pub terms_of : {R V : Type 0} → (V → V → Ordering)
     → Lapses.Ghosts R Duty V Arrival Departure
     → Staged.Ghosts R Duty V Arrival Departure → Forgets.Ghosts R Duty V Arrival Departure
-    → Resource.Ghosts R V Duty → R → Net → List ℕ → List ℕ → Terms V
-terms_of listing lapses staged forgets resource r network from by_rank = record {
+    → Resource.Ghosts R V Duty → R → Net → List ℕ → List ℕ → Leaving → Terms V
+terms_of listing lapses staged forgets resource r network from by_rank leaving = record {
   cmp = listing;
   below = resource.below;
   same = forgets.same_sums;
@@ -59,8 +61,13 @@ terms_of listing lapses staged forgets resource r network from by_rank = record 
   fits = staged.fits r;
   net = network;
   base = from;
-  positions = by_rank;
+  numbers = by_rank;
+  leaves = leaving;
 }
+
+-- the number of a duty, by its rank
+abbrev pub number_of : {V : Type 0} → Terms V → ℕ → ℕ
+number_of w rank = get_or w.numbers rank 0
 
 -- a resource counts the duties of a list, values with the same sums have as many, there is a most,
 -- and sums over one more fit
@@ -82,9 +89,18 @@ pub record IsPassable (net : Net) (positions : List ℕ) : Type 0 where
   pub rests : net.settings.max_rest ≤ 8_280
   pub are_positions : ArePositions net positions
 
--- terms by which a pass may go: such a network, and a resource that counts duties
+-- there are as many numbers as duties: a duty's number tells its rank, and is no other duty's
+pub record AreNumbers (net : Net) (numbers ranks : List ℕ) : Type 0 where
+  pub long : length numbers ≡ length net.duties
+  pub told : (rank duty : ℕ) → slice_get numbers rank ≡ Some duty
+      → slice_get ranks duty ≡ Some rank
+  pub own : (rank duty : ℕ) → rank < length net.duties → slice_get ranks duty ≡ Some rank
+      → slice_get numbers rank ≡ Some duty
+
+-- terms by which a pass may go: such a network with numbers, and a resource that counts duties
 pub record AreTerms {V : Type 0} (w : Terms V) : Type 0 where
-  pub passable : IsPassable w.net w.positions
+  pub passable : IsPassable w.net w.leaves.positions
+  pub numbered : AreNumbers w.net w.numbers w.leaves.ranks
   pub counts : CountsDuties w.same w.count w.most w.fits
 
 -- what the terms have of a resource's laws: values are listed in a total order, in which equal ones

@@ -1,5 +1,6 @@
 //! Laws over the definitions alone.
 ghost use Rattle.std.specs.Prelude.{◌≡◌, ℕ, List};
+ghost use Rattle.crew_label.specs.Tables.{Leaving};
 ghost use Rattle.crew_net.specs.Nets.{Net};
 ghost use Rattle.crew_labelling.specs.Labellings.{Labelling, labelling_of};
 ghost use Rattle.crew_labelling.specs.Passes.{AreTold, IsCoveredBy, network_over, pass_of};
@@ -11,20 +12,21 @@ use crew_pairing::Duty;
 
 /// Of each resource that tells what lapses the terms have the laws.
 pub fn resources_are_lawful<R: Lapses<Duty>>()
-    ensures { (r : R) (net : Net) (base positions : List ℕ) → AreLawful
+    ensures { (r : R) (net : Net) (base numbers : List ℕ) (leaves : Leaving) → AreLawful
         (terms_of R.Value.cmp R.Lapses.own R.Staged.own R.Forgets.own R.Resource.own r net base
-        positions) }
+        numbers leaves) }
 {}
 
 /// The labelling is right, and no other one is.
 pub fn one_labelling_is_right<R: Lapses<Duty>>()
-    ensures right { (r : R) (net : Net) (base positions : List ℕ) →
+    ensures right { (r : R) (net : Net) (base numbers : List ℕ) (leaves : Leaving) →
         let w = terms_of R.Value.cmp R.Lapses.own R.Staged.own R.Forgets.own R.Resource.own r net
-        base positions in
+        base numbers leaves in
         AreTerms w → IsRight w (labelling_of w) }
-    ensures only { (r : R) (net : Net) (base positions : List ℕ) (y : Labelling R.Value) →
+    ensures only { (r : R) (net : Net) (base numbers : List ℕ) (leaves : Leaving)
+        (y : Labelling R.Value) →
         let w = terms_of R.Value.cmp R.Lapses.own R.Staged.own R.Forgets.own R.Resource.own r net
-        base positions in
+        base numbers leaves in
         AreTerms w → IsRight w y → y ≡ labelling_of w }
 {
     resources_are_lawful::<R>();
@@ -32,13 +34,13 @@ pub fn one_labelling_is_right<R: Lapses<Duty>>()
 
 /// The labelling is a covered pass, and its fronts have walks of duties.
 pub fn labellings_are_covered<R: Lapses<Duty>>()
-    ensures covered { (r : R) (net : Net) (base positions : List ℕ) →
+    ensures covered { (r : R) (net : Net) (base numbers : List ℕ) (leaves : Leaving) →
         let w = terms_of R.Value.cmp R.Lapses.own R.Staged.own R.Forgets.own R.Resource.own r net
-        base positions in
+        base numbers leaves in
         AreTerms w → IsCoveredBy R.below R.same_sums (network_over w) (pass_of w (labelling_of w)) }
-    ensures told { (r : R) (net : Net) (base positions : List ℕ) →
+    ensures told { (r : R) (net : Net) (base numbers : List ℕ) (leaves : Leaving) →
         let w = terms_of R.Value.cmp R.Lapses.own R.Staged.own R.Forgets.own R.Resource.own r net
-        base positions in
+        base numbers leaves in
         AreTerms w → AreTold (pass_of w (labelling_of w)) }
 {
     resources_are_lawful::<R>();

@@ -48,11 +48,11 @@ after-most positions [] n h = omega arith
 after-most positions (r ∷ rs) n h = later-most (suc (get_or positions r 0)) (after_all positions rs) n (h r (inl refl)) (after-most positions rs n (λ rank m. h rank (inr m)))
 
 -- the duties that arrive where a crew may wait for a departure leave before it
-pub waits-after : {V : Type 0} (w : Terms V) (terms : AreTerms w) (position place : ℕ) → MayWaitAt w.net position place → after_all w.positions (arriving_ranks w.net place) ≤ position
+pub waits-after : {V : Type 0} (w : Terms V) (terms : AreTerms w) (position place : ℕ) → MayWaitAt w.net position place → after_all w.leaves.positions (arriving_ranks w.net place) ≤ position
 waits-after w terms position place waits =
     let x = waits.arrival in
     let at : get_or w.net.arrivals place no_arrival ≡ x = get-at w.net.arrivals place x no_arrival waits.releases in
-    after-most w.positions (arriving_ranks w.net place) position (λ rank m.
+    after-most w.leaves.positions (arriving_ranks w.net place) position (λ rank m.
     let d = ranks-out (arrives_at (get_or w.net.arrivals place no_arrival)) w.net.duties rank m in
     let arrives : arrival_of d.0 ≡ x = sym (same-arrival (get_or w.net.arrivals place no_arrival) (arrival_of d.0) d.2) ∙ at in
     let h = leaves-before w terms position waits.departure waits.reports x waits.may rank d.0 d.1 arrives in

@@ -15,7 +15,7 @@ use Rattle.crew_label.proofs.RisingLists.{each-member}
 use Rattle.crew_label.proofs.Shifts.{boarded_front}
 use Rattle.crew_labelling.specs.Held.{leads_of, trail_of}
 use Rattle.crew_labelling.specs.Labellings.{labelling_of, table_of}
-use Rattle.crew_labelling.specs.Terms.{Terms}
+use Rattle.crew_labelling.specs.Terms.{Terms, number_of}
 use Rattle.crew_labelling.proofs.Labels.{counted}
 use Rattle.crew_labelling.proofs.One.{is-right}
 use Rattle.crew_labelling.proofs.Only.{one-list}
@@ -40,24 +40,24 @@ module _ {V : Type 0} (w : Terms V) (may : MayPass w) (alone : (a b : V) → w.b
   trail = trail_of (table_of w (labelling_of w))
 
   abbrev from : List (Label V)
-  from = get_or (labelling_of w).departures (get_or w.positions rank 0) []
+  from = get_or (labelling_of w).departures (get_or w.leaves.positions rank 0) []
 
   abbrev aboard : List (V × List ℕ)
-  aboard = map (shown trail) (boarded_from (λ v. w.board v d) rank 0 from)
+  aboard = map (shown trail) (boarded_from (λ v. w.board v d) (number_of w rank) 0 from)
 
   abbrev front : List (V × List ℕ)
   front = map (shown trail) (get_or (labelling_of w).fronts rank [])
 
   aboard-local : IsLocal w.below ranks_at_most (λ v k. Member aboard (v, k)) aboard
   aboard-local =
-      let all = departures-gathered w may.terms may.lawful (get_or w.positions rank 0) (departure_of d) (may.terms.passable.are_positions.exact rank d known) in
-      boarded_front w.cmp w.below w.same may.lawful.order may.lawful.forgets.same_itself may.lawful.forgets.same_between alone (λ v. w.board v d) rank reflects
+      let all = departures-gathered w may.terms may.lawful (get_or w.leaves.positions rank 0) (departure_of d) (may.terms.passable.are_positions.exact rank d known) in
+      boarded_front w.cmp w.below w.same may.lawful.order may.lawful.forgets.same_itself may.lawful.forgets.same_between alone (λ v. w.board v d) (number_of w rank) rank reflects
       (leads_of (table_of w (labelling_of w))) trail all.listed from (departures-into w may.terms may.lawful rank d known) all.pool
 
   front-local : IsLocal w.below ranks_at_most (λ v k. Member aboard (v, k)) front
   front-local =
       subst (λ (es : List (V × List ℕ)). IsLocal w.below ranks_at_most (λ v k. Member es (v, k)) front)
-      (sym (boarded_entries (λ v. w.board v d) rank (leads_of (table_of w (labelling_of w))) trail from (departures-into w may.terms may.lawful rank d known)))
+      (sym (boarded_entries (λ v. w.board v d) (number_of w rank) (leads_of (table_of w (labelling_of w))) trail rank from (departures-into w may.terms may.lawful rank d known)))
       (fronts-are w may.terms may.lawful rank d known)
 
   pub aboard-in : (v : V) (k : List ℕ) → Member aboard (v, k) → Member front (v, k)
@@ -83,27 +83,27 @@ module _ {V : Type 0} (w : Terms V) (may : MayPass w) (alone : (a b : V) → w.b
   -- what boards rises, where boarding keeps the listing
   module _ (listed : (a b y z : V) → w.board a d ≡ Some y → w.board b d ≡ Some z → w.cmp a b ≡ Less → w.cmp y z ≡ Less) where
     rises-with : (n : ℕ) (l : Label V) (ls : List (Label V)) (o : Option V) → w.board l.value d ≡ o → Each (λ m. w.cmp l.value m.value ≡ Less) ls
-        → AreRising w.cmp (boarded_from (λ v. w.board v d) rank (n + 1) ls) → AreRising w.cmp (linked o (record { duty = rank; place = n }) ++ boarded_from (λ v. w.board v d) rank (n + 1) ls)
+        → AreRising w.cmp (boarded_from (λ v. w.board v d) (number_of w rank) (n + 1) ls) → AreRising w.cmp (linked o (record { duty = number_of w rank; place = n }) ++ boarded_from (λ v. w.board v d) (number_of w rank) (n + 1) ls)
     rises-with n l ls None e first rest = rest
     rises-with n l ls (Some y) e first rest = (
-      each-of (λ m. w.cmp y m.value ≡ Less) (boarded_from (λ v. w.board v d) rank (n + 1) ls) (λ m k.
-          let b = boarded-out (λ v. w.board v d) rank (n + 1) ls m k in
+      each-of (λ m. w.cmp y m.value ≡ Less) (boarded_from (λ v. w.board v d) (number_of w rank) (n + 1) ls) (λ m k.
+          let b = boarded-out (λ v. w.board v d) (number_of w rank) (n + 1) ls m k in
           listed l.value b.0.value y m.value e b.2 (each-member (λ x. w.cmp l.value x.value ≡ Less) ls b.0 first b.1)),
       rest,
     )
 
-    boarded-rises : (n : ℕ) (ls : List (Label V)) → AreRising w.cmp ls → AreRising w.cmp (boarded_from (λ v. w.board v d) rank n ls)
+    boarded-rises : (n : ℕ) (ls : List (Label V)) → AreRising w.cmp ls → AreRising w.cmp (boarded_from (λ v. w.board v d) (number_of w rank) n ls)
     boarded-rises n [] h = tt
     boarded-rises n (l ∷ ls) h = rises-with n l ls (w.board l.value d) refl h.0 (boarded-rises (n + 1) ls h.1)
 
     -- and is the front, label by label
-    pub front-is-aboard : get_or (labelling_of w).fronts rank [] ≡ boarded_from (λ v. w.board v d) rank 0 from
+    pub front-is-aboard : get_or (labelling_of w).fronts rank [] ≡ boarded_from (λ v. w.board v d) (number_of w rank) 0 from
     front-is-aboard =
         let t = table_of w (labelling_of w) in
-        let position = get_or w.positions rank 0 in
+        let position = get_or w.leaves.positions rank 0 in
         let into = departures-into w may.terms may.lawful rank d known in
         let counting = may.lawful.counting may.terms.counts.limit may.terms.counts.has_most in
-        let counts = boarded_counted (λ v. w.board v d) rank (leads_of t) (trail_of t) w.count (λ v z e. counting.one_more v z d e) from into (counted w t w.ready from (departures-ready w may.terms may.lawful position)) in
-        one-list w may.terms may.lawful (labelling_of w) (is-right w may.terms may.lawful) (get_or (labelling_of w).fronts rank []) (boarded_from (λ v. w.board v d) rank 0 from)
+        let counts = boarded_counted (λ v. w.board v d) (number_of w rank) (leads_of t) (trail_of t) rank w.count (λ v z e. counting.one_more v z d e) from into (counted w t w.ready from (departures-ready w may.terms may.lawful position)) in
+        one-list w may.terms may.lawful (labelling_of w) (is-right w may.terms may.lawful) (get_or (labelling_of w).fronts rank []) (boarded_from (λ v. w.board v d) (number_of w rank) 0 from)
         (fronts-rise w may.terms may.lawful rank) (boarded-rises 0 from (departures-rise w may.terms may.lawful position))
         (λ l m. (fronts-held w may.terms may.lawful rank l m).leading) (λ l m. (counts l m).leading) front-in aboard-in

@@ -2,6 +2,7 @@ pub mod Alike
 mod Shelved
 mod Known
 mod Collected
+mod Placed
 mod Arriving
 mod More
 mod Before

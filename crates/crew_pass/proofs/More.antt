@@ -64,15 +64,15 @@ module _ {R V : Type 0} (w : Terms V) (may : MayPass w) (seen : Seen R V Duty) (
               (λ e. there place (subst (λ (n : ℕ). MayWaitAt w.net n place) e waits))
               (λ k. is.waited position place k waits)
               (put-split seen.departures number labels inside position t);
-          gathered = λ place rank t arrives. put-stays seen.departures number labels inside (get_or w.positions rank 0) (is.gathered place rank t arrives);
-          boarded = λ rank t. put-stays seen.departures number labels inside (get_or w.positions rank 0) (is.boarded rank t);
+          gathered = λ place rank t arrives. put-stays seen.departures number labels inside (get_or w.leaves.positions rank 0) (is.gathered place rank t arrives);
+          boarded = λ rank t. put-stays seen.departures number labels inside (get_or w.leaves.positions rank 0) (is.boarded rank t);
         },
         record { departures = put-stays seen.departures number labels inside; arrivals = λ n t. t; rested = λ n t. t; fronts = λ n t. t },
         put-there seen.departures number labels inside,
       )
 
   pub arrival-more : now ≡ set seen.arrivals number (Some labels) → number < length w.net.arrivals → labels ≡ get_or (labelling_of w).arrivals number []
-      → ((rank : ℕ) → ArrivesAt w.net number rank → IsThere seen.departures (get_or w.positions rank 0))
+      → ((rank : ℕ) → ArrivesAt w.net number rank → IsThere seen.departures (get_or w.leaves.positions rank 0))
       → AreSeen w (record seen { arrivals = now }) × StaySeen seen (record seen { arrivals = now }) × IsThere now number
   arrival-more is-now within right there =
       let one = is.arrivals.long in
@@ -85,7 +85,7 @@ module _ {R V : Type 0} (w : Terms V) (may : MayPass w) (seen : Seen R V Duty) (
           rested = is.rested;
           fronts = is.fronts;
           waited = λ position place t waits. put-stays seen.arrivals number labels inside place (is.waited position place t waits);
-          gathered = λ place rank t arrives. ⊎_elim {C = IsThere seen.departures (get_or w.positions rank 0)}
+          gathered = λ place rank t arrives. ⊎_elim {C = IsThere seen.departures (get_or w.leaves.positions rank 0)}
               (λ e. there rank (subst (λ (n : ℕ). ArrivesAt w.net n rank) e arrives))
               (λ k. is.gathered place rank k arrives)
               (put-split seen.arrivals number labels inside place t);
@@ -116,7 +116,7 @@ module _ {R V : Type 0} (w : Terms V) (may : MayPass w) (seen : Seen R V Duty) (
       )
 
   pub front-more : now ≡ set seen.fronts number (Some labels) → number < length w.net.duties → labels ≡ get_or (labelling_of w).fronts number []
-      → IsThere seen.departures (get_or w.positions number 0)
+      → IsThere seen.departures (get_or w.leaves.positions number 0)
       → AreSeen w (record seen { fronts = now }) × StaySeen seen (record seen { fronts = now }) × IsThere now number
   front-more is-now within right there =
       let one = is.fronts.long in
@@ -130,8 +130,8 @@ module _ {R V : Type 0} (w : Terms V) (may : MayPass w) (seen : Seen R V Duty) (
           fronts = put-right seen.fronts number labels inside (labelling_of w).fronts is.fronts right;
           waited = is.waited;
           gathered = is.gathered;
-          boarded = λ rank t. ⊎_elim {C = IsThere seen.departures (get_or w.positions rank 0)}
-              (λ e. subst (λ (n : ℕ). IsThere seen.departures (get_or w.positions n 0)) (sym e) there)
+          boarded = λ rank t. ⊎_elim {C = IsThere seen.departures (get_or w.leaves.positions rank 0)}
+              (λ e. subst (λ (n : ℕ). IsThere seen.departures (get_or w.leaves.positions n 0)) (sym e) there)
               (λ k. is.boarded rank k)
               (put-split seen.fronts number labels inside rank t);
         },

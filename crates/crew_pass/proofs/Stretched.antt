@@ -163,7 +163,7 @@ module _ {R V : Type 0} (w : Terms V) (may : MayPass w) (seen : Seen R V Duty) (
   pub stretch-counts : (from end : ℕ) (labels : List (Label V)) → end ≤ length w.net.arrivals → ((place : ℕ) → from ≤ place → place < end → IsThere seen.arrivals place) → IsStretch w from end labels
       → CountThere w seen.departures labels
   stretch-counts from end labels most there stretch =
-      let known : AreKnown w.positions seen.departures labels = λ l m.
+      let known : AreKnown w.leaves seen.departures labels = λ l m.
       let s = stretch.stands l m in
       let b = s.2 in
       let x = stands w.net.arrivals s.0 (omega (arith, b, most)) in
@@ -174,6 +174,6 @@ module _ {R V : Type 0} (w : Terms V) (may : MayPass w) (seen : Seen R V Duty) (
   pub arrival-counts : (place : ℕ) → place < length w.net.arrivals → IsThere seen.arrivals place → (labels : List (Label V)) → labels ≡ get_or (labelling_of w).arrivals place [] → CountThere w seen.departures labels
   arrival-counts place within there labels own =
       let x = stands w.net.arrivals place within in
-      let known : AreKnown w.positions seen.departures labels = λ l m. arrival-known w may seen is place x.0 x.1 there l (subst (λ (ls : List (Label V)). Member ls l) own m) in
+      let known : AreKnown w.leaves seen.departures labels = λ l m. arrival-known w may seen is place x.0 x.1 there l (subst (λ (ls : List (Label V)). Member ls l) own m) in
       let held : HaveArrived w (table_of w (labelling_of w)) labels = λ l m. arrivals-held w may.terms may.lawful place l (subst (λ (ls : List (Label V)). Member ls l) own m) in
       counted-seen w may seen is w.arrived labels held known (sighted w seen.departures) refl

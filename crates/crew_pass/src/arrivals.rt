@@ -7,7 +7,7 @@ ghost use Rattle.crew_labelling.specs.Labellings.{labelling_of};
 ghost use Rattle.crew_pass.specs.Machinery.Passing.{ArrivesAt};
 ghost use Rattle.crew_pass.specs.Machinery.Seen.{AreSeen};
 ghost use Rattle.crew_pass.specs.Machinery.Shelves.{AreKnown, IsThere};
-ghost use Rattle.crew_pass.specs.Machinery.Terms.{MayPass, labels_table, terms};
+ghost use Rattle.crew_pass.specs.Machinery.Terms.{MayPass, labels_table, leaving_of, terms};
 
 use crate::ground::Ground;
 use crate::pooled::Pooled;
@@ -57,7 +57,7 @@ fn join_boarding<R: Pooled>(
     requires rank { rank < length ground.now.net.now.duties }
     requires there { IsThere seen.now.departures (get_or ground.now.positions.now rank 0) }
     requires held { HaveArrived (terms R.Value.cmp R.Lapses.own R.Staged.own R.Forgets.own R.Resource.own ground.now) (labels_table (terms R.Value.cmp R.Lapses.own R.Staged.own R.Forgets.own R.Resource.own ground.now)) room.old }
-    requires known { AreKnown ground.now.positions.now seen.now.departures room.old }
+    requires known { AreKnown (leaving_of ground.now) seen.now.departures room.old }
     ensures pool { OnOk result ((candidates : List (R.Value × List ℕ))
         → ArePoolOf R.below R.same_sums (trail_of (labels_table (terms R.Value.cmp R.Lapses.own R.Staged.own R.Forgets.own R.Resource.own ground.now))) candidates room.old
         → ArePoolOf R.below R.same_sums (trail_of (labels_table (terms R.Value.cmp R.Lapses.own R.Staged.own R.Forgets.own R.Resource.own ground.now)))
@@ -65,13 +65,14 @@ fn join_boarding<R: Pooled>(
         (get_or (labelling_of (terms R.Value.cmp R.Lapses.own R.Staged.own R.Forgets.own R.Resource.own ground.now)).fronts rank [])) room.new) }
     ensures held { OnOk result (HaveArrived (terms R.Value.cmp R.Lapses.own R.Staged.own R.Forgets.own R.Resource.own ground.now) (labels_table (terms R.Value.cmp R.Lapses.own R.Staged.own R.Forgets.own R.Resource.own ground.now)) room.new) }
     ensures known { OnOk result
-        (AreKnown ground.now.positions.now seen.now.departures room.new) }
+        (AreKnown (leaving_of ground.now) seen.now.departures room.new) }
 {
     let duty = ground.net.duty(rank as usize);
     let position = ground.positions[rank as usize];
     let pool = seen.departures.at(position as usize);
     let sight = Sight::over(ground, seen);
-    room.board::<Duty, Sight<R>>(ground.resource, &sight, pool, duty, rank)
+    let number = ground.numbers[rank as usize];
+    room.board::<Duty, Sight<R>>(ground.resource, &sight, pool, duty, number)
 }
 
 // The pool of the arrival at a place, of what boards the duties that arrive there, whose departures

@@ -20,8 +20,8 @@ use std::sync::Arc;
 /// leave from. It owns the network and what its labels lead to, so it can be kept, and be shared by
 /// threads.
 ///
-/// A contract sees the network, the position of each duty's departure by rank, the pools in order
-/// of report, and the fronts by rank.
+/// A contract sees the network, where duties leave, the pools in order of report, and the fronts by
+/// rank.
 pub struct BaseFronts<R: Resource> {
     net: Arc<Net, Global>,
     table: Table<R>,
@@ -47,14 +47,14 @@ impl<R: Resource> Model for BaseFronts<R> {
 
     ghost view = { λ f. record {
       net = f.net.value;
-      positions = f.table.leaves;
+      leaves = f.table.leaves;
       pools = f.table.pools;
       fronts = map arc_value f.fronts.items;
     } };
 
     ghost invariant = { λ f. AreTold (record {
       net = f.net.value;
-      positions = f.table.leaves;
+      leaves = f.table.leaves;
       pools = f.table.pools;
       fronts = map arc_value f.fronts.items;
     }) };
@@ -69,13 +69,13 @@ impl<R: Resource> BaseFronts<R> {
     ) -> Self
         requires { AreTold (record {
           net = arc_value net;
-          positions = table.leaves;
+          leaves = table.leaves;
           pools = table.pools;
           fronts = map arc_value fronts.items;
         }) }
         ensures { result ≡ record {
           net = arc_value net;
-          positions = table.leaves;
+          leaves = table.leaves;
           pools = table.pools;
           fronts = map arc_value fronts.items;
         } }
@@ -92,7 +92,7 @@ impl<R: Resource> BaseFronts<R> {
 
     /// The pools of departures, in order of report.
     pub fn table(&self) -> &Table<R>
-        ensures { result.now ≡ record { leaves = self.now.positions; pools = self.now.pools } }
+        ensures { result.now ≡ record { leaves = self.now.leaves; pools = self.now.pools } }
     {
         &self.table
     }
@@ -112,7 +112,7 @@ impl<R: Resource> BaseFronts<R> {
         requires { (labels : List (Label R.Value)) × Member self.now.fronts labels
             × Member labels label.now }
         ensures { IfOk result (λ ranks. ranks.items
-            ≡ walk_of (trail_in self.now.positions self.now.pools) label.now.before) }
+            ≡ walk_of (trail_in self.now.leaves self.now.pools) label.now.before) }
     {
         let mut ranks = Vec::new(alloc);
         push_walk(&self.table, &mut ranks, label.before)?;
@@ -124,7 +124,7 @@ impl<R: Resource> BaseFronts<R> {
         requires { (labels : List (Label R.Value)) × Member self.now.fronts labels
             × Member labels label.now }
         ensures { IfOk result (λ walk. walk ≡ map (key_at self.now.net.duties)
-            (walk_of (trail_in self.now.positions self.now.pools) label.now.before)) }
+            (walk_of (trail_in self.now.leaves self.now.pools) label.now.before)) }
     {
         let ranks = self.ranks(alloc, label)?;
         let keys = keys_of(alloc, self.net.duties(), &ranks)?;
@@ -165,7 +165,7 @@ fn push_walk<T: Trails>(
         return Ok(());
     };
     push_walk(trails, ranks, trails.before(last))?;
-    ranks.push(last.duty)?;
+    ranks.push(trails.rank(last))?;
     Ok(())
 }
 

@@ -20,18 +20,18 @@ use std::alloc::{AllocError, Global};
 // The most labels of a pool that a link can tell apart.
 const MOST: usize = 0xffff_ffff;
 
-// The labels that board a duty, each with a link to where it stood.
+// The labels that board a duty, by its number, each with a link to where it stood.
 fn boarded<R: Pooled>(
     alloc: Global,
     resource: &R,
     labels: &[Label<R::Value>],
     duty: &Duty,
-    rank: u32,
+    number: u32,
 ) -> Result<Vec<Label<R::Value>>, AllocError>
     requires { (l : Label R.Value) → Member labels.now l
         → R.can_board resource.now l.value duty.now }
     ensures { IfOk result (λ front. front.items
-        ≡ boarded_from (λ v. R.boards resource.now v duty.now) rank 0 labels.now) }
+        ≡ boarded_from (λ v. R.boards resource.now v duty.now) number 0 labels.now) }
 {
     if labels.len() > MOST {
         return Err(AllocError);
@@ -39,7 +39,10 @@ fn boarded<R: Pooled>(
     let mut front = Vec::with_capacity(alloc, labels.len())?;
     for (place, label) in labels.iter().enumerate() {
         let place = place as u32;
-        let link = Link { duty: rank, place };
+        let link = Link {
+            duty: number,
+            place,
+        };
         board_label(resource, &mut front, &label.value, duty, link)?;
     }
     Ok(front)
@@ -83,7 +86,8 @@ fn plain_front<R: Pooled>(
     let duty = ground.net.duty(rank as usize);
     let position = ground.positions[rank as usize];
     let pool = seen.departures.at(position as usize);
-    let front = boarded(alloc, ground.resource, pool.as_slice(), duty, rank)?;
+    let number = ground.numbers[rank as usize];
+    let front = boarded(alloc, ground.resource, pool.as_slice(), duty, number)?;
     Ok(Pool::from_rising(front))
 }
 
@@ -105,13 +109,14 @@ fn filtered_front<R: Pooled>(
     let position = ground.positions[rank as usize];
     let pool = seen.departures.at(position as usize);
     let sight = Sight::over(ground, seen);
+    let number = ground.numbers[rank as usize];
     let front = front_aboard::<Duty, R, Sight<R>>(
         alloc,
         ground.resource,
         &sight,
         pool,
         duty,
-        rank,
+        number,
     )?;
     rises(&front);
     Ok(front)

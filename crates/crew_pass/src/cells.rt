@@ -7,9 +7,10 @@ ghost use Rattle.std.specs.Arc.{arc_value};
 ghost use Rattle.crew_labelling.specs.Labellings.{labelling_of};
 ghost use Rattle.crew_pass.specs.Machinery.Cells.{AreCells};
 ghost use Rattle.crew_pass.specs.Machinery.Stretches.{IsStretch};
-ghost use Rattle.crew_pass.specs.Machinery.Terms.{basis_terms};
+ghost use Rattle.crew_pass.specs.Machinery.Terms.{ArePlacesOf, basis_terms};
 
 use crate::ground::{Basis, Ground};
+use crate::places::Places;
 use crate::stretch::Stretch;
 use crew_cells::{CellRule, OnceCells};
 use crew_forgetful::Lapses;
@@ -94,22 +95,22 @@ impl<R: Lapses<Duty>> Cells<R> {
     pub(crate) fn new(
         alloc: Global,
         ground: &Ground<R>,
-        positions: &Vec<u32>,
+        places: &Places,
     ) -> Result<Self, AllocError>
-        requires { positions.now.items ≡ ground.now.positions.now }
+        requires { ArePlacesOf ground.now places.now }
         ensures { IfOk result (AreCells ground.now) }
     {
-        let basis = Basis::of(ground, positions);
+        let basis = Basis::of(ground, places);
         let net = ground.net;
         let departures = net.by_report().len();
-        let places = net.arrivals().len();
+        let arrivals = net.arrivals().len();
         Ok(Cells {
             departures: OnceCells::new(alloc, &basis, departures)?,
-            arrivals: OnceCells::new(alloc, &basis, places)?,
-            rested: OnceCells::new(alloc, &basis, places)?,
+            arrivals: OnceCells::new(alloc, &basis, arrivals)?,
+            rested: OnceCells::new(alloc, &basis, arrivals)?,
             fronts: OnceCells::new(alloc, &basis, net.duty_count())?,
-            downs: OnceCells::new(alloc, &basis, places)?,
-            ups: OnceCells::new(alloc, &basis, places)?,
+            downs: OnceCells::new(alloc, &basis, arrivals)?,
+            ups: OnceCells::new(alloc, &basis, arrivals)?,
         })
     }
 }

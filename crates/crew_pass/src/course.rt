@@ -1,22 +1,22 @@
 //! What the passes of all bases go by.
 ghost use Rattle.std.specs.Prelude.{◌≡◌, IfOk};
 ghost use Rattle.std.specs.Arc.{arc_value};
-ghost use Rattle.crew_net.specs.Positions.{ArePositions};
 ghost use Rattle.crew_pass.specs.Machinery.Passing.{IsCharted};
+ghost use Rattle.crew_pass.specs.Machinery.Terms.{ArePlaces};
 
-use crew_net::{Net, Window, departure_positions};
+use crate::places::Places;
+use crew_net::{Net, Window};
 use std::alloc::{AllocError, Global};
 use std::marker::Model;
 use std::sync::Arc;
 
-/// What the passes of all bases go by: a network; by rank the position of each duty's departure, which
-/// is its place among all departures in order of report; and where windows are cut. It owns what it goes by, so it can be
-/// kept, and be shared by threads.
+/// What the passes of all bases go by: a network; the numbers of its duties, and where these leave;
+/// and where windows are cut. It owns what it goes by, so it can be kept, and be shared by threads.
 ///
 /// A contract sees the network.
 pub struct Course {
     net: Arc<Net, Global>,
-    positions: Arc<Vec<u32>, Global>,
+    places: Places,
     middles: Arc<Vec<usize>, Global>,
 }
 
@@ -24,7 +24,7 @@ impl Drop for Course {
     fn drop(self) {
         let Self {
             net: _,
-            positions: _,
+            places: _,
             middles: _,
         } = self;
     }
@@ -32,15 +32,14 @@ impl Drop for Course {
 
 impl Model for Course {
     ghost use Rattle.crew_net.specs.Nets as Spec;
-    ghost use Rattle.crew_net.specs.Positions.{ArePositions};
     ghost use Rattle.crew_pass.specs.Machinery.Passing.{IsCharted};
+    ghost use Rattle.crew_pass.specs.Machinery.Terms.{ArePlaces};
 
     ghost Value = { Spec.Net };
 
     ghost view = { λ c. c.net.value };
 
-    ghost invariant = { λ c. IsCharted c.net.value
-        × ArePositions c.net.value c.positions.value.items };
+    ghost invariant = { λ c. IsCharted c.net.value × ArePlaces c.net.value c.places };
 }
 
 // What a network has of its events, its duties and its settings.
@@ -76,12 +75,11 @@ impl Course {
         ensures { IfOk result (λ course. course ≡ arc_value net) }
     {
         chart(&net);
-        let positions = departure_positions(alloc, &net)?;
-        let positions = Arc::new(alloc, positions)?;
+        let places = Places::of(alloc, &net)?;
         let middles = Arc::new(alloc, middles_of(alloc, &net)?)?;
         Ok(Course {
             net,
-            positions,
+            places,
             middles,
         })
     }
@@ -94,11 +92,11 @@ impl Course {
         &self.net
     }
 
-    /// The position of each duty's departure, by rank.
-    pub(crate) fn positions(&self) -> &Arc<Vec<u32>, Global>
-        ensures { ArePositions self.now (arc_value result.now).items }
+    /// The numbers of the duties, and where these leave.
+    pub(crate) fn places(&self) -> &Places
+        ensures { ArePlaces self.now result.now }
     {
-        &self.positions
+        &self.places
     }
 
     /// The middle of the window of each departure, by place. No clause says more: whatever they are, a

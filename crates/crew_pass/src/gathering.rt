@@ -5,10 +5,11 @@ ghost use Rattle.crew_labelling.specs.Labellings.{labelling_of};
 ghost use Rattle.crew_pass.specs.Machinery.Cells.{AreCells};
 ghost use Rattle.crew_pass.specs.Machinery.Seen.{AreSeen, StaySeen};
 ghost use Rattle.crew_pass.specs.Machinery.Shelves.{IsThere};
-ghost use Rattle.crew_pass.specs.Machinery.Terms.{MayPass, labels_table, terms};
+ghost use Rattle.crew_pass.specs.Machinery.Terms.{ArePlacesOf, MayPass, labels_table, terms};
 
 use crate::cells::Cells;
 use crate::ground::Ground;
+use crate::places::Places;
 use crate::pooled::Pooled;
 use crate::seeing::{see_departure, see_front};
 use crate::seen::Seen;
@@ -65,17 +66,19 @@ pub(crate) fn see_fronts<R: Pooled>(
 pub(crate) fn table_of<R: Pooled>(
     alloc: Global,
     ground: &Ground<R>,
-    positions: &Arc<Vec<u32>, Global>,
+    places: &Places,
     seen: &Seen<R>,
 ) -> Result<Table<R>, AllocError>
     requires may { MayPass (terms R.Value.cmp R.Lapses.own R.Staged.own R.Forgets.own R.Resource.own ground.now) }
-    requires positions { (arc_value positions.now).items ≡ ground.now.positions.now }
+    requires places { ArePlacesOf ground.now places.now }
     requires seen { AreSeen (terms R.Value.cmp R.Lapses.own R.Staged.own R.Forgets.own R.Resource.own ground.now) seen.now }
     requires there { (position : ℕ) → position < length ground.now.net.now.by_report
         → IsThere seen.now.departures position }
     ensures { IfOk result (λ table. table ≡ labels_table (terms R.Value.cmp R.Lapses.own R.Staged.own R.Forgets.own R.Resource.own ground.now)) }
 {
-    let mut table = Table::new(alloc, Arc::try_clone(positions)?);
+    let ranks = Arc::try_clone(&places.ranks)?;
+    let positions = Arc::try_clone(&places.positions)?;
+    let mut table = Table::new(alloc, ranks, positions);
     for position in 0..ground.net.by_report().len() {
         let Some(pool) = seen.departures.get(position) else {
             unreachable!();

@@ -2,18 +2,21 @@
 //!
 //! Clauses name it as one value: `terms` of the resource's members and the ground
 //! (`specs/Machinery/Terms`).
-ghost use Rattle.std.specs.Prelude.{◌≡◌};
-ghost use Rattle.crew_pass.specs.Machinery.Terms.{IsBasisOf};
+ghost use Rattle.crew_pass.specs.Machinery.Terms.{ArePlacesOf, IsBasisOf};
 
+use crate::places::Places;
 use crew_flights::Code;
 use crew_net::Net;
 use std::snapshot::Snapshot;
 
-/// What a pass of one base goes by: a network, by rank the position of each duty's departure, by
-/// place the middle of each departure's window, the resource of the base's lists, and the base.
+/// What a pass of one base goes by: a network; by rank the number of each duty, by number its rank, and
+/// by rank the position of its departure; by place the middle of each departure's window; the resource
+/// of the base's lists, and the base.
 #[derive(Drop)]
 pub(crate) struct Ground<'a, 'r, R> {
     pub(crate) net: &'a Net,
+    pub(crate) numbers: &'a [u32],
+    pub(crate) ranks: &'a [u32],
     pub(crate) positions: &'a [u32],
     pub(crate) middles: &'a [usize],
     pub(crate) resource: &'r R,
@@ -24,20 +27,20 @@ pub(crate) struct Ground<'a, 'r, R> {
 #[derive(Drop)]
 pub(crate) struct Basis<R> {
     net: Snapshot<Net>,
-    positions: Snapshot<Vec<u32>>,
+    places: Snapshot<Places>,
     resource: Snapshot<R>,
     base: Code,
 }
 
 impl<R> Basis<R> {
-    /// What a pass goes by, and the list that its positions are of.
-    pub(crate) fn of(ground: &Ground<R>, positions: &Vec<u32>) -> Basis<R>
-        requires { positions.now.items ≡ ground.now.positions.now }
+    /// What a pass goes by, and the lists that its numbers and positions are of.
+    pub(crate) fn of(ground: &Ground<R>, places: &Places) -> Basis<R>
+        requires { ArePlacesOf ground.now places.now }
         ensures { IsBasisOf ground.now result }
     {
         Basis {
             net: Snapshot::of(ground.net),
-            positions: Snapshot::of(positions),
+            places: Snapshot::of(places),
             resource: Snapshot::of(ground.resource),
             base: ground.base,
         }

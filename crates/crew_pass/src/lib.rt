@@ -27,6 +27,7 @@ mod joining;
 pub mod laws;
 mod long;
 mod passing;
+mod places;
 mod pooled;
 mod seeing;
 mod seen;

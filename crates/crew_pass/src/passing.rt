@@ -5,12 +5,11 @@ ghost use Rattle.crew_answers.specs.Schedules.{schedule_of};
 ghost use Rattle.crew_forgetful.specs.Sweeps.{network_of};
 ghost use Rattle.crew_labelling.specs.Labellings.{labelling_of};
 ghost use Rattle.crew_labelling.specs.Passes.{pass_of};
-ghost use Rattle.crew_net.specs.Positions.{ArePositions};
 ghost use Rattle.crew_pairing.specs.Events.{IsSound, arrival_of, departure_of};
 ghost use Rattle.crew_pairing.specs.declared.duty.Duty.{Duty};
 ghost use Rattle.crew_resource.specs.Members.{Member};
 ghost use Rattle.crew_pass.specs.Machinery.Cells.{AreCells};
-ghost use Rattle.crew_pass.specs.Machinery.Terms.{MayPass, terms};
+ghost use Rattle.crew_pass.specs.Machinery.Terms.{ArePlaces, ArePlacesOf, MayPass, terms};
 ghost use Rattle.crew_pass.specs.Passes.{CountsDuties, IsCoveredBy};
 
 use crate::base_fronts::BaseFronts;
@@ -18,6 +17,7 @@ use crate::cells::Cells;
 use crate::course::Course;
 use crate::gathering::{fronts_of, see_departures, see_fronts, table_of};
 use crate::ground::Ground;
+use crate::places::Places;
 use crate::pooled::Pooled;
 use crate::seen::Seen;
 use crate::workers::fill_by_threads;
@@ -30,28 +30,30 @@ use std::alloc::{AllocError, Global};
 use std::sync::Arc;
 use std::thread::Threads;
 
-// What the pass of a base goes by, over a course and its positions.
+// What the pass of a base goes by, over a course and its places.
 fn ground_over<'a, 'r, R: Pooled>(
     course: &'a Course,
-    positions: &'a Arc<Vec<u32>, Global>,
+    places: &'a Places,
     resource: &'r R,
     base: Code,
 ) -> Ground<'a, 'r, R>
     requires sound { (d : Duty) → Member course.now.duties d → IsSound d }
     requires counts { CountsDuties R.same_sums (R.count_of resource.now) (R.most resource.now)
         (R.fits resource.now) }
-    requires positions { ArePositions course.now (arc_value positions.now).items }
+    requires places { ArePlaces course.now places.now }
     ensures may { MayPass
         (terms R.Value.cmp R.Lapses.own R.Staged.own R.Forgets.own R.Resource.own result) }
     ensures net { result.net.now ≡ course.now }
-    ensures positions { result.positions.now ≡ (arc_value positions.now).items }
+    ensures places { ArePlacesOf result places.now }
     ensures resource { result.resource.now ≡ resource.now }
     ensures base { result.base ≡ base }
 {
     resources_are_lawful::<R>();
     Ground {
         net: course.net(),
-        positions: positions.as_slice(),
+        numbers: places.numbers.as_slice(),
+        ranks: places.ranks.as_slice(),
+        positions: places.positions.as_slice(),
         middles: course.middles().as_slice(),
         resource,
         base,
@@ -63,21 +65,21 @@ fn ground_over<'a, 'r, R: Pooled>(
 fn passed<R: Pooled>(
     alloc: Global,
     course: &Course,
-    positions: &Arc<Vec<u32>, Global>,
+    places: &Places,
     ground: &Ground<R>,
     cells: &Cells<R>,
 ) -> Result<BaseFronts<R>, AllocError>
     requires may { MayPass (terms R.Value.cmp R.Lapses.own R.Staged.own R.Forgets.own R.Resource.own ground.now) }
     requires cells { AreCells ground.now cells.now }
     requires net { ground.now.net.now ≡ course.now }
-    requires positions { (arc_value positions.now).items ≡ ground.now.positions.now }
+    requires places { ArePlacesOf ground.now places.now }
     ensures { IfOk result (λ passed. passed ≡ pass_of (terms R.Value.cmp R.Lapses.own R.Staged.own R.Forgets.own R.Resource.own ground.now) (labelling_of (terms R.Value.cmp R.Lapses.own R.Staged.own R.Forgets.own R.Resource.own ground.now))) }
 {
     let mut seen = Seen::new(alloc, ground)?;
     let mut room = Room::new(alloc);
     see_departures(alloc, ground, cells, &mut seen, &mut room)?;
     see_fronts(alloc, ground, cells, &mut seen, &mut room)?;
-    let table = table_of(alloc, ground, positions, &seen)?;
+    let table = table_of(alloc, ground, places, &seen)?;
     let fronts = fronts_of(alloc, ground, &seen)?;
     let net = Arc::try_clone(course.net())?;
     Ok(BaseFronts::new(net, table, fronts))
@@ -102,10 +104,10 @@ pub fn pass<R: Pooled>(
         (schedule_of course.now.settings base course.now.duties) departure_of arrival_of
         (R.idle_of resource.now) (R.waited resource.now) (R.boards resource.now))) }
 {
-    let positions = course.positions();
-    let ground = ground_over(course, positions, resource, base);
-    let cells = Cells::new(alloc, &ground, positions)?;
-    passed(alloc, course, positions, &ground, &cells)
+    let places = course.places();
+    let ground = ground_over(course, places, resource, base);
+    let cells = Cells::new(alloc, &ground, places)?;
+    passed(alloc, course, places, &ground, &cells)
 }
 
 /// The same pass in at most so many threads, this one among them: each makes what it needs of what
@@ -128,9 +130,9 @@ where
         (schedule_of course.now.settings base course.now.duties) departure_of arrival_of
         (R.idle_of resource.now) (R.waited resource.now) (R.boards resource.now))) }
 {
-    let positions = course.positions();
-    let ground = ground_over(course, positions, resource, base);
-    let cells = Cells::new(alloc, &ground, positions)?;
+    let places = course.places();
+    let ground = ground_over(course, places, resource, base);
+    let cells = Cells::new(alloc, &ground, places)?;
     fill_by_threads(rt, alloc, threads, &ground, &cells)?;
-    passed(alloc, course, positions, &ground, &cells)
+    passed(alloc, course, places, &ground, &cells)
 }

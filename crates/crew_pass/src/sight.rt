@@ -1,6 +1,6 @@
 //! Walks, read from the departures that a thread has seen.
 ghost use Rattle.std.specs.Prelude.{◌≡◌, ◌<◌, Some, length, slice_get};
-ghost use Rattle.crew_label.specs.Tables.{leads_in, trail_in};
+ghost use Rattle.crew_label.specs.Tables.{leads_in, rank_of, trail_in};
 ghost use Rattle.crew_label.specs.declared.label.Label.{Label};
 ghost use Rattle.crew_pass.specs.Machinery.Seen.{AreSeen};
 ghost use Rattle.crew_pass.specs.Machinery.Shelves.{sighted};
@@ -66,8 +66,15 @@ impl<'s, 'a, 'r, R: Lapses<Duty>> Trails for Sight<'s, 'a, 'r, R> {
 
     ghost trail = { λ s link. trail_in s.table.leaves s.table.pools link };
 
+    ghost rank = { λ s duty. rank_of s.table.leaves duty };
+
+    fn rank(&self, link: Link) -> u32 {
+        self.ground.ranks[link.duty as usize]
+    }
+
     fn before(&self, link: Link) -> Option<Link> {
-        let position = self.ground.positions[link.duty as usize];
+        let rank = self.ground.ranks[link.duty as usize];
+        let position = self.ground.positions[rank as usize];
         let Some(pool) = self.departures.get(position as usize) else {
             unreachable!();
         };

@@ -18,7 +18,7 @@ ghost use Rattle.crew_pass.specs.Machinery.Cells.{AreCells};
 ghost use Rattle.crew_pass.specs.Machinery.Passing.{AreCollected, IsClean, MayWaitAt};
 ghost use Rattle.crew_pass.specs.Machinery.Seen.{AreSeen};
 ghost use Rattle.crew_pass.specs.Machinery.Shelves.{AreKnown, IsThere};
-ghost use Rattle.crew_pass.specs.Machinery.Terms.{MayPass, labels_table, terms};
+ghost use Rattle.crew_pass.specs.Machinery.Terms.{MayPass, labels_table, leaving_of, terms};
 
 use crate::cells::Cells;
 use crate::ground::Ground;
@@ -116,7 +116,7 @@ fn waited_from<R: Pooled>(
         (map (shown (trail_of (labels_table (terms R.Value.cmp R.Lapses.own R.Staged.own R.Forgets.own R.Resource.own ground.now)))) (get_or (labelling_of (terms R.Value.cmp R.Lapses.own R.Staged.own R.Forgets.own R.Resource.own ground.now)).arrivals place [])))
         waited) }
     ensures held { IfOk result (AreReady (terms R.Value.cmp R.Lapses.own R.Staged.own R.Forgets.own R.Resource.own ground.now) (labels_table (terms R.Value.cmp R.Lapses.own R.Staged.own R.Forgets.own R.Resource.own ground.now))) }
-    ensures known { IfOk result (AreKnown ground.now.positions.now seen.now.departures) }
+    ensures known { IfOk result (AreKnown (leaving_of ground.now) seen.now.departures) }
 {
     let arrival = &ground.net.arrivals()[place];
     let held = seen.arrivals.at(place);
@@ -149,7 +149,7 @@ fn window_pools<R: Pooled>(
         → Member pools.items labels → AreReady (terms R.Value.cmp R.Lapses.own R.Staged.own R.Forgets.own R.Resource.own ground.now) (labels_table (terms R.Value.cmp R.Lapses.own R.Staged.own R.Forgets.own R.Resource.own ground.now)) labels) }
     ensures known { IfOk result (λ pools. (labels : List (Label R.Value))
         → Member pools.items labels
-        → AreKnown ground.now.positions.now seen.now.departures labels) }
+        → AreKnown (leaving_of ground.now) seen.now.departures labels) }
 {
     let mut pools = Vec::new(alloc);
     pools.push(idle_pool(alloc, ground, departure)?)?;
@@ -172,7 +172,7 @@ fn joined<R: Pooled>(
     requires held { (labels : List (Label R.Value)) → Member pools.now labels
         → AreReady (terms R.Value.cmp R.Lapses.own R.Staged.own R.Forgets.own R.Resource.own ground.now) (labels_table (terms R.Value.cmp R.Lapses.own R.Staged.own R.Forgets.own R.Resource.own ground.now)) labels }
     requires known { (labels : List (Label R.Value)) → Member pools.now labels
-        → AreKnown ground.now.positions.now seen.now.departures labels }
+        → AreKnown (leaving_of ground.now) seen.now.departures labels }
     ensures pool { IfOk result (λ whole. (candidates : List (R.Value × List ℕ))
         → ArePoolsOf R.below R.same_sums (trail_of (labels_table (terms R.Value.cmp R.Lapses.own R.Staged.own R.Forgets.own R.Resource.own ground.now))) candidates pools.now
         → ArePoolOf R.below R.same_sums (trail_of (labels_table (terms R.Value.cmp R.Lapses.own R.Staged.own R.Forgets.own R.Resource.own ground.now))) candidates whole) }

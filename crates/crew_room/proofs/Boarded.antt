@@ -50,19 +50,19 @@ shorter : (p q : List ℕ) (d : ℕ) → length p ≡ length q → ranks_at_most
 shorter p q d long h =
     sym (ap is_le (cmp_longer p q d d long ∙ then_equal (slice_cmp nat_cmp p q) (nat_cmp d d) (equal_itself (nat_cmp d d) (nat_cmp_total.antisymm d d)))) ∙ h
 
-module _ {V : Type 0} (board : V → Option V) (duty : ℕ) (trail : Link → List ℕ) (leads : Link → Bool) (count : V → ℤ)
+module _ {V : Type 0} (board : V → Option V) (duty rank : ℕ) (trail : Link → List ℕ) (leads : Link → Bool) (count : V → ℤ)
     (one_more : (v z : V) → board v ≡ Some z → count z ≡ count v +ℤ pos 1) where
-  counted_as : (pool : List (Label V)) → LeadInto leads trail duty pool → (place : ℕ) (l : Label V) → slice_get pool place ≡ Some l → IsCounted count leads trail l
+  counted_as : (pool : List (Label V)) → LeadInto leads trail duty rank pool → (place : ℕ) (l : Label V) → slice_get pool place ≡ Some l → IsCounted count leads trail l
       → (o : Option V) → board l.value ≡ o → AreCounted count leads trail (linked o (record { duty = duty; place = place }))
   counted_as pool into place l at i None e m k = absurd k
   counted_as pool into place l at i (Some z) e m (inl q) = subst (IsCounted count leads trail) q record {
     leading = into.there place l at;
-    counts = one_more l.value z e ∙ (ap (λ k. k +ℤ pos 1) i.counts ∙ (one_longer (walk_of trail l.before) duty ∙ ap (λ w. pos (length w)) (sym (into.walk place l at))));
+    counts = one_more l.value z e ∙ (ap (λ k. k +ℤ pos 1) i.counts ∙ (one_longer (walk_of trail l.before) rank ∙ ap (λ w. pos (length w)) (sym (into.walk place l at))));
   }
   counted_as pool into place l at i (Some z) e m (inr k) = absurd k
 
   -- what a label boards to counts its walk
-  pub linked-counted : (pool : List (Label V)) → LeadInto leads trail duty pool → (place : ℕ) (l : Label V) → slice_get pool place ≡ Some l → IsCounted count leads trail l
+  pub linked-counted : (pool : List (Label V)) → LeadInto leads trail duty rank pool → (place : ℕ) (l : Label V) → slice_get pool place ≡ Some l → IsCounted count leads trail l
       → AreCounted count leads trail (linked (board l.value) (record { duty = duty; place = place }))
   linked-counted pool into place l at i = counted_as pool into place l at i (board l.value) refl
 
@@ -99,15 +99,15 @@ module _ {V : Type 0} (cmp : V → V → Ordering) (below same : V → V → Boo
 
   module _ (itself : (a : V) → same a a ≡ true) (between : (a b c : V) → below a b ≡ true → below b c ≡ true → same a c ≡ true → (same a b ≡ true) × (same b c ≡ true))
       (keeps : (a b y z : V) → board a ≡ Some y → board b ≡ Some z → same y z ≡ same a b)
-      (trail : Link → List ℕ) (leads : Link → Bool) (count : V → ℤ) (tell : (a b : V) → same a b ≡ true → count a ≡ count b)
-      (pool : List (Label V)) (into : LeadInto leads trail duty pool) (counts : AreCounted count leads trail pool) (reflects : Reflects pool)
+      (rank : ℕ) (trail : Link → List ℕ) (leads : Link → Bool) (count : V → ℤ) (tell : (a b : V) → same a b ≡ true → count a ≡ count b)
+      (pool : List (Label V)) (into : LeadInto leads trail duty rank pool) (counts : AreCounted count leads trail pool) (reflects : Reflects pool)
       (candidates : List (V × List ℕ)) (i : ArePoolOf below same trail candidates pool) where
     abbrev aboard : V × List ℕ → List (V × List ℕ)
-    aboard e = labelled (board e.0) (e.1 ++ duty ∷ [])
+    aboard e = labelled (board e.0) (e.1 ++ rank ∷ [])
 
     -- labels of which one stands for the other once both have boarded
     alone-labels : (l m : Label V) (v x : V) (w y : List ℕ) → Member pool l → Member pool m → board l.value ≡ Some v → board m.value ≡ Some x
-        → walk_of trail l.before ++ duty ∷ [] ≡ w → walk_of trail m.before ++ duty ∷ [] ≡ y → StandsFor below same ranks_at_most v w x y → (v ≡ x) × (w ≡ y)
+        → walk_of trail l.before ++ rank ∷ [] ≡ w → walk_of trail m.before ++ rank ∷ [] ≡ y → StandsFor below same ranks_at_most v w x y → (v ≡ x) × (w ≡ y)
     alone-labels l m v x w y ml mm bl bm wl wm s =
         let a = walk_of trail l.before in
         let b = walk_of trail m.before in
@@ -115,10 +115,10 @@ module _ {V : Type 0} (cmp : V → V → Ordering) (below same : V → V → Boo
           reflects l m v x ml bl bm s.0,
           λ t.
               let long : length a ≡ length b = as_long (length a) (length b) (sym (counts l ml).counts ∙ (tell l.value m.value t ∙ (counts m mm).counts)) in
-              shorter a b duty long (subst (λ z. ranks_at_most z (b ++ duty ∷ []) ≡ true) (sym wl) (subst (λ z. ranks_at_most w z ≡ true) (sym wm) (s.1 (keeps l.value m.value v x bl bm ∙ t)))),
+              shorter a b rank long (subst (λ z. ranks_at_most z (b ++ rank ∷ []) ≡ true) (sym wl) (subst (λ z. ranks_at_most w z ≡ true) (sym wm) (s.1 (keeps l.value m.value v x bl bm ∙ t)))),
         ) in (
           some_same v x (sym bl ∙ (ap board e.0 ∙ bm)),
-          sym wl ∙ (ap (λ z. z ++ duty ∷ []) e.1 ∙ wm),
+          sym wl ∙ (ap (λ z. z ++ rank ∷ []) e.1 ∙ wm),
         )
       where
         Member-shown : (n : Label V) → Member pool n → Member (map (shown trail) pool) (shown trail n)
@@ -129,11 +129,11 @@ module _ {V : Type 0} (cmp : V → V → Ordering) (below same : V → V → Boo
     alone-entries v w x y m n s =
         let a = Member-flat_map_out aboard (map (shown trail) pool) (v, w) m in
         let b = Member-flat_map_out aboard (map (shown trail) pool) (x, y) n in
-        let p = labelled_out (board a.0.0) (a.0.1 ++ duty ∷ []) v w a.2 in
-        let q = labelled_out (board b.0.0) (b.0.1 ++ duty ∷ []) x y b.2 in
+        let p = labelled_out (board a.0.0) (a.0.1 ++ rank ∷ []) v w a.2 in
+        let q = labelled_out (board b.0.0) (b.0.1 ++ rank ∷ []) x y b.2 in
         let l = Member-map_out (shown trail) pool a.0 a.1 in
         let k = Member-map_out (shown trail) pool b.0 b.1 in
-        alone-labels l.0 k.0 v x w y l.1 k.1 (ap (λ e. board e.0) l.2 ∙ p.0) (ap (λ e. board e.0) k.2 ∙ q.0) (ap (λ e. e.1 ++ duty ∷ []) l.2 ∙ p.1) (ap (λ e. e.1 ++ duty ∷ []) k.2 ∙ q.1) s
+        alone-labels l.0 k.0 v x w y l.1 k.1 (ap (λ e. board e.0) l.2 ∙ p.0) (ap (λ e. board e.0) k.2 ∙ q.0) (ap (λ e. e.1 ++ rank ∷ []) l.2 ∙ p.1) (ap (λ e. e.1 ++ rank ∷ []) k.2 ∙ q.1) s
 
     entries-pool : IsPool below same ranks_at_most (λ v w. Member (flat_map aboard (map (shown trail) pool)) (v, w)) (flat_map aboard (map (shown trail) pool))
     entries-pool = record {
@@ -144,4 +144,4 @@ module _ {V : Type 0} (cmp : V → V → Ordering) (below same : V → V → Boo
 
     -- what boards is a pool as it stands
     pub boarded-pool : ArePoolOf below same trail (map (shown trail) (boarded_from board duty 0 pool)) (boarded_from board duty 0 pool)
-    boarded-pool = subst (λ (es : List (V × List ℕ)). IsPool below same ranks_at_most (λ v w. Member es (v, w)) es) (sym (boarded_entries board duty leads trail pool into)) entries-pool
+    boarded-pool = subst (λ (es : List (V × List ℕ)). IsPool below same ranks_at_most (λ v w. Member es (v, w)) es) (sym (boarded_entries board duty leads trail rank pool into)) entries-pool

@@ -90,7 +90,8 @@ pub(crate) fn join_boarding<P: Placed, R: Forgets<P> + Glanced, T: Trails>(
     requires boards { (l : Label R.Value) → Member labels.now l
         → R.can_board resource.now l.value item.now }
     requires tell { TellCount R.same_sums (R.count_of resource.now) }
-    requires into { LeadInto (T.leads trails.now) (T.trail trails.now) duty labels.now }
+    requires into { (rank : ℕ) × LeadInto (T.leads trails.now) (T.trail trails.now) duty rank
+        labels.now }
     requires most { (most : ℕ) × (R.most resource.now ≡ Some most) }
     requires held { AreCounted (R.count_of resource.now) (T.leads trails.now)
         (T.trail trails.now) held.old }

@@ -119,7 +119,7 @@ impl<R: Glanced> Room<R> {
     }
 
     /// What of a departure's pool boards an item joins, where nothing of it lapses as it does. `duty`
-    /// is the item's rank.
+    /// is the item's number.
     ///
     /// If what the room had was the pool of some candidates, it then has the pool of these and of
     /// the labels that boarded. A pool of 2^32 labels is refused as want of memory is. On want of
@@ -139,7 +139,8 @@ impl<R: Glanced> Room<R> {
         requires stays { (l : Label R.Value) → Member pool.now l
             → R.lapses resource.now l.value item.now ≡ false }
         requires tell { TellCount R.same_sums (R.count_of resource.now) }
-        requires into { LeadInto (T.leads trails.now) (T.trail trails.now) duty pool.now }
+        requires into { (rank : ℕ) × LeadInto (T.leads trails.now) (T.trail trails.now) duty rank
+            pool.now }
         requires most { (most : ℕ) × (R.most resource.now ≡ Some most) }
         requires counts { AreCounted (R.count_of resource.now) (T.leads trails.now)
             (T.trail trails.now) self.old }

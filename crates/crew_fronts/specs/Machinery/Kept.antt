@@ -62,7 +62,7 @@ pub record IsGround (net : Net) (price : ℤ) : Type 0 where
 abbrev pub AreValued : BasePass LongValue → Type 0
 AreValued p = (rank : ℕ) (l : Label LongValue) → rank < length p.net.duties
     → Member (get_or p.fronts rank []) l → IsValue (is_long p.net.settings) l.value
-    (length (walk_of (trail_in p.positions p.pools) l.before))
+    (length (walk_of (trail_in p.leaves p.pools) l.before))
 
 -- they are listed by value
 abbrev pub AreListed : BasePass LongValue → Type 0

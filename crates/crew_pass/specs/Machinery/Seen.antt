@@ -16,9 +16,9 @@ pub record AreSeen {R V : Type 0} (w : Terms V) (seen : Seen R V Duty) : Type 0 
   pub waited : (position place : ℕ) → IsThere seen.departures position
       → MayWaitAt w.net position place → IsThere seen.arrivals place
   pub gathered : (place rank : ℕ) → IsThere seen.arrivals place → ArrivesAt w.net place rank
-      → IsThere seen.departures (get_or w.positions rank 0)
+      → IsThere seen.departures (get_or w.leaves.positions rank 0)
   pub boarded : (rank : ℕ) → IsThere seen.fronts rank
-      → IsThere seen.departures (get_or w.positions rank 0)
+      → IsThere seen.departures (get_or w.leaves.positions rank 0)
 
 -- all that was seen is seen still
 pub record StaySeen {R V : Type 0} (was is : Seen R V Duty) : Type 0 where

@@ -1,6 +1,6 @@
 -- What a thread has seen of some pools, by number.
 use Rattle.std.specs.Prelude.{◌≡◌, ℕ, List, [], Option, Some, None, get_or, length, map, slice_get}
-use Rattle.crew_label.specs.Tables.{AreLinked, Tabled, leads_in}
+use Rattle.crew_label.specs.Tables.{AreLinked, Leaving, Tabled, leads_in}
 use Rattle.crew_label.specs.Walks.{Leads}
 use Rattle.crew_label.specs.declared.label.Label.{Label}
 use Rattle.crew_labelling.specs.Labellings.{labelling_of, table_of}
@@ -31,10 +31,10 @@ abbrev pub StaysThere : {V : Type 0} → List (Option (List (Label V)))
 StaysThere was is = (number : ℕ) → IsThere was number → IsThere is number
 
 -- labels whose links lead to departures that are seen
-abbrev pub AreKnown : {V : Type 0} → List ℕ → List (Option (List (Label V))) → List (Label V)
+abbrev pub AreKnown : {V : Type 0} → Leaving → List (Option (List (Label V))) → List (Label V)
     → Type 0
-AreKnown {V} positions departures labels = (l : Label V) → Member labels l
-    → Leads (leads_in positions (pools_seen departures)) l.before
+AreKnown {V} leaves departures labels = (l : Label V) → Member labels l
+    → Leads (leads_in leaves (pools_seen departures)) l.before
 
 -- what is seen of some pools is right
 pub record AreRight {V : Type 0} (right : List (List (Label V)))

@@ -30,5 +30,5 @@ pub record IsStretch {V : Type 0} (w : Terms V) (from end : ℕ) (labels : List 
 abbrev pub CountThere : {V : Type 0} → Terms V → List (Option (List (Label V))) → List (Label V)
     → Type 0
 CountThere w departures labels =
-    AreCounted w.count (λ link. leads_in w.positions (pools_seen departures) link)
+    AreCounted w.count (λ link. leads_in w.leaves (pools_seen departures) link)
     (trail_of (table_of w (labelling_of w))) labels

@@ -15,8 +15,8 @@ front_of_both-requires-clause-kept_counts g c =
     let d = c.args.item.now in
     let lapses = λ (v : g.row.R-Value.Denot). g.R.Lapses.lapses r v d in
     let board = λ (v : g.row.R-Value.Denot). g.R.Staged.boards r v d in
-    part_counted (g.T.Trails.trail c.args.trails.now) lapses board c.args.duty c.args.pool.now (g.R.Staged.count_of r) (g.T.Trails.leads c.args.trails.now)
-    (λ v z e. (g.met.R.Staged.counting r c.requires.most.0 c.requires.most.1).one_more v z d e) c.requires.into c.requires.counts false c.in_ok-kept.kept.items c.deref.result.now
+    part_counted (g.T.Trails.trail c.args.trails.now) lapses board c.args.duty c.args.pool.now (g.R.Staged.count_of r) (g.T.Trails.leads c.args.trails.now) c.requires.into.0
+    (λ v z e. (g.met.R.Staged.counting r c.requires.most.0 c.requires.most.1).one_more v z d e) c.requires.into.1 c.requires.counts false c.in_ok-kept.kept.items c.deref.result.now
     (c.in_ok-kept.ensures ∙ ap (boarded_from (boards_where false lapses board) c.args.duty 0) c.as_slice-labels.ensures.all) c.deref.ensures.value
 
 pub front_of_both-requires-clause-cut_counts : goal.front_of_both-requires-clause-cut_counts
@@ -25,8 +25,8 @@ front_of_both-requires-clause-cut_counts g c =
     let d = c.args.item.now in
     let lapses = λ (v : g.row.R-Value.Denot). g.R.Lapses.lapses r v d in
     let board = λ (v : g.row.R-Value.Denot). g.R.Staged.boards r v d in
-    part_counted (g.T.Trails.trail c.args.trails.now) lapses board c.args.duty c.args.pool.now (g.R.Staged.count_of r) (g.T.Trails.leads c.args.trails.now)
-    (λ v z e. (g.met.R.Staged.counting r c.requires.most.0 c.requires.most.1).one_more v z d e) c.requires.into c.requires.counts true c.in_ok-cut.cut.items c.deref-2.result.now
+    part_counted (g.T.Trails.trail c.args.trails.now) lapses board c.args.duty c.args.pool.now (g.R.Staged.count_of r) (g.T.Trails.leads c.args.trails.now) c.requires.into.0
+    (λ v z e. (g.met.R.Staged.counting r c.requires.most.0 c.requires.most.1).one_more v z d e) c.requires.into.1 c.requires.counts true c.in_ok-cut.cut.items c.deref-2.result.now
     (c.in_ok-cut.ensures ∙ ap (boarded_from (boards_where true lapses board) c.args.duty 0) c.as_slice-labels.ensures.all) c.deref-2.ensures.value
 
 pub front_of_both-requires-clause-runs : goal.front_of_both-requires-clause-runs

@@ -13,15 +13,15 @@ returns-then-is_same_link g t c =
 pub returns : goal.returns
 returns g t c =
     let trail = g.T.Trails.trail c.args.trails.now in
-    let x = c.in-Some-Some.x in
-    let y = c.in-Some-Some.y in
+    let x = g.T.Trails.rank c.args.trails.now c.in-Some-Some.x.duty in
+    let y = g.T.Trails.rank c.args.trails.now c.in-Some-Some.y.duty in
     let p = walk_of trail c.before-2.result in
     let q = walk_of trail c.before-3.result in
     let one = ap (walk_of trail) c.in-Some-Some.is-0 ∙ c.before-2.ensures.walk in
     let two = ap (walk_of trail) c.in-Some-Some.is-1 ∙ c.before-3.ensures.walk in
-    let long : length p ≡ length q = omega (arith, longer (walk_of trail c.args.a) p x.duty one, longer (walk_of trail c.args.b) q y.duty two, c.requires.long) in
+    let long : length p ≡ length q = omega (arith, longer (walk_of trail c.args.a) p x one, longer (walk_of trail c.args.b) q y two, c.requires.long) in
     c.then.ensures
     ∙ (ap (λ o. ordering_then o c.cmp.result) c.compare_walks.ensures
-    ∙ (ap (ordering_then (slice_cmp nat_cmp p q)) c.cmp.ensures
-    ∙ (sym (cmp_longer p q x.duty y.duty long)
-    ∙ (ap (λ z. slice_cmp nat_cmp z (q ++ y.duty ∷ [])) (sym one) ∙ ap (slice_cmp nat_cmp (walk_of trail c.args.a)) (sym two)))))
+    ∙ (ap (ordering_then (slice_cmp nat_cmp p q)) (c.cmp.ensures ∙ (ap (λ n. nat_cmp n c.rank-2.result) c.rank.ensures ∙ ap (nat_cmp x) c.rank-2.ensures))
+    ∙ (sym (cmp_longer p q x y long)
+    ∙ (ap (λ z. slice_cmp nat_cmp z (q ++ y ∷ [])) (sym one) ∙ ap (slice_cmp nat_cmp (walk_of trail c.args.a)) (sym two)))))

@@ -1,7 +1,7 @@
 use Rattle.crew_labelling.proofs.laws.resources_are_lawful.Goals as goal
 
 pub returns : goal.returns
-returns g c = λ r net base positions.
+returns g c = λ r net base numbers leaves.
     let bounds = g.met.R.Staged.bounds r in
     let rests = g.met.R.Lapses.resting r in
     record {

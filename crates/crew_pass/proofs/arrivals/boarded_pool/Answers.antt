@@ -19,7 +19,7 @@ loop-rank-init g c =
     let none = c.clear.ensures in (
       none-gathered w (labels_table w) (labelling_of w).fronts c.arriving-rank-items.result.now c.clear.new.self none,
       subst (λ (ls : List (Label g.row.R-Value.Denot)). HaveArrived w (labels_table w) ls) (sym none) (λ l m. absurd m),
-      subst (λ (ls : List (Label g.row.R-Value.Denot)). AreKnown w.positions c.args.seen.now.departures ls) (sym none) (λ l m. absurd m),
+      subst (λ (ls : List (Label g.row.R-Value.Denot)). AreKnown w.leaves c.args.seen.now.departures ls) (sym none) (λ l m. absurd m),
     )
 
 pub join_boarding-requires-clause-rank : goal.join_boarding-requires-clause-rank

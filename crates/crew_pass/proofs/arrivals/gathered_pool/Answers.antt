@@ -59,7 +59,7 @@ loop-rank-preserved g c =
     } in
     let own = c.requires.seen.fronts.same rank front c.at.ensures in
     let more = ap (map shared) c.in_ok-push.ensures.items ∙ map-append shared c.loop-rank.pools.items (c.at.result ∷ []) in
-    let Known = AreKnown w.positions seen.departures in
+    let Known = AreKnown w.leaves seen.departures in
     let known : Known front = λ l m. front-known w c.requires.may seen c.requires.seen rank (c.requires.there rank arrives) l (subst (λ (ls : List (Label g.row.R-Value.Denot)). Member ls l) own m) in (
       one-collected w (labels_table w) y.fronts (fronts-held w c.requires.may.terms c.requires.may.lawful) (fronts-themselves w c.requires.may.terms c.requires.may.lawful)
           ranks i c.loop-rank-test.true (map shared c.loop-rank.pools.items) (map shared c.push.new.self.items) front more (sym own) c.loop-rank.invariant.0,

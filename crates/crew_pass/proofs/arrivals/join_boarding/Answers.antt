@@ -8,6 +8,7 @@ use Rattle.crew_label.specs.declared.label.Label.{Label}
 use Rattle.crew_label.proofs.Boarded.{boarded_counted, boarded_entries}
 use Rattle.crew_labelling.specs.Held.{AreReady, IsHeld, leads_of, trail_of}
 use Rattle.crew_labelling.specs.Labellings.{labelling_of}
+use Rattle.crew_labelling.specs.Terms.{number_of}
 use Rattle.crew_labelling.proofs.Labels.{boarded-held, counted}
 use Rattle.crew_labelling.proofs.Right.{departures-gathered, departures-into, departures-ready}
 use Rattle.crew_net.proofs.Numbers.{get-within}
@@ -28,7 +29,7 @@ board-requires-clause-boards g c l m =
     let may = c.requires.may in
     let rank = c.args.rank in
     let net = c.args.ground.now.net.now in
-    let position = get_or w.positions rank 0 in
+    let position = get_or w.leaves.positions rank 0 in
     let d = c.duty-duty.result.now in
     let known = c.duty-duty.ensures in
     let pool = c.at-pool.result.now in
@@ -47,14 +48,16 @@ board-requires-clause-into g c =
     let may = c.requires.may in
     let rank = c.args.rank in
     let net = c.args.ground.now.net.now in
-    let position = get_or w.positions rank 0 in
+    let position = get_or w.leaves.positions rank 0 in
     let d = c.duty-duty.result.now in
     let known = c.duty-duty.ensures in
     let pool = c.at-pool.result.now in
     let own = c.requires.seen.departures.same position pool c.at-pool.ensures in
-    let s = c.over-sight.result in
-    subst (λ (ls : List (Label g.row.R-Value.Denot)). LeadInto (λ link. leads_in s.table.leaves s.seen link) (λ link. trail_in s.table.leaves s.table.pools link) rank ls) (sym own)
-    (into-seen w may c.args.seen.now c.requires.seen rank d known c.requires.there s c.over-sight.ensures)
+    let s = c.over-sight.result in (
+      rank,
+      subst (λ (ls : List (Label g.row.R-Value.Denot)). LeadInto (λ link. leads_in s.table.leaves s.seen link) (λ link. trail_in s.table.leaves s.table.pools link) (number_of w rank) rank ls) (sym own)
+          (into-seen w may c.args.seen.now c.requires.seen rank d known c.requires.there s c.over-sight.ensures),
+    )
 
 pub board-requires-clause-others : goal.board-requires-clause-others
 board-requires-clause-others g c =
@@ -64,7 +67,7 @@ board-requires-clause-others g c =
     let may = c.requires.may in
     let rank = c.args.rank in
     let net = c.args.ground.now.net.now in
-    let position = get_or w.positions rank 0 in
+    let position = get_or w.leaves.positions rank 0 in
     let d = c.duty-duty.result.now in
     let known = c.duty-duty.ensures in
     let pool = c.at-pool.result.now in
@@ -82,7 +85,7 @@ board-requires-clause-clean g c =
     let may = c.requires.may in
     let rank = c.args.rank in
     let net = c.args.ground.now.net.now in
-    let position = get_or w.positions rank 0 in
+    let position = get_or w.leaves.positions rank 0 in
     let d = c.duty-duty.result.now in
     let known = c.duty-duty.ensures in
     let pool = c.at-pool.result.now in
@@ -107,7 +110,7 @@ returns-clause-pool g c =
     let r = c.args.ground.now.resource.now in
     let plain = g.met.R.Pooled.plainly r c.requires.plain in
     let rank = c.args.rank in
-    let position = get_or w.positions rank 0 in
+    let position = get_or w.leaves.positions rank 0 in
     let d = c.duty-duty.result.now in
     let pool = c.at-pool.result.now in
     let own = c.requires.seen.departures.same position pool c.at-pool.ensures in
@@ -118,8 +121,8 @@ returns-clause-pool g c =
     (λ joins candidates are.
     let at = subst (λ (s : Sighted g.row.R-Value.Denot). ArePoolOf w.below w.same (λ link. trail_in s.table.leaves s.table.pools link) candidates room) (sym c.over-sight.ensures) are in
     let made = subst (λ (s : Sighted g.row.R-Value.Denot). ArePoolOf w.below w.same (λ link. trail_in s.table.leaves s.table.pools link)
-    (candidates ++ map (shown (λ link. trail_in s.table.leaves s.table.pools link)) (boarded_from board rank 0 pool)) more) c.over-sight.ensures (joins candidates at) in
-    let owned = subst (λ (ls : List (Label g.row.R-Value.Denot)). ArePoolOf w.below w.same trail (candidates ++ map (shown trail) (boarded_from board rank 0 ls)) more) own made in
+    (candidates ++ map (shown (λ link. trail_in s.table.leaves s.table.pools link)) (boarded_from board (number_of w rank) 0 pool)) more) c.over-sight.ensures (joins candidates at) in
+    let owned = subst (λ (ls : List (Label g.row.R-Value.Denot)). ArePoolOf w.below w.same trail (candidates ++ map (shown trail) (boarded_from board (number_of w rank) 0 ls)) more) own made in
     with-front w may plain.sums_alone rank d c.duty-duty.ensures (λ a b y z. (g.met.R.Staged.shifting r plain.shifts).board_reflects a b y z d) candidates more owned)
     c.board.ensures.pool
 
@@ -131,20 +134,20 @@ returns-clause-held g c =
     let r = c.args.ground.now.resource.now in
     let rank = c.args.rank in
     let net = c.args.ground.now.net.now in
-    let position = get_or w.positions rank 0 in
+    let position = get_or w.leaves.positions rank 0 in
     let d = c.duty-duty.result.now in
     let known = c.duty-duty.ensures in
     let pool = c.at-pool.result.now in
     let own = c.requires.seen.departures.same position pool c.at-pool.ensures in
     let board = λ (v : g.row.R-Value.Denot). g.R.Staged.boards r v d in
     let ready = subst (λ (ls : List (Label g.row.R-Value.Denot)). AreReady w t ls) (sym own) (departures-ready w may.terms may.lawful position) in
-    let into = subst (λ (ls : List (Label g.row.R-Value.Denot)). LeadInto (leads_of t) (trail_of t) rank ls) (sym own) (departures-into w may.terms may.lawful rank d known) in
+    let into = subst (λ (ls : List (Label g.row.R-Value.Denot)). LeadInto (leads_of t) (trail_of t) (number_of w rank) rank ls) (sym own) (departures-into w may.terms may.lawful rank d known) in
     let sound = may.terms.passable.sound d (member-got net.duties rank d known) in
     let counting = g.met.R.Staged.counting r may.terms.counts.limit may.terms.counts.has_most in
-    let shows = boarded_entries board rank (leads_of t) (trail_of t) pool into in
+    let shows = boarded_entries board (number_of w rank) (leads_of t) (trail_of t) rank pool into in
     let view = boarded-held w t board rank may.terms.counts.limit (get-within net.duties rank d known) may.terms.counts.has_most (λ v z e. counting.ends v z d e)
-    (λ m v z h e. (g.met.R.Staged.bounds r).board_arrived m v z d sound h e) pool (boarded_from board rank 0 pool) ready shows
-    (boarded_counted board rank (leads_of t) (trail_of t) w.count (λ v z e. counting.one_more v z d e) pool into (counted w t w.ready pool ready)) in
+    (λ m v z h e. (g.met.R.Staged.bounds r).board_arrived m v z d sound h e) pool (boarded_from board (number_of w rank) 0 pool) ready shows
+    (boarded_counted board (number_of w rank) (leads_of t) (trail_of t) rank w.count (λ v z e. counting.one_more v z d e) pool into (counted w t w.ready pool ready)) in
     on_ok_weaker c.board.result
     (λ joins l m. ⊎_elim {C = IsHeld w w.arrived t l} (λ a. c.requires.held l a) (λ b. view l b) (c.board.ensures.from l m))
     c.board.ensures.pool

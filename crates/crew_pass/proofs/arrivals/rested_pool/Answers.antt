@@ -26,7 +26,7 @@ rested-requires-clause-counts g c =
     let held = c.at-held.result.now in
     let same = c.requires.seen.arrivals.same c.args.place held c.at-held.ensures in
     let x = stands net.arrivals c.args.place c.requires.place in
-    let known : AreKnown w.positions seen.departures held = λ l m. arrival-known w c.requires.may seen c.requires.seen c.args.place x.0 x.1 c.requires.there l (subst (λ (ls : List (Label g.row.R-Value.Denot)). Member ls l) same m) in
+    let known : AreKnown w.leaves seen.departures held = λ l m. arrival-known w c.requires.may seen c.requires.seen c.args.place x.0 x.1 c.requires.there l (subst (λ (ls : List (Label g.row.R-Value.Denot)). Member ls l) same m) in
     let have = subst (λ (ls : List (Label g.row.R-Value.Denot)). HaveArrived w (labels_table w) ls) (sym same) (arrivals-held w c.requires.may.terms c.requires.may.lawful c.args.place) in
     counted-seen w c.requires.may seen c.requires.seen w.arrived held have known c.over-sight.result c.over-sight.ensures
 

@@ -9,5 +9,5 @@ board_label-requires g c =
 
 pub loop-place-preserved : goal.loop-place-preserved
 loop-place-preserved g c =
-    boarded-next (λ (v : g.row.R-Value.Denot). g.R.Staged.boards c.args.resource.now v c.args.duty.now) c.args.rank
+    boarded-next (λ (v : g.row.R-Value.Denot). g.R.Staged.boards c.args.resource.now v c.args.duty.now) c.args.number
     c.args.labels.now c.loop-place.front.items c.board_label.new.front.items c.loop-place.place c.index-labels-place.result c.loop-place-test.true c.index-labels-place.is c.loop-place.invariant c.in_ok-board_label.ensures

@@ -8,6 +8,7 @@ use Rattle.crew_label.proofs.Boarded.{boarded_counted, boarded_entries}
 use Rattle.crew_labelling.specs.Candidates.{AreFront}
 use Rattle.crew_labelling.specs.Held.{AreReady, HaveArrived, leads_of, trail_of}
 use Rattle.crew_labelling.specs.Labellings.{labelling_of}
+use Rattle.crew_labelling.specs.Terms.{number_of}
 use Rattle.crew_labelling.proofs.Labels.{boarded-held, counted}
 use Rattle.crew_labelling.proofs.One.{front-one}
 use Rattle.crew_labelling.proofs.Right.{departures-gathered, departures-into, departures-ready}
@@ -34,7 +35,7 @@ front_aboard-requires-clause-boards g c l m =
     let may = c.requires.may in
     let rank = c.args.rank in
     let net = c.args.ground.now.net.now in
-    let position = get_or w.positions rank 0 in
+    let position = get_or w.leaves.positions rank 0 in
     let d = c.duty-duty.result.now in
     let known = c.duty-duty.ensures in
     let pool = c.at-pool.result.now in
@@ -53,14 +54,16 @@ front_aboard-requires-clause-into g c =
     let may = c.requires.may in
     let rank = c.args.rank in
     let net = c.args.ground.now.net.now in
-    let position = get_or w.positions rank 0 in
+    let position = get_or w.leaves.positions rank 0 in
     let d = c.duty-duty.result.now in
     let known = c.duty-duty.ensures in
     let pool = c.at-pool.result.now in
     let own = c.requires.seen.departures.same position pool c.at-pool.ensures in
-    let s = c.over-sight.result in
-    subst (λ (ls : List (Label g.row.R-Value.Denot)). LeadInto (λ link. leads_in s.table.leaves s.seen link) (λ link. trail_in s.table.leaves s.table.pools link) rank ls) (sym own)
-    (into-seen w may c.args.seen.now c.requires.seen rank d known c.requires.there s c.over-sight.ensures)
+    let s = c.over-sight.result in (
+      rank,
+      subst (λ (ls : List (Label g.row.R-Value.Denot)). LeadInto (λ link. leads_in s.table.leaves s.seen link) (λ link. trail_in s.table.leaves s.table.pools link) (number_of w rank) rank ls) (sym own)
+          (into-seen w may c.args.seen.now c.requires.seen rank d known c.requires.there s c.over-sight.ensures),
+    )
 
 pub front_aboard-requires-clause-counts : goal.front_aboard-requires-clause-counts
 front_aboard-requires-clause-counts g c =
@@ -70,7 +73,7 @@ front_aboard-requires-clause-counts g c =
     let may = c.requires.may in
     let rank = c.args.rank in
     let net = c.args.ground.now.net.now in
-    let position = get_or w.positions rank 0 in
+    let position = get_or w.leaves.positions rank 0 in
     let d = c.duty-duty.result.now in
     let known = c.duty-duty.ensures in
     let pool = c.at-pool.result.now in
@@ -88,7 +91,7 @@ front_aboard-requires-clause-clean g c =
     let may = c.requires.may in
     let rank = c.args.rank in
     let net = c.args.ground.now.net.now in
-    let position = get_or w.positions rank 0 in
+    let position = get_or w.leaves.positions rank 0 in
     let d = c.duty-duty.result.now in
     let known = c.duty-duty.ensures in
     let pool = c.at-pool.result.now in
@@ -105,7 +108,7 @@ returns g c =
     let may = c.requires.may in
     let rank = c.args.rank in
     let net = c.args.ground.now.net.now in
-    let position = get_or w.positions rank 0 in
+    let position = get_or w.leaves.positions rank 0 in
     let d = c.duty-duty.result.now in
     let known = c.duty-duty.ensures in
     let pool = c.at-pool.result.now in
@@ -115,19 +118,19 @@ returns g c =
     let made = c.in_ok-front.ensures in
     let trail = trail_of t in
     let ready = subst (λ (ls : List (Label g.row.R-Value.Denot)). AreReady w t ls) (sym own) (departures-ready w may.terms may.lawful position) in
-    let into = subst (λ (ls : List (Label g.row.R-Value.Denot)). LeadInto (leads_of t) trail rank ls) (sym own) (departures-into w may.terms may.lawful rank d known) in
+    let into = subst (λ (ls : List (Label g.row.R-Value.Denot)). LeadInto (leads_of t) trail (number_of w rank) rank ls) (sym own) (departures-into w may.terms may.lawful rank d known) in
     let sound = may.terms.passable.sound d (member-got net.duties rank d known) in
     let board = λ (v : g.row.R-Value.Denot). g.R.Staged.boards r v d in
     let within = get-within net.duties rank d known in
     let counting = g.met.R.Staged.counting r may.terms.counts.limit may.terms.counts.has_most in
     let counts = counted w t w.ready pool ready in
-    let shows = boarded_entries board rank (leads_of t) trail pool into in
+    let shows = boarded_entries board (number_of w rank) (leads_of t) trail rank pool into in
     let view = boarded-held w t board rank may.terms.counts.limit within may.terms.counts.has_most (λ v z e. counting.ends v z d e)
-    (λ m v z h e. (g.met.R.Staged.bounds r).board_arrived m v z d sound h e) pool (boarded_from board rank 0 pool) ready shows
-    (boarded_counted board rank (leads_of t) trail w.count (λ v z e. counting.one_more v z d e) pool into counts) in
+    (λ m v z h e. (g.met.R.Staged.bounds r).board_arrived m v z d sound h e) pool (boarded_from board (number_of w rank) 0 pool) ready shows
+    (boarded_counted board (number_of w rank) (leads_of t) trail rank w.count (λ v z e. counting.one_more v z d e) pool into counts) in
     let held : HaveArrived w t front = λ l m. view l (made.from l m) in
     let seen = subst (λ (s : Sighted g.row.R-Value.Denot). IsLocal w.below ranks_at_most
-    (λ v k. Member (map (shown (λ link. trail_in s.table.leaves s.table.pools link)) (boarded_from board rank 0 pool)) (v, k)) (map (shown (λ link. trail_in s.table.leaves s.table.pools link)) front))
+    (λ v k. Member (map (shown (λ link. trail_in s.table.leaves s.table.pools link)) (boarded_from board (number_of w rank) 0 pool)) (v, k)) (map (shown (λ link. trail_in s.table.leaves s.table.pools link)) front))
     c.over-sight.ensures made.front in
     let local : AreFront w trail d rank pool front =
     subst (λ (es : List (g.row.R-Value.Denot × List ℕ)). IsLocal w.below ranks_at_most (λ v k. Member es (v, k)) (map (shown trail) front)) shows seen in

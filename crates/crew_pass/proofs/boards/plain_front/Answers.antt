@@ -5,6 +5,7 @@ use Rattle.crew_label.specs.Walks.{shown}
 use Rattle.crew_label.specs.declared.label.Label.{Label}
 use Rattle.crew_labelling.specs.Held.{trail_of}
 use Rattle.crew_labelling.specs.Labellings.{labelling_of}
+use Rattle.crew_labelling.specs.Terms.{number_of}
 use Rattle.crew_labelling.proofs.Right.{departures-ready, fronts-rise}
 use Rattle.crew_net.proofs.Slices.{member-got}
 use Rattle.crew_resource.specs.Members.{Member}
@@ -21,7 +22,7 @@ boarded-requires g c l n =
     let may = c.requires.may in
     let rank = c.args.rank in
     let net = c.args.ground.now.net.now in
-    let position = get_or w.positions rank 0 in
+    let position = get_or w.leaves.positions rank 0 in
     let d = c.duty-duty.result.now in
     let known = c.duty-duty.ensures in
     let pool = c.at-pool.result.now in
@@ -40,13 +41,13 @@ from_rising-requires g c =
     let r = c.args.ground.now.resource.now in
     let d = c.duty-duty.result.now in
     let pool = c.at-pool.result.now in
-    let position = get_or w.positions rank 0 in
+    let position = get_or w.leaves.positions rank 0 in
     let own = c.as_slice.ensures.all ∙ c.requires.seen.departures.same position pool c.at-pool.ensures in
     let plain = g.met.R.Pooled.plainly r c.requires.plain in
     let shift = g.met.R.Staged.shifting r plain.shifts in
     let is = front-is-aboard w may plain.sums_alone rank d c.duty-duty.ensures (λ a b y z. shift.board_reflects a b y z d) (λ a b y z p q h. shift.board_listed a b y z d p q ∙ h) in
     let made : c.in_ok-front.front.items ≡ get_or (labelling_of w).fronts rank [] =
-    c.in_ok-front.ensures ∙ (ap (λ (ls : List (Label g.row.R-Value.Denot)). boarded_from (λ v. g.R.Staged.boards r v d) rank 0 ls) own ∙ sym is) in
+    c.in_ok-front.ensures ∙ (ap (λ (ls : List (Label g.row.R-Value.Denot)). boarded_from (λ v. g.R.Staged.boards r v d) (number_of w rank) 0 ls) own ∙ sym is) in
     subst (λ (ls : List (Label g.row.R-Value.Denot)). AreRising w.cmp ls) (sym made) (fronts-rise w may.terms may.lawful rank)
 
 pub returns : goal.returns
@@ -57,11 +58,11 @@ returns g c =
     let r = c.args.ground.now.resource.now in
     let d = c.duty-duty.result.now in
     let pool = c.at-pool.result.now in
-    let position = get_or w.positions rank 0 in
+    let position = get_or w.leaves.positions rank 0 in
     let own = c.as_slice.ensures.all ∙ c.requires.seen.departures.same position pool c.at-pool.ensures in
     let plain = g.met.R.Pooled.plainly r c.requires.plain in
     let shift = g.met.R.Staged.shifting r plain.shifts in
     let is = front-is-aboard w may plain.sums_alone rank d c.duty-duty.ensures (λ a b y z. shift.board_reflects a b y z d) (λ a b y z p q h. shift.board_listed a b y z d p q ∙ h) in
     let made : c.in_ok-front.front.items ≡ get_or (labelling_of w).fronts rank [] =
-    c.in_ok-front.ensures ∙ (ap (λ (ls : List (Label g.row.R-Value.Denot)). boarded_from (λ v. g.R.Staged.boards r v d) rank 0 ls) own ∙ sym is) in
+    c.in_ok-front.ensures ∙ (ap (λ (ls : List (Label g.row.R-Value.Denot)). boarded_from (λ v. g.R.Staged.boards r v d) (number_of w rank) 0 ls) own ∙ sym is) in
     c.from_rising.ensures ∙ made

@@ -28,22 +28,22 @@ add-requires g c l m =
     let all = (labelling_of w).departures in
     let value = arc_value {X = Pool g.row.R.Denot g.row.R-Value.Denot Duty} {Z = Global} in
     let position = c.loop-position.position in
-    let is = c.in_ok-try_clone-2.ensures ∙ c.requires.seen.departures.same position (value c.in-Some.pool.now) c.in-Some.ensures in
+    let is = c.in_ok-try_clone.ensures ∙ c.requires.seen.departures.same position (value c.in-Some.pool.now) c.in-Some.ensures in
     subst (λ (t : Tabled g.row.R-Value.Denot). Leads (leads_in t.leaves t.pools) l.before) (sym c.loop-position.invariant)
-    (linked-before w.positions [] all position (departures-linked w c.requires.may.terms c.requires.may.lawful) l (subst (λ (ls : List (Label g.row.R-Value.Denot)). Member ls l) is m))
+    (linked-before w.leaves [] all position (departures-linked w c.requires.may.terms c.requires.may.lawful) l (subst (λ (ls : List (Label g.row.R-Value.Denot)). Member ls l) is m))
 
 pub loop-position-preserved : goal.loop-position-preserved
 loop-position-preserved g c =
     let w = (terms g.R.Value.Ord.cmp g.R.Lapses g.R.Staged g.R.Forgets g.R.Resource c.args.ground.now) in
     let all = (labelling_of w).departures in
     let value = arc_value {X = Pool g.row.R.Denot g.row.R-Value.Denot Duty} {Z = Global} in
-    let pool = value c.in_ok-try_clone-2.field-0 in
+    let pool = value c.in_ok-try_clone.field-0 in
     let position = c.loop-position.position in
-    let over = λ (ps : List (List (Label g.row.R-Value.Denot))). (let t : Tabled g.row.R-Value.Denot = record { leaves = w.positions; pools = ps } in t) in
+    let over = λ (ps : List (List (Label g.row.R-Value.Denot))). (let t : Tabled g.row.R-Value.Denot = record { leaves = w.leaves; pools = ps } in t) in
     let test = c.loop-position-test.true in
     let same = ap length c.by_report-position-end.ensures.places in
     let long = departures-long w c.requires.may.terms in
-    let is = c.in_ok-try_clone-2.ensures ∙ c.requires.seen.departures.same position (value c.in-Some.pool.now) c.in-Some.ensures in
+    let is = c.in_ok-try_clone.ensures ∙ c.requires.seen.departures.same position (value c.in-Some.pool.now) c.in-Some.ensures in
     let inside : position < length all = omega (arith, test, same, long) in
     c.in_ok-add.ensures.added
     ∙ (ap (λ (t : Tabled g.row.R-Value.Denot). (let z : Tabled g.row.R-Value.Denot = record { leaves = t.leaves; pools = t.pools ++ pool ∷ [] } in z)) c.loop-position.invariant
@@ -53,7 +53,7 @@ pub returns : goal.returns
 returns g c =
     let w = (terms g.R.Value.Ord.cmp g.R.Lapses g.R.Staged g.R.Forgets g.R.Resource c.args.ground.now) in
     let all = (labelling_of w).departures in
-    let over = λ (ps : List (List (Label g.row.R-Value.Denot))). (let t : Tabled g.row.R-Value.Denot = record { leaves = w.positions; pools = ps } in t) in
+    let over = λ (ps : List (List (Label g.row.R-Value.Denot))). (let t : Tabled g.row.R-Value.Denot = record { leaves = w.leaves; pools = ps } in t) in
     let test = c.loop-position-test.false in
     let same = ap length c.by_report-position-end.ensures.places in
     let long = departures-long w c.requires.may.terms in

@@ -13,7 +13,7 @@ use Rattle.crew_pass.proofs.passing.passed.Goals as goal
 pub new-requires-2 : goal.new-requires-2
 new-requires-2 g c =
     let w = (terms g.R.Value.Ord.cmp g.R.Lapses g.R.Staged g.R.Forgets g.R.Resource c.args.ground.now) in
-    let over = λ (n : Net) (t : Tabled g.row.R-Value.Denot) (fronts : List (List (Label g.row.R-Value.Denot))). (let b : BasePass g.row.R-Value.Denot = record { net = n; positions = t.leaves; pools = t.pools; fronts = fronts } in b) in
+    let over = λ (n : Net) (t : Tabled g.row.R-Value.Denot) (fronts : List (List (Label g.row.R-Value.Denot))). (let b : BasePass g.row.R-Value.Denot = record { net = n; leaves = t.leaves; pools = t.pools; fronts = fronts } in b) in
     let value = arc_value {X = Pool g.row.R.Denot g.row.R-Value.Denot Duty} {Z = Global} in
     let net = c.in_ok-net.ensures ∙ (c.net.ensures.net ∙ sym c.requires.net) in
     subst (λ (n : Net). AreTold (over n c.in_ok-table.table (map value c.in_ok-fronts.fronts.items))) (sym net)
@@ -24,7 +24,7 @@ new-requires-2 g c =
 pub returns : goal.returns
 returns g c =
     let w = (terms g.R.Value.Ord.cmp g.R.Lapses g.R.Staged g.R.Forgets g.R.Resource c.args.ground.now) in
-    let over = λ (n : Net) (t : Tabled g.row.R-Value.Denot) (fronts : List (List (Label g.row.R-Value.Denot))). (let b : BasePass g.row.R-Value.Denot = record { net = n; positions = t.leaves; pools = t.pools; fronts = fronts } in b) in
+    let over = λ (n : Net) (t : Tabled g.row.R-Value.Denot) (fronts : List (List (Label g.row.R-Value.Denot))). (let b : BasePass g.row.R-Value.Denot = record { net = n; leaves = t.leaves; pools = t.pools; fronts = fronts } in b) in
     let value = arc_value {X = Pool g.row.R.Denot g.row.R-Value.Denot Duty} {Z = Global} in
     let fronts = map value c.in_ok-fronts.fronts.items in
     let net = c.in_ok-net.ensures ∙ (c.net.ensures.net ∙ sym c.requires.net) in

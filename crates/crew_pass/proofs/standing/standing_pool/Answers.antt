@@ -52,8 +52,8 @@ three-requires-clause-third g c =
     let held = subst (λ (ls : List (Label g.row.R-Value.Denot)). AreReady w (labels_table w) ls) (sym c.in_ok-idle.ensures)
     (idle-held w (labels_table w) here (g.R.Staged.idle_of r departure)
     ((g.met.R.Staged.counting r c.requires.may.terms.counts.limit c.requires.may.terms.counts.has_most).none_yet departure) ((g.met.R.Staged.bounds r).idle_ready departure tt)) in
-    let known = subst (λ (ls : List (Label g.row.R-Value.Denot)). AreKnown w.positions c.args.seen.now.departures ls) (sym c.in_ok-idle.ensures)
-    (idle-known w.positions c.args.seen.now.departures here (g.R.Staged.idle_of r departure)) in
+    let known = subst (λ (ls : List (Label g.row.R-Value.Denot)). AreKnown w.leaves c.args.seen.now.departures ls) (sym c.in_ok-idle.ensures)
+    (idle-known w.leaves c.args.seen.now.departures here (g.R.Staged.idle_of r departure)) in
     counted-seen w c.requires.may c.args.seen.now c.requires.seen w.ready c.in_ok-idle.idle held known (sighted w c.args.seen.now.departures) refl
 
 pub returns-clause-pool : goal.returns-clause-pool

@@ -1,10 +1,11 @@
 use Rattle.std.proofs.Common.{◌∙◌, ◌+◌, ℕ, List, sym, ap, subst, arith}
 use Rattle.std.specs.Arc.{arc_value}
+use Rattle.crew_label.specs.Tables.{Leaving}
 use Rattle.crew_label.specs.declared.label.Label.{Label}
 use Rattle.crew_labelling.specs.Terms.{terms_of}
 use Rattle.crew_net.specs.Nets.{Net}
 use Rattle.crew_pass.specs.Machinery.Stretches.{IsStretch}
-use Rattle.crew_pass.specs.Machinery.Terms.{terms}
+use Rattle.crew_pass.specs.Machinery.Terms.{basis_leaving, terms}
 use Rattle.crew_pass.proofs.Based.{to-basis}
 use Rattle.crew_pass.proofs.Stretched.{longer-down, none-stretches, stretch-counts}
 use Rattle.crew_pass.proofs.stretching.+down.Goals as goal
@@ -36,9 +37,9 @@ offer-requires-clause-right g t c =
     let longer = longer-down w c.requires.may c.deref.result.now.pool whole c.args.from (omega (arith, most, more)) c.in_ok-pool.ensures.pool c.in_ok-pool.ensures.from c.args.middle (omega (arith, more)) shorter in
     let made = ap (λ s. s.pool) (c.in_ok-try_clone-2.ensures ∙ c.in_ok-stretch.ensures.ok) in
     let at = ap (λ s. s.middle) (c.in_ok-try_clone-2.ensures ∙ c.in_ok-stretch.ensures.ok) in
-    let over = λ (r : g.row.R.Denot) (n : Net) (s p : List ℕ). terms_of g.R.Value.Ord.cmp g.R.Lapses g.R.Staged g.R.Forgets g.R.Resource r n s p in
-    subst (λ (m : ℕ). IsStretch (over c.args.cells.now.downs.basis.resource.value c.args.cells.now.downs.basis.net.value c.args.cells.now.downs.basis.base c.args.cells.now.downs.basis.positions.value.items) c.args.from m (arc_value c.in_ok-try_clone-2.field-0).pool) (sym at)
-    (to-basis c.args.ground.now c.args.cells.now.downs.basis c.requires.cells.downs.basis (λ r n s p. IsStretch (over r n s p) c.args.from c.args.middle (arc_value c.in_ok-try_clone-2.field-0).pool)
+    let over = λ (r : g.row.R.Denot) (n : Net) (s ns : List ℕ) (q : Leaving). terms_of g.R.Value.Ord.cmp g.R.Lapses g.R.Staged g.R.Forgets g.R.Resource r n s ns q in
+    subst (λ (m : ℕ). IsStretch (over c.args.cells.now.downs.basis.resource.value c.args.cells.now.downs.basis.net.value c.args.cells.now.downs.basis.base c.args.cells.now.downs.basis.places.value.numbers.value.items (basis_leaving c.args.cells.now.downs.basis)) c.args.from m (arc_value c.in_ok-try_clone-2.field-0).pool) (sym at)
+    (to-basis c.args.ground.now c.args.cells.now.downs.basis c.requires.cells.downs.basis (λ r n s ns q. IsStretch (over r n s ns q) c.args.from c.args.middle (arc_value c.in_ok-try_clone-2.field-0).pool)
     (subst (λ (ls : List (Label g.row.R-Value.Denot)). IsStretch w c.args.from c.args.middle ls) (sym made) longer))
 
 pub returns : goal.returns

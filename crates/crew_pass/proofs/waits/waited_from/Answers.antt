@@ -76,7 +76,7 @@ returns-clause-known g c =
     let here = item-in net.arrivals c.arrivals.result.now c.args.place x c.requires.place c.arrivals.ensures.events c.index-arrivals-place.is in
     let same = c.requires.seen.arrivals.same c.args.place c.at-held.result.now c.at-held.ensures in
     let made = c.requires.seen.rested.same c.args.place c.at-rested.result.now c.at-rested.ensures in
-    let Known = λ (o : _). Leads (leads_in w.positions (pools_seen seen.departures)) o in
+    let Known = λ (o : _). Leads (leads_in w.leaves (pools_seen seen.departures)) o in
     IfOk-weaker c.waited_at.result _ _ (λ waited from (l : Label g.row.R-Value.Denot) (m : Member waited l).
     let k = from l m in
     subst Known (sym k.2)

@@ -28,7 +28,7 @@ loop-place-init g c =
     let f = g.met.R.Forgets.forgets r in
     let pool = c.in_ok-idle_pool.field-0 in
     let Held = AreHeld w w.ready t in
-    let Known = AreKnown w.positions c.args.seen.now.departures in
+    let Known = AreKnown w.leaves c.args.seen.now.departures in
     let here = eq_by_cmp code_cmp departure.airport base in
     let now : c.push.new.self.items ≡ pool ∷ [] = c.in_ok-push.ensures.items ∙ ap (λ (lss : List (List (Label g.row.R-Value.Denot))). lss ++ pool ∷ []) c.new-pools.ensures.items in
     let gathered = subst (λ (ls : List (Label g.row.R-Value.Denot)). AreGathered w trail (Idles w departure) ls) (sym c.in_ok-idle_pool.ensures)
@@ -37,7 +37,7 @@ loop-place-init g c =
     (idle-held w t here (g.R.Staged.idle_of r departure)
     ((g.met.R.Staged.counting r c.requires.may.terms.counts.limit c.requires.may.terms.counts.has_most).none_yet departure) ((g.met.R.Staged.bounds r).idle_ready departure tt)) in
     let known = subst (λ (ls : List (Label g.row.R-Value.Denot)). Known ls) (sym c.in_ok-idle_pool.ensures)
-    (idle-known w.positions c.args.seen.now.departures here (g.R.Staged.idle_of r departure)) in (
+    (idle-known w.leaves c.args.seen.now.departures here (g.R.Staged.idle_of r departure)) in (
       subst (λ (lss : List (List (Label g.row.R-Value.Denot))). AreCollected w trail (WaitsUpTo w trail y.arrivals departure c.args.window.from c.args.window.from) lss) (sym now)
           (none-collected w trail y.arrivals departure c.args.window c.requires.window (pool ∷ []) (one-collected w trail (Idles w departure) pool gathered)),
       λ labels m. one-list-more (λ (ls : List (Label g.row.R-Value.Denot)). Held ls) [] pool (λ a k. absurd k) held labels (subst (λ (lss : List (List (Label g.row.R-Value.Denot))). Member lss labels) now m),
@@ -75,7 +75,7 @@ loop-place-preserved g c =
     let pool = c.in_ok-waited.waited in
     let now : c.push-in-loop-place.new.self.items ≡ pools ++ pool ∷ [] = c.in_ok-push-2.ensures.items in
     let Held = AreHeld w w.ready t in
-    let Known = AreKnown w.positions c.args.seen.now.departures in (
+    let Known = AreKnown w.leaves c.args.seen.now.departures in (
       subst (λ (lss : List (List (Label g.row.R-Value.Denot))). AreCollected w trail (WaitsUpTo w trail y.arrivals departure c.args.window.from (at + 1)) lss) (sym now)
           (arrival-collected w trail y.arrivals departure c.args.window c.requires.window at x.0 pools pool c.loop-place.auto.place end x.1 c.loop-place.invariant.0
           (c.in_ok-waited.ensures.pool x.0 x.1)),

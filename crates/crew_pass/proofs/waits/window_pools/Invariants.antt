@@ -5,7 +5,7 @@ use Rattle.crew_labelling.specs.Labellings.{labelling_of}
 use Rattle.crew_resource.specs.Members.{Member}
 use Rattle.crew_pass.specs.Machinery.Passing.{AreCollected, WaitsUpTo}
 use Rattle.crew_pass.specs.Machinery.Shelves.{AreKnown}
-use Rattle.crew_pass.specs.Machinery.Terms.{labels_table, terms}
+use Rattle.crew_pass.specs.Machinery.Terms.{labels_table, leaving_of, terms}
 use Rattle.crew_pass.proofs.waits.window_pools.Given as goal
 
 -- the arrivals so far have been collected
@@ -17,4 +17,4 @@ invariant-loop-place g l =
     × ((labels : List (Label g.row.R-Value.Denot)) → Member l.pools.items labels
     → AreHeld (terms g.R.Value.Ord.cmp g.R.Lapses g.R.Staged g.R.Forgets g.R.Resource l.ground) (g.R.Staged.ready l.ground.resource.now) (labels_table (terms g.R.Value.Ord.cmp g.R.Lapses g.R.Staged g.R.Forgets g.R.Resource l.ground)) labels)
     × ((labels : List (Label g.row.R-Value.Denot)) → Member l.pools.items labels
-    → AreKnown l.ground.positions.now l.seen.departures labels)
+    → AreKnown (leaving_of l.ground) l.seen.departures labels)

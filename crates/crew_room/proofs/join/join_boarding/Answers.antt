@@ -29,8 +29,8 @@ meet_boarding-requires-clause-counts g c =
     let ls = c.args.labels.now in
     let i = c.loop-place.place in
     let x = c.index-labels-place.result in
-    linked-counted (λ (v : g.row.R-Value.Denot). g.R.Staged.boards r v d) c.args.duty (g.T.Trails.trail c.args.trails.now) (g.T.Trails.leads c.args.trails.now) (g.R.Staged.count_of r)
-    (λ v z e. (g.met.R.Staged.counting r c.requires.most.0 c.requires.most.1).one_more v z d e) ls c.requires.into i x
+    linked-counted (λ (v : g.row.R-Value.Denot). g.R.Staged.boards r v d) c.args.duty c.requires.into.0 (g.T.Trails.trail c.args.trails.now) (g.T.Trails.leads c.args.trails.now) (g.R.Staged.count_of r)
+    (λ v z e. (g.met.R.Staged.counting r c.requires.most.0 c.requires.most.1).one_more v z d e) ls c.requires.into.1 i x
     (slice_get-get_or ls i x c.loop-place-test.true ∙ ap Some (sym c.index-labels-place.is))
     (c.requires.labels x (Member-get_or ls i x c.loop-place-test.true (sym c.index-labels-place.is)))
 
@@ -59,8 +59,8 @@ take_in-requires-clause-joins g c l m =
     let board = λ (v : g.row.R-Value.Denot). g.R.Staged.boards r v d in
     let held = c.loop-place.held in
     let all = c.loop-place.invariant.free ∙ ap (λ (ms : List (Label g.row.R-Value.Denot)). free_of stands held (boarded_from board c.args.duty 0 ms)) (take_all c.loop-place.place ls c.loop-place-test.false) in
-    boarded_counted board c.args.duty (g.T.Trails.leads c.args.trails.now) (g.T.Trails.trail c.args.trails.now) (g.R.Staged.count_of r)
-    (λ v z e. (g.met.R.Staged.counting r c.requires.most.0 c.requires.most.1).one_more v z d e) ls c.requires.into c.requires.labels l
+    boarded_counted board c.args.duty (g.T.Trails.leads c.args.trails.now) (g.T.Trails.trail c.args.trails.now) c.requires.into.0 (g.R.Staged.count_of r)
+    (λ v z e. (g.met.R.Staged.counting r c.requires.most.0 c.requires.most.1).one_more v z d e) ls c.requires.into.1 c.requires.labels l
     (Member-filter_out (λ z. not (list_any (λ o. stands o z) held)) (boarded_from board c.args.duty 0 ls) l (subst (λ (ms : List (Label g.row.R-Value.Denot)). Member ms l) all m)).0
 
 pub returns-clause-ok : goal.returns-clause-ok

@@ -31,7 +31,7 @@ is-front c d at =
     let here : slice_get p.net.duties c.args.rank ≡ Some duty = subst (λ (ds : List Duty). slice_get ds c.args.rank ≡ Some duty) duties c.at.ensures in
     let own : duty ≡ d = sym (get-at p.net.duties c.args.rank duty duty here) ∙ get-at p.net.duties c.args.rank d duty at in
     let labels : c.as_slice-labels.result.now ≡ get_or p.fronts c.args.rank [] = c.as_slice-labels.ensures.all ∙ (c.deref-3.ensures ∙ c.front.ensures.front) in
-    c.new.ensures ∙ same-entries _ (record { leaves = p.positions; pools = p.pools }) _ p.net.duties _ p.net.settings _ d _ (get_or p.fronts c.args.rank []) c.table.ensures duties settings own labels
+    c.new.ensures ∙ same-entries _ (record { leaves = p.leaves; pools = p.pools }) _ p.net.duties _ p.net.settings _ d _ (get_or p.fronts c.args.rank []) c.table.ensures duties settings own labels
 
 pub returns-clause-front : goal.returns-clause-front
 returns-clause-front c = λ d at.

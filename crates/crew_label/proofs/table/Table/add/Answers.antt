@@ -3,7 +3,7 @@ use Rattle.std.specs.Prelude.{slice_get}
 use Rattle.std.specs.Arc.{arc_value}
 use Rattle.std.proofs.lemmas.List.{map-append}
 use Rattle.crew_label.specs.Boarding.{LeadInto}
-use Rattle.crew_label.specs.Tables.{AreLinked, Tabled, leads_in, trail_in}
+use Rattle.crew_label.specs.Tables.{AreLinked, Leaving, Tabled, leads_in, trail_in}
 use Rattle.crew_label.specs.Walks.{Leads}
 use Rattle.crew_label.specs.declared.label.Label.{Label}
 use Rattle.crew_label.specs.declared.pool.Pool.{Pool}
@@ -13,7 +13,7 @@ use Rattle.crew_label.proofs.table.Table.add.Goals as goal
 pub invariant_of-self-2 : goal.invariant_of-self-2
 invariant_of-self-2 g c =
     let value = arc_value {X = Pool g.row.R.Denot g.row.R-Value.Denot g.row.R-Item.Denot} {Z = Global} in
-    let leaves = c.self.inside.leaves.value.items in
+    let leaves : Leaving = record { ranks = c.self.inside.ranks.value.items; positions = c.self.inside.positions.value.items } in
     let pools = map value c.self.inside.pools.items in
     let now = ap (map value) c.in_ok-push.ensures.items ∙ map-append value c.self.inside.pools.items (c.args.pool ∷ []) in
     subst (AreLinked leaves []) (sym now)
@@ -23,7 +23,7 @@ invariant_of-self-2 g c =
 pub returns-clause-stays : goal.returns-clause-stays
 returns-clause-stays g c link h =
     let value = arc_value {X = Pool g.row.R.Denot g.row.R-Value.Denot g.row.R-Item.Denot} {Z = Global} in
-    let leaves = c.self.inside.leaves.value.items in
+    let leaves : Leaving = record { ranks = c.self.inside.ranks.value.items; positions = c.self.inside.positions.value.items } in
     let pools = map value c.self.inside.pools.items in
     let p = value c.args.pool in
     let now = ap (map value) c.in_ok-push.ensures.items ∙ map-append value c.self.inside.pools.items (c.args.pool ∷ []) in
@@ -33,13 +33,14 @@ returns-clause-stays g c link h =
     )
 
 pub returns-clause-into : goal.returns-clause-into
-returns-clause-into g c duty e =
+returns-clause-into g c duty rank d e =
     let value = arc_value {X = Pool g.row.R.Denot g.row.R-Value.Denot g.row.R-Item.Denot} {Z = Global} in
-    let leaves = c.self.inside.leaves.value.items in
+    let leaves : Leaving = record { ranks = c.self.inside.ranks.value.items; positions = c.self.inside.positions.value.items } in
     let pools = map value c.self.inside.pools.items in
     let p = value c.args.pool in
     let now = ap (map value) c.in_ok-push.ensures.items ∙ map-append value c.self.inside.pools.items (c.args.pool ∷ []) in
     let linked = linked_more leaves [] pools p c.self.invariant
     (λ l m. subst (λ (x : Tabled g.row.R-Value.Denot). Leads (leads_in x.leaves x.pools) l.before) (sym c.self.view_is) (c.requires l m)) in
-    subst (λ (ps : List (List (Label g.row.R-Value.Denot))). LeadInto (leads_in leaves ps) (trail_in leaves ps) duty p) (sym now)
-    (last_into leaves pools p linked duty (subst (λ (x : Tabled g.row.R-Value.Denot). slice_get x.leaves duty ≡ Some (length x.pools)) (sym c.self.view_is) e))
+    subst (λ (ps : List (List (Label g.row.R-Value.Denot))). LeadInto (leads_in leaves ps) (trail_in leaves ps) duty rank p) (sym now)
+    (last_into leaves pools p linked duty rank (subst (λ (x : Tabled g.row.R-Value.Denot). slice_get x.leaves.ranks duty ≡ Some rank) (sym c.self.view_is) d)
+    (subst (λ (x : Tabled g.row.R-Value.Denot). slice_get x.leaves.positions rank ≡ Some (length x.pools)) (sym c.self.view_is) e))

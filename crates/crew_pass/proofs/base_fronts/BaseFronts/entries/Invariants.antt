@@ -5,4 +5,4 @@ use Rattle.crew_pool.specs.Ranks.{by_key}
 use Rattle.crew_pass.proofs.base_fronts.BaseFronts.entries.Given as goal
 
 abbrev pub invariant-loop-label : goal.invariant-loop-label
-invariant-loop-label g l = l.entries.items ≡ by_key l.self.net.duties (map (shown (trail_in l.self.positions l.self.pools)) (take l.label-index (get_or l.self.fronts l.rank [])))
+invariant-loop-label g l = l.entries.items ≡ by_key l.self.net.duties (map (shown (trail_in l.self.leaves l.self.pools)) (take l.label-index (get_or l.self.fronts l.rank [])))

@@ -48,7 +48,7 @@ returns-clause-pool g c candidates i =
     (joined_pool g.R.Resource.below g.R.Forgets.same_sums trail (below_order g.met.R.Resource.order) f.same_itself f.same_between c.in_ok-join_boarding.ensures.ok.0 two candidates (map (shown trail) two) (pool-permuted g.R.Resource.below g.R.Forgets.same_sums trail candidates c.args.self.now c.in_ok-join_boarding.ensures.ok.0 (subst (λ (ls : List (Label g.row.R-Value.Denot)). IsPermutation ls c.in_ok-join_boarding.ensures.ok.0) c.self.view_is c.in_ok-join_boarding.ensures.ok.1) i)
     (boarded-pool g.R.Value.Ord.cmp g.R.Resource.below g.R.Forgets.same_sums g.met.R.Resource.order board c.args.duty f.same_itself f.same_between
     (λ a b y z p q. (g.met.R.Lapses.together r).board_same a b y z d p q)
-    trail (g.T.Trails.leads c.args.trails.now) (g.R.Staged.count_of r) c.requires.tell c.args.pool.now c.requires.into c.requires.others
+    c.requires.into.0 trail (g.T.Trails.leads c.args.trails.now) (g.R.Staged.count_of r) c.requires.tell c.args.pool.now c.requires.into.1 c.requires.others
     (λ l m y z ml bl bm h. (g.met.R.Lapses.aboard r).board_reflects l.value m.value y z d (c.requires.stays l ml) bl bm h)
     c.requires.clean.0 c.requires.clean.1))
 
@@ -72,8 +72,8 @@ returns-clause-counts g c l m =
     let d = c.args.item.now in
     ⊎_elim
     (λ k. c.requires.counts l k)
-    (λ k. boarded_counted (λ (v : g.row.R-Value.Denot). g.R.Staged.boards r v d) c.args.duty (g.T.Trails.leads c.args.trails.now) (g.T.Trails.trail c.args.trails.now) (g.R.Staged.count_of r)
-    (λ v z e. (g.met.R.Staged.counting r c.requires.most.0 c.requires.most.1).one_more v z d e) c.args.pool.now c.requires.into c.requires.others l k)
+    (λ k. boarded_counted (λ (v : g.row.R-Value.Denot). g.R.Staged.boards r v d) c.args.duty (g.T.Trails.leads c.args.trails.now) (g.T.Trails.trail c.args.trails.now) c.requires.into.0 (g.R.Staged.count_of r)
+    (λ v z e. (g.met.R.Staged.counting r c.requires.most.0 c.requires.most.1).one_more v z d e) c.args.pool.now c.requires.into.1 c.requires.others l k)
     (returns-clause-from g c l m)
 
 pub invariant_of-self : goal.invariant_of-self
