@@ -1,7 +1,7 @@
 //! Public functions of libraries that no program calls: each is called with ample memory over a
 //! small timetable, since no contract says that it succeeds there.
 //!
-//! They are lines of the cases of slots. A record of an edit changes the timetable, behind
+//! They are lines of the cases of numbers. A record of an edit changes the timetable, behind
 //! `entry SEAT NUMBER` it is an entry of a log, and `kept` keeps the timetable as the earlier one. Any
 //! other line is a call, and below it stands its answer.
 
@@ -12,7 +12,7 @@ mod solves;
 mod steps;
 
 use crate::edits::edit_of;
-use crate::slots::{Desk, net_over, take};
+use crate::numbers::{Desk, net_over, take};
 use crate::words::{code_of, count_of, key_of};
 use crew_flights::Entry;
 use crew_net::{Net, Node};

@@ -1,11 +1,11 @@
 //! Plays the cases that stand on standard input, and writes a transcript of what came of them:
 //! whole runs of the program, from their words to their status, over readers and writers in memory
-//! that may be slow or fail, and what the libraries (`library`), slots (`slots`), functions that no
-//! program calls (`calls`), a log, a published pair and a running service (`log`, `pair`, `service`)
-//! answer to calls, each a line of the input that is written again with its answer. The stored run has
-//! the cases (`stdin`) and what has to come of them (`stdout`), both as plain data, which costs no
-//! proof. It promises nothing to others, so its functions have no clause, but for what a call below
-//! asks for.
+//! that may be slow or fail, and what the libraries (`library`), numbers of duties (`numbers`),
+//! functions that no program calls (`calls`), a log, a published pair and a running service (`log`,
+//! `pair`, `service`) answer to calls, each a line of the input that is written again with its
+//! answer. The stored run has the cases (`stdin`) and what has to come of them (`stdout`), both as
+//! plain data, which costs no proof. It promises nothing to others, so its functions have no
+//! clause, but for what a call below asks for.
 //!
 //! A case begins with `#` and its name. Lines that begin with `%` say how its streams behave
 //! (`Ways`), other lines are remarks, and the line that begins with `$` has its words; what
@@ -25,12 +25,12 @@ mod edits;
 mod library;
 mod logs;
 mod meeting;
+mod numbers;
 mod outbox;
 mod pairs;
 mod runs;
 mod serving;
 mod sights;
-mod slots;
 mod streams;
 mod versions;
 mod ways;
@@ -71,7 +71,7 @@ fn play_words<R: Print + Eprint + Threads + Wait + Sync + Clock>(
     let (word, rest) = parted(words);
     match word {
         "library" => library::play(rt, alloc, input),
-        "slots" | "calls" => slots::play(rt, alloc, input),
+        "numbers" | "calls" => numbers::play(rt, alloc, input),
         "log" => logs::play_log(rt, alloc, input),
         "pair" => pairs::play_pair(rt, alloc, rest, input),
         "service" => serving::play(rt, alloc, rest, input),

@@ -3,7 +3,7 @@ ghost use Rattle.std.specs.Prelude.{◌≡◌};
 ghost use Rattle.crew_dirty.specs.Dirty.{IsNetOver};
 ghost use Rattle.crew_rules.specs.Settings.{standard};
 
-use crate::slots::net_over;
+use crate::numbers::net_over;
 use crate::words::{code_of, count_of, key_of};
 use crew_dirty::{Carried, NodeState, NodeStates, carry};
 use crew_flights::{Code, Timetable};

@@ -1,0 +1,4 @@
+pub mod Gets
+pub mod Keeping
+pub mod Shown
+pub mod Takes

@@ -1,4 +1,0 @@
-pub mod Gets
-pub mod Keeping
-pub mod Seats
-pub mod Shown

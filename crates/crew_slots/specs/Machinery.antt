@@ -1,4 +1,0 @@
--- What slots work with.
-pub mod Held
-pub mod Kept
-pub mod Places
