@@ -66,6 +66,14 @@ fn net_of(fronts: &crew_solve::BaseFronts) -> &Net
     net
 }
 
+// The fronts that a pass has left, if one has.
+fn passed_of(fronts: Option<&BaseFronts>) -> Option<&PassedFronts> {
+    match &fronts?.kind {
+        BaseKind::Swept(_) => None,
+        BaseKind::Passed(fronts) => Some(fronts),
+    }
+}
+
 impl BaseFronts {
     /// The fronts that a sweep has made, where the settings need no more than the seven sums.
     pub fn swept(
@@ -81,26 +89,30 @@ impl BaseFronts {
     }
 
     /// The fronts of a base at its price, by a pass over the course's network, where the settings
-    /// need more than the seven sums.
+    /// need more than the seven sums. Beside earlier ones of the base it takes over what is made of the
+    /// same there, where price and settings are the same.
     pub fn passed(
         alloc: Global,
-        course: &Course,
+        course: &Arc<Course, Global>,
+        earlier: Option<&BaseFronts>,
         base: Code,
         price: i64,
     ) -> Result<Arc<BaseFronts, Global>, AllocError>
-        requires checked { IsChecked course.now.settings }
-        requires long { is_plain course.now.settings ≡ false }
+        requires checked { IsChecked (arc_value course.now).settings }
+        requires long { is_plain (arc_value course.now).settings ≡ false }
         requires price { IsBasePrice price }
-        requires sound { (d : DutyOf) → Member course.now.duties d → Events.IsSound d }
-        requires rise { RiseByKey course.now.duties }
-        requires few { length course.now.duties ≤ 200_000 }
+        requires sound { (d : DutyOf) → Member (arc_value course.now).duties d
+            → Events.IsSound d }
+        requires rise { RiseByKey (arc_value course.now).duties }
+        requires few { length (arc_value course.now).duties ≤ 200_000 }
         ensures own { IfOk result (λ made. ((arc_value made).base ≡ base)
             × ((arc_value made).price ≡ price)) }
-        ensures net { IfOk result (λ made. (arc_value made).net ≡ course.now) }
+        ensures net { IfOk result (λ made. (arc_value made).net ≡ arc_value course.now) }
         ensures right { IfOk result (λ made. (t : Timetable) → IsSound t → IsDated t
-            → AreDuties course.now.settings t course.now.duties → ShowsFronts t (arc_value made)) }
+            → AreDuties (arc_value course.now).settings t (arc_value course.now).duties
+            → ShowsFronts t (arc_value made)) }
     {
-        let fronts = PassedFronts::new(alloc, course, base, price)?;
+        let fronts = PassedFronts::new(alloc, course, passed_of(earlier), base, price)?;
         let kind = BaseKind::Passed(fronts);
         Ok(Arc::new(alloc, BaseFronts { kind })?)
     }
@@ -110,25 +122,39 @@ impl BaseFronts {
         rt: &T,
         alloc: Global,
         threads: usize,
-        course: &Course,
+        course: &Arc<Course, Global>,
+        earlier: Option<&BaseFronts>,
         base: Code,
         price: i64,
     ) -> Result<Arc<BaseFronts, Global>, AllocError>
-        requires checked { IsChecked course.now.settings }
-        requires long { is_plain course.now.settings ≡ false }
+        requires checked { IsChecked (arc_value course.now).settings }
+        requires long { is_plain (arc_value course.now).settings ≡ false }
         requires price { IsBasePrice price }
-        requires sound { (d : DutyOf) → Member course.now.duties d → Events.IsSound d }
-        requires rise { RiseByKey course.now.duties }
-        requires few { length course.now.duties ≤ 200_000 }
+        requires sound { (d : DutyOf) → Member (arc_value course.now).duties d
+            → Events.IsSound d }
+        requires rise { RiseByKey (arc_value course.now).duties }
+        requires few { length (arc_value course.now).duties ≤ 200_000 }
         ensures own { IfOk result (λ made. ((arc_value made).base ≡ base)
             × ((arc_value made).price ≡ price)) }
-        ensures net { IfOk result (λ made. (arc_value made).net ≡ course.now) }
+        ensures net { IfOk result (λ made. (arc_value made).net ≡ arc_value course.now) }
         ensures right { IfOk result (λ made. (t : Timetable) → IsSound t → IsDated t
-            → AreDuties course.now.settings t course.now.duties → ShowsFronts t (arc_value made)) }
+            → AreDuties (arc_value course.now).settings t (arc_value course.now).duties
+            → ShowsFronts t (arc_value made)) }
     {
-        let fronts = PassedFronts::by_threads(rt, alloc, threads, course, base, price)?;
+        let earlier = passed_of(earlier);
+        let fronts = PassedFronts::by_threads(rt, alloc, threads, course, earlier, base, price)?;
         let kind = BaseKind::Passed(fronts);
         Ok(Arc::new(alloc, BaseFronts { kind })?)
+    }
+
+    /// What the pass went by that has left them, if one has.
+    pub fn course(&self) -> Option<&Arc<Course, Global>>
+        ensures { IfSome result (λ course. arc_value course.now ≡ self.now.net) }
+    {
+        match &self.kind {
+            BaseKind::Swept(_) => None,
+            BaseKind::Passed(fronts) => Some(fronts.course()),
+        }
     }
 
     /// The sweep's fronts, where one has made them.

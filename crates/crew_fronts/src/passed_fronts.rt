@@ -1,5 +1,6 @@
 //! The fronts of a base that a pass has left.
-ghost use Rattle.std.specs.Prelude.{◌≡◌, ◌<◌, ◌≤◌, IfOk, Some, false, length, slice_get};
+ghost use Rattle.std.specs.Prelude.{◌≡◌, ◌<◌, IfOk, IfSome, Some, length, slice_get};
+ghost use Rattle.std.specs.Arc.{arc_value};
 ghost use Rattle.crew_answers.specs.Fronts.{RiseByVector};
 ghost use Rattle.crew_answers.specs.Schedules.{IsDated, schedule_of};
 ghost use Rattle.crew_answers.specs.Shown as Answers;
@@ -22,11 +23,12 @@ use crew_forgetful::Forgets;
 use crew_net::Net;
 use crew_pairing::Duty;
 use crew_pass::laws::long_passes_show_the_fronts;
-use crew_pass::{Course, pass, pass_by_threads};
+use crew_pass::{Course, Passed, pass, pass_by_threads};
 use crew_resource::{Resource, Staged};
 use crew_solve::crew_vector::VectorResource;
 use std::alloc::{AllocError, Global};
 use std::marker::Model;
+use std::sync::Arc;
 use std::thread::Threads;
 
 /// The fronts of a base at its price that a pass has left.
@@ -36,19 +38,19 @@ use std::thread::Threads;
 pub(crate) struct PassedFronts {
     base: Code,
     price: i64,
-    fronts: crew_pass::BaseFronts<LongResource>,
+    passed: Passed<LongResource>,
 }
 
 impl Model for PassedFronts {
     ghost use Rattle.std.specs.Coded.{codes};
     ghost use Rattle.crew_fronts.specs.Fronts as Spec;
-    ghost use Rattle.crew_fronts.specs.Machinery.Kept.{IsPassed, fronts_of_pass};
+    ghost use Rattle.crew_fronts.specs.Machinery.Kept.{IsPassedBy, fronts_of_pass};
 
     ghost Value = { Spec.BaseFronts };
 
-    ghost view = { λ p. fronts_of_pass p.base p.price p.fronts };
+    ghost view = { λ p. fronts_of_pass p.base p.price p.passed.pass };
 
-    ghost invariant = { λ p. IsPassed p.base p.price p.fronts };
+    ghost invariant = { λ p. IsPassedBy p.base p.price p.passed };
 }
 
 // The resource of a base's pairings at its price, which counts their duties.
@@ -78,44 +80,69 @@ fn list(fronts: &crew_pass::BaseFronts<LongResource>)
 
 impl PassedFronts {
     // The fronts that a pass with a base's resource at its price has left, each listed by value.
-    fn of(base: Code, price: i64, fronts: crew_pass::BaseFronts<LongResource>) -> PassedFronts
-        requires ground { IsGround fronts.net price }
-        requires covered { (r : LongResource) → r ≡ Answers.long_resource fronts.net.settings price
+    fn of(base: Code, price: i64, passed: Passed<LongResource>) -> PassedFronts
+        requires ground { IsGround passed.pass.net price }
+        requires resource { passed.resource
+            ≡ Answers.long_resource passed.pass.net.settings price }
+        requires covered { (r : LongResource) → r
+            ≡ Answers.long_resource passed.pass.net.settings price
             → IsCoveredBy ⟦<LongResource as Resource>⟧.below
             ⟦<LongResource as Forgets<Duty>>⟧.same_sums (network_of
-            (schedule_of fronts.net.settings base fronts.net.duties) departure_of arrival_of
-            (⟦<LongResource as Staged<Duty>>⟧.idle_of r)
+            (schedule_of passed.pass.net.settings base passed.pass.net.duties) departure_of
+            arrival_of (⟦<LongResource as Staged<Duty>>⟧.idle_of r)
             (⟦<LongResource as Staged<Duty>>⟧.waited r)
-            (⟦<LongResource as Staged<Duty>>⟧.boards r)) fronts }
-        ensures made { result ≡ fronts_of_pass base price fronts }
+            (⟦<LongResource as Staged<Duty>>⟧.boards r)) passed.pass }
+        ensures made { result ≡ fronts_of_pass base price passed.pass }
         ensures right { (t : Timetable) → IsSound t → IsDated t
-            → AreDuties fronts.net.settings t fronts.net.duties → ShowsFronts t result }
+            → AreDuties passed.pass.net.settings t passed.pass.net.duties → ShowsFronts t result }
     {
         long_passes_show_the_fronts();
-        list(&fronts);
+        list(passed.fronts());
         PassedFronts {
             base,
             price,
-            fronts,
+            passed,
         }
     }
 
-    /// The fronts of a base at its price, by a pass over the course's network.
+    // The pass, for another at a price over a network to go beside: where prices and settings are the
+    // same, its resource is too.
+    fn beside(&self, net: &Net, price: i64) -> Option<&Passed<LongResource>>
+        ensures { IfSome result (λ passed. passed.now.resource
+            ≡ Answers.long_resource net.now.settings price) }
+    {
+        if self.price != price || self.net().settings() != net.settings() {
+            return None;
+        }
+        Some(&self.passed)
+    }
+
+    /// What the pass went by.
+    pub(crate) fn course(&self) -> &Arc<Course, Global>
+        ensures { arc_value result.now ≡ self.now.net }
+    {
+        self.passed.course()
+    }
+
+    /// The fronts of a base at its price, by a pass over the course's network, beside earlier ones.
     pub(crate) fn new(
         alloc: Global,
-        course: &Course,
+        course: &Arc<Course, Global>,
+        earlier: Option<&PassedFronts>,
         base: Code,
         price: i64,
     ) -> Result<PassedFronts, AllocError>
-        requires { IsGround course.now price }
+        requires { IsGround (arc_value course.now) price }
         ensures own { IfOk result (λ made. (made.base ≡ base) × (made.price ≡ price)) }
-        ensures net { IfOk result (λ made. made.net ≡ course.now) }
+        ensures net { IfOk result (λ made. made.net ≡ arc_value course.now) }
         ensures right { IfOk result (λ made. (t : Timetable) → IsSound t → IsDated t
-            → AreDuties course.now.settings t course.now.duties → ShowsFronts t made) }
+            → AreDuties (arc_value course.now).settings t (arc_value course.now).duties
+            → ShowsFronts t made) }
     {
-        let resource = resource_of(course, price);
-        let fronts = pass(alloc, course, &resource, base)?;
-        Ok(PassedFronts::of(base, price, fronts))
+        let resource = Arc::new(alloc, resource_of(course, price))?;
+        let earlier = earlier.and_then(|fronts| fronts.beside(course.net(), price));
+        let passed = pass(alloc, course, earlier, &resource, base)?;
+        Ok(PassedFronts::of(base, price, passed))
     }
 
     /// The same fronts, by a pass in at most so many threads, this one among them.
@@ -123,19 +150,22 @@ impl PassedFronts {
         rt: &T,
         alloc: Global,
         threads: usize,
-        course: &Course,
+        course: &Arc<Course, Global>,
+        earlier: Option<&PassedFronts>,
         base: Code,
         price: i64,
     ) -> Result<PassedFronts, AllocError>
-        requires { IsGround course.now price }
+        requires { IsGround (arc_value course.now) price }
         ensures own { IfOk result (λ made. (made.base ≡ base) × (made.price ≡ price)) }
-        ensures net { IfOk result (λ made. made.net ≡ course.now) }
+        ensures net { IfOk result (λ made. made.net ≡ arc_value course.now) }
         ensures right { IfOk result (λ made. (t : Timetable) → IsSound t → IsDated t
-            → AreDuties course.now.settings t course.now.duties → ShowsFronts t made) }
+            → AreDuties (arc_value course.now).settings t (arc_value course.now).duties
+            → ShowsFronts t made) }
     {
-        let resource = resource_of(course, price);
-        let fronts = pass_by_threads(rt, alloc, threads, course, &resource, base)?;
-        Ok(PassedFronts::of(base, price, fronts))
+        let resource = Arc::new(alloc, resource_of(course, price))?;
+        let earlier = earlier.and_then(|fronts| fronts.beside(course.net(), price));
+        let passed = pass_by_threads(rt, alloc, threads, course, earlier, &resource, base)?;
+        Ok(PassedFronts::of(base, price, passed))
     }
 
     /// The base.
@@ -159,7 +189,7 @@ impl PassedFronts {
         ensures right { (t : Timetable) → IsSound t → IsDated t
             → AreDuties self.now.net.settings t self.now.net.duties → ShowsFronts t self.now }
     {
-        self.fronts.net()
+        self.passed.fronts().net()
     }
 
     /// The front of the duty of a rank.
@@ -169,12 +199,13 @@ impl PassedFronts {
             → result ≡ front_at self.now d }
         ensures rises { RiseByVector result }
     {
-        let net = self.fronts.net();
+        let fronts = self.passed.fronts();
+        let net = fronts.net();
         let _ = net.duty_count();
         let duties = net.duties();
-        let labels = self.fronts.front(rank).as_slice();
+        let labels = fronts.front(rank).as_slice();
         PassedFront::new(
-            self.fronts.table(),
+            fronts.table(),
             duties,
             net.settings(),
             duties.at(rank),

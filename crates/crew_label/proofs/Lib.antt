@@ -17,3 +17,5 @@ pub mod Runs
 pub mod Parted
 pub mod SeenLabels
 pub mod Several
+pub mod SideBySide
+pub mod TwinLabels

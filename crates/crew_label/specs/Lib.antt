@@ -3,3 +3,4 @@ pub mod Pools
 pub mod Boarding
 pub mod Tables
 pub mod Machinery
+pub mod Alike

@@ -12,10 +12,12 @@
 //! their Pareto front at once: it compares anew only those where something lapses, or whose sums are the
 //! same; and after a wait `Pool::waited` takes a pool as it stands, where it is no rest, or the pool
 //! that every rest goes by (`Pool::rested`). Where nothing is forgotten, no front and no pool has to
-//! be made (`laws`).
+//! be made (`laws`). Pools of two tables are compared whatever ranks duties have in them (`are_alike`,
+//! `are_same`).
 #![tactic(auto)]
 
 mod aboard;
+mod alike;
 mod blocks;
 mod gather;
 mod index;
@@ -34,6 +36,7 @@ mod waited;
 mod whole;
 
 pub use aboard::front_aboard;
+pub use alike::{are_alike, are_same};
 pub use label::{Label, Link};
 pub use pool::Pool;
 pub use table::Table;

@@ -15,3 +15,11 @@ pub mod One
 pub mod Keyed
 pub mod Covering
 pub mod Whole
+pub mod BesideWalks
+pub mod BesidePools
+pub mod BesideWindows
+pub mod BesideLabels
+pub mod BesideFronts
+pub mod BesideArrivals
+pub mod BesideDepartures
+pub mod BesideWhole

@@ -4,3 +4,4 @@ pub mod Candidates
 pub mod Labellings
 pub mod Passes
 pub mod Right
+pub mod Beside

@@ -1,5 +1,5 @@
 -- What is seen leads to what is seen.
-use Rattle.std.proofs.Common.{◌≡◌, ◌∙◌, ℕ, Bool, true, false, inl, inr, List, [], Option, Some, None, length, map, get_or, refl, sym, ap, subst, arith}
+use Rattle.std.proofs.Common.{◌≡◌, ◌∙◌, ◌<◌, ℕ, Bool, true, false, inl, inr, List, [], Option, Some, None, length, map, get_or, refl, sym, ap, subst, arith}
 use Rattle.std.specs.Prelude.{◌&&◌, nat_lt, slice_get}
 use Rattle.crew_label.specs.Boarding.{LeadInto, waited_label}
 use Rattle.crew_label.specs.Pools.{AreCounted}
@@ -74,11 +74,16 @@ module _ {R V : Type 0} (w : Terms V) (may : MayPass w) (seen : Seen R V Duty) (
       let k = front-links w may.terms may.lawful rank l m in
       front-leads rank k.0 k.2 k.1 l.before k.3 (fronts-held w may.terms may.lawful rank l m).leading (is.boarded rank there)
 
-  pub arrival-known : (place : ℕ) (x : Arrival) → slice_get w.net.arrivals place ≡ Some x → IsThere seen.arrivals place → (l : Label V) → Member (get_or (labelling_of w).arrivals place []) l → Known l.before
-  arrival-known place x at there l m =
+  -- an arrival's labels, where the departures of its duties are seen
+  pub made-arrival-known : (place : ℕ) (x : Arrival) → slice_get w.net.arrivals place ≡ Some x → ((rank : ℕ) → ArrivesAt w.net place rank → IsThere seen.departures (get_or w.leaves.positions rank 0))
+      → (l : Label V) → Member (get_or (labelling_of w).arrivals place []) l → Known l.before
+  made-arrival-known place x at there l m =
       let k = arrivals-link w may.terms may.lawful place x at l m in
       let arrives = arriving place k.0 k.1 k.3 (at ∙ ap Some (sym k.4)) in
-      front-leads k.0 k.1 k.3 k.2 l.before k.5 (arrivals-held w may.terms may.lawful place l m).leading (is.gathered place k.0 there arrives)
+      front-leads k.0 k.1 k.3 k.2 l.before k.5 (arrivals-held w may.terms may.lawful place l m).leading (there k.0 arrives)
+
+  pub arrival-known : (place : ℕ) (x : Arrival) → slice_get w.net.arrivals place ≡ Some x → IsThere seen.arrivals place → (l : Label V) → Member (get_or (labelling_of w).arrivals place []) l → Known l.before
+  arrival-known place x at there = made-arrival-known place x at (λ rank arrives. is.gathered place rank there arrives)
 
   pub rested-known : (place : ℕ) (x : Arrival) → slice_get w.net.arrivals place ≡ Some x → IsThere seen.arrivals place → (l : Label V) → Member (get_or (labelling_of w).rested place []) l → Known l.before
   rested-known place x at there l m =
@@ -89,23 +94,29 @@ module _ {R V : Type 0} (w : Terms V) (may : MayPass w) (seen : Seen R V Duty) (
       let k = arrival-known place x at there s.0 (subst (λ (ls : List (Label V)). Member ls s.0) (sym (arrival-is w may.terms place x at)) s.1) in
       subst (λ (z : Label V). Known z.before) s.2 k
 
-  pub departure-known : (i : ℕ) → IsThere seen.departures i → (l : Label V) → Member (get_or (labelling_of w).departures i []) l → Known l.before
-  departure-known i there l m = by-link l.before refl (departures-ready w may.terms may.lawful i l m).leading
+  -- a departure's labels, where its arrivals are seen
+  pub made-departure-known : (i : ℕ) → i < length w.net.by_report → ((place : ℕ) → MayWaitAt w.net i place → IsThere seen.arrivals place)
+      → (l : Label V) → Member (get_or (labelling_of w).departures i []) l → Known l.before
+  made-departure-known i within there l m = by-link l.before refl (departures-ready w may.terms may.lawful i l m).leading
     where
       by-link : (o : Option Link) → l.before ≡ o → Leads (leads_in w.leaves (labelling_of w).departures) o → Known o
       by-link None e led = tt
       by-link (Some link) e led =
           let p = may.terms.passable in
-          let within = there-within seen.departures i there in
-          let one = is.departures.long in
-          let two = departures-long w may.terms in
-          let three = in-order-long w.net p.departs p.ordered in
-          let g = stands (in_order w.net) i (omega (arith, within, one, two, three)) in
+          let long = in-order-long w.net p.departs p.ordered in
+          let g = stands (in_order w.net) i (omega (arith, within, long)) in
           let k = departures-link w may.terms may.lawful i g.0 g.1 l m link e in
           let at = member-place w.net.arrivals (arrival_of k.1) (p.arrives.every k.1 (member-got w.net.duties k.0 k.1 k.2)) in
           let waits : MayWaitAt w.net i at.0 = record { departure = g.0; arrival = arrival_of k.1; reports = g.1; releases = at.1; may = k.4 } in
-          let from = by-number k.0 k.1 k.2 (is.gathered at.0 k.0 (is.waited i at.0 there waits) (arriving at.0 k.0 k.1 k.2 at.1)) in
+          let from = by-number k.0 k.1 k.2 (is.gathered at.0 k.0 (there at.0 waits) (arriving at.0 k.0 k.1 k.2 at.1)) in
           leads-there link led (subst (λ (n : ℕ). IsThere seen.departures (departure_of w.leaves n)) (sym k.3) from)
+
+  pub departure-known : (i : ℕ) → IsThere seen.departures i → (l : Label V) → Member (get_or (labelling_of w).departures i []) l → Known l.before
+  departure-known i there =
+      let within = there-within seen.departures i there in
+      let one = is.departures.long in
+      let two = departures-long w may.terms in
+      made-departure-known i (omega (arith, within, one, two)) (λ place waits. is.waited i place there waits)
 
   -- walks can be read from what is seen
   pub all-sighted : IsSighted (sighted w seen.departures)

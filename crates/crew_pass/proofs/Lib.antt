@@ -2,7 +2,6 @@ pub mod Alike
 mod Shelved
 mod Known
 mod Collected
-mod Placed
 mod Arriving
 mod More
 mod Before
@@ -15,3 +14,7 @@ mod Stretched
 -- of crates below this one, which those above cite through it
 pub use Rattle.crew_answers.proofs as crew_answers_lemmas
 pub use Rattle.crew_answers.proofs.crew_history_lemmas
+pub mod Taken
+pub mod Staying
+pub mod Twinned
+pub mod Likened

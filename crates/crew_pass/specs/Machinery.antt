@@ -6,3 +6,6 @@ pub mod Seen
 pub mod Cells
 pub mod Plain
 pub mod Stretches
+pub mod Beside
+pub mod Twins
+pub mod Ended

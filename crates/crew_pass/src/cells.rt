@@ -2,13 +2,15 @@
 //!
 //! In each cell one pool is right, the one that the labelling of the network has there
 //! (`crew_labelling`). So nothing depends on which thread made it.
-ghost use Rattle.std.specs.Prelude.{◌≡◌, ◌+◌, [], IfOk, get_or};
+ghost use Rattle.std.specs.Prelude.{◌≡◌, ◌+◌, [], IfOk, IfSome, get_or};
 ghost use Rattle.std.specs.Arc.{arc_value};
 ghost use Rattle.crew_labelling.specs.Labellings.{labelling_of};
+ghost use Rattle.crew_pass.specs.Machinery.Beside.{AreBeside};
 ghost use Rattle.crew_pass.specs.Machinery.Cells.{AreCells};
 ghost use Rattle.crew_pass.specs.Machinery.Stretches.{IsStretch};
 ghost use Rattle.crew_pass.specs.Machinery.Terms.{ArePlacesOf, basis_terms};
 
+use crate::beside::Beside;
 use crate::ground::{Basis, Ground};
 use crate::places::Places;
 use crate::stretch::Stretch;
@@ -79,9 +81,10 @@ type PoolCells<R, K> = OnceCells<Basis<R>, Arc<Pool<R>, Global>, K>;
 // Cells of stretches.
 type StretchCells<R, K> = OnceCells<Basis<R>, Arc<Stretch<R>, Global>, K>;
 
-/// The cells of a pass.
+/// The cells of a pass, and what it may take over.
 #[derive(Drop)]
-pub(crate) struct Cells<R: Lapses<Duty>> {
+pub(crate) struct Cells<'p, R: Lapses<Duty>> {
+    pub(crate) beside: Option<Beside<'p, R>>,
     pub(crate) departures: PoolCells<R, Departures>,
     pub(crate) arrivals: PoolCells<R, Arrivals>,
     pub(crate) rested: PoolCells<R, Rests>,
@@ -90,14 +93,16 @@ pub(crate) struct Cells<R: Lapses<Duty>> {
     pub(crate) ups: StretchCells<R, Ups>,
 }
 
-impl<R: Lapses<Duty>> Cells<R> {
+impl<'p, R: Lapses<Duty>> Cells<'p, R> {
     /// Empty cells for all pools of a pass.
     pub(crate) fn new(
         alloc: Global,
         ground: &Ground<R>,
         places: &Places,
+        beside: Option<Beside<'p, R>>,
     ) -> Result<Self, AllocError>
-        requires { ArePlacesOf ground.now places.now }
+        requires places { ArePlacesOf ground.now places.now }
+        requires beside { IfSome beside (AreBeside ground.now) }
         ensures { IfOk result (AreCells ground.now) }
     {
         let basis = Basis::of(ground, places);
@@ -105,6 +110,7 @@ impl<R: Lapses<Duty>> Cells<R> {
         let departures = net.by_report().len();
         let arrivals = net.arrivals().len();
         Ok(Cells {
+            beside,
             departures: OnceCells::new(alloc, &basis, departures)?,
             arrivals: OnceCells::new(alloc, &basis, arrivals)?,
             rested: OnceCells::new(alloc, &basis, arrivals)?,

@@ -6,6 +6,7 @@ ghost use Rattle.crew_pass.specs.Machinery.Terms.{ArePlaces};
 
 use crate::places::Places;
 use crew_net::{Net, Window};
+use crew_numbers::Numbers;
 use std::alloc::{AllocError, Global};
 use std::marker::Model;
 use std::sync::Arc;
@@ -15,7 +16,7 @@ use std::sync::Arc;
 ///
 /// A contract sees the network.
 pub struct Course {
-    net: Arc<Net, Global>,
+    numbers: Numbers,
     places: Places,
     middles: Arc<Vec<usize>, Global>,
 }
@@ -23,7 +24,7 @@ pub struct Course {
 impl Drop for Course {
     fn drop(self) {
         let Self {
-            net: _,
+            numbers: _,
             places: _,
             middles: _,
         } = self;
@@ -37,13 +38,13 @@ impl Model for Course {
 
     ghost Value = { Spec.Net };
 
-    ghost view = { λ c. c.net.value };
+    ghost view = { λ c. c.numbers.net };
 
-    ghost invariant = { λ c. IsCharted c.net.value × ArePlaces c.net.value c.places };
+    ghost invariant = { λ c. IsCharted c.numbers.net × ArePlaces c.numbers.net c.places };
 }
 
-// What a network has of its events, its duties and its settings.
-fn chart(net: &Net)
+/// What a network has of its events, its duties and its settings.
+pub(crate) fn chart(net: &Net)
     ensures { IsCharted net.now }
 {
     let _ = net.departures();
@@ -70,18 +71,32 @@ fn middles_of(alloc: Global, net: &Net) -> Result<Vec<usize>, AllocError> {
 }
 
 impl Course {
+    // The course over a network whose duties have numbers.
+    fn over(alloc: Global, numbers: Numbers) -> Result<Course, AllocError>
+        ensures { IfOk result (λ course. course ≡ numbers.net) }
+    {
+        chart(numbers.net());
+        let places = Places::of(alloc, &numbers)?;
+        let middles = Arc::new(alloc, middles_of(alloc, numbers.net())?)?;
+        Ok(Course {
+            numbers,
+            places,
+            middles,
+        })
+    }
+
     /// The course over a network.
     pub fn new(alloc: Global, net: Arc<Net, Global>) -> Result<Course, AllocError>
         ensures { IfOk result (λ course. course ≡ arc_value net) }
     {
-        chart(&net);
-        let places = Places::of(alloc, &net)?;
-        let middles = Arc::new(alloc, middles_of(alloc, &net)?)?;
-        Ok(Course {
-            net,
-            places,
-            middles,
-        })
+        Course::over(alloc, Numbers::new(alloc, net)?)
+    }
+
+    /// The course over another network, beside this one: a duty whose key both have keeps its number.
+    pub fn next(&self, alloc: Global, net: Arc<Net, Global>) -> Result<Course, AllocError>
+        ensures { IfOk result (λ course. course ≡ arc_value net) }
+    {
+        Course::over(alloc, self.numbers.next(alloc, net)?)
     }
 
     /// The network.
@@ -89,7 +104,7 @@ impl Course {
         ensures net { arc_value result.now ≡ self.now }
         ensures charted { IsCharted self.now }
     {
-        &self.net
+        self.numbers.net()
     }
 
     /// The numbers of the duties, and where these leave.

@@ -18,6 +18,7 @@
 
 mod arrivals;
 mod base_fronts;
+mod beside;
 mod boards;
 mod cells;
 mod course;
@@ -25,7 +26,10 @@ mod gathering;
 mod ground;
 mod joining;
 pub mod laws;
+mod likeness;
 mod long;
+mod making;
+mod passed;
 mod passing;
 mod places;
 mod pooled;
@@ -36,7 +40,9 @@ mod sight;
 mod standing;
 mod stretch;
 mod stretching;
+mod takeover;
 mod taking;
+mod twins;
 mod waits;
 mod workers;
 
@@ -46,5 +52,6 @@ pub use course::Course;
 pub use crew_answers;
 pub use crew_answers::crew_history;
 pub use long::long_fronts;
+pub use passed::Passed;
 pub use passing::{pass, pass_by_threads};
 pub use pooled::Pooled;

@@ -1,5 +1,6 @@
 //! The fronts of pairings of up to 240 hours.
 ghost use Rattle.std.specs.Prelude.{◌≡◌, IfOk};
+ghost use Rattle.std.specs.Arc.{arc_value};
 ghost use Rattle.crew_answers.specs.Schedules.{IsDated};
 ghost use Rattle.crew_flights.specs.Timetable as TimetableSpec;
 ghost use Rattle.crew_pairing.specs.Duties.{AreDuties};
@@ -18,6 +19,7 @@ use crew_answers::{LongResource, settings_of_sums};
 use crew_flights::Code;
 use crew_rules::Settings;
 use std::alloc::{AllocError, Global};
+use std::sync::Arc;
 
 /// The fronts of a base's duties, of pairings of up to 240 hours: at each legal duty of the course's
 /// timetable they show the duty's front.
@@ -26,24 +28,25 @@ use std::alloc::{AllocError, Global};
 /// and no rest between two depends on it.
 pub fn long_fronts(
     alloc: Global,
-    course: &Course,
+    course: &Arc<Course, Global>,
     settings: &Settings,
     base: Code,
     price: i64,
 ) -> Result<BaseFronts<LongResource>, AllocError>
-    requires sound { (d : Duty) → Member course.now.duties d → IsSound d }
+    requires sound { (d : Duty) → Member (arc_value course.now).duties d → IsSound d }
     requires checked { IsChecked settings.now }
     requires price { TimetableSpec.IsBasePrice price }
-    requires settings { course.now.settings
-        ≡ record settings.now { away_cap = course.now.settings.away_cap } }
-    ensures net { IfOk result (λ fronts. fronts.net ≡ course.now) }
+    requires settings { (arc_value course.now).settings
+        ≡ record settings.now { away_cap = (arc_value course.now).settings.away_cap } }
+    ensures net { IfOk result (λ fronts. fronts.net ≡ arc_value course.now) }
     ensures right { IfOk result (λ fronts. (t : TimetableSpec.Timetable) → TimetableSpec.IsSound t
-        → IsDated t → AreDuties settings.now t course.now.duties
+        → IsDated t → AreDuties settings.now t (arc_value course.now).duties
         → ShowsFronts settings.now t base price fronts) }
 {
     long_passes_show_the_fronts();
     let sums = VectorResource::under(&settings_of_sums(settings), price);
     let resource = LongResource::new(sums, settings);
-    let fronts = pass(alloc, course, &resource, base)?;
-    Ok(fronts)
+    let shared = Arc::new(alloc, resource)?;
+    let passed = pass(alloc, course, None, &shared, base)?;
+    Ok(passed.into_fronts())
 }

@@ -1,8 +1,10 @@
 //! The numbers of duties, and where these leave.
-ghost use Rattle.std.specs.Prelude.{◌≡◌, ◌<◌, ◌≤◌, ℕ, Some, IfOk, length, slice_get};
+ghost use Rattle.std.specs.Prelude.{◌≡◌, IfOk};
+ghost use Rattle.std.specs.Arc.{arc_value};
 ghost use Rattle.crew_pass.specs.Machinery.Terms.{ArePlaces};
 
-use crew_net::{Net, departure_positions};
+use crew_net::departure_positions;
+use crew_numbers::Numbers;
 use std::alloc::{AllocError, Global};
 use std::sync::Arc;
 
@@ -25,31 +27,31 @@ impl Drop for Places {
 }
 
 impl Places {
-    /// Each duty of a network has its rank as its number.
-    pub(crate) fn of(alloc: Global, net: &Net) -> Result<Places, AllocError>
-        ensures { IfOk result (ArePlaces net.now) }
+    /// The numbers of a network's duties, which are shared, and where these leave.
+    pub(crate) fn of(alloc: Global, numbers: &Numbers) -> Result<Places, AllocError>
+        ensures { IfOk result (ArePlaces numbers.now.net) }
     {
-        let positions = Arc::new(alloc, departure_positions(alloc, net)?)?;
-        let numbers = Arc::new(alloc, ranks_below(alloc, net.duty_count())?)?;
-        let ranks = Arc::try_clone(&numbers)?;
+        let positions = Arc::new(alloc, departure_positions(alloc, numbers.net())?)?;
+        let ranks = Arc::try_clone(numbers.ranks())?;
+        let numbers = Arc::try_clone(numbers.numbers())?;
         Ok(Places {
             numbers,
             ranks,
             positions,
         })
     }
-}
 
-// The ranks of so many duties, in order.
-fn ranks_below(alloc: Global, many: usize) -> Result<Vec<u32>, AllocError>
-    requires { many ≤ 200_000 }
-    ensures long { IfOk result (λ ranks. length ranks.items ≡ many) }
-    ensures own { IfOk result (λ ranks. (rank : ℕ) → rank < many
-        → slice_get ranks.items rank ≡ Some rank) }
-{
-    let mut ranks = Vec::with_capacity(alloc, many)?;
-    for rank in 0..many {
-        ranks.push(rank as u32)?;
+    /// The same, shared.
+    pub(crate) fn shared(&self) -> Result<Places, AllocError>
+        ensures numbers { IfOk result (λ p. arc_value p.numbers ≡ arc_value self.now.numbers) }
+        ensures ranks { IfOk result (λ p. arc_value p.ranks ≡ arc_value self.now.ranks) }
+        ensures positions { IfOk result (λ p. arc_value p.positions
+            ≡ arc_value self.now.positions) }
+    {
+        Ok(Places {
+            numbers: Arc::try_clone(&self.numbers)?,
+            ranks: Arc::try_clone(&self.ranks)?,
+            positions: Arc::try_clone(&self.positions)?,
+        })
     }
-    Ok(ranks)
 }

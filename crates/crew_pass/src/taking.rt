@@ -12,13 +12,11 @@ ghost use Rattle.crew_pass.specs.Machinery.Seen.{AreSeen, StaySeen};
 ghost use Rattle.crew_pass.specs.Machinery.Shelves.{IsThere};
 ghost use Rattle.crew_pass.specs.Machinery.Terms.{MayPass, terms};
 
-use crate::arrivals::{arrival_pool, rested_pool};
-use crate::boards::duty_front;
 use crate::cells::Cells;
 use crate::ground::Ground;
+use crate::making::{made_arrival, made_departure, made_front, made_rest};
 use crate::pooled::Pooled;
 use crate::seen::Seen;
-use crate::waits::departure_pool;
 use crew_label::Pool;
 use crew_room::Room;
 use std::alloc::{AllocError, Global};
@@ -46,8 +44,8 @@ fn departure_in<R: Pooled>(
     if let Some(pool) = cells.departures.get(position) {
         return Ok(Arc::try_clone(pool)?);
     }
-    let pool = departure_pool(alloc, ground, cells, seen, room, position)?;
-    let pool = cells.departures.offer(position, Arc::new(alloc, pool)?);
+    let pool = made_departure(alloc, ground, cells, seen, room, position)?;
+    let pool = cells.departures.offer(position, pool);
     Ok(Arc::try_clone(pool.value())?)
 }
 
@@ -99,8 +97,8 @@ fn arrival_in<R: Pooled>(
     if let Some(pool) = cells.arrivals.get(place) {
         return Ok(Arc::try_clone(pool)?);
     }
-    let pool = arrival_pool(alloc, ground, seen, room, place)?;
-    let pool = cells.arrivals.offer(place, Arc::new(alloc, pool)?);
+    let pool = made_arrival(alloc, ground, cells, seen, room, place)?;
+    let pool = cells.arrivals.offer(place, pool);
     Ok(Arc::try_clone(pool.value())?)
 }
 
@@ -148,8 +146,8 @@ fn rest_in<R: Pooled>(
     if let Some(pool) = cells.rested.get(place) {
         return Ok(Arc::try_clone(pool)?);
     }
-    let pool = rested_pool(alloc, ground, seen, place)?;
-    let pool = cells.rested.offer(place, Arc::new(alloc, pool)?);
+    let pool = made_rest(alloc, ground, cells, seen, place)?;
+    let pool = cells.rested.offer(place, pool);
     Ok(Arc::try_clone(pool.value())?)
 }
 
@@ -193,8 +191,8 @@ fn front_in<R: Pooled>(
     if let Some(pool) = cells.fronts.get(rank as usize) {
         return Ok(Arc::try_clone(pool)?);
     }
-    let pool = duty_front(alloc, ground, seen, rank)?;
-    let pool = cells.fronts.offer(rank as usize, Arc::new(alloc, pool)?);
+    let pool = made_front(alloc, ground, cells, seen, rank)?;
+    let pool = cells.fronts.offer(rank as usize, pool);
     Ok(Arc::try_clone(pool.value())?)
 }
 

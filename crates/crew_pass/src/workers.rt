@@ -88,7 +88,7 @@ fn work<R: Pooled>(
 /// Fills the cells of a pass by so many threads, this one among them.
 ///
 /// No contract says that any cell is filled: who reads an empty one makes what is wanting.
-pub(crate) fn fill_by_threads<T: Threads + Sync, R: Pooled + Sync>(
+pub(crate) fn fill_by_threads<T: Threads + Sync, R: Pooled + Send + Sync>(
     rt: &T,
     alloc: Global,
     threads: usize,

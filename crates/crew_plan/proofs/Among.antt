@@ -16,7 +16,7 @@ use Rattle.crew_resource.specs.Members.{Each, Member}
 use Rattle.crew_fronts.proofs.crew_solve_lemmas.Listed.{flat-append, take-more}
 use Rattle.crew_fronts.specs.crew_solve.Machinery.Solved as Plain
 use Rattle.crew_fronts.specs.crew_sweep.Sweeps.{BaseSweep}
-use Rattle.crew_vector.proofs.Orders.{code-itself, same-code}
+use Rattle.crew_fronts.proofs.crew_solve_lemmas.crew_vector_lemmas.Orders.{code-itself, same-code}
 
 -- the fronts of a base, among those that stand for others
 module _ {A : Type 0} (f : A → BaseFronts) where

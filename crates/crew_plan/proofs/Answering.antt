@@ -18,7 +18,7 @@ use Rattle.crew_fronts.proofs.crew_solve_lemmas.Keeping.{kept-first, sorted}
 use Rattle.crew_fronts.proofs.crew_solve_lemmas.Swept.{over-of}
 use Rattle.crew_fronts.specs.crew_solve.Apart as Plain
 use Rattle.crew_fronts.specs.crew_solve.Machinery.Homes.{least_of}
-use Rattle.crew_vector.specs.declared.priced.PricedPairing.{PricedPairing}
+use Rattle.crew_fronts.specs.crew_solve.crew_vector.declared.priced.PricedPairing.{PricedPairing}
 
 few-all : (n : ℕ) (ps : List PricedPairing) → length (take n ps) < n → take n ps ≡ ps
 few-all zero ps h = absurd (omega (arith, h))

@@ -26,13 +26,13 @@ use Rattle.crew_rules.specs.declared.settings.Settings.{Settings}
 use Rattle.crew_plan.proofs.Placed.{last-of-each}
 use Rattle.crew_plan.proofs.Tied.{same-paired}
 use Rattle.crew_plan.specs.Cheapest.{AreCheapest, AreFirst, IsShown, pairing_cmp}
-use Rattle.crew_vector.proofs.Cuts.{append-nothing}
-use Rattle.crew_vector.proofs.Fitting.{cost-is}
-use Rattle.crew_vector.proofs.Orders.{walk-order}
-use Rattle.crew_vector.specs.Bests.{NoDearer}
-use Rattle.crew_vector.specs.Dominance.{cost_respects}
-use Rattle.crew_vector.specs.Fronts.{walk_of}
-use Rattle.crew_vector.specs.declared.priced.PricedPairing.{PricedPairing}
+use Rattle.crew_fronts.proofs.crew_solve_lemmas.crew_vector_lemmas.Cuts.{append-nothing}
+use Rattle.crew_fronts.proofs.crew_solve_lemmas.crew_vector_lemmas.Fitting.{cost-is}
+use Rattle.crew_fronts.proofs.crew_solve_lemmas.crew_vector_lemmas.Orders.{walk-order}
+use Rattle.crew_fronts.specs.crew_solve.crew_vector.Bests.{NoDearer}
+use Rattle.crew_fronts.specs.crew_solve.crew_vector.Dominance.{cost_respects}
+use Rattle.crew_fronts.specs.crew_solve.crew_vector.Fronts.{walk_of}
+use Rattle.crew_fronts.specs.crew_solve.crew_vector.declared.priced.PricedPairing.{PricedPairing}
 
 -- a pairing that a front shows, with the node and the entry that show it
 record IsOfEntry (s : Settings) (t : Timetable) (base : List ℕ) (d : Duty) (v : LongVector) (w : List (List Leg)) (q : PricedPairing) : Type 0 where

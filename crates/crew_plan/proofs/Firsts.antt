@@ -7,7 +7,7 @@ use Rattle.crew_plan.proofs.Shorter.{rise-too}
 use Rattle.crew_plan.specs.Apart.{AreAll, AreTaken, taken_from}
 use Rattle.crew_plan.specs.Cheapest.{AreFirst, pairing_cmp}
 use Rattle.crew_resource.specs.Members.{Member}
-use Rattle.crew_vector.specs.declared.priced.PricedPairing.{PricedPairing}
+use Rattle.crew_fronts.specs.crew_solve.crew_vector.declared.priced.PricedPairing.{PricedPairing}
 
 module _ (Shown : PricedPairing → Type 0) (all : List PricedPairing) (out : (p : PricedPairing) → Member all p → Shown p) (back : (p : PricedPairing) → Shown p → Member all p)
     (same : (p q : PricedPairing) → Member all p → Member all q → pairing_cmp p q ≡ Equal → p ≡ q) where

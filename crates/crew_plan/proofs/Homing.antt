@@ -41,10 +41,10 @@ use Rattle.crew_fronts.proofs.crew_solve_lemmas.Keeping.{sorted}
 use Rattle.crew_fronts.proofs.crew_solve_lemmas.Least.{none-least, some-least}
 use Rattle.crew_fronts.specs.crew_solve.Machinery.Homes.{HasPay, least_of}
 use Rattle.crew_fronts.specs.crew_solve.Machinery.Keeps.{keep_all, nothing}
-use Rattle.crew_vector.proofs.Fitting.{cost-is}
-use Rattle.crew_vector.proofs.Orders.{code-itself, same-code}
-use Rattle.crew_vector.specs.Bests.{NoDearer}
-use Rattle.crew_vector.specs.declared.priced.PricedPairing.{PricedPairing}
+use Rattle.crew_fronts.proofs.crew_solve_lemmas.crew_vector_lemmas.Fitting.{cost-is}
+use Rattle.crew_fronts.proofs.crew_solve_lemmas.crew_vector_lemmas.Orders.{code-itself, same-code}
+use Rattle.crew_fronts.specs.crew_solve.crew_vector.Bests.{NoDearer}
+use Rattle.crew_fronts.specs.crew_solve.crew_vector.declared.priced.PricedPairing.{PricedPairing}
 
 abbrev Entry : Type 0
 Entry = LongVector × List (List Leg)

@@ -8,7 +8,7 @@ use Rattle.crew_resource.proofs.Rising.{Rising, same-rising}
 use Rattle.crew_resource.specs.Members.{Each, Member}
 use Rattle.crew_fronts.proofs.crew_solve_lemmas.Within.{no-longer}
 use Rattle.crew_plan.specs.Cheapest.{AreFirst, RiseByCost, pairing_cmp, pairing_total}
-use Rattle.crew_vector.specs.declared.priced.PricedPairing.{PricedPairing}
+use Rattle.crew_fronts.specs.crew_solve.crew_vector.declared.priced.PricedPairing.{PricedPairing}
 
 abbrev Ps : Type 0
 Ps = List PricedPairing

@@ -11,9 +11,9 @@ use Rattle.crew_rules.specs.declared.settings.Settings.{Settings}
 use Rattle.crew_plan.proofs.Below.{first-of, shown-clean, with-least-walk}
 use Rattle.crew_plan.proofs.Tied.{same-paired}
 use Rattle.crew_plan.specs.Cheapest.{AreCheapestOf, IsBestOf, IsShown, IsShownOf}
-use Rattle.crew_vector.proofs.Orders.{walk-order}
-use Rattle.crew_vector.specs.Bests.{NoDearer}
-use Rattle.crew_vector.specs.declared.priced.PricedPairing.{PricedPairing}
+use Rattle.crew_fronts.proofs.crew_solve_lemmas.crew_vector_lemmas.Orders.{walk-order}
+use Rattle.crew_fronts.specs.crew_solve.crew_vector.Bests.{NoDearer}
+use Rattle.crew_fronts.specs.crew_solve.crew_vector.declared.priced.PricedPairing.{PricedPairing}
 
 not-less : {X : Type 0} (a b : ℤ) → a <ℤ b → b ≡ a → X
 not-less a b h e = absurd (omega (arith, ints))

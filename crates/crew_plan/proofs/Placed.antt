@@ -30,7 +30,7 @@ use Rattle.crew_fronts.specs.crew_solve.Machinery.Homes.{HasPay}
 use Rattle.crew_fronts.specs.crew_solve.Machinery.Planned.{IsOver}
 use Rattle.crew_net.proofs.Numbers.{get-within}
 use Rattle.crew_net.proofs.Slices.{map-get, map-got}
-use Rattle.crew_vector.proofs.Orders.{code-itself, same-code}
+use Rattle.crew_fronts.proofs.crew_solve_lemmas.crew_vector_lemmas.Orders.{code-itself, same-code}
 
 abbrev Prices : Type 0
 Prices = List (List ℕ × ℤ)

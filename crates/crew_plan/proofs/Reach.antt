@@ -25,7 +25,7 @@ use Rattle.crew_resource.specs.Members.{Each}
 use Rattle.crew_rules.specs.Settings.{IsChecked}
 use Rattle.crew_rules.specs.declared.settings.Settings.{Settings}
 use Rattle.crew_fronts.specs.crew_solve.Machinery.Homes.{HasPay}
-use Rattle.crew_vector.proofs.LegalDuties.{legal-sound}
+use Rattle.crew_fronts.proofs.crew_solve_lemmas.crew_vector_lemmas.LegalDuties.{legal-sound}
 
 wider : (z : ℤ) (n m : ℕ) → LiesWithin n z → n ≤ m → LiesWithin m z
 wider z n m h k = let l = h.least in let u = h.most in record { least = omega (arith, ints); most = omega (arith, ints) }

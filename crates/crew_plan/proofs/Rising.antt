@@ -14,7 +14,7 @@ use Rattle.crew_pairing.specs.Legs.{Leg}
 use Rattle.crew_pairing.specs.Vectors.{reduced_cost}
 use Rattle.crew_plan.specs.Machinery.Homes.{pairing_of}
 use Rattle.crew_resource.specs.Members.{Each}
-use Rattle.crew_vector.specs.declared.priced.PricedPairing.{PricedPairing}
+use Rattle.crew_fronts.specs.crew_solve.crew_vector.declared.priced.PricedPairing.{PricedPairing}
 
 abbrev Es : Type 0
 Es = List (LongVector × List (List Leg))

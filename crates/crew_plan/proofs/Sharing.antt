@@ -13,7 +13,7 @@ use Rattle.crew_plan.proofs.Shorter.{rise-back, rise-too}
 use Rattle.crew_plan.proofs.OneList.{one-list, rising}
 use Rattle.crew_plan.specs.Apart.{AreAll, AreTaken, flies, flown, is_apart, taken_from}
 use Rattle.crew_plan.specs.Cheapest.{AreFirst, pairing_cmp, pairing_total}
-use Rattle.crew_vector.specs.declared.priced.PricedPairing.{PricedPairing}
+use Rattle.crew_fronts.specs.crew_solve.crew_vector.declared.priced.PricedPairing.{PricedPairing}
 
 abbrev Ps : Type 0
 Ps = List PricedPairing

@@ -34,9 +34,9 @@ use Rattle.crew_fronts.specs.crew_solve.Plans as PlainPlans
 use Rattle.crew_fronts.specs.crew_solve.Solutions as PlainSolutions
 use Rattle.crew_fronts.specs.crew_sweep.Sweeps as Sweeps
 use Rattle.crew_fronts.specs.crew_sweep.Sweeps.{BaseSweep}
-use Rattle.crew_vector.specs.Bests as Plain
-use Rattle.crew_vector.specs.Fronts as PlainFronts
-use Rattle.crew_vector.specs.declared.priced.PricedPairing.{PricedPairing}
+use Rattle.crew_fronts.specs.crew_solve.crew_vector.Bests as Plain
+use Rattle.crew_fronts.specs.crew_solve.crew_vector.Fronts as PlainFronts
+use Rattle.crew_fronts.specs.crew_solve.crew_vector.declared.priced.PricedPairing.{PricedPairing}
 
 abbrev Shown : Type 0
 Shown = List (PairingVector × List (List Leg))

@@ -14,10 +14,10 @@ use Rattle.crew_pairing.specs.Pairings.{minutes_away}
 use Rattle.crew_plan.specs.Cheapest.{IsShown, pairing_cmp}
 use Rattle.crew_resource.specs.Machinery.BothLaws.{both_equal}
 use Rattle.crew_rules.specs.declared.settings.Settings.{Settings}
-use Rattle.crew_vector.proofs.OneBest.{same-pairing}
-use Rattle.crew_vector.proofs.Orders.{walk-order}
-use Rattle.crew_vector.specs.Bests as Plain
-use Rattle.crew_vector.specs.declared.priced.PricedPairing.{PricedPairing}
+use Rattle.crew_fronts.proofs.crew_solve_lemmas.crew_vector_lemmas.OneBest.{same-pairing}
+use Rattle.crew_fronts.proofs.crew_solve_lemmas.crew_vector_lemmas.Orders.{walk-order}
+use Rattle.crew_fronts.specs.crew_solve.crew_vector.Bests as Plain
+use Rattle.crew_fronts.specs.crew_solve.crew_vector.declared.priced.PricedPairing.{PricedPairing}
 
 itself : (n : ℕ) → min n n ≡ n
 itself n = omega arith

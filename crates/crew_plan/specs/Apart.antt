@@ -7,7 +7,7 @@ use Rattle.crew_pairing.specs.Legs.{Leg}
 use Rattle.crew_resource.specs.Members.{Member}
 use Rattle.crew_rules.specs.declared.settings.Settings.{Settings}
 use Rattle.crew_plan.specs.Cheapest.{IsShown, IsShownOf, RiseByCost}
-use Rattle.crew_vector.specs.declared.priced.PricedPairing.{PricedPairing}
+use Rattle.crew_fronts.specs.crew_solve.crew_vector.declared.priced.PricedPairing.{PricedPairing}
 
 -- the flight that the crew flies on a leg; none where it rides
 abbrev pub flown_on : Leg → List ℕ

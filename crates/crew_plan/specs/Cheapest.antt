@@ -13,8 +13,8 @@ use Rattle.crew_pairing.specs.Legs.{Leg}
 use Rattle.crew_pairing.specs.Pairings.{last_duty}
 use Rattle.crew_resource.specs.Members.{Each, Member}
 use Rattle.crew_rules.specs.declared.settings.Settings.{Settings}
-use Rattle.crew_vector.specs.Bests.{NoDearer}
-use Rattle.crew_vector.specs.declared.priced.PricedPairing.{PricedPairing}
+use Rattle.crew_fronts.specs.crew_solve.crew_vector.Bests.{NoDearer}
+use Rattle.crew_fronts.specs.crew_solve.crew_vector.declared.priced.PricedPairing.{PricedPairing}
 
 -- a pairing that a front shows: its vector and its walk are an entry of the front of its base and
 -- its last duty

@@ -15,9 +15,9 @@ ghost use Rattle.crew_fronts.specs.crew_solve.Machinery.Keeps.{keep, keep_all};
 use crate::taken::Taken;
 use crew_flights::Code;
 use crew_fronts::crew_solve::CheapestSoFar;
+use crew_fronts::crew_solve::crew_vector::PricedPairing;
 use crew_fronts::{BaseFronts, Vector, WalkView};
 use crew_pairing::{Key, PairingVector, Walk};
-use crew_vector::PricedPairing;
 use std::alloc::{AllocError, Global};
 use std::sync::Arc;
 

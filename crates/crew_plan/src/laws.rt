@@ -7,7 +7,7 @@ ghost use Rattle.crew_rules.specs.Settings.{IsChecked};
 ghost use Rattle.crew_rules.specs.declared.settings.Settings.{Settings};
 ghost use Rattle.crew_plan.specs.Apart.{AreApart, AreApartOf, flies};
 ghost use Rattle.crew_plan.specs.Cheapest.{AreCheapest, AreCheapestOf, IsBestOf, IsShown};
-ghost use Rattle.crew_vector.specs.declared.priced.PricedPairing.{PricedPairing};
+ghost use Rattle.crew_fronts.specs.crew_solve.crew_vector.declared.priced.PricedPairing.{PricedPairing};
 
 /// There is one list of the columns of least reduced cost, whatever the limit.
 pub fn cheapest_are_unique()

@@ -31,10 +31,12 @@ use std::thread::Threads;
 /// A contract sees the network, and the bases with their prices by code.
 #[derive(Drop)]
 pub(crate) struct LongPlan {
-    course: Course,
+    course: Arc<Course, Global>,
     bases: Vec<(Code, i64)>,
     // Earlier fronts over the same network.
     past: Vec<Arc<BaseFronts, Global>>,
+    // Earlier fronts, beside which passes go.
+    earlier: Vec<Arc<BaseFronts, Global>>,
 }
 
 impl Model for LongPlan {
@@ -49,10 +51,10 @@ impl Model for LongPlan {
 
     ghost coded = { Prim.hlevel (codes, fronts.the_row.coded) };
 
-    ghost view = { λ p. record { net = p.course; prices = p.bases.items } };
+    ghost view = { λ p. record { net = p.course.value; prices = p.bases.items } };
 
-    ghost invariant = { λ p. IsLaid p.course p.bases.items
-        × Each (λ b. b.net ≡ p.course) (map (λ a. a.value) p.past.items) };
+    ghost invariant = { λ p. IsLaid p.course.value p.bases.items
+        × Each (λ b. b.net ≡ p.course.value) (map (λ a. a.value) p.past.items) };
 }
 
 // The bases of a timetable with their prices, in order.
@@ -190,6 +192,36 @@ fn passes_of(earlier: Option<&Solution>) -> Option<(&Arc<Net, Global>, &[Arc<Bas
     earlier?.by_passes()
 }
 
+// All fronts of an earlier solution by passes.
+fn earlier_fronts(
+    alloc: Global,
+    earlier: Option<&Solution>,
+) -> Result<Vec<Arc<BaseFronts, Global>>, AllocError> {
+    match passes_of(earlier) {
+        Some((_, fronts)) => shared(alloc, fronts),
+        None => Ok(Vec::new(alloc)),
+    }
+}
+
+// What the passes over a network go by, after that of earlier ones, so that duties keep their numbers.
+fn course_over(
+    alloc: Global,
+    net: Arc<Net, Global>,
+    earlier: &[Arc<BaseFronts, Global>],
+) -> Result<Arc<Course, Global>, AllocError>
+    ensures { IfOk result (λ course. arc_value course ≡ arc_value net) }
+{
+    let before = match earlier.first() {
+        Some(fronts) => fronts.course(),
+        None => None,
+    };
+    let course = match before {
+        Some(before) => before.next(alloc, net)?,
+        None => Course::new(alloc, net)?,
+    };
+    Ok(Arc::new(alloc, course)?)
+}
+
 impl LongPlan {
     /// The plan of a timetable, given its legal duties, beside an earlier solution, if there is one.
     pub(crate) fn of(
@@ -208,11 +240,13 @@ impl LongPlan {
         see_dates(timetable);
         let bases = bases_of(alloc, timetable)?;
         let (net, past) = ground_of(alloc, settings, timetable, duties, &bases, earlier)?;
-        let course = Course::new(alloc, net)?;
+        let earlier = earlier_fronts(alloc, earlier)?;
+        let course = course_over(alloc, net, &earlier)?;
         Ok(LongPlan {
             course,
             bases,
             past,
+            earlier,
         })
     }
 
@@ -240,13 +274,22 @@ impl LongPlan {
         fronts_at(&self.past, base, price)
     }
 
+    // The earlier fronts of the base at a place, at its price, if there are some, over whichever network.
+    fn before(&self, place: usize) -> Option<&BaseFronts>
+        requires { place < length self.now.prices }
+    {
+        let (base, price) = self.bases[place];
+        let fronts = fronts_at(&self.earlier, base, price)?;
+        Some(fronts)
+    }
+
     // The fronts of the base at a place, by a pass over its departures.
     fn passed(&self, alloc: Global, place: usize) -> Result<Arc<BaseFronts, Global>, AllocError>
         requires { place < length self.now.prices }
         ensures { IfOk result (λ fronts. AreFrontsIn self.now place (arc_value fronts)) }
     {
         let (base, price) = self.bases[place];
-        BaseFronts::passed(alloc, &self.course, base, price)
+        BaseFronts::passed(alloc, &self.course, self.before(place), base, price)
     }
 
     // The same fronts, by a pass in at most so many threads, this one among them.
@@ -261,7 +304,8 @@ impl LongPlan {
         ensures { IfOk result (λ fronts. AreFrontsIn self.now place (arc_value fronts)) }
     {
         let (base, price) = self.bases[place];
-        BaseFronts::passed_by_threads(rt, alloc, threads, &self.course, base, price)
+        let before = self.before(place);
+        BaseFronts::passed_by_threads(rt, alloc, threads, &self.course, before, base, price)
     }
 
     /// The fronts of the base at a place, in order of code: earlier ones over this network at the

@@ -5,10 +5,10 @@ ghost use Rattle.std.specs.List.{flat_map, list_all, list_any};
 ghost use Rattle.crew_resource.specs.Members.{Each};
 ghost use Rattle.crew_fronts.specs.crew_solve.Apart as Apart;
 ghost use Rattle.crew_fronts.specs.crew_solve.Apart.{is_apart};
-ghost use Rattle.crew_vector.specs.declared.priced.PricedPairing.{PricedPairing as Pairing};
+ghost use Rattle.crew_fronts.specs.crew_solve.crew_vector.declared.priced.PricedPairing.{PricedPairing as Pairing};
 
+use crew_fronts::crew_solve::crew_vector::PricedPairing;
 use crew_pairing::{Key, Leg, Walk};
-use crew_vector::PricedPairing;
 use std::alloc::{AllocError, Global};
 use std::marker::Model;
 

@@ -37,6 +37,10 @@ use Rattle.crew_label.specs.contracts.pool.Pool as Pool
 use Rattle.crew_label.specs.contracts.table.Table as Labels
 use Rattle.crew_net.specs.contracts.net.Net as Net
 use Rattle.crew_version.specs.crew_pass.contracts.base_fronts.BaseFronts as Passed
+use Rattle.crew_version.specs.crew_pass.contracts.passed.Passed as Ended
+use Rattle.crew_version.specs.crew_pass.contracts.course.Course as Course
+use Rattle.crew_version.specs.crew_pass.contracts.places.Places as Places
+use Rattle.crew_version.specs.crew_pass.contracts.shelf.Shelf as Shelf
 use Rattle.crew_version.specs.crew_plan.contracts.solution.Solution as Solution
 use Rattle.crew_pool.specs.contracts.pool.Pool as SweptPool
 use Rattle.crew_resource.specs.declared.resource.Resource.{Ghosts as ResourceGhosts}
@@ -112,6 +116,8 @@ labels-sync R V F g o e p s y = search with_pool depth 40 fits 30000
 
 ruleset with_labels = (parts, pool-send, pool-sync, labels-send, labels-sync)
 
+ruleset with_pool_too = (parts, pool-send, pool-sync)
+
 pass-send : (R V F : RattleType) (g : ResourceGhosts R.Denot V.Denot F.Denot) (o : OrdGhosts V.Denot) (e : EqGhosts V.Denot) (p : PartialOrdGhosts V.Denot) → IsSend V → IsSync V → IsSend (Passed.the_row R V F g o e p)
 pass-send R V F g o e p s y = search with_labels depth 40 fits 30000
 
@@ -120,11 +126,39 @@ pass-sync R V F g o e p s y = search with_labels depth 40 fits 30000
 
 ruleset with_pass = (parts, net-send, net-sync, pass-send, pass-sync)
 
+course-send : IsSend Course.the_row
+course-send = search with_pass depth 40 fits 30000
+
+course-sync : IsSync Course.the_row
+course-sync = search with_pass depth 40 fits 30000
+
+places-send : IsSend Places.the_row
+places-send = search parts depth 40 fits 30000
+
+places-sync : IsSync Places.the_row
+places-sync = search parts depth 40 fits 30000
+
+shelf-send : (R V F : RattleType) (g : ResourceGhosts R.Denot V.Denot F.Denot) (o : OrdGhosts V.Denot) (e : EqGhosts V.Denot) (p : PartialOrdGhosts V.Denot) → IsSend V → IsSync V → IsSend (Shelf.the_row R V F g o e p)
+shelf-send R V F g o e p s y = search with_pool_too depth 40 fits 30000
+
+shelf-sync : (R V F : RattleType) (g : ResourceGhosts R.Denot V.Denot F.Denot) (o : OrdGhosts V.Denot) (e : EqGhosts V.Denot) (p : PartialOrdGhosts V.Denot) → IsSend V → IsSync V → IsSync (Shelf.the_row R V F g o e p)
+shelf-sync R V F g o e p s y = search with_pool_too depth 40 fits 30000
+
+ruleset with_ended = (parts, course-send, course-sync, places-send, places-sync, shelf-send, shelf-sync, pass-send, pass-sync)
+
+ended-send : (R V : RattleType) (l : _) (m : _) (f : _) (s : _) (g : _) (o : _) (e : _) (p : _) → IsSend R → IsSync R → IsSend V → IsSync V → IsSend (Ended.the_row R V l m f s g o e p)
+ended-send R V l m f s g o e p rs ry vs vy = search with_ended depth 40 fits 30000
+
+ended-sync : (R V : RattleType) (l : _) (m : _) (f : _) (s : _) (g : _) (o : _) (e : _) (p : _) → IsSend R → IsSync R → IsSend V → IsSync V → IsSync (Ended.the_row R V l m f s g o e p)
+ended-sync R V l m f s g o e p rs ry vs vy = search with_ended depth 40 fits 30000
+
+ruleset with_long = (parts, ended-send, ended-sync)
+
 passed-send : IsSend PassedFronts.the_row
-passed-send = search with_pass depth 40 fits 30000
+passed-send = search with_long depth 40 fits 30000
 
 passed-sync : IsSync PassedFronts.the_row
-passed-sync = search with_pass depth 40 fits 30000
+passed-sync = search with_long depth 40 fits 30000
 
 ruleset with_passed = (parts, swept-fronts-send, swept-fronts-sync, passed-send, passed-sync)
 

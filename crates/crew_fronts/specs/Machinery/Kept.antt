@@ -4,7 +4,8 @@ use Rattle.std.specs.List.{range_with_len}
 use Rattle.crew_answers.specs.LongVectors.{is_long}
 use Rattle.crew_answers.specs.Schedules.{IsDated}
 use Rattle.crew_answers.specs.ShortPairings.{with_no_pasts}
-use Rattle.crew_answers.specs.Shown.{shown_entries}
+use Rattle.crew_answers.specs.Shown.{long_resource, shown_entries}
+use Rattle.crew_answers.specs.declared.resource.LongResource.{LongResource}
 use Rattle.crew_answers.specs.declared.value.LongValue.{LongValue}
 use Rattle.crew_answers.proofs.LongListed.{value_cmp}
 use Rattle.crew_flights.specs.Timetable.{IsBasePrice, IsSound, Timetable}
@@ -19,7 +20,7 @@ use Rattle.crew_net.specs.Nets.{Net}
 use Rattle.crew_pairing.specs.Duties.{AreDuties}
 use Rattle.crew_pairing.specs.Events as Events
 use Rattle.crew_pairing.specs.declared.duty.Duty.{Duty}
-use Rattle.crew_pass.specs.Passes.{BasePass, keyed_entries}
+use Rattle.crew_pass.specs.Passes.{BasePass, Passed, keyed_entries}
 use Rattle.crew_resource.specs.Members.{Member}
 use Rattle.crew_rules.specs.Settings.{IsChecked}
 use Rattle.crew_solve.specs.crew_sweep.Sweeps as Sweeps
@@ -78,3 +79,8 @@ pub record IsPassed (base : List ℕ) (price : ℤ) (p : BasePass LongValue) : T
   pub listed : AreListed p
   pub right : (t : Timetable) → IsSound t → IsDated t
       → AreDuties p.net.settings t p.net.duties → ShowsFronts t (fronts_of_pass base price p)
+
+-- so by a resource of these settings and that price
+pub record IsPassedBy (base : List ℕ) (price : ℤ) (p : Passed LongResource LongValue) : Type 0 where
+  pub passed : IsPassed base price p.pass
+  pub resource : p.resource ≡ long_resource p.pass.net.settings price

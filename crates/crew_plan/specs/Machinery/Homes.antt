@@ -11,7 +11,7 @@ use Rattle.crew_resource.specs.Members.{Member}
 use Rattle.crew_fronts.specs.crew_solve.Apart.{taken_from}
 use Rattle.crew_fronts.specs.crew_solve.Machinery.Homes.{HasPay, priced}
 use Rattle.crew_fronts.specs.crew_solve.Machinery.Keeps.{keep_all, nothing}
-use Rattle.crew_vector.specs.declared.priced.PricedPairing.{PricedPairing}
+use Rattle.crew_fronts.specs.crew_solve.crew_vector.declared.priced.PricedPairing.{PricedPairing}
 
 -- the pairing of an entry
 abbrev pub pairing_of : ℕ → List ℕ → LongVector × List (List Leg) → PricedPairing

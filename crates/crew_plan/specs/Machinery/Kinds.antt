@@ -13,7 +13,7 @@ use Rattle.crew_plan.specs.declared.solution.Made.TheVariants as Solved
 use Rattle.crew_rules.specs.Settings.{IsChecked}
 use Rattle.crew_rules.specs.declared.settings.Settings.{Settings}
 use Rattle.crew_fronts.specs.crew_solve.Plans as Plain
-use Rattle.crew_vector.specs.declared.priced.PricedPairing.{PricedPairing}
+use Rattle.crew_fronts.specs.crew_solve.crew_vector.declared.priced.PricedPairing.{PricedPairing}
 
 -- a plan of sweeps as one of fronts
 abbrev pub plan_by_sweeps : Plain.Plan → Plan

@@ -1,4 +1,5 @@
-use Rattle.std.proofs.Common.{List, ℕ, sym, subst}
+use Rattle.std.proofs.Common.{◌∙◌, Global, List, ℕ, sym, subst}
+use Rattle.std.specs.Arc.{arc_value}
 use Rattle.std.proofs.lemmas.Result.{IfOk-weaker}
 use Rattle.crew_answers.specs.Schedules.{schedule_of}
 use Rattle.crew_forgetful.specs.Sweeps.{network_of}
@@ -18,7 +19,7 @@ returns-clause-covered g c =
     let all = pass_of w (labelling_of w) in
     let Covers = λ (n : Net) (r : g.row.R.Denot) (s : List ℕ) (b : BasePass g.row.R-Value.Denot). IsCoveredBy g.R.Resource.below g.R.Forgets.same_sums (network_of (schedule_of n.settings s n.duties) departure_of arrival_of (g.R.Staged.idle_of r) (g.R.Staged.waited r) (g.R.Staged.boards r)) b in
     let own : Covers over.net.now over.resource.now over.base all = covered-by w is.may.terms is.may.lawful in
-    let covered = subst (λ (n : Net). Covers n c.args.resource.now c.args.base all) is.net
-    (subst (λ (r : g.row.R.Denot). Covers over.net.now r c.args.base all) is.resource
+    let covered = subst (λ (n : Net). Covers n (arc_value {X = g.row.R.Denot} {Z = Global} c.args.resource.now) c.args.base all) (is.net ∙ c.deref-2.ensures)
+    (subst (λ (r : g.row.R.Denot). Covers over.net.now r c.args.base all) (is.resource ∙ c.as_ref.ensures)
     (subst (λ (s : List ℕ). Covers over.net.now over.resource.now s all) is.base own)) in
-    IfOk-weaker c.passed.result _ _ (λ p same. subst (λ (b : BasePass g.row.R-Value.Denot). Covers c.args.course.now c.args.resource.now c.args.base b) (sym same) covered) c.passed.ensures
+    IfOk-weaker c.passed.result _ _ (λ p same. subst (λ (b : BasePass g.row.R-Value.Denot). Covers (arc_value {X = Net} {Z = Global} c.args.course.now) (arc_value {X = g.row.R.Denot} {Z = Global} c.args.resource.now) c.args.base b) (sym same) covered) c.passed.ensures.pass

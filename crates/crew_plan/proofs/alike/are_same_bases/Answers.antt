@@ -4,7 +4,7 @@ use Rattle.std.specs.Ordering.{eq_by_cmp}
 use Rattle.crew_flights.specs.Codes.{code_cmp}
 use Rattle.crew_plan.proofs.Among.{key-more, take-all}
 use Rattle.crew_fronts.proofs.crew_solve_lemmas.Departing.{read-at}
-use Rattle.crew_vector.proofs.Orders.{same-code}
+use Rattle.crew_fronts.proofs.crew_solve_lemmas.crew_vector_lemmas.Orders.{same-code}
 use Rattle.crew_plan.proofs.alike.are_same_bases.Goals as goal
 
 abbrev code : List ℕ × ℤ → List ℕ

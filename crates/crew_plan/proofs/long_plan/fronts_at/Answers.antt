@@ -8,7 +8,7 @@ use Rattle.crew_flights.specs.Timetable.{IsSound, Timetable}
 use Rattle.crew_fronts.specs.Fronts.{BaseFronts, ShowsFronts}
 use Rattle.crew_pairing.specs.Duties.{AreDuties}
 use Rattle.crew_resource.proofs.Members.{Member-get_or, Member-map_in}
-use Rattle.crew_vector.proofs.Orders.{same-code}
+use Rattle.crew_fronts.proofs.crew_solve_lemmas.crew_vector_lemmas.Orders.{same-code}
 use Rattle.crew_plan.proofs.long_plan.fronts_at.Goals as goal
 
 pub returns-then-price : goal.returns-then-price

@@ -4,7 +4,7 @@ use Rattle.std.specs.Ordering.{eq_by_cmp}
 use Rattle.crew_flights.specs.Codes.{code_cmp}
 use Rattle.crew_resource.proofs.Members.{Member-at, Member-map_in}
 use Rattle.crew_fronts.specs.Fronts.{BaseFronts}
-use Rattle.crew_vector.proofs.Orders.{same-code}
+use Rattle.crew_fronts.proofs.crew_solve_lemmas.crew_vector_lemmas.Orders.{same-code}
 use Rattle.crew_fronts.proofs.crew_solve_lemmas.Departing.{read-at}
 use Rattle.crew_plan.proofs.Among.{alone-at, among-at, none-at}
 use Rattle.crew_plan.proofs.solution.fronts_of.Goals as goal

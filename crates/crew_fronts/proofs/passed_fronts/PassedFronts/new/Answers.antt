@@ -5,4 +5,4 @@ use Rattle.crew_fronts.proofs.passed_fronts.PassedFronts.new.Goals as goal
 
 pub returns-clause-right : goal.returns-clause-right
 returns-clause-right c t sound dated are =
-    c.of.ensures.right t sound dated (subst (λ (n : Net). AreDuties n.settings t n.duties) (sym c.in_ok-fronts.ensures.net) are)
+    c.of.ensures.right t sound dated (subst (λ (n : Net). AreDuties n.settings t n.duties) (sym c.in_ok-passed.ensures.net) are)

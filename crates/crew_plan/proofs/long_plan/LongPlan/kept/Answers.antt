@@ -29,7 +29,7 @@ weaker P Q f (Some x) h = f x h
 pub returns : goal.returns
 returns c =
     let k = c.self.invariant in
-    let net = c.self.inside.course in
+    let net = c.self.inside.course.value in
     let bases = c.self.inside.bases.items in
     let past = map (arc_value {X = BaseFronts}) c.self.inside.past.items in
     let e = c.index.result.now in

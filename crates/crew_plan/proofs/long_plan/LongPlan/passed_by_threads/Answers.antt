@@ -6,13 +6,13 @@ use Rattle.crew_fronts.specs.Fronts.{BaseFronts}
 use Rattle.crew_plan.specs.Plans.{AreFrontsIn, Plan}
 use Rattle.crew_fronts.proofs.crew_solve_lemmas.Departing.{read-at}
 use Rattle.crew_fronts.proofs.crew_solve_lemmas.Swept.{price-at}
-use Rattle.crew_vector.proofs.LegalDuties.{duties-sound}
+use Rattle.crew_fronts.proofs.crew_solve_lemmas.crew_vector_lemmas.LegalDuties.{duties-sound}
 use Rattle.crew_plan.proofs.long_plan.LongPlan.passed_by_threads.Goals as goal
 
 pub passed_by_threads-requires-clause-sound : goal.passed_by_threads-requires-clause-sound
 passed_by_threads-requires-clause-sound g c =
     let k = c.self.invariant.0 in
-    let net = c.self.inside.course in
+    let net = c.self.inside.course.value in
     λ _ _. duties-sound net.settings k.timetable net.duties k.over.checked k.over.sound k.over.duties
 
 pub passed_by_threads-requires-clause-price : goal.passed_by_threads-requires-clause-price
@@ -33,7 +33,7 @@ both (Err e) P Q R S h p q k = tt
 pub returns : goal.returns
 returns g c =
     let k = c.self.invariant.0 in
-    let net = c.self.inside.course in
+    let net = c.self.inside.course.value in
     let bases = c.self.inside.bases.items in
     let e = c.index.result.now in
     let h : c.args.place < length bases = subst (λ (p : Plan). c.args.place < length p.prices) (sym c.self.view_is) c.requires in
