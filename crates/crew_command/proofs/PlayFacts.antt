@@ -3,12 +3,12 @@ use Rattle.std.proofs.Common.{◌≡◌, ◌<◌, Bool, List, Option, Result, Ok
 use Rattle.std.specs.Prelude.{IfErr, IfSome, OnErr, OnOk}
 use Rattle.std.specs.Io.KnownBytes.{Appends}
 use Rattle.crew_rules.specs.declared.settings.Settings.{Settings}
-use Rattle.crew_session.specs.Faults.{Never}
-use Rattle.crew_session.specs.Rows.{records_of}
-use Rattle.crew_session.specs.Session.{Begins, IsSessionText, start}
-use Rattle.crew_session.specs.Stops.{IsSessionFault}
-use Rattle.crew_session.specs.declared.fault.SessionFault.{SessionFault}
-use Rattle.crew_session.specs.declared.fault.SessionFault.TheVariants.{Read, Write, Memory, Strange}
+use Rattle.crew_serve.specs.crew_session.Faults.{Never}
+use Rattle.crew_serve.specs.crew_session.Rows.{records_of}
+use Rattle.crew_serve.specs.crew_session.Session.{Begins, IsSessionText, start}
+use Rattle.crew_serve.specs.crew_session.Stops.{IsSessionFault}
+use Rattle.crew_serve.specs.crew_session.declared.fault.SessionFault.{SessionFault}
+use Rattle.crew_serve.specs.crew_session.declared.fault.SessionFault.TheVariants.{Read, Write, Memory, Strange}
 use Rattle.crew_command.specs.Program.{FailsAlone, FailsBeside, FailsWith, Streams, Wrote}
 
 -- where no number is called for

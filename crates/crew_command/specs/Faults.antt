@@ -1,7 +1,7 @@
 -- The statuses of the program, and the lines of its faults.
 use Rattle.std.specs.Prelude.{ℕ, List, [], ◌∷◌, ◌++◌, Option, Some, None, codes, decimal, option_map}
-use Rattle.crew_session.specs.declared.fault.SessionFault.{SessionFault}
-use Rattle.crew_session.specs.declared.fault.SessionFault.TheVariants as session
+use Rattle.crew_serve.specs.crew_session.declared.fault.SessionFault.{SessionFault}
+use Rattle.crew_serve.specs.crew_session.declared.fault.SessionFault.TheVariants as session
 use Rattle.crew_command.specs.declared.fault.Fault.{Fault}
 use Rattle.crew_command.specs.declared.fault.Fault.TheVariants.{Read, Write, Usage, Word, Memory, Setting, Strange}
 

@@ -10,13 +10,13 @@ use Rattle.crew_rules.specs.Settings.{check_of}
 use Rattle.crew_rules.specs.declared.settings.BadSetting.{BadSetting}
 use Rattle.crew_records.specs.Fields.{Fields}
 use Rattle.crew_serve.specs.Serving.{IsServingFault}
-use Rattle.crew_session.specs.Faults.{Never}
-use Rattle.crew_session.specs.Replay.{IsReplayText, ReplayBegins}
-use Rattle.crew_session.specs.Rows.{records_of}
-use Rattle.crew_session.specs.Session.{Begins, IsSessionText, start}
-use Rattle.crew_session.specs.Stops.{IsSessionFault}
-use Rattle.crew_session.specs.Texts.{AppendsBeginning}
-use Rattle.crew_session.specs.declared.fault.SessionFault.{SessionFault}
+use Rattle.crew_serve.specs.crew_session.Faults.{Never}
+use Rattle.crew_serve.specs.crew_session.Replay.{IsReplayText, ReplayBegins}
+use Rattle.crew_serve.specs.crew_session.Rows.{records_of}
+use Rattle.crew_serve.specs.crew_session.Session.{Begins, IsSessionText, start}
+use Rattle.crew_serve.specs.crew_session.Stops.{IsSessionFault}
+use Rattle.crew_serve.specs.crew_session.Texts.{AppendsBeginning}
+use Rattle.crew_serve.specs.crew_session.declared.fault.SessionFault.{SessionFault}
 use Rattle.crew_command.specs.Faults.{fault_of, line_of, status_of}
 use Rattle.crew_command.specs.declared.fault.Fault.{Fault}
 use Rattle.crew_command.specs.declared.fault.Fault.TheVariants.{Read, Write, Usage, Word, Memory, Setting, Strange}

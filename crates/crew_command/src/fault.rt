@@ -2,13 +2,13 @@
 
 ghost use Rattle.std.specs.Prelude.{◌≡◌, ◌≤◌, IfSome, OnErr, OnOk, decimal, true};
 ghost use Rattle.std.specs.Io.KnownBytes.{Appends};
-ghost use Rattle.crew_session.specs.Streams.{bytes_held, write_failed};
-ghost use Rattle.crew_session.specs.Texts.{AppendsBeginning};
+ghost use Rattle.crew_serve.specs.crew_session.Streams.{bytes_held, write_failed};
+ghost use Rattle.crew_serve.specs.crew_session.Texts.{AppendsBeginning};
 ghost use Rattle.crew_command.specs.Faults.{bad_line, fault_of, line_of, status_of, text_of};
 ghost use Rattle.crew_command.specs.Program.{ReportsLine};
 
 use crew_rules::BadSetting;
-use crew_session::{NotedWriter, SessionFault};
+use crew_serve::crew_session::{NotedWriter, SessionFault};
 use itoa::Buffer;
 use std::error::Error;
 use std::io::Write;

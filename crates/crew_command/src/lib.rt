@@ -8,8 +8,10 @@ mod fault;
 mod program;
 mod streams;
 
+pub use crew_serve::crew_session::{NotedReader, NotedWriter};
 pub use crew_serve::{Outbox, Post};
-pub use crew_session::{NotedReader, NotedWriter};
+// Crates below this one, which those above cite through it.
+pub use crew_serve::{crew_core, crew_service};
 pub use fault::Fault;
 pub use program::command;
 pub use streams::{Outlet, OutletWriter, SendingReader};

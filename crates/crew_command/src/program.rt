@@ -3,7 +3,7 @@
 ghost use Rattle.std.specs.Prelude.{◌≡◌, ◌<◌, ◌≤◌, IfErr, map};
 ghost use Rattle.clap.specs.Words.{kind_of};
 ghost use Rattle.crew_rules.specs.Settings.{IsChecked, check_of};
-ghost use Rattle.crew_session.specs.Streams.{bytes_held, bytes_left, read_failed, write_failed};
+ghost use Rattle.crew_serve.specs.crew_session.Streams.{bytes_held, bytes_left, read_failed, write_failed};
 ghost use Rattle.crew_command.specs.Program.{Answers, Comes, Outcome, Plays, Shows, Reports, WroteOf, status_after, streams};
 ghost use Rattle.crew_serve.specs.Serving.{IsServingFault};
 ghost use Rattle.crew_words.specs.Words.{settings_of};
@@ -12,8 +12,8 @@ ghost use Rattle.crew_words.specs.declared.task.Task.TheVariants.{Run};
 use crate::fault::Fault;
 use clap::error::ErrorKind;
 use crew_rules::Settings;
+use crew_serve::crew_session::{NotedReader, NotedWriter, Plain, SessionFault, replay, run};
 use crew_serve::{Crew, House, Outbox, run_with_workers, serve};
-use crew_session::{NotedReader, NotedWriter, Plain, SessionFault, replay, run};
 use crew_words::{Hosting, Sharing, Task, read_words};
 use std::alloc::Global;
 use std::convert::AsStr;

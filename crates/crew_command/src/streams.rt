@@ -1,7 +1,7 @@
 //! Streams that answer while their input is open: what was written is on its way before a read
 //! waits for more.
 
-use crew_session::{NotedReader, NotedWriter};
+use crew_serve::crew_session::{NotedReader, NotedWriter};
 use std::alloc::Global;
 use std::cell::RefCell;
 use std::io::{self, BufWriter, Read, Write};

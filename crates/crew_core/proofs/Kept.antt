@@ -3,7 +3,7 @@ use Rattle.std.proofs.Common.{◌≡◌, ℕ, zero, suc, List, [], ◌∷◌, �
 use Rattle.std.specs.List.{slice_get}
 use Rattle.crew_board.specs.Boards.{ShownBoard, shown_version}
 use Rattle.crew_core.specs.Machines.{AreJobsOf, IsMachineOf, IsReached, ShownMachine, settings_of}
-use Rattle.crew_job.specs.Jobs.{IsJobOf, Job}
+use Rattle.crew_board.specs.crew_job.Jobs.{IsJobOf, Job}
 use Rattle.crew_machine.proofs.Cells.{Some-same}
 use Rattle.crew_machine.proofs.Chosen.{chosen_run}
 use Rattle.crew_machine.proofs.CrewLaws.{crew-laws}

@@ -15,8 +15,8 @@ use Rattle.crew_core.specs.Replies.{HasStepped, IsReplyOf, IsStep, named}
 use Rattle.crew_core.specs.declared.reply.Reply.{Reply}
 use Rattle.crew_core.specs.declared.reply.Reply.TheVariants as Told
 use Rattle.crew_flights.specs.declared.entries.Entry.{Entry}
-use Rattle.crew_job.specs.Jobs.{IsJobOf, Job, job_node}
-use Rattle.crew_job.specs.declared.fault.GroundFault.TheVariants as NoGround
+use Rattle.crew_board.specs.crew_job.Jobs.{IsJobOf, Job, job_node}
+use Rattle.crew_board.specs.crew_job.declared.fault.GroundFault.TheVariants as NoGround
 use Rattle.crew_machine.proofs.Cells.{Some-same}
 use Rattle.crew_machine.proofs.CrewLaws.{crew-laws}
 use Rattle.crew_machine.proofs.Runs.{start_sound}
@@ -30,8 +30,8 @@ use Rattle.crew_machine.specs.declared.rounds.Brought.TheVariants.{Stale, Again,
 use Rattle.crew_net.specs.declared.node.Node.{Node}
 use Rattle.crew_rules.specs.Settings.{IsChecked}
 use Rattle.crew_rules.specs.declared.settings.Settings.{Settings}
-use Rattle.crew_version.specs.Versions.{Snapshot}
-use Rattle.crew_version.specs.Versions as Versions
+use Rattle.crew_board.specs.crew_version.Versions.{Snapshot}
+use Rattle.crew_board.specs.crew_version.Versions as Versions
 use Rattle.crew_machine.specs.Chains.{Follows}
 use Rattle.std.proofs.lemmas.List.{length-map}
 use Rattle.std.proofs.lemmas.Option.{slice_get-get_or, slice_get-map}

@@ -16,9 +16,9 @@ use Rattle.crew_machine.specs.Rounds.{IsUndone, last_number}
 use Rattle.crew_machine.specs.Steps.{last_of}
 use Rattle.crew_machine.specs.declared.rounds.Cell.{Cell}
 use Rattle.crew_machine.specs.declared.rounds.Cell.TheVariants.{Waiting, Out, Done}
-use Rattle.crew_round.specs.declared.mark.Mark.{Mark}
-use Rattle.crew_round.specs.declared.mark.Mark.TheVariants as Marked
-use Rattle.crew_version.specs.Versions.{Snapshot}
+use Rattle.crew_board.specs.crew_round.declared.mark.Mark.{Mark}
+use Rattle.crew_board.specs.crew_round.declared.mark.Mark.TheVariants as Marked
+use Rattle.crew_board.specs.crew_version.Versions.{Snapshot}
 
 -- where memory is wanted
 pub err-told : {T E : Type 0} (P : Type 0) (result : Result T E) → P → OnErr result P

@@ -2,13 +2,13 @@
 use Rattle.std.specs.Prelude.{◌≡◌, List, [], ◌∷◌, map}
 use Rattle.crew_board.specs.Boards.{IsBoardOf, ShownBoard, shown_version}
 use Rattle.crew_flights.specs.declared.entries.Entry.{Entry}
-use Rattle.crew_job.specs.Jobs.{IsJobOf, Job}
+use Rattle.crew_board.specs.crew_job.Jobs.{IsJobOf, Job}
 use Rattle.crew_machine.specs.Choices.{ChosenRun}
 use Rattle.crew_machine.specs.Crew.{CrewAct, CrewReply, CrewState, DutyWork, crew}
 use Rattle.crew_machine.specs.Steps.{start}
 use Rattle.crew_rules.specs.Settings.{IsChecked}
 use Rattle.crew_rules.specs.declared.settings.Settings.{Settings}
-use Rattle.crew_version.specs.Versions.{Snapshot}
+use Rattle.crew_board.specs.crew_version.Versions.{Snapshot}
 
 -- the log, the board, the jobs that were handed out, and the versions that were published
 pub record ShownMachine : Type 0 where

@@ -7,8 +7,8 @@ use Rattle.crew_core.specs.declared.step.Step.{Step}
 use Rattle.crew_core.specs.declared.step.Step.TheVariants as Asked
 use Rattle.crew_machine.specs.Rounds.{last_number}
 use Rattle.crew_machine.specs.Steps.{last_of}
-use Rattle.crew_round.specs.declared.mark.Mark.{Mark}
-use Rattle.crew_round.specs.declared.mark.Mark.TheVariants.{Done}
+use Rattle.crew_board.specs.crew_round.declared.mark.Mark.{Mark}
+use Rattle.crew_board.specs.crew_round.declared.mark.Mark.TheVariants.{Done}
 
 -- no round is open, and there is a number after the sealed version's
 pub record MayOpen (board : ShownBoard) : Type 0 where

@@ -2,9 +2,9 @@
 ghost use Rattle.std.specs.Prelude.{◌≡◌};
 ghost use Rattle.crew_core.specs.Replies.{reply_number};
 
+use crew_board::crew_version::Version;
 use crew_machine::Brought;
 use crew_net::Node;
-use crew_version::Version;
 use std::alloc::Global;
 use std::sync::Arc;
 

@@ -42,6 +42,10 @@ mod talk;
 mod threaded;
 mod waiting;
 
+// Crates below this one, which those above cite through it.
+pub use crew_service;
+pub use crew_session;
+pub use crew_session::crew_core;
 pub use house::House;
 pub use post::{Outbox, Post};
 pub use serving::serve;

@@ -28,7 +28,8 @@ impl<'a, R: Wait, W: Write + Drop> Drop for Post<'a, R, W> {
 }
 
 impl<'a, R: Wait, W: Write + Drop> Post<'a, R, W> {
-    /// A post over a writer, by the handle by which threads wait for their turns.
+    /// A post over a writer, by the handle by which threads wait for their turns. No clause: a contract
+    /// sees nothing of what lies under a lock.
     pub fn new(rt: &'a R, writer: W) -> Self {
         Post {
             rt,

@@ -7,13 +7,13 @@ use Rattle.crew_board.specs.Calls.{IsBeginFault}
 use Rattle.crew_board.specs.declared.fault.BeginFault.{BeginFault}
 use Rattle.crew_board.specs.declared.fault.BeginFault.TheVariants.{Busy, Ground}
 use Rattle.crew_flights.specs.declared.entries.Entry.{Entry}
-use Rattle.crew_job.specs.declared.fault.GroundFault.TheVariants as NoGround
-use Rattle.crew_machine.specs.Crew.{CrewBoard}
-use Rattle.crew_machine.specs.Rounds.{last_number}
+use Rattle.crew_board.specs.crew_job.declared.fault.GroundFault.TheVariants as NoGround
+use Rattle.crew_board.specs.crew_machine.Crew.{CrewBoard}
+use Rattle.crew_board.specs.crew_machine.Rounds.{last_number}
 use Rattle.crew_service.specs.Machinery.Rounds.{IsRoundFault, fault_of}
 use Rattle.crew_service.specs.declared.fault.SettleFault.{SettleFault}
 use Rattle.crew_service.specs.declared.fault.SettleFault.TheVariants as Settle
-use Rattle.crew_version.specs.Versions.{Snapshot}
+use Rattle.crew_board.specs.crew_version.Versions.{Snapshot}
 
 some-same : {A : Type 0} (x y : A) → Some x ≡ Some y → x ≡ y
 some-same x y e = cc

@@ -17,8 +17,8 @@ use Rattle.crew_service.specs.Next.{IsNextOver}
 use Rattle.crew_service.specs.Faults.{IsMissing}
 use Rattle.crew_service.specs.Machinery.Kept.{HasRead, IsPlanning}
 use Rattle.crew_service.specs.Plans.{AreBelow, AreSeatsFrom, Planning, entries_of}
-use Rattle.crew_version.proofs.Places.{prefix-at}
-use Rattle.crew_version.specs.Versions.{Snapshot}
+use Rattle.crew_board.proofs.crew_version_lemmas.Places.{prefix-at}
+use Rattle.crew_board.specs.crew_version.Versions.{Snapshot}
 
 -- ---- beginnings
 

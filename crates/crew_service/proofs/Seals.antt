@@ -5,11 +5,11 @@ use Rattle.std.specs.Option.{option_map}
 use Rattle.crew_board.specs.Boards.{IsBoardOf, ShownBoard, ShownRound, shown_round}
 use Rattle.crew_board.specs.Calls.{HasSealed}
 use Rattle.crew_flights.specs.declared.entries.Entry.{Entry}
-use Rattle.crew_machine.specs.Crew.{CrewBoard}
+use Rattle.crew_board.specs.crew_machine.Crew.{CrewBoard}
 use Rattle.crew_service.specs.Machinery.Sealed.{IsSealedOf}
 use Rattle.crew_service.specs.Next.{IsNextOver, IsOwn}
-use Rattle.crew_version.proofs.Places.{prefix-from}
-use Rattle.crew_version.specs.Versions.{IsRight, Snapshot}
+use Rattle.crew_board.proofs.crew_version_lemmas.Places.{prefix-from}
+use Rattle.crew_board.specs.crew_version.Versions.{IsRight, Snapshot}
 
 some-same : {A : Type 0} (x y : A) → Some x ≡ Some y → x ≡ y
 some-same x y e = cc

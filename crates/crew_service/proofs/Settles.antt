@@ -3,7 +3,7 @@ use Rattle.std.proofs.Common.{◌≡◌, ◌<◌, ◌++◌, ◌∷◌, [], ◌�
 use mathlib.Core.List.{IsPrefix}
 use Rattle.boxcar.specs.Table.{Where}
 use Rattle.crew_flights.specs.declared.entries.Entry.{Entry}
-use Rattle.crew_machine.specs.Rounds.{last_number}
+use Rattle.crew_board.specs.crew_machine.Rounds.{last_number}
 use Rattle.crew_pairing.specs.Duties.{HasTooMany}
 use Rattle.crew_service.specs.Next.{IsNextOver}
 use Rattle.crew_service.proofs.Plans.{length-entries}
@@ -13,7 +13,7 @@ use Rattle.crew_service.specs.Machinery.Rounds.{IsRoundFault}
 use Rattle.crew_service.specs.Plans.{AreBelow, HasPublishedNothing, HasSettled, Planning, entries_of}
 use Rattle.crew_service.specs.declared.fault.SettleFault.{SettleFault}
 use Rattle.crew_service.specs.declared.fault.SettleFault.TheVariants as Settle
-use Rattle.crew_version.specs.Versions.{Snapshot, timetable_of}
+use Rattle.crew_board.specs.crew_version.Versions.{Snapshot, timetable_of}
 
 pub on-ok : {T E A B : Type 0} (r : Result T E) → OnOk r A → (A → B) → OnOk r B
 on-ok (Ok t) a f = f a

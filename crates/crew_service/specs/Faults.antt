@@ -3,7 +3,7 @@ use Rattle.std.specs.Prelude.{◌≡◌, ◌<◌, ◌≤◌, ℕ, List, Option, 
 use Rattle.boxcar.specs.Table.{Where}
 use Rattle.crew_flights.specs.declared.entries.Entry.{Entry}
 use Rattle.crew_log.specs.Logs.{HaveNone}
-use Rattle.crew_machine.specs.Rounds.{last_number}
+use Rattle.crew_board.specs.crew_machine.Rounds.{last_number}
 use Rattle.crew_pairing.specs.Duties.{HasTooMany}
 use Rattle.crew_publish.specs.Faults.{IsViewerCount}
 use Rattle.crew_resource.specs.Members.{Member}
@@ -12,7 +12,7 @@ use Rattle.crew_service.specs.declared.fault.ServiceFault.{ServiceFault}
 use Rattle.crew_service.specs.declared.fault.ServiceFault.TheVariants as Service
 use Rattle.crew_service.specs.declared.fault.SettleFault.{SettleFault}
 use Rattle.crew_service.specs.declared.fault.SettleFault.TheVariants as Settle
-use Rattle.crew_version.specs.Versions.{timetable_of}
+use Rattle.crew_board.specs.crew_version.Versions.{timetable_of}
 
 -- the numbers of the refusals
 abbrev pub service_number : ServiceFault → Option ℕ

@@ -2,9 +2,9 @@
 use Rattle.std.specs.Prelude.{◌≡◌, ◌⊎◌, ◌+◌, List, None, Some}
 use Rattle.crew_board.specs.Boards.{IsBoardOf, ShownBoard, ShownRound}
 use Rattle.crew_flights.specs.declared.entries.Entry.{Entry}
-use Rattle.crew_machine.specs.Crew.{CrewBoard, DutyNode, crew}
-use Rattle.crew_machine.specs.Rounds.{IsFirstUndone}
-use Rattle.crew_version.specs.Versions.{IsRight, Snapshot}
+use Rattle.crew_board.specs.crew_machine.Crew.{CrewBoard, DutyNode, crew}
+use Rattle.crew_board.specs.crew_machine.Rounds.{IsFirstUndone}
+use Rattle.crew_board.specs.crew_version.Versions.{IsRight, Snapshot}
 
 -- the next version, over these entries
 pub record IsNextOver (before : Snapshot) (entries : List Entry) (after : Snapshot) : Type 0 where

@@ -6,7 +6,7 @@ use Rattle.crew_flights.specs.declared.entries.Entry.{Entry}
 use Rattle.crew_log.specs.Logs.{Log, Seat, unused_seat}
 use Rattle.crew_rules.specs.declared.settings.Settings.{Settings}
 use Rattle.crew_service.specs.Next.{IsNextOver}
-use Rattle.crew_version.specs.Versions.{Snapshot, opening}
+use Rattle.crew_board.specs.crew_version.Versions.{Snapshot, opening}
 
 -- a planner: the log that it reads, the version that it has made last, a receipt for each place of the
 -- log that it has read, and what it has published

@@ -3,9 +3,9 @@ ghost use Rattle.std.specs.Prelude.{◌≡◌, IfOk};
 
 use crate::gate::Gate;
 use crew_board::Board;
-use crew_job::{DoneLot, Job, Lot, work_lot};
+use crew_board::crew_job::{DoneLot, Job, Lot, work_lot};
+use crew_board::crew_round::Progress;
 use crew_net::Node;
-use crew_round::Progress;
 use std::alloc::{AllocError, Global};
 
 /// A board, and whether the service was closed.

@@ -3,14 +3,14 @@ ghost use Rattle.std.specs.Prelude.{◌≡◌, ◌≢◌, IfErr, None, Some};
 ghost use Rattle.std.specs.Arc.{arc_value};
 ghost use mathlib.Core.List.{IsPrefix};
 ghost use Rattle.crew_board.specs.declared.fault.BeginFault.TheVariants.{Busy, Ground as NoGround};
-ghost use Rattle.crew_job.specs.declared.fault.GroundFault.TheVariants.{ShorterLog};
+ghost use Rattle.crew_board.specs.crew_job.declared.fault.GroundFault.TheVariants.{ShorterLog};
 ghost use Rattle.crew_service.specs.Machinery.Rounds.{IsRoundFault, fault_of};
 
 use crate::fault::SettleFault;
+use crew_board::crew_job::GroundFault;
+use crew_board::crew_version::Version;
 use crew_board::{BeginFault, Board};
 use crew_flights::Entry;
-use crew_job::GroundFault;
-use crew_version::Version;
 use std::alloc::Global;
 use std::sync::Arc;
 use std::thread::Threads;

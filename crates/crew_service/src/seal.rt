@@ -4,15 +4,15 @@
 ghost use Rattle.std.specs.Prelude.{◌≡◌, ◌↔◌, IfOk, IfSome, IsTrue, None, Some, slice_get};
 ghost use Rattle.std.specs.Arc.{arc_value};
 ghost use Rattle.crew_board.specs.Boards.{IsBoardOf};
-ghost use Rattle.crew_machine.specs.Crew.{CrewBoard};
+ghost use Rattle.crew_board.specs.crew_machine.Crew.{CrewBoard};
 ghost use Rattle.crew_service.specs.Machinery.Sealed.{IsSealedOf};
 ghost use Rattle.crew_service.specs.Next.{IsNextOver, IsOwn, IsUndone, IsUnsealed};
 
+use crew_board::crew_job::Ground;
+use crew_board::crew_version::{Version, is_same_entry};
 use crew_board::{Board, SealFault};
 use crew_flights::Entry;
-use crew_job::Ground;
 use crew_rules::Settings;
-use crew_version::{Version, is_same_entry};
 use std::alloc::{AllocError, Global};
 use std::sync::Arc;
 

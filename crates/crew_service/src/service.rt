@@ -5,17 +5,17 @@ ghost use Rattle.crew_publish.specs.Faults.{IsViewerCount};
 ghost use Rattle.crew_rules.specs.Settings.{IsChecked};
 ghost use Rattle.crew_service.specs.Faults.{IsSeatCount, IsServiceFault};
 ghost use Rattle.crew_service.specs.Plans.{AreSeatsFrom, new_planner};
-ghost use Rattle.crew_version.specs.Versions.{opening as opening_of};
+ghost use Rattle.crew_board.specs.crew_version.Versions.{opening as opening_of};
 
 use crate::fault::ServiceFault;
 use crate::gate::Gate;
 use crate::planner::Planner;
 use crate::shared::Shared;
 use crew_board::Board;
+use crew_board::crew_version::Version;
 use crew_log::{Log, Seat};
 use crew_publish::{PairFault, Publisher, Viewer, pair};
 use crew_rules::Settings;
-use crew_version::Version;
 use std::alloc::{AllocError, Global};
 use std::sync::{Arc, Wait};
 

@@ -41,6 +41,8 @@ mod text;
 mod zones;
 
 pub use airports::Airports;
+// A crate below this one, which those above cite through it.
+pub use crew_core;
 pub use engine::Engine;
 pub use engine_fault::EngineFault;
 pub use fault::SessionFault;

@@ -7,10 +7,10 @@ use crate::sights::{
     all_see, best_cost, count_views, entries_of, held_of, hold_all, verdict_at, view_of,
 };
 use crate::words::{Answer, count_at, count_of, parted};
+use crew_command::crew_service::{Gate, Planner, Shared};
 use crew_flights::Edit;
 use crew_log::{Receipt, Seat};
 use crew_publish::{Note, View, Viewer};
-use crew_service::{Gate, Planner, Shared};
 use crew_version::Version;
 use std::alloc::Global;
 use std::io::{self, Print};

@@ -3,9 +3,9 @@
 ghost use Rattle.std.specs.Prelude.{◌≡◌};
 
 use crate::desk::Desk;
+use crew_command::crew_service::{Gate, Service, Shared, Worker};
 use crew_net::Node;
 use crew_rules::Settings;
-use crew_service::{Gate, Service, Shared, Worker};
 use std::alloc::Global;
 use std::io::{self, Print};
 use std::sync::Wait;

@@ -4,8 +4,8 @@ ghost use Rattle.crew_rules.specs.Settings.{IsChecked};
 
 use crate::desk::Desk;
 use crate::words::count_at;
+use crew_command::crew_service::{Gate, Open, Service, Shared, Worker};
 use crew_rules::Settings;
-use crew_service::{Gate, Open, Service, Shared, Worker};
 use std::alloc::Global;
 use std::io::{self, Print};
 use std::sync::Wait;

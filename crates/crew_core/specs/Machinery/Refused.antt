@@ -6,7 +6,7 @@ use Rattle.crew_board.specs.declared.fault.SealFault.{SealFault}
 use Rattle.crew_board.specs.declared.fault.SealFault.TheVariants as Seal
 use Rattle.crew_core.specs.declared.reply.Reply.{Reply}
 use Rattle.crew_core.specs.declared.reply.Reply.TheVariants as Told
-use Rattle.crew_job.specs.declared.fault.GroundFault.TheVariants as NoGround
+use Rattle.crew_board.specs.crew_job.declared.fault.GroundFault.TheVariants as NoGround
 
 abbrev pub begin_reply : BeginFault → Option Reply
 begin_reply Busy = Some Told.Busy

@@ -5,7 +5,7 @@ use Rattle.crew_log.specs.Logs.{AreOf, IsRun}
 use Rattle.crew_publish.specs.Chain.{Ends}
 use Rattle.crew_rules.specs.Settings.{IsChecked}
 use Rattle.crew_service.specs.Plans.{Planning, entries_of}
-use Rattle.crew_version.specs.Versions.{IsRight, Snapshot}
+use Rattle.crew_board.specs.crew_version.Versions.{IsRight, Snapshot}
 
 -- a version is at or after another
 pub record IsAtOrAfter (earlier later : Snapshot) : Type 0 where

@@ -3,12 +3,12 @@ use Rattle.std.specs.Prelude.{◌≡◌, ◌<◌, List, Option, Some, None}
 use Rattle.crew_board.specs.declared.fault.BeginFault.{BeginFault}
 use Rattle.crew_board.specs.declared.fault.BeginFault.TheVariants.{Busy, Ground}
 use Rattle.crew_flights.specs.declared.entries.Entry.{Entry}
-use Rattle.crew_job.specs.declared.fault.GroundFault.TheVariants as NoGround
-use Rattle.crew_machine.specs.Rounds.{last_number}
+use Rattle.crew_board.specs.crew_job.declared.fault.GroundFault.TheVariants as NoGround
+use Rattle.crew_board.specs.crew_machine.Rounds.{last_number}
 use Rattle.crew_pairing.specs.Duties.{HasTooMany}
 use Rattle.crew_service.specs.declared.fault.SettleFault.{SettleFault}
 use Rattle.crew_service.specs.declared.fault.SettleFault.TheVariants as Settle
-use Rattle.crew_version.specs.Versions.{Snapshot, timetable_of}
+use Rattle.crew_board.specs.crew_version.Versions.{Snapshot, timetable_of}
 
 -- a round isn't opened over entries that begin with a version's
 abbrev pub IsRoundFault : Snapshot → List Entry → SettleFault → Type 0

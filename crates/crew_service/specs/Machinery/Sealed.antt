@@ -1,7 +1,7 @@
 -- The open round of a board, as its planner sees it.
 use Rattle.std.specs.Prelude.{◌≡◌, ◌+◌, Some}
 use Rattle.crew_board.specs.Boards.{ShownBoard, ShownRound}
-use Rattle.crew_version.specs.Versions.{IsRight, Snapshot}
+use Rattle.crew_board.specs.crew_version.Versions.{IsRight, Snapshot}
 
 -- a version is what the open round of a board is sealed as
 pub record IsSealedOf (board : ShownBoard) (v : Snapshot) : Type 0 where

@@ -1,6 +1,6 @@
 //! Calls of plays of steps.
 
-use crew_core::{Reply, Step, Trace, play};
+use crew_command::crew_core::{Reply, Step, Trace, play};
 use crew_flights::Entry;
 use crew_rules::Settings;
 use std::alloc::{AllocError, Global};

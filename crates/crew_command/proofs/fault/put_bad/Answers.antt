@@ -1,6 +1,6 @@
 use Rattle.std.proofs.Common.{[], ◌∷◌, ◌++◌}
-use Rattle.crew_session.proofs.BeginFacts.{begins-longer, begins-then, on-err}
-use Rattle.crew_session.proofs.LineFacts.{appends-both, wrote-both}
+use Rattle.crew_serve.proofs.crew_session_lemmas.BeginFacts.{begins-longer, begins-then, on-err}
+use Rattle.crew_serve.proofs.crew_session_lemmas.LineFacts.{appends-both, wrote-both}
 use Rattle.crew_command.proofs.fault.put_bad.Goals as goal
 
 pub returns-in_err-put-clause-beginning : goal.returns-in_err-put-clause-beginning

@@ -1,5 +1,5 @@
 use Rattle.std.proofs.Common.{subst, sym}
-use Rattle.crew_session.specs.Streams.{bytes_held, bytes_left, read_failed, write_failed}
+use Rattle.crew_serve.specs.crew_session.Streams.{bytes_held, bytes_left, read_failed, write_failed}
 use Rattle.crew_command.specs.Program.{WroteOf, streams}
 use Rattle.crew_command.proofs.program.play.Goals as goal
 use Rattle.crew_words.specs.declared.task.Task.{Task}

@@ -1,5 +1,5 @@
 use Rattle.std.proofs.Common.{sym, true≢false}
-use Rattle.crew_session.specs.Streams.{bytes_held, bytes_left, read_failed, write_failed}
+use Rattle.crew_serve.specs.crew_session.Streams.{bytes_held, bytes_left, read_failed, write_failed}
 use Rattle.crew_command.specs.Program.{streams}
 use Rattle.crew_command.proofs.PlayFacts.{wrote-plain}
 use Rattle.crew_command.proofs.program.play_alone.Goals as goal

@@ -1,4 +1,4 @@
-use Rattle.crew_session.specs.Streams.{bytes_held, bytes_left, read_failed, write_failed}
+use Rattle.crew_serve.specs.crew_session.Streams.{bytes_held, bytes_left, read_failed, write_failed}
 use Rattle.crew_command.specs.Program.{streams}
 use Rattle.crew_command.proofs.PlayFacts.{wrote-beside}
 use Rattle.crew_command.proofs.program.play_beside.Goals as goal

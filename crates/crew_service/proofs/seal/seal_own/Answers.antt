@@ -1,7 +1,7 @@
 use Rattle.std.proofs.Common.{subst}
 use Rattle.std.specs.Arc.{arc_value}
 use Rattle.crew_service.proofs.Seals.{sealed-of}
-use Rattle.crew_version.specs.Versions.{IsRight}
+use Rattle.crew_board.specs.crew_version.Versions.{IsRight}
 use Rattle.crew_service.proofs.seal.seal_own.Goals as goal
 
 pub returns-in-Ok-clause-sealed : goal.returns-in-Ok-clause-sealed

@@ -5,7 +5,7 @@ use Rattle.crew_core.proofs.Wanting.{err-to, may-open}
 use Rattle.crew_core.specs.Machinery.Refused.{begin_reply}
 use Rattle.crew_core.specs.Memory.{MayOpen}
 use Rattle.crew_board.specs.declared.fault.BeginFault.TheVariants.{Ground}
-use Rattle.crew_job.specs.declared.fault.GroundFault.TheVariants.{Memory}
+use Rattle.crew_board.specs.crew_job.declared.fault.GroundFault.TheVariants.{Memory}
 use Rattle.crew_core.specs.Machines.{ShownMachine}
 use Rattle.crew_core.specs.Replies.{IsStep}
 use Rattle.crew_core.specs.contracts.machine.Machine.{the_view}

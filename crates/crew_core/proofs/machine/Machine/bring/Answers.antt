@@ -9,7 +9,7 @@ use Rattle.std.specs.List.{slice_get}
 use Rattle.std.specs.Prelude.{◌≤◌}
 use Rattle.crew_board.specs.Boards.{IsBoardOf}
 use Rattle.crew_board.specs.Calls.{HasBrought}
-use Rattle.crew_job.specs.Jobs.{IsJobOf, Job}
+use Rattle.crew_board.specs.crew_job.Jobs.{IsJobOf, Job}
 use Rattle.crew_machine.specs.Crew.{CrewBoard, DutyWork, Entries, IsLocalOf}
 use Rattle.crew_machine.specs.Steps as Steps
 use Rattle.crew_core.proofs.machine.Machine.bring.Goals as goal

@@ -8,7 +8,7 @@ use Rattle.crew_core.specs.declared.reply.Reply.TheVariants as Told
 use Rattle.std.specs.Prelude.{Option}
 use Rattle.crew_board.specs.Boards.{IsBoardOf, ShownBoard}
 use Rattle.crew_board.specs.Calls.{HasClaimed}
-use Rattle.crew_job.specs.Jobs.{Job}
+use Rattle.crew_board.specs.crew_job.Jobs.{Job}
 use Rattle.crew_machine.specs.Crew.{CrewBoard}
 use Rattle.crew_machine.specs.Steps as Steps
 use Rattle.crew_core.proofs.machine.Machine.claim.Goals as goal

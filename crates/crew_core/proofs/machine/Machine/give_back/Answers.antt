@@ -7,7 +7,7 @@ use Rattle.crew_core.specs.contracts.machine.Machine.{the_view}
 use Rattle.crew_core.specs.declared.reply.Reply.TheVariants as Told
 use Rattle.std.specs.List.{slice_get}
 use Rattle.std.specs.Prelude.{◌≤◌}
-use Rattle.crew_job.specs.Jobs.{Job}
+use Rattle.crew_board.specs.crew_job.Jobs.{Job}
 use Rattle.crew_machine.specs.Steps as Steps
 use Rattle.crew_core.proofs.machine.Machine.give_back.Goals as goal
 

@@ -4,7 +4,7 @@ use Rattle.std.specs.Arc.{arc_value}
 use Rattle.crew_core.proofs.Stepped as by
 use Rattle.crew_core.proofs.Stepped.{with_board}
 use Rattle.crew_core.specs.Machines.{ShownMachine}
-use Rattle.crew_version.specs.Versions.{Snapshot}
+use Rattle.crew_board.specs.crew_version.Versions.{Snapshot}
 use Rattle.crew_core.proofs.machine.Machine.is_published.Goals as goal
 
 pub returns : goal.returns

@@ -6,7 +6,7 @@ use Rattle.crew_core.proofs.Stepped.{with_board}
 use Rattle.crew_core.specs.Machines.{ShownMachine}
 use Rattle.crew_core.specs.contracts.machine.Machine.{the_view}
 use Rattle.crew_machine.specs.Steps as Steps
-use Rattle.crew_version.specs.Versions.{Snapshot}
+use Rattle.crew_board.specs.crew_version.Versions.{Snapshot}
 use Rattle.crew_core.proofs.machine.Machine.latest.Goals as goal
 
 pub unreachable-requires : goal.unreachable-requires

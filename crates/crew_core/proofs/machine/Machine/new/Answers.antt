@@ -3,12 +3,12 @@ use Rattle.std.specs.Arc.{arc_value}
 use Rattle.crew_core.proofs.Stepped as by
 use Rattle.crew_core.specs.Machines.{IsMachineOf}
 use Rattle.crew_flights.specs.declared.entries.Entry.{Entry}
-use Rattle.crew_job.specs.Jobs.{Job}
+use Rattle.crew_board.specs.crew_job.Jobs.{Job}
 use Rattle.crew_core.specs.contracts.machine.Machine.{the_view}
 use Rattle.crew_machine.specs.Crew.{crew}
 use Rattle.crew_machine.specs.Steps as Steps
-use Rattle.crew_version.specs.Versions.{Snapshot}
-use Rattle.crew_version.specs.Versions as Versions
+use Rattle.crew_board.specs.crew_version.Versions.{Snapshot}
+use Rattle.crew_board.specs.crew_version.Versions as Versions
 use Rattle.crew_core.proofs.machine.Machine.new.Goals as goal
 
 starts : (c : goal.After-new-3) → IsMachineOf (the_view (record { log = c.new.result; board = c.new-2.result; jobs = c.new-3.result; published = c.push.new.self })) (Steps.start (crew c.args.settings.now))

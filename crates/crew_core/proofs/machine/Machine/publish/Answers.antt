@@ -10,7 +10,7 @@ use Rattle.crew_core.specs.Replies.{HasStepped, IsStep}
 use Rattle.crew_core.specs.contracts.machine.Machine.{the_view}
 use Rattle.crew_core.specs.declared.reply.Reply.TheVariants as Told
 use Rattle.crew_machine.specs.Steps as Steps
-use Rattle.crew_version.specs.Versions.{Snapshot}
+use Rattle.crew_board.specs.crew_version.Versions.{Snapshot}
 use Rattle.crew_core.proofs.machine.Machine.publish.Goals as goal
 
 pub returns-then-is_published-clause-ok : goal.returns-then-is_published-clause-ok

@@ -13,7 +13,7 @@ use Rattle.crew_core.specs.contracts.machine.Machine.{the_view}
 use Rattle.crew_core.specs.declared.reply.Reply.TheVariants as Told
 use Rattle.crew_board.specs.Boards.{ShownBoard}
 use Rattle.crew_machine.specs.Steps as Steps
-use Rattle.crew_version.specs.Versions.{Snapshot}
+use Rattle.crew_board.specs.crew_version.Versions.{Snapshot}
 use Rattle.crew_core.proofs.machine.Machine.seal.Goals as goal
 
 pub returns-in-Err-clause-ok : goal.returns-in-Err-clause-ok

@@ -2,7 +2,7 @@ use Rattle.std.proofs.Common.{◌≡◌, ◌∙◌, IfErr, List, ap, subst}
 use Rattle.crew_flights.specs.declared.entries.Entry.{Entry}
 use Rattle.crew_service.specs.Machinery.Rounds.{IsRoundFault}
 use Rattle.crew_service.specs.Plans.{Planning, entries_of}
-use Rattle.crew_version.specs.Versions.{Snapshot}
+use Rattle.crew_board.specs.crew_version.Versions.{Snapshot}
 use Rattle.crew_service.proofs.planner.Planner.make_next.Goals as goal
 
 pub returns-clause-fault : goal.returns-clause-fault

@@ -4,7 +4,7 @@ use Rattle.crew_service.specs.Next.{IsNextOver}
 use Rattle.crew_service.proofs.Plans.{with-next, with-shown}
 use Rattle.crew_service.specs.Machinery.Kept.{IsPlanning}
 use Rattle.crew_service.specs.Plans.{Planning, entries_of}
-use Rattle.crew_version.specs.Versions.{Snapshot}
+use Rattle.crew_board.specs.crew_version.Versions.{Snapshot}
 use Rattle.crew_service.proofs.planner.Planner.publish.Given.{Over}
 use Rattle.crew_service.proofs.planner.Planner.publish.Goals as goal
 use Rattle.crew_service.proofs.planner.Planner.publish.Goals.{After-drop-self-inside}
