@@ -26,7 +26,7 @@ pub struct Desk<'a, R: Wait, G: Gate> {
     planner: Planner<'a, R, G>,
     seats: Vec<Seat>,
     receipts: Vec<Receipt>,
-    note: Option<Note<&'a R>>,
+    notes: Vec<Note<&'a R>>,
     viewers: Vec<Viewer>,
     held: Vec<View>,
 }
@@ -70,7 +70,7 @@ impl<'a, R: Wait, G: Gate> Desk<'a, R, G> {
             planner,
             seats,
             receipts: Vec::new(alloc),
-            note: None,
+            notes: Vec::new(alloc),
             viewers,
             held: Vec::new(alloc),
         }
@@ -104,8 +104,11 @@ impl<'a, R: Wait, G: Gate> Desk<'a, R, G> {
         match self.planner.settle(rt, alloc, self.shared, &self.receipts) {
             Ok(note) => {
                 let number = note.number();
-                self.note = Some(note);
-                Ok(number)
+                self.notes.clear();
+                match self.notes.push(note) {
+                    Ok(()) => Ok(number),
+                    Err(_) => Err(None),
+                }
             }
             Err(fault) => Err(fault.number()),
         }
@@ -113,7 +116,7 @@ impl<'a, R: Wait, G: Gate> Desk<'a, R, G> {
 
     // A viewer learns of the last note.
     fn learn(&mut self, viewer: usize) -> Answer {
-        match (self.viewers.get_mut(viewer), &self.note) {
+        match (self.viewers.get_mut(viewer), self.notes.last()) {
             (Some(viewer), Some(note)) => match viewer.learn(note) {
                 Ok(()) => Ok(note.count() as u64),
                 Err(fault) => Err(fault.number()),
