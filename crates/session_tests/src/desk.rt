@@ -101,14 +101,15 @@ impl<'a, R: Wait, G: Gate> Desk<'a, R, G> {
 
     // Settles all receipts, and gives the number that the note tells.
     fn settle<S: Threads + Sync>(&mut self, rt: &S, alloc: Global) -> Answer {
+        if self.notes.reserve(1).is_err() {
+            return Err(None);
+        }
         match self.planner.settle(rt, alloc, self.shared, &self.receipts) {
             Ok(note) => {
                 let number = note.number();
                 self.notes.clear();
-                match self.notes.push(note) {
-                    Ok(()) => Ok(number),
-                    Err(_) => Err(None),
-                }
+                self.notes.push_reserved(note);
+                Ok(number)
             }
             Err(fault) => Err(fault.number()),
         }
